@@ -17,7 +17,8 @@ use Rattle.mk_objects.proofs.JoinedLooks.{does_wider}
 use Rattle.mk_alloc.specs.TurnCycles.{finishes, is_want}
 use Rattle.mk_alloc.proofs.CalmStretches.{cycles_in_turn, is_of_cycles}
 use Rattle.mk_alloc.proofs.ListParts.{Lacks, lacks_append}
-use Rattle.mk_alloc.proofs.Parts.{has_then, history_before, in_turn_then, made_as, others_lack, part_lacks, seen_behind, seen_made, seen_then}
+use Rattle.mk_alloc.proofs.Parts.{has_then, history_before, in_turn_then, made_as, others_lack, part_lacks, seen_behind}
+use Rattle.mk_alloc.proofs.Parts.{seen_made, seen_then}
 use Rattle.mk_alloc.proofs.StepKinds.{AreApart, IsHolders}
 use Rattle.mk_alloc.proofs.Stretches.{AreOfTurn, SomeKinds}
 

@@ -1,6 +1,7 @@
 -- One entry more among a caller's calls is that of one event, which decides it. What the other events decide is of
 -- other callers, and leaves the caller its registers.
-use Rattle.std.proofs.Common.{◌≡◌, ℕ, Bool, true, false, List, [], ◌∷◌, ◌++◌, refl, sym, ◌∙◌, ap, subst, append-nil, append_assoc}
+use Rattle.std.proofs.Common.{◌≡◌, ℕ, Bool, true, false, List, [], ◌∷◌, ◌++◌, refl, sym, ◌∙◌, ap, subst, append-nil}
+use Rattle.std.proofs.Common.{append_assoc}
 use Rattle.std.specs.Prelude.{◌==◌, Option, Some, None, if◌then◌else◌}
 use Rattle.std.proofs.lemmas.Bool.{eq-eqb, true≢false}
 use Rattle.mk_never.specs.declared.operations.Op.{Op}
@@ -15,10 +16,12 @@ use Rattle.mk_core.specs.declared.events.Event.{Event}
 use Rattle.mk_core.specs.Accesses.{caller_number}
 use Rattle.mk_core.specs.Decided.{Decided, answered, asked, entry_of, flagged}
 use Rattle.mk_core.specs.Effects.{answer_decided}
-use Rattle.mk_core.specs.History.{IsHistory, World, bases_of, call_decided, calls, calls_from, left, left_from, never_behind, world_behind}
+use Rattle.mk_core.specs.History.{IsHistory, World, bases_of, call_decided, calls, calls_from, left, left_from}
+use Rattle.mk_core.specs.History.{never_behind, world_behind}
 use Rattle.mk_core.specs.Image.{answer_of, answers_of}
 use Rattle.mk_core.specs.Moments.{flight_of}
-use Rattle.mk_core.proofs.HistoryParts.{admitted_in_parts, calls_in_parts, earlier_part_is_history, left_in_parts, never_in_parts}
+use Rattle.mk_core.proofs.HistoryParts.{admitted_in_parts, calls_in_parts, earlier_part_is_history, left_in_parts}
+use Rattle.mk_core.proofs.HistoryParts.{never_in_parts}
 use Rattle.mk_images.proofs.OneEvent.{one_event}
 use Rattle.mk_invariant.proofs.Joined.{told_to_images}
 use Rattle.mk_frames.proofs.LastEvents.{comes_last, stands}

@@ -91,7 +91,10 @@ module _ (on : Bool) (c : Config) (s : Seat) (es : List Event) (t : TurnOf c s e
       → (CycleIsOn t → At is_end xs) → FreesFirst t → FreeIsExact on t
   due_exact xs begin ys is begins none_before none_behind stopped goes_on older frees =
       record {
-        begins = ((λ b. frees.due), (λ d. record { before = xs; event = begin; behind = ys; is = is; of_kind = begins }));
+        begins = (
+          (λ b. frees.due),
+          (λ d. record { before = xs; event = begin; behind = ys; is = is; of_kind = begins }),
+        );
         first = λ d. frees;
         undue = λ n. absurd (n frees.due);
         stopped = λ off b. ended (stopped off);

@@ -28,7 +28,8 @@ use Rattle.mk_alloc.proofs.DueParts.{run_in}
 use Rattle.mk_alloc.proofs.FreeTurns.{is_quar, loading_frees, loading_no_quar, not_due_without, quars_held}
 use Rattle.mk_alloc.proofs.Going.{IsCallers, callers_then}
 use Rattle.mk_alloc.proofs.Parts.{part_lacks, seen_behind}
-use Rattle.mk_alloc.proofs.RetiredTurns.{decided_on, due_in, due_since, rests_exactly, run_or_rest, runs_exactly, same_rest, turn}
+use Rattle.mk_alloc.proofs.RetiredTurns.{decided_on, due_in, due_since, rests_exactly, run_or_rest, runs_exactly}
+use Rattle.mk_alloc.proofs.RetiredTurns.{same_rest, turn}
 use Rattle.mk_alloc.proofs.Stretches.{AreOfTurn}
 use Rattle.mk_never.specs.NeverHeap.{register_at}
 

@@ -101,7 +101,8 @@ calm_last p q more seen calm all is =
 pub none_then : (p q r : PassState) (xs ys : List Event) → q.seen ≡ p.seen ++ xs → r.seen ≡ q.seen ++ ys
     → GrantsNone p q → GrantsNone q r → GrantsNone p r
 none_then p q r xs ys first second one two all is =
-    ap (λ (l : List Event). has_step is_grant l) (more_is p r (xs ++ ys) all (seen_then p.seen q.seen r.seen xs ys first second) is)
+    ap (λ (l : List Event). has_step is_grant l)
+    (more_is p r (xs ++ ys) all (seen_then p.seen q.seen r.seen xs ys first second) is)
     ∙ lacks_append is_grant xs ys (one xs first) (two ys second)
 
 pub last_behind : (p q r : PassState) (xs ys : List Event) → q.seen ≡ p.seen ++ xs → r.seen ≡ q.seen ++ ys

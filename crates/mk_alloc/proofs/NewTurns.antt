@@ -1,5 +1,6 @@
 -- What the turn of a New does with cycles, and what it is answered.
-use Rattle.std.proofs.Common.{◌≡◌, ⊎_elim, ℕ, ◌<◌, Bool, true, false, List, [], ◌∷◌, ◌++◌, length, refl, sym, ◌∙◌, ap, subst, append_assoc}
+use Rattle.std.proofs.Common.{◌≡◌, ⊎_elim, ℕ, ◌<◌, Bool, true, false, List, [], ◌∷◌, ◌++◌, length, refl, sym, ◌∙◌, ap}
+use Rattle.std.proofs.Common.{subst, append_assoc}
 use Rattle.std.specs.Prelude.{Some, ◌&&◌, nat_lt}
 use Rattle.std.proofs.lemmas.Bool.{and_from, lt-ltb, or_left, or_right}
 use Rattle.mk_never.specs.declared.operations.Op.{Op}

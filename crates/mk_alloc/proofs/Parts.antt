@@ -13,7 +13,8 @@ use Rattle.mk_turns.proofs.Doing.{does_step}
 use Rattle.mk_cycle.specs.TurnKeeps.{InTurn}
 use Rattle.mk_alloc.proofs.ListParts.{Lacks, SomeKind}
 use Rattle.mk_alloc.proofs.StepKinds.{AreApart, IsHolders, lacks}
-use Rattle.mk_alloc.proofs.Stretches.{AreOfTurn, SomeKinds, Stretch, does_stretch, holds_behind, no_kinds, others_stretch}
+use Rattle.mk_alloc.proofs.Stretches.{AreOfTurn, SomeKinds, Stretch, does_stretch, holds_behind, no_kinds}
+use Rattle.mk_alloc.proofs.Stretches.{others_stretch}
 
 -- what a pass has seen behind parts
 

@@ -1,5 +1,6 @@
 -- The turn of a Free, from its `take` to where it is given back.
-use Rattle.std.proofs.Common.{◌≡◌, ⊎_elim, inl, inr, ℕ, Bool, true, false, List, [], ◌∷◌, ◌++◌, refl, sym, ◌∙◌, ap, subst, append_assoc, append-nil}
+use Rattle.std.proofs.Common.{◌≡◌, ⊎_elim, inl, inr, ℕ, Bool, true, false, List, [], ◌∷◌, ◌++◌, refl, sym, ◌∙◌, ap}
+use Rattle.std.proofs.Common.{subst, append_assoc, append-nil}
 use Rattle.std.specs.Prelude.{Some}
 use Rattle.std.proofs.lemmas.Bool.{cases_Bool}
 use Rattle.mk_never.specs.declared.operations.Op.{Op}
@@ -39,7 +40,8 @@ use Rattle.mk_alloc.specs.Underway.{GoesOn}
 use Rattle.mk_alloc.proofs.CalledTurns.{phase_taken, taken_same, turn_of, within_is}
 use Rattle.mk_alloc.proofs.CycleParts.{begins_held, finishes_held}
 use Rattle.mk_alloc.proofs.DueParts.{RunIn, at_behind, ends_before, run_in}
-use Rattle.mk_alloc.proofs.FreeTurns.{cycles_held, due_exact, freeing_no_cycle, is_quar, not_due_without, quars_held, undue_exact}
+use Rattle.mk_alloc.proofs.FreeTurns.{cycles_held, due_exact, freeing_no_cycle, is_quar, not_due_without, quars_held}
+use Rattle.mk_alloc.proofs.FreeTurns.{undue_exact}
 use Rattle.mk_alloc.proofs.Going.{IsCallers, then_on}
 use Rattle.mk_alloc.proofs.ListParts.{InFirst, InSecond, Lacks, lacks_append, lacks_first, stands}
 use Rattle.mk_alloc.proofs.Parts.{others_lack, part_lacks, seen_behind, seen_then}

@@ -1,5 +1,6 @@
 -- Where a New asks for room: its cycle's begin and its end come while its object has no place.
-use Rattle.std.proofs.Common.{◌≡◌, ⊎_elim, true, false, List, [], ◌∷◌, ◌++◌, refl, sym, ◌∙◌, ap, subst, append_assoc, append-nil}
+use Rattle.std.proofs.Common.{◌≡◌, ⊎_elim, true, false, List, [], ◌∷◌, ◌++◌, refl, sym, ◌∙◌, ap, subst, append_assoc}
+use Rattle.std.proofs.Common.{append-nil}
 use Rattle.std.specs.Prelude.{Option, Some, None, IsSome}
 use Rattle.std.proofs.lemmas.Bool.{or_from}
 use Rattle.mk_geom.specs.declared.pages.Place.{Place}
@@ -25,7 +26,9 @@ use Rattle.mk_objects.proofs.JoinedLooks.{does_wider}
 use Rattle.mk_alloc.specs.Rooms.{AsksRoom, asks_room}
 use Rattle.mk_alloc.specs.TurnCycles.{HasNoPlace, is_want}
 use Rattle.mk_alloc.proofs.CalmStretches.{releases_none, stays_reserved}
-use Rattle.mk_alloc.proofs.CycleParts.{begins_held, gives_of, h_closed, h_closing, h_ended, h_freed, h_released, of_turn, t_closed, t_closing, t_ended, t_freed, t_released, tallies_of, wants_held}
+use Rattle.mk_alloc.proofs.CycleParts.{begins_held, gives_of, h_closed, h_closing, h_ended, h_freed, h_released}
+use Rattle.mk_alloc.proofs.CycleParts.{of_turn, t_closed, t_closing, t_ended, t_freed, t_released, tallies_of}
+use Rattle.mk_alloc.proofs.CycleParts.{wants_held}
 use Rattle.mk_alloc.proofs.Going.{IsCallers}
 use Rattle.mk_alloc.proofs.ListParts.{InFirst, InSecond, Lacks, lacks_append, lacks_at, stands}
 use Rattle.mk_alloc.proofs.Parts.{has_then, others_lack, part_lacks, seen_behind, seen_made, seen_then}

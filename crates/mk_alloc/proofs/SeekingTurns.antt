@@ -22,7 +22,8 @@ use Rattle.mk_cycle.specs.BeginCycle.{BeginsCycle}
 use Rattle.mk_cycle.specs.EngineLaw.{IsAtPhase}
 use Rattle.mk_cycle.specs.FinishCycle.{FinishesCycle}
 use Rattle.mk_cycle.specs.TurnKeeps.{Done, InTurn}
-use Rattle.mk_objects.specs.Placing.{FitsNowhere, IsOutOfStop, IsPlaced, IsUnplaced, OnlyLooks, is_look, is_placing, object_for, place_now_for}
+use Rattle.mk_objects.specs.Placing.{FitsNowhere, IsOutOfStop, IsPlaced, IsUnplaced, OnlyLooks, is_look, is_placing}
+use Rattle.mk_objects.specs.Placing.{object_for, place_now_for}
 use Rattle.mk_objects.proofs.JoinedLooks.{looks_left, looks_object, looks_unplaced}
 use Rattle.mk_objects.proofs.Looks.{acting_caller}
 use Rattle.mk_objects.proofs.MayAct.{new_is_acting}
@@ -38,7 +39,8 @@ use Rattle.mk_alloc.proofs.Going.{IsCallers, begun_on, finished_on, looked_on, o
 use Rattle.mk_alloc.proofs.Parts.{part_lacks, seen_behind}
 use Rattle.mk_alloc.proofs.PlacedTurns.{look_stays, looked_beside, placed_on, placing_stays}
 use Rattle.mk_alloc.proofs.QuietTurns.{same_phase}
-use Rattle.mk_alloc.proofs.RoomParts.{begin_none, begin_room, finish_room, looks_no_room, no_place, nowhere_then, places_no_room, room_lacks, room_then, rooms_held}
+use Rattle.mk_alloc.proofs.RoomParts.{begin_none, begin_room, finish_room, looks_no_room, no_place, nowhere_then}
+use Rattle.mk_alloc.proofs.RoomParts.{places_no_room, room_lacks, room_then, rooms_held}
 use Rattle.mk_alloc.proofs.StepKinds.{AreApart}
 use Rattle.mk_alloc.proofs.Stretches.{AreOfTurn, SomeKinds}
 use Rattle.mk_core.specs.Effects.{cycle_ended}
@@ -94,7 +96,8 @@ seeks_placed p q t u quiet placed history =
           (part_lacks is_placing _ p q placing_stays rooms_held places_no_room t placed.granted.does history);
       none = λ none. cc;
       last = calm_last p q placed.granted.does.more (seen_behind is_placing p q placed.granted.does)
-          (part_lacks is_placing lets_go p q placing_stays lets_go_held places_let_none_go t placed.granted.does history);
+          (part_lacks is_placing lets_go p q placing_stays lets_go_held places_let_none_go t placed.granted.does
+          history);
     }
 
 pub seeks_looked : (p q : PassState) → InTurn p → IsUnplaced p → IsQuiet p → OnlyLooks p q

@@ -17,7 +17,8 @@ use Rattle.mk_words.specs.TurnSteps.{Acts}
 use Rattle.mk_caller.specs.Called.{own_steps, stages_made, step_at}
 use Rattle.mk_turns.specs.Doing.{Does, are_of, done_in}
 use Rattle.mk_turns.specs.Sweeping.{HaveNoMark, SweepsNothing, is_mark}
-use Rattle.mk_turns.proofs.Sweeping.{does_sweep, kinds_sweep, only_seen, other_step_sweeps, step_then_sweeps, sweeps_then}
+use Rattle.mk_turns.proofs.Sweeping.{does_sweep, kinds_sweep, only_seen, other_step_sweeps, step_then_sweeps}
+use Rattle.mk_turns.proofs.Sweeping.{sweeps_then}
 use Rattle.mk_waiting.specs.Taking.{TakesTurn}
 use Rattle.mk_waiting.proofs.Unswept.{taking_sweeps}
 use Rattle.mk_objects.specs.Placing.{IsOutOfStop, is_look}

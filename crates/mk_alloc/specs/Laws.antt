@@ -45,4 +45,5 @@ abbrev pub CallsSweepNothing : Type 0
 CallsSweepNothing = (p : PassState) (o : Op) (a : Answer) (q : PassState) → Called p o a q → SweepsNothing p q
 
 abbrev pub SweepNothingWhereHeld : Type 0
-SweepNothingWhereHeld = (p : PassState) (o : Op) (q : PassState) → Has p.seats p.seat → FindsGateHeld p o q → SweepsNothing p q
+SweepNothingWhereHeld = (p : PassState) (o : Op) (q : PassState) → Has p.seats p.seat → FindsGateHeld p o q
+    → SweepsNothing p q

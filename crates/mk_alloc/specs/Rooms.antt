@@ -34,8 +34,8 @@ abbrev pub GrantsLast : PassState → PassState → Type 0
 GrantsLast p q =
     (more : List Event) → q.seen ≡ p.seen ++ more → (g : At is_grant more) → has_step lets_go g.behind ≡ false
 
--- The turn of a New went on, and asked for room so. Until it is answered it is granted nothing, and then it lets nothing
--- go.
+-- The turn of a New went on, and asked for room so. Until it is answered it is granted nothing, and then it lets
+-- nothing go.
 pub record Seeks (a : Option Answer) (p q : PassState) : Type 0 where
   pub on : GoesOn a p q
   pub room : AsksRoom (object_for p) p q

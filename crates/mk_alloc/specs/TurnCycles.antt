@@ -66,8 +66,9 @@ pub record FreesFirst {c : Config} {s : Seat} {es : List Event} (t : TurnOf c s 
   pub due : IsDueIn t
   pub no_cycle : has_step is_of_cycle due.before ≡ false
 
--- A Free begins a cycle exactly where it is due, behind the event that frees, and else does nothing with cycles. An engine
--- that keeps on leaves that cycle on, and has ended the one that was on before; one that doesn't ends it in the call.
+-- A Free begins a cycle exactly where it is due, behind the event that frees, and else does nothing with cycles. An
+-- engine that keeps on leaves that cycle on, and has ended the one that was on before; one that doesn't ends it in the
+-- call.
 pub record FreeIsExact (on : Bool) {c : Config} {s : Seat} {es : List Event} (t : TurnOf c s es) : Type 0 where
   pub begins : BeginsIn t ↔ IsDueIn t
   pub first : IsDueIn t → FreesFirst t
@@ -80,8 +81,8 @@ pub record FreeIsExact (on : Bool) {c : Config} {s : Seat} {es : List Event} (t 
 abbrev pub HasNoPlace : Config → Object → List Event → Type 0
 HasNoPlace c o es = FitsAmongAllocations c o.words o.leaf (left c es).allocations → ⊥
 
--- A New begins a cycle, and ends one, only where its object has no place. Behind the grant of its object it lets nothing
--- go.
+-- A New begins a cycle, and ends one, only where its object has no place. Behind the grant of its object it lets
+-- nothing go.
 pub record NewIsExact {c : Config} {s : Seat} {es : List Event} (t : TurnOf c s es) (o : Object) : Type 0 where
   pub begins : (b : BeginsIn t) → HasNoPlace c o (within_turn t b.before)
   pub ends : (w : At is_want t.behind) → HasNoPlace c o (within_turn t w.before)

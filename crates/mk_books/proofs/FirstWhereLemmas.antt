@@ -1,5 +1,6 @@
 -- The place of the first that passes, by places.
-use Rattle.std.proofs.Common.{◌≡◌, ℕ, zero, suc, ◌<◌, Bool, true, false, List, [], ◌∷◌, length, get_or, Some, None, ap, add-one, arith}
+use Rattle.std.proofs.Common.{◌≡◌, ℕ, zero, suc, ◌<◌, Bool, true, false, List, [], ◌∷◌, length, get_or, Some, None, ap}
+use Rattle.std.proofs.Common.{add-one, arith}
 use Rattle.mk_geom.specs.PageUses.{first_where}
 
 pub first_where_at : {A : Type 0} (p : A → Bool) (xs : List A) (n : ℕ) (d : A) → n < length xs
@@ -8,7 +9,8 @@ first_where_at p [] n d within fails passes = absurd (omega arith)
 first_where_at p (x ∷ xs) zero d within fails passes = rw passes
 first_where_at p (x ∷ xs) (suc n) d within fails passes =
     let here : p x ≡ false = fails 0 (omega arith) in
-    let later : first_where p xs ≡ Some n = first_where_at p xs n d (omega arith) (λ k below. fails (suc k) (omega arith)) passes in
+    let later : first_where p xs ≡ Some n =
+    first_where_at p xs n d (omega arith) (λ k below. fails (suc k) (omega arith)) passes in
     rw (here, later) (ap Some (add-one n))
 
 pub first_where_nowhere : {A : Type 0} (p : A → Bool) (xs : List A) (d : A)

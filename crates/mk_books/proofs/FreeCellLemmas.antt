@@ -1,9 +1,12 @@
 -- The free cells of each class, page by page.
-use Rattle.std.proofs.Common.{◌≡◌, ◌≢◌, ℕ, zero, suc, ◌+◌, ◌-◌, ◌*◌, ◌^◌, ◌<◌, ◌≤◌, Bool, true, false, not, ◌&&◌, nat_eq, if◌then◌else◌, Option, Some, None, List, [], ◌∷◌, ◌++◌, length, map, take, set, get_or, count_by, ap, sym, refl, add-zero, ◌∙◌, inl, inr, arith}
+use Rattle.std.proofs.Common.{◌≡◌, ◌≢◌, ℕ, zero, suc, ◌+◌, ◌-◌, ◌*◌, ◌^◌, ◌<◌, ◌≤◌, Bool, true, false, not, ◌&&◌}
+use Rattle.std.proofs.Common.{nat_eq, if◌then◌else◌, Option, Some, None, List, [], ◌∷◌, ◌++◌, length, map, take, set}
+use Rattle.std.proofs.Common.{get_or, count_by, ap, sym, refl, add-zero, ◌∙◌, inl, inr, arith}
 use Rattle.std.proofs.Math.Bool.{beq}
 use Rattle.std.specs.List.{range_with_len}
 use Rattle.std.proofs.lemmas.Bool.{cases_eq, eq-eqb, ne_eqb, and_right}
-use Rattle.std.proofs.lemmas.List.{same_lists, length-set, get_or-set_same, get_or-set_other, set-append_left, set-append_right, get_or_append_left, get_or-append_right, map_more, length-take-le}
+use Rattle.std.proofs.lemmas.List.{same_lists, length-set, get_or-set_same, get_or-set_other, set-append_left}
+use Rattle.std.proofs.lemmas.List.{set-append_right, get_or_append_left, get_or-append_right, map_more, length-take-le}
 use Rattle.std.proofs.lemmas.List.FromFn.{length-map-range_with_len, get_or-map-range_with_len}
 use Rattle.std.proofs.lemmas.List.Sums.{sum_by_push, sum_by-cons, count_by-le-length}
 use Rattle.mk_geom.specs.PageUses.{PageUse, Cells, cells_taken, is_same_sort, free_cells_among}
@@ -29,19 +32,23 @@ map_range-set f g n k y within here others =
     get_or-map-range_with_len g 0 n j j d low (omega arith)
     ∙ elim (cases_eq j k) [
       | inl same ↦ ap g same ∙ here ∙ sym (rw same (get_or-set_same xs k y d (omega (arith, long))))
-      | inr other ↦ others j other ∙ sym (get_or-set_other xs k j y d other ∙ get_or-map-range_with_len f 0 n j j d low (omega arith))
+      | inr other ↦ others j other
+          ∙ sym (get_or-set_other xs k j y d other ∙ get_or-map-range_with_len f 0 n j j d low (omega arith))
     ])
 
 free_cells_among-push : (leaf : Bool) (pages : List PageUse) (page : PageUse) (class : ℕ)
-    → free_cells_among leaf (pages ++ page ∷ []) class ≡ free_cells_among leaf pages class + count_by not (cells_taken class leaf page)
-free_cells_among-push leaf pages page class = sum_by_push (λ page. count_by not (cells_taken class leaf page)) pages page
+    → free_cells_among leaf (pages ++ page ∷ []) class ≡ free_cells_among leaf pages class
+    + count_by not (cells_taken class leaf page)
+free_cells_among-push leaf pages page class =
+    sum_by_push (λ page. count_by not (cells_taken class leaf page)) pages page
 
 length-free_cells_of_sort : (leaf : Bool) (pages : List PageUse) → length (free_cells_of_sort leaf pages) ≡ 8
 length-free_cells_of_sort leaf pages = length-map-range_with_len (free_cells_among leaf pages) 0 8
 
 get_or-free_cells_of_sort : (leaf : Bool) (pages : List PageUse) (class d : ℕ) → class < 8
     → get_or (free_cells_of_sort leaf pages) class d ≡ free_cells_among leaf pages class
-get_or-free_cells_of_sort leaf pages class d within = get_or-map-range_with_len (free_cells_among leaf pages) 0 8 class class d within (omega arith)
+get_or-free_cells_of_sort leaf pages class d within =
+    get_or-map-range_with_len (free_cells_among leaf pages) 0 8 class class d within (omega arith)
 
 same_sort : (leaf : Bool) → is_same_sort leaf leaf ≡ true
 same_sort true = refl
@@ -50,10 +57,12 @@ same_sort false = refl
 same_class : (leaf : Bool) (taken : List Bool) (class : ℕ) → cells_taken class leaf (Cells class leaf taken) ≡ taken
 same_class leaf taken class = rw (eq-eqb class class refl, same_sort leaf) refl
 
-other_class : (leaf : Bool) (taken : List Bool) (class other : ℕ) → other ≢ class → cells_taken other leaf (Cells class leaf taken) ≡ []
+other_class : (leaf : Bool) (taken : List Bool) (class other : ℕ) → other ≢ class
+    → cells_taken other leaf (Cells class leaf taken) ≡ []
 other_class leaf taken class other differ = rw (ne_eqb other class differ) refl
 
-other_sort : (leaf : Bool) (taken : List Bool) (class other : ℕ) → cells_taken other (not leaf) (Cells class leaf taken) ≡ []
+other_sort : (leaf : Bool) (taken : List Bool) (class other : ℕ)
+    → cells_taken other (not leaf) (Cells class leaf taken) ≡ []
 other_sort true taken class other = rw (and_right (nat_eq other class) false refl) refl
 other_sort false taken class other = rw (and_right (nat_eq other class) false refl) refl
 
@@ -68,7 +77,8 @@ pub cells_taken_alike : (page : PageUse) (class class' : ℕ) (leaf leaf' : Bool
     → page ≡ Cells class' leaf' (bits_of (cells_of class') used) → class' ≡ class → leaf' ≡ leaf
     → cells_taken class leaf page ≡ bits_of (cells_of class) used
 cells_taken_alike page class class' leaf leaf' used stands same_class' same_sort' =
-    ap (cells_taken class leaf) (stands ∙ λ i. Cells (same_class' i) (same_sort' i) (bits_of (cells_of (same_class' i)) used))
+    ap (cells_taken class leaf) (stands
+    ∙ λ i. Cells (same_class' i) (same_sort' i) (bits_of (cells_of (same_class' i)) used))
     ∙ same_class leaf (bits_of (cells_of class) used) class
 
 -- one page more that has cells of the sort
@@ -88,7 +98,8 @@ of_sort-push leaf pages class taken within =
     ∙ add-zero (free_cells_among leaf pages other))
 
 -- one page more that has none of the sort's cells
-of_sort-push_other : (leaf : Bool) (pages : List PageUse) (page : PageUse) → ((class : ℕ) → cells_taken class leaf page ≡ [])
+of_sort-push_other : (leaf : Bool) (pages : List PageUse) (page : PageUse)
+    → ((class : ℕ) → cells_taken class leaf page ≡ [])
     → free_cells_of_sort leaf (pages ++ page ∷ []) ≡ free_cells_of_sort leaf pages
 of_sort-push_other leaf pages page none =
     let same : (class : ℕ) → free_cells_among leaf (pages ++ page ∷ []) class ≡ free_cells_among leaf pages class
@@ -106,18 +117,22 @@ get_or-halves : (blocks leaves : List ℕ) (class : ℕ) (leaf : Bool) → lengt
     → get_or (blocks ++ leaves) (class_place class leaf) 0 ≡ get_or (if leaf then leaves else blocks) class 0
 get_or-halves blocks leaves class false long within = get_or_append_left blocks leaves 0 class (omega arith)
 get_or-halves blocks leaves class true long within =
-    get_or-append_right blocks leaves 8 (8 + class) 0 long (omega arith) ∙ ap (λ place. get_or leaves place 0) (back class)
+    get_or-append_right blocks leaves 8 (8 + class) 0 long (omega arith)
+    ∙ ap (λ place. get_or leaves place 0) (back class)
 
 set-halves : (blocks leaves : List ℕ) (class y : ℕ) (leaf : Bool) → length blocks ≡ 8 → class < 8
-    → set (blocks ++ leaves) (class_place class leaf) y ≡ (if leaf then blocks ++ set leaves class y else set blocks class y ++ leaves)
+    → set (blocks ++ leaves) (class_place class leaf) y
+    ≡ (if leaf then blocks ++ set leaves class y else set blocks class y ++ leaves)
 set-halves blocks leaves class y false long within = set-append_left blocks leaves class y (omega arith)
 set-halves blocks leaves class y true long within =
-    set-append_right blocks leaves 8 (8 + class) y long (omega arith) ∙ ap (λ place. blocks ++ set leaves place y) (back class)
+    set-append_right blocks leaves 8 (8 + class) y long (omega arith)
+    ∙ ap (λ place. blocks ++ set leaves place y) (back class)
 
 -- one page more, a block
 by_class-push : (pages : List PageUse) (class : ℕ) (leaf : Bool) (taken : List Bool) → class < 8
     → free_cells_by_class (pages ++ Cells class leaf taken ∷ [])
-    ≡ set (free_cells_by_class pages) (class_place class leaf) (get_or (free_cells_by_class pages) (class_place class leaf) 0 + count_by not taken)
+    ≡ set (free_cells_by_class pages) (class_place class leaf)
+    (get_or (free_cells_by_class pages) (class_place class leaf) 0 + count_by not taken)
 by_class-push pages class false taken within =
     let blocks = free_cells_of_sort false pages in
     let leaves = free_cells_of_sort true pages in
@@ -126,7 +141,8 @@ by_class-push pages class false taken within =
     (of_sort-push_other true pages (Cells class false taken) (other_sort false taken class))
     ∙ ap (λ front. front ++ leaves) (of_sort-push false pages class taken within)
     ∙ sym (set-halves blocks leaves class (get_or blocks class 0 + count_by not taken) false long within)
-    ∙ ap (λ count. set (blocks ++ leaves) class (count + count_by not taken)) (sym (get_or-halves blocks leaves class false long within))
+    ∙ ap (λ count. set (blocks ++ leaves) class (count + count_by not taken))
+    (sym (get_or-halves blocks leaves class false long within))
 by_class-push pages class true taken within =
     let blocks = free_cells_of_sort false pages in
     let leaves = free_cells_of_sort true pages in
@@ -135,22 +151,27 @@ by_class-push pages class true taken within =
     (of_sort-push_other false pages (Cells class true taken) (other_sort true taken class))
     ∙ ap (λ rest. blocks ++ rest) (of_sort-push true pages class taken within)
     ∙ sym (set-halves blocks leaves class (get_or leaves class 0 + count_by not taken) true long within)
-    ∙ ap (λ count. set (blocks ++ leaves) (8 + class) (count + count_by not taken)) (sym (get_or-halves blocks leaves class true long within))
+    ∙ ap (λ count. set (blocks ++ leaves) (8 + class) (count + count_by not taken))
+    (sym (get_or-halves blocks leaves class true long within))
 
 -- one page more, and no block
 by_class-push_other : (pages : List PageUse) (page : PageUse) → HasNoCells page
     → free_cells_by_class (pages ++ page ∷ []) ≡ free_cells_by_class pages
 by_class-push_other pages page none =
-    ap (λ rest. free_cells_of_sort false (pages ++ page ∷ []) ++ rest) (of_sort-push_other true pages page (λ class. none class true))
-    ∙ ap (λ front. front ++ free_cells_of_sort true pages) (of_sort-push_other false pages page (λ class. none class false))
+    ap (λ rest. free_cells_of_sort false (pages ++ page ∷ []) ++ rest)
+    (of_sort-push_other true pages page (λ class. none class true))
+    ∙ ap (λ front. front ++ free_cells_of_sort true pages)
+    (of_sort-push_other false pages page (λ class. none class false))
 
 get_or-by_class : (pages : List PageUse) (class : ℕ) (leaf : Bool) → class < 8
     → get_or (free_cells_by_class pages) (class_place class leaf) 0 ≡ free_cells_among leaf pages class
 get_or-by_class pages class false within =
-    get_or-halves (free_cells_of_sort false pages) (free_cells_of_sort true pages) class false (length-free_cells_of_sort false pages) within
+    get_or-halves (free_cells_of_sort false pages) (free_cells_of_sort true pages) class false
+    (length-free_cells_of_sort false pages) within
     ∙ get_or-free_cells_of_sort false pages class 0 within
 get_or-by_class pages class true within =
-    get_or-halves (free_cells_of_sort false pages) (free_cells_of_sort true pages) class true (length-free_cells_of_sort false pages) within
+    get_or-halves (free_cells_of_sort false pages) (free_cells_of_sort true pages) class true
+    (length-free_cells_of_sort false pages) within
     ∙ get_or-free_cells_of_sort true pages class 0 within
 
 -- a page has at most 32 cells
@@ -169,17 +190,21 @@ cells_if : (test : Bool) (cells used : ℕ) → cells ≤ 32 → length (if test
 cells_if true cells used few = omega (arith, length-bits_of cells used)
 cells_if false cells used few = omega arith
 
-length-cells_taken-le : (class : ℕ) (leaf : Bool) (header : Option Header) (used : ℕ) → length (cells_taken class leaf (use_under header used)) ≤ 32
+length-cells_taken-le : (class : ℕ) (leaf : Bool) (header : Option Header) (used : ℕ)
+    → length (cells_taken class leaf (use_under header used)) ≤ 32
 length-cells_taken-le class leaf None used = omega arith
 length-cells_taken-le class leaf (Some Free) used = omega arith
-length-cells_taken-le class leaf (Some (Block other)) used = cells_if (nat_eq class other && is_same_sort leaf false) (cells_of other) used (cells_of-le other)
+length-cells_taken-le class leaf (Some (Block other)) used =
+    cells_if (nat_eq class other && is_same_sort leaf false) (cells_of other) used (cells_of-le other)
 length-cells_taken-le class leaf (Some (Run pages mapped)) used = omega arith
 length-cells_taken-le class leaf (Some (Later distance mapped)) used = omega arith
-length-cells_taken-le class leaf (Some (LeafBlock other)) used = cells_if (nat_eq class other && is_same_sort leaf true) (cells_of other) used (cells_of-le other)
+length-cells_taken-le class leaf (Some (LeafBlock other)) used =
+    cells_if (nat_eq class other && is_same_sort leaf true) (cells_of other) used (cells_of-le other)
 length-cells_taken-le class leaf (Some (LeafRun pages)) used = omega arith
 
 -- the free cells of one page more are at most 32
-free_cells_among-le : (class : ℕ) (leaf : Bool) (pages : List Page) → free_cells_among leaf (uses_of_pages pages) class ≤ 32 * length pages
+free_cells_among-le : (class : ℕ) (leaf : Bool) (pages : List Page)
+    → free_cells_among leaf (uses_of_pages pages) class ≤ 32 * length pages
 free_cells_among-le class leaf [] = omega arith
 free_cells_among-le class leaf (page ∷ pages) =
     let taken = cells_taken class leaf (use_of_page page) in
@@ -192,7 +217,8 @@ free_cells_among-le class leaf (page ∷ pages) =
     )
 
 -- A loop over the pages: what its variables are where a block stands on page i.
-pub record AtBlock (pages : List Page) (i : ℕ) (counts : List ℕ) (class : ℕ) (leaf : Bool) (page : Page) (place count : ℕ) : Type 0 where
+pub record AtBlock (pages : List Page) (i : ℕ) (counts : List ℕ) (class : ℕ) (leaf : Bool) (page : Page)
+    (place count : ℕ) : Type 0 where
   pub within : i < length pages
   pub here : page ≡ get_or pages i page
   pub known : class < 8
@@ -202,8 +228,10 @@ pub record AtBlock (pages : List Page) (i : ℕ) (counts : List ℕ) (class : �
   pub added : count ≡ count_by not (bits_of (cells_of class) page.used)
 
 -- the count of the class fits 64 bits, where the pages lie in memory
-pub room_for_block : (pages : List Page) (i : ℕ) (counts : List ℕ) (class : ℕ) (leaf : Bool) (page : Page) (place count : ℕ)
-    → AtBlock pages i counts class leaf page place count → length pages * 16 < 2 ^ 63 → get_or counts place 0 + count < 2 ^ 64
+pub room_for_block : (pages : List Page) (i : ℕ) (counts : List ℕ) (class : ℕ) (leaf : Bool) (page : Page)
+    (place count : ℕ)
+    → AtBlock pages i counts class leaf page place count → length pages * 16 < 2 ^ 63
+    → get_or counts place 0 + count < 2 ^ 64
 room_for_block pages i counts class leaf page place count at in_memory =
     let before = uses_of_pages (take i pages) in
     let counted : get_or counts place 0 ≡ free_cells_among leaf before class
@@ -220,7 +248,8 @@ room_for_block pages i counts class leaf page place count at in_memory =
       cells_of-le class,
     )
 
-pub by_class-more : (pages : List Page) (i : ℕ) (counts : List ℕ) (class : ℕ) (leaf : Bool) (page : Page) (place count : ℕ)
+pub by_class-more : (pages : List Page) (i : ℕ) (counts : List ℕ) (class : ℕ) (leaf : Bool) (page : Page)
+    (place count : ℕ)
     → AtBlock pages i counts class leaf page place count
     → set counts place (get_or counts place 0 + count) ≡ free_cells_by_class (uses_of_pages (take (i + 1) pages))
 by_class-more pages i counts class leaf page place count at =
@@ -232,7 +261,8 @@ by_class-more pages i counts class leaf page place count at =
     ∙ ap (λ last. before ++ last ∷ []) at.stands)
     ∙ by_class-push before class leaf (bits_of (cells_of class) page.used) at.known)
 
-pub by_class-more_other : (pages : List Page) (i : ℕ) (d : Page) → i < length pages → HasNoCells (use_of_page (get_or pages i d))
+pub by_class-more_other : (pages : List Page) (i : ℕ) (d : Page) → i < length pages
+    → HasNoCells (use_of_page (get_or pages i d))
     → free_cells_by_class (uses_of_pages (take i pages)) ≡ free_cells_by_class (uses_of_pages (take (i + 1) pages))
 by_class-more_other pages i d within none =
     sym (ap free_cells_by_class (map_more use_of_page pages i d within)

@@ -1,5 +1,6 @@
 -- Ranges of free pages, page by page.
-use Rattle.std.proofs.Common.{◌≡◌, ℕ, zero, suc, ◌+◌, ◌<◌, ◌≤◌, max, Bool, true, false, List, [], ◌∷◌, length, get_or, drop, Option, Some, None, option_map, if◌then◌else◌, refl, ap, zero-add, ◌-◌, ◌∙◌, arith}
+use Rattle.std.proofs.Common.{◌≡◌, ℕ, zero, suc, ◌+◌, ◌<◌, ◌≤◌, max, Bool, true, false, List, [], ◌∷◌, length, get_or}
+use Rattle.std.proofs.Common.{drop, Option, Some, None, option_map, if◌then◌else◌, refl, ap, zero-add, ◌-◌, ◌∙◌, arith}
 use Rattle.std.specs.Option.{option_or}
 use Rattle.std.proofs.lemmas.Bool.{le-leb, lt-leb}
 use Rattle.std.proofs.lemmas.List.{at_drop_more, length-map, length-drop, drop-map, drop-drop}
@@ -21,13 +22,15 @@ longest_with-start pages = omega (arith, free_range-le-longest_free_range pages)
 -- one page more, free or not
 pub longest_with-free : (longest range i : ℕ) (pages : List Page) (d : Page) → i < length pages
     → is_free_page (use_of_page (get_or pages i d)) ≡ true
-    → longest_with longest range (uses_of_pages (drop i pages)) ≡ longest_with (max (range + 1) longest) (range + 1) (uses_of_pages (drop (i + 1) pages))
+    → longest_with longest range (uses_of_pages (drop i pages))
+    ≡ longest_with (max (range + 1) longest) (range + 1) (uses_of_pages (drop (i + 1) pages))
 longest_with-free longest range i pages d within free =
     at_drop_more (λ rest. longest_with longest range (uses_of_pages rest)) pages i d within ∙ rw free (omega arith)
 
 pub longest_with-taken : (longest range i : ℕ) (pages : List Page) (d : Page) → i < length pages → range ≤ longest
     → is_free_page (use_of_page (get_or pages i d)) ≡ false
-    → longest_with longest range (uses_of_pages (drop i pages)) ≡ longest_with (max 0 longest) 0 (uses_of_pages (drop (i + 1) pages))
+    → longest_with longest range (uses_of_pages (drop i pages))
+    ≡ longest_with (max 0 longest) 0 (uses_of_pages (drop (i + 1) pages))
 longest_with-taken longest range i pages d within below taken =
     at_drop_more (λ rest. longest_with longest range (uses_of_pages rest)) pages i d within
     ∙ rw taken (omega (arith, free_range-le-longest_free_range (uses_of_pages (drop (i + 1) pages))))
@@ -38,7 +41,8 @@ range_start-later : (count : ℕ) (page : PageUse) (pages : List PageUse) → fr
     → range_start count (page ∷ pages) ≡ option_map (λ n. n + 1) (range_start count pages)
 range_start-later count page pages short = rw (lt-leb count (free_range (page ∷ pages)) short) refl
 
-range_start-here : (count : ℕ) (pages : List PageUse) → 1 ≤ count → count ≤ free_range pages → range_start count pages ≡ Some 0
+range_start-here : (count : ℕ) (pages : List PageUse) → 1 ≤ count → count ≤ free_range pages
+    → range_start count pages ≡ Some 0
 range_start-here count [] some long = absurd (omega arith)
 range_start-here count (page ∷ pages) some long = rw (le-leb count (free_range (page ∷ pages)) long) refl
 
@@ -62,7 +66,8 @@ range_start-none count (page ∷ pages) few =
     range_start-later count page pages (omega (arith, free_range-le-length (page ∷ pages)))
     ∙ ap (λ first. option_map (λ n. n + 1) first) (range_start-none count pages (omega arith))
 
-shifted_twice : (n : ℕ) (first : Option ℕ) → option_map (λ m. m + 1) (option_map (λ m. m + n) first) ≡ option_map (λ m. m + suc n) first
+shifted_twice : (n : ℕ) (first : Option ℕ)
+    → option_map (λ m. m + 1) (option_map (λ m. m + n) first) ≡ option_map (λ m. m + suc n) first
 shifted_twice n None = refl
 shifted_twice n (Some first) = let same : first + n + 1 ≡ first + suc n = omega arith in ap Some same
 
@@ -94,45 +99,54 @@ pub free_range_from-taken : (n : ℕ) (pages : List Page) (d : Page) → n < len
 free_range_from-taken n pages d within taken =
     at_drop_more (λ rest. free_range (uses_of_pages rest)) pages n d within ∙ rw taken refl
 
-from_shifted : (first : Option ℕ) (n m k : ℕ) → n + m ≡ k → option_map (λ p. p + n) (option_map (λ p. p + m) first) ≡ option_map (λ p. p + k) first
+from_shifted : (first : Option ℕ) (n m k : ℕ) → n + m ≡ k
+    → option_map (λ p. p + n) (option_map (λ p. p + m) first) ≡ option_map (λ p. p + k) first
 from_shifted None n m k sum = refl
 from_shifted (Some first) n m k sum = let same : first + m + n ≡ first + k = omega arith in ap Some same
 
 -- the range that ends before page n, which isn't free, is too short
 range_start_from-skip : (range n count : ℕ) (pages : List Page) → range ≤ n → n < length pages
-    → free_range_from range pages + range ≡ n → n < range + count → range_start_from range count pages ≡ range_start_from (n + 1) count pages
+    → free_range_from range pages + range ≡ n → n < range + count
+    → range_start_from range count pages ≡ range_start_from (n + 1) count pages
 range_start_from-skip range n count pages begun within ends short =
     let rest = drop range pages in
     let m = n - range in
     let next : range + suc m ≡ n + 1 = omega arith in
-    let long : length (uses_of_pages rest) ≡ length pages - range = length-map rest use_of_page ∙ length-drop range pages in
+    let long : length (uses_of_pages rest) ≡ length pages - range = length-map rest use_of_page
+    ∙ length-drop range pages in
     ap (option_map (λ p. p + range))
     (range_start-skip count m (uses_of_pages rest) (omega arith) (omega arith) (omega arith)
     ∙ ap (λ pages. option_map (λ p. p + suc m) (range_start count pages))
-    (drop-map use_of_page (suc m) rest ∙ ap uses_of_pages (drop-drop (suc m) range pages ∙ ap (λ k. drop k pages) next)))
+    (drop-map use_of_page (suc m) rest
+    ∙ ap uses_of_pages (drop-drop (suc m) range pages ∙ ap (λ k. drop k pages) next)))
     ∙ from_shifted (range_start count (uses_of_pages (drop (n + 1) pages))) range (suc m) (n + 1) next
 
 range_start_from-here : (range count : ℕ) (pages : List Page) → 1 ≤ count → count ≤ free_range_from range pages
     → range_start_from range count pages ≡ Some range
 range_start_from-here range count pages some long =
-    ap (option_map (λ p. p + range)) (range_start-here count (uses_of_pages (drop range pages)) some long) ∙ ap Some (zero-add range)
+    ap (option_map (λ p. p + range)) (range_start-here count (uses_of_pages (drop range pages)) some long)
+    ∙ ap Some (zero-add range)
 
 range_start_from-end : (range count : ℕ) (pages : List Page) → range ≤ length pages → length pages < range + count
     → range_start_from range count pages ≡ None
 range_start_from-end range count pages begun short =
     let rest = drop range pages in
-    let long : length (uses_of_pages rest) ≡ length pages - range = length-map rest use_of_page ∙ length-drop range pages in
+    let long : length (uses_of_pages rest) ≡ length pages - range = length-map rest use_of_page
+    ∙ length-drop range pages in
     ap (option_map (λ p. p + range)) (range_start-none count (uses_of_pages rest) (omega arith))
 
 -- what a loop knows of the first range: past a page that isn't free, at a range that is long enough, and at the end
 pub first-skip : (first : Option ℕ) (range n count : ℕ) (pages : List Page) → range ≤ n → n < length pages
     → free_range_from range pages + range ≡ n → (first ≡ None → n < range + count)
     → option_or first (range_start_from range count pages) ≡ option_or first (range_start_from (n + 1) count pages)
-first-skip None range n count pages begun within ends short = range_start_from-skip range n count pages begun within ends (short refl)
+first-skip None range n count pages begun within ends short =
+    range_start_from-skip range n count pages begun within ends (short refl)
 first-skip (Some first) range n count pages begun within ends short = refl
 
-pub first-here : (first : Option ℕ) (range count : ℕ) (pages : List Page) → 1 ≤ count → count ≤ free_range_from range pages
-    → option_or first (range_start_from range count pages) ≡ option_or (option_or first (Some range)) (range_start_from range count pages)
+pub first-here : (first : Option ℕ) (range count : ℕ) (pages : List Page) → 1 ≤ count
+    → count ≤ free_range_from range pages
+    → option_or first (range_start_from range count pages)
+    ≡ option_or (option_or first (Some range)) (range_start_from range count pages)
 first-here None range count pages some long = range_start_from-here range count pages some long
 first-here (Some first) range count pages some long = refl
 

@@ -29,12 +29,14 @@ pub freeable_cells-is : (used quar mark k : ℕ) → mark < 2 ^ 64 → k < 32
     → (bit_at (freeable_cells used quar mark) k ≡ 1) ↔ IsFreeable used quar mark k
 freeable_cells-is used quar mark k fits within =
     rw (bit_at-freeable_cells used quar mark k fits (omega arith))
-    (all_three (bit_at used k) (bit_at quar (32 + k)) (bit_at mark k) (bit_at-lt used k) (bit_at-lt quar (32 + k)) (bit_at-lt mark k))
+    (all_three (bit_at used k) (bit_at quar (32 + k)) (bit_at mark k) (bit_at-lt used k) (bit_at-lt quar (32 + k))
+    (bit_at-lt mark k))
 
 pub freeable_cells-none : (used quar mark k : ℕ) → quar < 2 ^ 64 → 32 ≤ k → bit_at (freeable_cells used quar mark) k ≡ 0
 freeable_cells-none used quar mark k fits above =
     let high : quar / 2 ^ 32 < 2 ^ 32 = omega arith in
     let none : bit_at (quar / 2 ^ 32) k ≡ 0 = bit_at_above (quar / 2 ^ 32) 32 k high above in
     bit_at_and (bit_and used (quar / 2 ^ 32)) (bit_not w64 mark) k
-    ∙ ap (λ x. min x (bit_at (bit_not w64 mark) k)) (bit_at_and used (quar / 2 ^ 32) k ∙ ap (λ x. min (bit_at used k) x) none)
+    ∙ ap (λ x. min x (bit_at (bit_not w64 mark) k)) (bit_at_and used (quar / 2 ^ 32) k
+    ∙ ap (λ x. min (bit_at used k) x) none)
     ∙ omega arith

@@ -1,11 +1,13 @@
 -- First fit, page by page: what the pages from one on give, and the pages before it.
-use Rattle.std.proofs.Common.{◌≡◌, ℕ, ◌+◌, ◌<◌, ◌≤◌, Bool, true, false, not, cond, List, [], ◌∷◌, length, get_or, drop, map, count_by, Option, Some, None, option_map, refl, ap, sym, ◌∙◌, zero-add, arith}
+use Rattle.std.proofs.Common.{◌≡◌, ℕ, ◌+◌, ◌<◌, ◌≤◌, Bool, true, false, not, cond, List, [], ◌∷◌, length, get_or, drop}
+use Rattle.std.proofs.Common.{map, count_by, Option, Some, None, option_map, refl, ap, sym, ◌∙◌, zero-add, arith}
 use Rattle.std.specs.Option.{option_or}
 use Rattle.std.proofs.lemmas.List.{at_drop_more, at_drop_all}
 use Rattle.std.proofs.lemmas.List.Sums.{sum_by-cons}
 use Rattle.mk_geom.specs.declared.pages.Page.{Page}
 use Rattle.mk_geom.specs.declared.pages.Place.{Place}
-use Rattle.mk_geom.specs.PageUses.{is_free_page, is_resident_page, resident_pages, cells_taken, first_where, page_behind, cell_place}
+use Rattle.mk_geom.specs.PageUses.{is_free_page, is_resident_page, resident_pages, cells_taken, first_where}
+use Rattle.mk_geom.specs.PageUses.{page_behind, cell_place}
 use Rattle.mk_geom.specs.PageWords.{use_of_page, uses_of_pages}
 
 -- a place among the pages from page n on, as a place among all
@@ -21,13 +23,15 @@ resident_from n pages = resident_pages (uses_of_pages (drop n pages))
 abbrev pub free_page_from : ℕ → List Page → Option ℕ
 free_page_from n pages = option_map (λ page. page + n) (first_where is_free_page (uses_of_pages (drop n pages)))
 
-place_behind-suc : (n : ℕ) (place : Option Place) → option_map (place_behind n) (option_map page_behind place) ≡ option_map (place_behind (n + 1)) place
+place_behind-suc : (n : ℕ) (place : Option Place)
+    → option_map (place_behind n) (option_map page_behind place) ≡ option_map (place_behind (n + 1)) place
 place_behind-suc n None = refl
 place_behind-suc n (Some place) =
     let same : place.page + 1 + n ≡ place.page + (n + 1) = omega arith in
     ap (λ page. Some (record place { page = page })) same
 
-behind-suc : (n : ℕ) (page : Option ℕ) → option_map (λ page. page + n) (option_map (λ page. page + 1) page) ≡ option_map (λ page. page + (n + 1)) page
+behind-suc : (n : ℕ) (page : Option ℕ)
+    → option_map (λ page. page + n) (option_map (λ page. page + 1) page) ≡ option_map (λ page. page + (n + 1)) page
 behind-suc n None = refl
 behind-suc n (Some page) = let same : page + 1 + n ≡ page + (n + 1) = omega arith in ap Some same
 
@@ -39,10 +43,12 @@ cell_from-next n class leaf pages d within none =
     ∙ rw none (place_behind-suc n (cell_place class leaf (uses_of_pages (drop (n + 1) pages))))
 
 pub resident_from-next : (n : ℕ) (pages : List Page) (d : Page) (resident : Bool) → n < length pages
-    → is_resident_page (use_of_page (get_or pages n d)) ≡ resident → resident_from n pages ≡ cond resident 1 0 + resident_from (n + 1) pages
+    → is_resident_page (use_of_page (get_or pages n d)) ≡ resident
+    → resident_from n pages ≡ cond resident 1 0 + resident_from (n + 1) pages
 resident_from-next n pages d resident within known =
     at_drop_more (λ rest. resident_pages (uses_of_pages rest)) pages n d within
-    ∙ sum_by-cons (λ page. cond (is_resident_page page) 1 0) (use_of_page (get_or pages n d)) (uses_of_pages (drop (n + 1) pages))
+    ∙ sum_by-cons (λ page. cond (is_resident_page page) 1 0) (use_of_page (get_or pages n d))
+    (uses_of_pages (drop (n + 1) pages))
     ∙ ap (λ test. cond test 1 0 + resident_from (n + 1) pages) known
 
 pub resident_from-end : (n : ℕ) (pages : List Page) → length pages ≤ n → resident_from n pages ≡ 0
@@ -51,21 +57,25 @@ resident_from-end n pages past = at_drop_all (λ rest. resident_pages (uses_of_p
 pub free_page_from-next : (n : ℕ) (pages : List Page) (d : Page) → n < length pages
     → is_free_page (use_of_page (get_or pages n d)) ≡ false → free_page_from n pages ≡ free_page_from (n + 1) pages
 free_page_from-next n pages d within taken =
-    at_drop_more (λ rest. option_map (λ page. page + n) (first_where is_free_page (uses_of_pages rest))) pages n d within
+    at_drop_more (λ rest. option_map (λ page. page + n) (first_where is_free_page (uses_of_pages rest))) pages n d
+    within
     ∙ rw taken (behind-suc n (first_where is_free_page (uses_of_pages (drop (n + 1) pages))))
 
 pub free_page_from-here : (n : ℕ) (pages : List Page) (d : Page) → n < length pages
     → is_free_page (use_of_page (get_or pages n d)) ≡ true → free_page_from n pages ≡ Some n
 free_page_from-here n pages d within free =
-    at_drop_more (λ rest. option_map (λ page. page + n) (first_where is_free_page (uses_of_pages rest))) pages n d within
+    at_drop_more (λ rest. option_map (λ page. page + n) (first_where is_free_page (uses_of_pages rest))) pages n d
+    within
     ∙ rw free (ap Some (zero-add n))
 
 -- the first of three, of which two are known
-pub or_known : (first : Option ℕ) (n : ℕ) (rest : Option ℕ) → option_or first (Some n) ≡ option_or (option_or first (Some n)) rest
+pub or_known : (first : Option ℕ) (n : ℕ) (rest : Option ℕ)
+    → option_or first (Some n) ≡ option_or (option_or first (Some n)) rest
 or_known None n rest = refl
 or_known (Some first) n rest = refl
 
-pub count_by-map : {A B : Type 0} (p : B → Bool) (f : A → B) (xs : List A) → count_by p (map f xs) ≡ count_by (λ x. p (f x)) xs
+pub count_by-map : {A B : Type 0} (p : B → Bool) (f : A → B) (xs : List A)
+    → count_by p (map f xs) ≡ count_by (λ x. p (f x)) xs
 count_by-map p f [] = refl
 count_by-map p f (x ∷ xs) =
     sum_by-cons (λ y. cond (p y) 1 0) (f x) (map f xs)

@@ -1,12 +1,15 @@
 -- The low bits of a used word.
-use Rattle.std.proofs.Common.{◌≡◌, ℕ, zero, suc, ◌+◌, ◌-◌, ◌^◌, ◌<◌, ◌≤◌, min, Bool, true, false, not, cond, nat_eq, nat_lt, List, [], ◌∷◌, length, get_or, count_by, count_ones, bit_and, w64, ap, sym, ◌∙◌, inl, inr, eq-eqb, refl, arith}
+use Rattle.std.proofs.Common.{◌≡◌, ℕ, zero, suc, ◌+◌, ◌-◌, ◌^◌, ◌<◌, ◌≤◌, min, Bool, true, false, not, cond, nat_eq}
+use Rattle.std.proofs.Common.{nat_lt, List, [], ◌∷◌, length, get_or, count_by, count_ones, bit_and, w64, ap, sym, ◌∙◌}
+use Rattle.std.proofs.Common.{inl, inr, eq-eqb, refl, arith}
 use Rattle.std.specs.Bool.{then_some}
 use Rattle.std.specs.Int.{bit_at, bit_not, trailing_zeros, trailing_ones}
 use Rattle.std.proofs.lemmas.Bool.{cases_lt, lt-ltb, le-ltb}
 use Rattle.std.proofs.lemmas.List.{map-id, get_or_past}
 use Rattle.std.proofs.lemmas.List.Sums.{sum_by-cons}
 use Rattle.std.proofs.lemmas.List.FromFn.{length-map-range_with_len, get_or-map-range_with_len}
-use Rattle.std.proofs.lemmas.Nat.Bits.{bit_at-trailing_ones, bit_at_ones, bit_at_ones_above, bit_at_and, bit_at-lt, same_from_bits}
+use Rattle.std.proofs.lemmas.Nat.Bits.{bit_at-trailing_ones, bit_at_ones, bit_at_ones_above, bit_at_and, bit_at-lt}
+use Rattle.std.proofs.lemmas.Nat.Bits.{same_from_bits}
 use Rattle.std.proofs.lemmas.Simd.{bit_mask_l, ones-mask_l}
 use lib.Lanes.{mask_l}
 use lib.Count.{trailing_of_zero}
@@ -18,7 +21,8 @@ pub length-bits_of : (count used : ℕ) → length (bits_of count used) ≡ coun
 length-bits_of count used = length-map-range_with_len (λ k. nat_eq (bit_at used k) 1) 0 count
 
 get_or-bits_of : (count used k : ℕ) (d : Bool) → k < count → get_or (bits_of count used) k d ≡ nat_eq (bit_at used k) 1
-get_or-bits_of count used k d within = get_or-map-range_with_len (λ k. nat_eq (bit_at used k) 1) 0 count k k d within (omega arith)
+get_or-bits_of count used k d within = get_or-map-range_with_len (λ k. nat_eq (bit_at used k) 1) 0 count k k d within
+    (omega arith)
 
 -- `trailing_ones` is the place of the lowest 0, if there is one
 record LowestZero (word place : ℕ) : Type 0 where
@@ -34,7 +38,10 @@ trailing_ones_is word fits = elim (cases_lt (word + 1) (2 ^ 64)) as (λ _. Lowes
       let all : word ≡ 2 ^ 64 - 1 = omega arith in
       let none : bit_not w64 word ≡ 0 = omega arith in
       let end : trailing_ones w64 word ≡ 64 = ap (trailing_zeros w64) none ∙ trailing_of_zero 64 in
-      record { below = λ k lower within. rw all (bit_at_ones 64 k within); here = λ within. absurd (omega (arith, end)) }
+      record {
+        below = λ k lower within. rw all (bit_at_ones 64 k within);
+        here = λ within. absurd (omega (arith, end));
+      }
 ]
 
 pub first_where-bits_of : (count word : ℕ) → count ≤ 64 → word < 2 ^ 64
@@ -44,15 +51,21 @@ first_where-bits_of count word short fits =
     let lowest = trailing_ones_is word fits in
     let bits = bits_of count word in
     let taken : (k : ℕ) → k < place → k < count → not (get_or bits k false) ≡ false
-    = λ k lower within. rw (get_or-bits_of count word k false within, eq-eqb (bit_at word k) 1 (lowest.below k lower (omega arith))) in
+    = λ k lower within. rw (
+      get_or-bits_of count word k false within,
+      eq-eqb (bit_at word k) 1 (lowest.below k lower (omega arith)),
+    ) in
     elim (cases_lt place count) [
       | inl within ↦
           rw (lt-ltb place count within)
-          (first_where_at not bits place false (omega (arith, length-bits_of count word)) (λ k lower. taken k lower (omega arith))
+          (first_where_at not bits place false (omega (arith, length-bits_of count word))
+          (λ k lower. taken k lower (omega arith))
           (rw (get_or-bits_of count word place false within, lowest.here (omega arith))))
       | inr past ↦
           rw (le-ltb place count past)
-          (first_where_nowhere not bits false (λ k short. taken k (omega (arith, length-bits_of count word)) (omega (arith, length-bits_of count word))))
+          (first_where_nowhere not bits false
+          (λ k short. taken k (omega (arith, length-bits_of count word))
+          (omega (arith, length-bits_of count word))))
     ]
 
 bit_is : (b : ℕ) → b < 2 → min b 1 ≡ cond (nat_eq b 1) 1 0
@@ -71,10 +84,12 @@ masked count word k =
       | inr past ↦
           ap (min (bit_at word k)) (bit_at_ones_above count k past)
           ∙ (let none : min (bit_at word k) 0 ≡ 0 = omega arith in none)
-          ∙ ap (λ b. cond b 1 0) (sym (get_or_past (bits_of count word) k false (omega (arith, length-bits_of count word))))
+          ∙ ap (λ b. cond b 1 0)
+          (sym (get_or_past (bits_of count word) k false (omega (arith, length-bits_of count word))))
     ]
 
-pub count_ones-masked : (count word : ℕ) → count_ones (bit_and word (2 ^ count - 1)) ≡ count_by (λ bit. bit) (bits_of count word)
+pub count_ones-masked : (count word : ℕ)
+    → count_ones (bit_and word (2 ^ count - 1)) ≡ count_by (λ bit. bit) (bits_of count word)
 count_ones-masked count word =
     ap count_ones (same_from_bits (bit_and word (2 ^ count - 1)) (mask_l (bits_of count word))
     (λ k. masked count word k ∙ sym (bit_mask_l (bits_of count word) k)))
@@ -85,7 +100,8 @@ count_ones-masked count word =
 count_by-others : (bits : List Bool) → count_by not bits + count_by (λ bit. bit) bits ≡ length bits
 count_by-others [] = refl
 count_by-others (bit ∷ bits) =
-    let here : cond (not bit) 1 0 + cond bit 1 0 ≡ 1 = elim bit as (λ b. cond (not b) 1 0 + cond b 1 0 ≡ 1) [ true ↦ refl | false ↦ refl ] in
+    let here : cond (not bit) 1 0 + cond bit 1 0 ≡ 1 =
+    elim bit as (λ b. cond (not b) 1 0 + cond b 1 0 ≡ 1) [ true ↦ refl | false ↦ refl ] in
     omega (
       arith,
       here,
@@ -94,5 +110,6 @@ count_by-others (bit ∷ bits) =
       sum_by-cons (λ b. cond b 1 0) bit bits,
     )
 
-pub count_clear_bits : (count word : ℕ) → count_by not (bits_of count word) ≡ count - count_by (λ bit. bit) (bits_of count word)
+pub count_clear_bits : (count word : ℕ)
+    → count_by not (bits_of count word) ≡ count - count_by (λ bit. bit) (bits_of count word)
 count_clear_bits count word = omega (arith, count_by-others (bits_of count word), length-bits_of count word)

@@ -1,5 +1,5 @@
--- The quarantine of a block, whose cells are numbered 0 to 31: bit k of its quarantine word says that cell k is freed, and
--- bit 32 + k that it is in the snapshot.
+-- The quarantine of a block, whose cells are numbered 0 to 31: bit k of its quarantine word says that cell k is freed,
+-- and bit 32 + k that it is in the snapshot.
 use Rattle.std.specs.Prelude.{◌≡◌, ℕ, ◌+◌}
 use Rattle.std.specs.Int.{bit_at}
 

@@ -1,6 +1,7 @@
 //! What stands on one page.
 ghost use Rattle.std.specs.Prelude.{◌≡◌, ◌<◌, ◌≤◌, not, count_by, IfSome, IfNone};
-ghost use Rattle.mk_geom.specs.PageUses.{Cells, is_free_page, is_resident_page, cells_taken, first_where, words_held_by};
+ghost use Rattle.mk_geom.specs.PageUses.{Cells, is_free_page, is_resident_page, cells_taken, first_where};
+ghost use Rattle.mk_geom.specs.PageUses.{words_held_by};
 ghost use Rattle.mk_geom.specs.PageWords.{use_of_page, bits_of};
 ghost use Rattle.mk_geom.specs.Classes.{cells_of};
 ghost use Rattle.mk_books.specs.FreeCells.{HasNoCells};
@@ -35,7 +36,8 @@ pub(crate) struct BlockKind {
 /// The kind of a block; none where the page is no block.
 pub(crate) fn block_of(page: Page) -> Option<BlockKind>
     ensures in_range { IfSome result (λ kind. kind.class < 8) }
-    ensures block { IfSome result (λ kind. use_of_page page ≡ Cells kind.class kind.leaf (bits_of (cells_of kind.class) page.used)) }
+    ensures block { IfSome result
+        (λ kind. use_of_page page ≡ Cells kind.class kind.leaf (bits_of (cells_of kind.class) page.used)) }
     ensures none { IfNone result (HasNoCells (use_of_page page)) }
 {
     match decode(page.header)? {

@@ -15,7 +15,8 @@ use Rattle.mk_words.specs.States.{PassState, call_of}
 use Rattle.mk_caller.specs.States.{never_of, value_of}
 use Rattle.mk_caller.specs.Called.{Called, step_at, refused_from}
 use Rattle.mk_caller.specs.Moves.{IsReady, At, is_access, is_store, refused_steps, refused_register, behind_q}
-use Rattle.mk_caller.proofs.Chains.{go, to, on_to, either_to, of_same, called, value_kept, access_finds_null, access_finds_some, access_is_small, null_steps, refused_puts}
+use Rattle.mk_caller.proofs.Chains.{go, to, on_to, either_to, of_same, called, value_kept, access_finds_null}
+use Rattle.mk_caller.proofs.Chains.{access_finds_some, access_is_small, null_steps, refused_puts}
 use Rattle.mk_caller.proofs.Onward.{store_goes_on}
 
 pub marks_and_leaves : {p q r : PassState} → At p (call_of p).op (step.Dirty ∷ []) None

@@ -1,5 +1,6 @@
 -- What a call leaves in its caller's registers.
-use Rattle.std.proofs.Common.{◌≡◌, ◌≢◌, ℕ, ◌+◌, ◌*◌, ◌<◌, Bool, true, false, List, ◌++◌, refl, sym, ◌∙◌, ap, subst, arith}
+use Rattle.std.proofs.Common.{◌≡◌, ◌≢◌, ℕ, ◌+◌, ◌*◌, ◌<◌, Bool, true, false, List, ◌++◌, refl, sym, ◌∙◌, ap, subst}
+use Rattle.std.proofs.Common.{arith}
 use Rattle.std.specs.Prelude.{Some, if◌then◌else◌, slice_index_or}
 use Rattle.std.proofs.lemmas.List.{get_or-set_same, get_or-set_other}
 use Rattle.mk_never.specs.declared.operations.Op.{Op}
@@ -8,7 +9,8 @@ use Rattle.mk_never.specs.declared.values.Target.{Target}
 use Rattle.mk_never.specs.declared.values.Target.TheVariants.{Nothing, Unmapped, WordOf}
 use Rattle.mk_never.specs.declared.values.Value.{Value}
 use Rattle.mk_never.specs.declared.values.Value.TheVariants.{Null, Num, Ptr}
-use Rattle.mk_never.specs.NeverHeap.{NeverState, register_at, with_register, word_at, with_word, target_of, left_at, after_free, after_op, is_same}
+use Rattle.mk_never.specs.NeverHeap.{NeverState, register_at, with_register, word_at, with_word, target_of, left_at}
+use Rattle.mk_never.specs.NeverHeap.{after_free, after_op, is_same}
 use Rattle.mk_never.specs.Admitted.{IsCaller}
 use Rattle.mk_core.specs.declared.events.Answer.{Answer}
 use Rattle.mk_core.specs.History.{never_behind}

@@ -18,7 +18,8 @@ use Rattle.mk_core.specs.declared.events.Step.TheVariants as step
 use Rattle.mk_core.specs.declared.seats.Flight.{Flight}
 use Rattle.mk_core.specs.declared.seats.Stage.TheVariants as stage
 use Rattle.mk_core.specs.declared.seats.Progress.{Progress}
-use Rattle.mk_core.specs.Calls.{at_rest, begun, onward, refused, first_of, steps_of, stage_refused, q_of, i_of, d_of, progress_reg}
+use Rattle.mk_core.specs.Calls.{at_rest, begun, onward, refused, first_of, steps_of, stage_refused, q_of, i_of, d_of}
+use Rattle.mk_core.specs.Calls.{progress_reg}
 use Rattle.mk_core.specs.History.{never_behind}
 use Rattle.mk_words.specs.States.{PassState, call_of, event_of}
 use Rattle.mk_caller.specs.States.{number_of, never_of, value_of}

@@ -1,5 +1,6 @@
 -- One step of a call: what it adds to the list, to the calls and to the heap that never reuses storage.
-use Rattle.std.proofs.Common.{◌≡◌, ℕ, ◌<◌, true, false, List, [], ◌∷◌, ◌++◌, refl, sym, ◌∙◌, ap, subst, append-nil, append_assoc}
+use Rattle.std.proofs.Common.{◌≡◌, ℕ, ◌<◌, true, false, List, [], ◌∷◌, ◌++◌, refl, sym, ◌∙◌, ap, subst, append-nil}
+use Rattle.std.proofs.Common.{append_assoc}
 use Rattle.std.specs.Prelude.{Option, Some, None}
 use Rattle.mk_never.specs.declared.operations.Op.{Op}
 use Rattle.mk_never.specs.declared.operations.Op.TheVariants as op
@@ -20,7 +21,8 @@ use Rattle.mk_core.specs.Calls.{is_under_turn}
 use Rattle.mk_core.specs.Decided.{Decided, asked, answered, entry_of, flagged}
 use Rattle.mk_core.specs.Effects.{answer_decided}
 use Rattle.mk_core.specs.Growing.{AreOfOthers}
-use Rattle.mk_core.specs.History.{World, first_world, world_behind, left, calls, call_decided, never_behind, bases_of, IsHistory}
+use Rattle.mk_core.specs.History.{World, first_world, world_behind, left, calls, call_decided, never_behind, bases_of}
+use Rattle.mk_core.specs.History.{IsHistory}
 use Rattle.mk_core.specs.Image.{answer_of, answers_of}
 use Rattle.mk_core.specs.Ranges.{is_word_met}
 use Rattle.mk_core.proofs.Histories.{calls_more}

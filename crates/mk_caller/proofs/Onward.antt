@@ -13,7 +13,8 @@ use Rattle.mk_core.specs.declared.seats.Flight.{Flight}
 use Rattle.mk_core.specs.declared.seats.Stage.{Stage}
 use Rattle.mk_core.specs.declared.seats.Stage.TheVariants as stage
 use Rattle.mk_core.specs.declared.seats.Progress.{Progress}
-use Rattle.mk_core.specs.Calls.{at_rest, begun, is_under_turn, steps_of, stage_behind, refused, onward, progress_q, progress_p, progress_reg, progress_read, progress_getg}
+use Rattle.mk_core.specs.Calls.{at_rest, begun, is_under_turn, steps_of, stage_behind, refused, onward, progress_q}
+use Rattle.mk_core.specs.Calls.{progress_p, progress_reg, progress_read, progress_getg}
 use Rattle.mk_core.specs.Cells.{is_unmapped_header}
 use Rattle.mk_core.specs.Effects.{progress_probe}
 use Rattle.mk_core.specs.History.{IsHistory}

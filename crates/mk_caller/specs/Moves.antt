@@ -13,7 +13,8 @@ use Rattle.mk_core.specs.declared.seats.Stage.{Stage}
 use Rattle.mk_core.specs.declared.seats.Stage.TheVariants as stage
 use Rattle.mk_core.specs.declared.seats.Flight.{Flight}
 use Rattle.mk_core.specs.declared.seats.Progress.{Progress}
-use Rattle.mk_core.specs.Calls.{at_rest, begun, onward, refused, is_under_turn, stage_refused, one_if, progress_reg, progress_read, progress_getg}
+use Rattle.mk_core.specs.Calls.{at_rest, begun, onward, refused, is_under_turn, stage_refused, one_if, progress_reg}
+use Rattle.mk_core.specs.Calls.{progress_read, progress_getg}
 use Rattle.mk_core.specs.Decided.{entry_of}
 use Rattle.mk_core.specs.History.{never_behind}
 use Rattle.mk_core.specs.Ranges.{is_word_met}

@@ -7,11 +7,13 @@ ghost use Rattle.mk_core.specs.declared.events.Answer.TheVariants as answer;
 ghost use Rattle.mk_core.specs.declared.events.Step.TheVariants as step;
 ghost use Rattle.mk_core.specs.declared.seats.Stage.TheVariants as stage;
 ghost use Rattle.mk_core.specs.Accesses.{reg_access};
-ghost use Rattle.mk_core.specs.Calls.{at_rest, onward, stage_refused, stage_behind, steps_of, q_of, i_of, d_of, word_met, progress_reg};
+ghost use Rattle.mk_core.specs.Calls.{at_rest, onward, stage_refused, stage_behind, steps_of, q_of, i_of, d_of};
+ghost use Rattle.mk_core.specs.Calls.{word_met, progress_reg};
 ghost use Rattle.mk_words.specs.States.{call_of};
 ghost use Rattle.mk_caller.specs.States.{value_of};
 ghost use Rattle.mk_caller.specs.Causes.{Probes, ProbesAWord, IsRefused};
-ghost use Rattle.mk_caller.specs.Moves.{IsReady, IsUnderway, At, Ends, GoesOn, is_access, is_store, refused_register, refused_steps, fault_steps, behind_q, loads, passes};
+ghost use Rattle.mk_caller.specs.Moves.{IsReady, IsUnderway, At, Ends, GoesOn, is_access, is_store, refused_register};
+ghost use Rattle.mk_caller.specs.Moves.{refused_steps, fault_steps, behind_q, loads, passes};
 
 use crate::refusals::Refusal;
 use crate::steps::{dirty, enter, leave, load, probe, store};

@@ -1,12 +1,14 @@
 //! The steps of a call, each with what is known of the call behind it.
-ghost use Rattle.std.specs.Prelude.{◌≡◌, ◌↔◌, OnOk, OnErr, IfSome, IfNone, Some, None, true, ◌+◌, ◌-◌, ◌*◌, ◌/◌, ◌%◌, ◌^◌, if◌then◌else◌};
+ghost use Rattle.std.specs.Prelude.{◌≡◌, ◌↔◌, OnOk, OnErr, IfSome, IfNone, Some, None, true, ◌+◌, ◌-◌, ◌*◌, ◌/◌, ◌%◌};
+ghost use Rattle.std.specs.Prelude.{◌^◌, if◌then◌else◌};
 ghost use Rattle.mk_never.specs.declared.values.Value.TheVariants.{Null};
 ghost use Rattle.mk_core.specs.declared.accesses.Access.TheVariants.{Load, Store};
 ghost use Rattle.mk_core.specs.declared.events.Answer.TheVariants as answer;
 ghost use Rattle.mk_core.specs.declared.events.Step.TheVariants as step;
 ghost use Rattle.mk_core.specs.declared.seats.Stage.TheVariants as stage;
 ghost use Rattle.mk_core.specs.Accesses.{register_met, reg_access};
-ghost use Rattle.mk_core.specs.Calls.{at_rest, begun, onward, refused, g_of, i_of, value_written, one_if, page_met, word_met, progress_reg, progress_read, progress_getg};
+ghost use Rattle.mk_core.specs.Calls.{at_rest, begun, onward, refused, g_of, i_of, value_written, one_if, page_met};
+ghost use Rattle.mk_core.specs.Calls.{word_met, progress_reg, progress_read, progress_getg};
 ghost use Rattle.mk_words.specs.States.{call_of};
 ghost use Rattle.mk_images.specs.Images.{has_q, has_some_q};
 ghost use Rattle.mk_caller.specs.States.{value_of};
@@ -14,7 +16,8 @@ ghost use Rattle.mk_geom.specs.Headers.{header_of};
 ghost use Rattle.mk_never.specs.declared.values.Target.TheVariants.{Unmapped};
 ghost use Rattle.mk_core.specs.Cells.{is_unmapped_header};
 ghost use Rattle.mk_caller.specs.Causes.{FindsGateHeld, Probes, ProbesAWord};
-ghost use Rattle.mk_caller.specs.Moves.{IsReady, IsUnderway, Moves, GoesOn, begins, is_access, is_load, is_store, loads, loads_global, passes, faults, reads, writes, exchanges, ends};
+ghost use Rattle.mk_caller.specs.Moves.{IsReady, IsUnderway, Moves, GoesOn, begins, is_access, is_load, is_store};
+ghost use Rattle.mk_caller.specs.Moves.{loads, loads_global, passes, faults, reads, writes, exchanges, ends};
 
 use mk_geom::{Header, decode};
 use mk_never::Op;

@@ -9,7 +9,8 @@ use Rattle.mk_never.specs.declared.values.Target.{Target}
 use Rattle.mk_never.specs.declared.values.Target.TheVariants.{Nothing, Unmapped, WordOf}
 use Rattle.mk_never.specs.declared.values.Value.{Value}
 use Rattle.mk_never.specs.declared.values.Value.TheVariants.{Null, Num, Ptr}
-use Rattle.mk_never.specs.NeverHeap.{NeverState, register_at, global_at, with_register, word_at, with_word, target_of, left_at, after_free, after_op, after_calls, is_same}
+use Rattle.mk_never.specs.NeverHeap.{NeverState, register_at, global_at, with_register, word_at, with_word, target_of}
+use Rattle.mk_never.specs.NeverHeap.{left_at, after_free, after_op, after_calls, is_same}
 use Rattle.mk_core.specs.Decided.{Decided, asked}
 use Rattle.mk_caller_clients.specs.Setters.{is_set_of}
 

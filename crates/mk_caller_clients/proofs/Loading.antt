@@ -1,5 +1,6 @@
 -- What is loaded behind a store.
-use Rattle.std.proofs.Common.{◌≡◌, ℕ, ◌+◌, ◌<◌, Bool, true, false, List, [], ◌∷◌, ◌++◌, refl, sym, ◌∙◌, ap, subst, append_assoc, append-nil, cond}
+use Rattle.std.proofs.Common.{◌≡◌, ℕ, ◌+◌, ◌<◌, Bool, true, false, List, [], ◌∷◌, ◌++◌, refl, sym, ◌∙◌, ap, subst}
+use Rattle.std.proofs.Common.{append_assoc, append-nil, cond}
 use Rattle.std.specs.Prelude.{if◌then◌else◌}
 use Rattle.mk_never.specs.declared.operations.Op.{Op}
 use Rattle.mk_never.specs.declared.operations.Op.TheVariants as op
@@ -9,7 +10,8 @@ use Rattle.mk_never.specs.declared.values.Target.{Target}
 use Rattle.mk_never.specs.declared.values.Target.TheVariants.{Nothing, Unmapped, WordOf}
 use Rattle.mk_never.specs.declared.values.Value.{Value}
 use Rattle.mk_never.specs.declared.values.Value.TheVariants.{Null, Num, Ptr}
-use Rattle.mk_never.specs.NeverHeap.{NeverState, register_at, target_of, is_unmapped, allocation_at, word_at, number_of as number_in, reply_at, reply_of, after_op, after_calls}
+use Rattle.mk_never.specs.NeverHeap.{NeverState, register_at, target_of, is_unmapped, allocation_at, word_at}
+use Rattle.mk_never.specs.NeverHeap.{number_of as number_in, reply_at, reply_of, after_op, after_calls}
 use Rattle.mk_never.specs.Admitted.{AreAdmitted, Meets, IsNumber}
 use Rattle.mk_never.specs.Laws.{NoneStoresTo, StoresTo, KeepsRegisters}
 use Rattle.mk_never.proofs.Stores.{load_gives_stored, store_is_inside}
@@ -29,7 +31,8 @@ use Rattle.mk_caller.specs.States.{number_of, never_of, value_of, Admits}
 use Rattle.mk_caller.specs.Called.{Called}
 use Rattle.mk_caller.proofs.After.{still_caller, calls_leave_other_registers}
 use Rattle.mk_caller_clients.specs.Setters.{is_store, IsOnlyStore}
-use Rattle.mk_caller_clients.proofs.Between.{at_once, picked, before, between, same_config, same_number, place, never_there, never_later, none_between}
+use Rattle.mk_caller_clients.proofs.Between.{at_once, picked, before, between, same_config, same_number, place}
+use Rattle.mk_caller_clients.proofs.Between.{never_there, never_later, none_between}
 
 -- Calls that don't store store to no word.
 stores_nothing : (n : NeverState) (k : ℕ) (o : Op) (number at : ℕ) → is_store o ≡ false → StoresTo n k o number at → ⊥
@@ -166,9 +169,11 @@ module _ {p0 p1 p2 : PassState} (x i n loaded : ℕ) (lt : x < 8) (h : IsHistory
       let none = none_between set (at_once p1) get is_store p2.seen [] (sym (append-nil p2.seen)) refl only in
       let ad = (admitted_there set h).0 in
       let inside = store_is_inside n1 k (op.SetNum x i n) stored_to.number stored_to.at ad.access stored_to.is in
-      let gives = load_gives_stored n1 k (op.SetNum x i n) (asked (between set (at_once p1) get)) stored_to.number stored_to.at
+      let gives = load_gives_stored n1 k (op.SetNum x i n) (asked (between set (at_once p1) get)) stored_to.number
+      stored_to.at
       inside stored_to.is
-      (none_store (after_op n1 k (op.SetNum x i n)) (between set (at_once p1) get) stored_to.number stored_to.at none) in
+      (none_store (after_op n1 k (op.SetNum x i n)) (between set (at_once p1) get) stored_to.number stored_to.at none)
+      in
       let is : reply_of n2 k (op.GetNum x i) ≡ reply.Num n = gives.a_number k x i reaches in
       numbers (answered ∙ ap (λ (r : Reply). answer_of
       (bases_of (left p1.table.config (p1.seen ++ get.decided.before ++ get.decided.event ∷ [])).allocations) r)

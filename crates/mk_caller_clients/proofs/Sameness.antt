@@ -21,7 +21,8 @@ use Rattle.mk_caller.proofs.After.{set_same, value_left, calls_leave_other_regis
 use Rattle.mk_frames.proofs.OtherCalls.{never_continues}
 use Rattle.mk_caller_clients.specs.Setters.{is_set_of, IsOnlySetter, HasSeenAllOf, TakesOut}
 use Rattle.mk_caller_clients.proofs.Globals.{calls_keep, set_gives}
-use Rattle.mk_caller_clients.proofs.Between.{at_once, before, decided, others, between, same_config, place, never_there, never_later, none_between}
+use Rattle.mk_caller_clients.proofs.Between.{at_once, before, decided, others, between, same_config, place, never_there}
+use Rattle.mk_caller_clients.proofs.Between.{never_later, none_between}
 
 pub same_is : (p : PassState) (x y : ℕ) → value_of p x ≡ value_of p y → is_same (value_of p x) (value_of p y) ≡ true
 same_is p x y e = same_from_equal (value_of p x) (value_of p y) e
@@ -64,38 +65,39 @@ may_get {p} {q} d g r ad lt c =
 
 module _ {p0 p1 r1 p2 p3 : PassState} (d g r : ℕ) (word : ℕ) (a : Answer) (o : Op) (ad : Admits p0 (op.SetGlobal g r))
     (may : Admits r1 (op.GetGlobal d g)) (set : Called p0 (op.SetGlobal g r) answer.Done p1)
-    (later : HasSeenAllOf p1 r1) (get : Called r1 (op.GetGlobal d g) (answer.Word word) p2) (last : Called p2 o a p3) where
-  abbrev c : Config
-  c = p0.table.config
+    (later : HasSeenAllOf p1 r1) (get : Called r1 (op.GetGlobal d g) (answer.Word word) p2) (last : Called p2 o a p3)
+  where
+    abbrev c : Config
+    c = p0.table.config
 
-  abbrev n1 : NeverState
-  n1 = never_behind c (before set later get)
+    abbrev n1 : NeverState
+    n1 = never_behind c (before set later get)
 
-  global_there : IsOnlySetter p0 g r p3 → global_at (never_behind c (decided set later get ++ others set later get)) g
-      ≡ value_of p0 r
-  global_there only =
-      ap (λ (n : NeverState). global_at n g) (never_later set later get)
-      ∙ calls_keep (never_behind c (decided set later get)) g (between set later get)
-      (none_between set later get (is_set_of g) p3.seen last.more (ap (λ (x : PassState). x.seen) last.is)
-      (eq-eqb g g refl) only)
-      ∙ ap (λ (n : NeverState). global_at n g) (never_there set later get)
-      ∙ set_gives n1 (number_of p0) g r
-      (subst (λ count. g < count) (sym (never_continues c p0.seen set.decided.before).globals) ad.in_range.0)
-      ∙ set.decided.known r ad.in_range.1
+    global_there : IsOnlySetter p0 g r p3 → global_at (never_behind c (decided set later get ++ others set later get)) g
+        ≡ value_of p0 r
+    global_there only =
+        ap (λ (n : NeverState). global_at n g) (never_later set later get)
+        ∙ calls_keep (never_behind c (decided set later get)) g (between set later get)
+        (none_between set later get (is_set_of g) p3.seen last.more (ap (λ (x : PassState). x.seen) last.is)
+        (eq-eqb g g refl) only)
+        ∙ ap (λ (n : NeverState). global_at n g) (never_there set later get)
+        ∙ set_gives n1 (number_of p0) g r
+        (subst (λ count. g < count) (sym (never_continues c p0.seen set.decided.before).globals) ad.in_range.0)
+        ∙ set.decided.known r ad.in_range.1
 
-  -- The register that is loaded holds what the other one held.
-  pub got : IsOnlySetter p0 g r p3 → value_of p2 d ≡ value_of p0 r
-  got only =
-      value_left get d may.in_range.0
-      ∙ set_same (never_behind r1.table.config (r1.seen ++ get.decided.before)) (number_of r1) d _
-      (caller_there get may.of_a_caller) may.in_range.0
-      ∙ ap (λ (k : Config). global_at (never_behind k (r1.seen ++ get.decided.before)) g) (same_config set later get)
-      ∙ ap (λ (l : List Event). global_at (never_behind c l) g) (place set later get)
-      ∙ global_there only
+    -- The register that is loaded holds what the other one held.
+    pub got : IsOnlySetter p0 g r p3 → value_of p2 d ≡ value_of p0 r
+    got only =
+        value_left get d may.in_range.0
+        ∙ set_same (never_behind r1.table.config (r1.seen ++ get.decided.before)) (number_of r1) d _
+        (caller_there get may.of_a_caller) may.in_range.0
+        ∙ ap (λ (k : Config). global_at (never_behind k (r1.seen ++ get.decided.before)) g) (same_config set later get)
+        ∙ ap (λ (l : List Event). global_at (never_behind c l) g) (place set later get)
+        ∙ global_there only
 
-  -- Another register stays as it is while the global is loaded.
-  pub kept : (x : ℕ) → x < 8 → d ≢ x → value_of p2 x ≡ value_of r1 x
-  kept x lt ne = calls_leave_other_registers r1 (op.GetGlobal d g) (answer.Word word) p2 x get lt (λ e. ne (cc e))
+    -- Another register stays as it is while the global is loaded.
+    pub kept : (x : ℕ) → x < 8 → d ≢ x → value_of p2 x ≡ value_of r1 x
+    kept x lt ne = calls_leave_other_registers r1 (op.GetGlobal d g) (answer.Word word) p2 x get lt (λ e. ne (cc e))
 
 through_global : {p0 p1 p2 p3 : PassState} (d g r : ℕ) (word : ℕ) (a : Answer) (o : Op)
     → Admits p0 (op.SetGlobal g r) → d < 8 → d ≢ r → Called p0 (op.SetGlobal g r) answer.Done p1

@@ -7,7 +7,8 @@ use Rattle.mk_never.specs.declared.values.Value.{Value}
 use Rattle.mk_never.specs.declared.values.Value.TheVariants.{Null, Num, Ptr}
 use Rattle.mk_never.specs.declared.operations.Op.{Op}
 use Rattle.mk_never.specs.declared.operations.Op.TheVariants as op
-use Rattle.mk_never.specs.NeverHeap.{NeverState, word_at, with_register, with_new, is_same, target_of, after_free, after_op}
+use Rattle.mk_never.specs.NeverHeap.{NeverState, word_at, with_register, with_new, is_same, target_of, after_free}
+use Rattle.mk_never.specs.NeverHeap.{after_op}
 use Rattle.mk_never.specs.Admitted.{IsNumber, IsPointer, IsOfKind, IsBase, Meets, IsAdmitted}
 use Rattle.mk_never.proofs.Edits.{left_at_by, if_by}
 use Rattle.mk_core.specs.declared.events.Answer.{Answer}
@@ -16,7 +17,8 @@ use Rattle.mk_core.specs.Decided.{flagged}
 use Rattle.mk_script.specs.declared.items.At.{At}
 use Rattle.mk_script.specs.declared.items.TypeWord.TheVariants.{Number, Pointer}
 use Rattle.mk_script.specs.declared.items.Item.{Item}
-use Rattle.mk_script.specs.declared.items.Item.TheVariants.{New, Free, Getn, Setn, Getp, Setp, Casp, Lea, Move, Clear, Loadg, Storeg, Same, Isnull, Show}
+use Rattle.mk_script.specs.declared.items.Item.TheVariants.{New, Free, Getn, Setn, Getp, Setp, Casp, Lea, Move, Clear}
+use Rattle.mk_script.specs.declared.items.Item.TheVariants.{Loadg, Storeg, Same, Isnull, Show}
 use Rattle.mk_script.specs.Scopes.{type_names, global_names, pointer_names}
 use Rattle.mk_check.specs.Typing.{pointer_at, global_type, moved_by, base_of}
 use Rattle.mk_check.specs.Declarations.{place_of, kind_of, globals_of}
@@ -24,10 +26,12 @@ use Rattle.mk_check.specs.Feed.{Fed, op_of, scope_of}
 use Rattle.mk_check.specs.NamesInScope.{HasFew}
 use Rattle.mk_check.proofs.DeclaredPlaces.{pointer_within, type_place, global_place, global_within}
 use Rattle.mk_check.proofs.TypedLines.{PointsBefore, PointsBeforeOne, PointsBehind, PointsToType, PointsToGlobal, Says}
-use Rattle.mk_check.proofs.DeclaredRegisters.{kind_at, register_of, AreAsDeclared, FitsScript, set_register, meets_weaker, meets_before, loaded_word, moved_word, global_word}
+use Rattle.mk_check.proofs.DeclaredRegisters.{kind_at, register_of, AreAsDeclared, FitsScript, set_register}
+use Rattle.mk_check.proofs.DeclaredRegisters.{meets_weaker, meets_before, loaded_word, moved_word, global_word}
 
 -- what holds of a New, full or not, holds of it as it is noted
-flagged_new : (Q : Op → Type 0) (d ty : ℕ) → ((full : Bool) → Q (op.New d ty full)) → (a : Answer) → Q (flagged (op.New d ty false) a)
+flagged_new : (Q : Op → Type 0) (d ty : ℕ) → ((full : Bool) → Q (op.New d ty full)) → (a : Answer)
+    → Q (flagged (op.New d ty false) a)
 flagged_new Q d ty holds answer.Full = holds true
 flagged_new Q d ty holds a = holds false
 
@@ -38,59 +42,74 @@ bases program (Num m) at base of_kind = of_kind
 bases program (Ptr number ty offset) at base of_kind = of_kind.1 ∙ base
 
 -- both hold of one word
-meets_both : (n : NeverState) (v : Value) (i : ℕ) (P Q : Kind → Type 0) → Meets n v i P → Meets n v i Q → Meets n v i (λ kind. P kind × Q kind)
+meets_both : (n : NeverState) (v : Value) (i : ℕ) (P Q : Kind → Type 0) → Meets n v i P → Meets n v i Q
+    → Meets n v i (λ kind. P kind × Q kind)
 meets_both n Null i P Q first second = tt
 meets_both n (Num m) i P Q first second = tt
 meets_both n (Ptr number ty offset) i P Q first second = (first.0, (first.1, second.1))
 
-module _ (program script : List Item) (few : HasFew (scope_of program script)) (n : NeverState) (caller : ℕ) (fits : FitsScript program script n caller) where
+module _ (program script : List Item) (few : HasFew (scope_of program script)) (n : NeverState) (caller : ℕ)
+    (fits : FitsScript program script n caller) where
   pointers : (name : List ℕ) (at : At) → pointer_at name script ≡ Some at → place_of name (pointer_names script) < 8
   pointers name at is = let within = pointer_within name script at is in let most = few.pointers in omega arith
 
-  globals : (name ty : List ℕ) → global_type name program ≡ Some ty → place_of name (global_names program) < length n.globals
-  globals name ty is = let within = global_within name program ty is in let most = few.globals in let count = fits.globals in omega arith
+  globals : (name ty : List ℕ) → global_type name program ≡ Some ty
+      → place_of name (global_names program) < length n.globals
+  globals name ty is = let within = global_within name program ty is in let most = few.globals in let count =
+      fits.globals in omega arith
 
-  types : (pointer ty : List ℕ) → PointsToType program script pointer ty → place_of ty (type_names program) < length n.types
+  types : (pointer ty : List ℕ) → PointsToType program script pointer ty
+      → place_of ty (type_names program) < length n.types
   types pointer ty s =
-      subst (λ (ts : List (List Kind)). place_of ty (type_names program) < length ts) (sym fits.types) (type_place (type_names program) ty program s.words s.is).0
+      subst (λ (ts : List (List Kind)). place_of ty (type_names program) < length ts) (sym fits.types)
+      (type_place (type_names program) ty program s.words s.is).0
 
   -- Accesses.
 
   abbrev Admits : Op → Type 0
   Admits o = IsAdmitted (globals_of program) n caller o
 
-  number_access : (pointer : List ℕ) (i : ℕ) → PointsBefore program script pointer i Number → Meets n (register_of script n caller pointer) i IsNumber
+  number_access : (pointer : List ℕ) (i : ℕ) → PointsBefore program script pointer i Number
+      → Meets n (register_of script n caller pointer) i IsNumber
   number_access pointer i s =
-      meets_weaker n (register_of script n caller pointer) i (λ kind. kind ≡ NumKind) IsNumber (λ kind e. subst IsNumber (sym e) refl)
+      meets_weaker n (register_of script n caller pointer) i (λ kind. kind ≡ NumKind) IsNumber
+      (λ kind e. subst IsNumber (sym e) refl)
       (meets_before program script n caller fits pointer i Number s)
 
   pointer_access : (pointer : List ℕ) (i : ℕ) (register : List ℕ) → PointsBeforeOne program script pointer i register
       → Meets n (register_of script n caller pointer) i IsPointer
   pointer_access pointer i register s =
-      meets_weaker n (register_of script n caller pointer) i (λ kind. kind ≡ kind_at program s.at) IsPointer (λ kind e. subst IsPointer (sym e) refl)
+      meets_weaker n (register_of script n caller pointer) i (λ kind. kind ≡ kind_at program s.at) IsPointer
+      (λ kind e. subst IsPointer (sym e) refl)
       (meets_before program script n caller fits pointer i (Pointer s.at) s.word)
 
   store_access : (pointer : List ℕ) (i : ℕ) (register : List ℕ) → PointsBeforeOne program script pointer i register
       → Meets n (register_of script n caller pointer) i (IsOfKind (register_of script n caller register))
   store_access pointer i register s =
-      meets_weaker n (register_of script n caller pointer) i (λ kind. kind ≡ kind_at program s.at) (IsOfKind (register_of script n caller register))
-      (λ kind e. subst (IsOfKind (register_of script n caller register)) (sym e) (fits.declared register s.at s.declared))
+      meets_weaker n (register_of script n caller pointer) i (λ kind. kind ≡ kind_at program s.at)
+      (IsOfKind (register_of script n caller register))
+      (λ kind e. subst (IsOfKind (register_of script n caller register)) (sym e)
+      (fits.declared register s.at s.declared))
       (meets_before program script n caller fits pointer i (Pointer s.at) s.word)
 
   any_access : (pointer : List ℕ) (i : ℕ) (register : List ℕ) → PointsBehind program script pointer i register
       → Meets n (register_of script n caller pointer) i (λ kind. Unit {0})
   any_access pointer i register s =
-      meets_weaker n (register_of script n caller pointer) i (λ kind. kind ≡ kind_of (type_names program) s.word) (λ kind. Unit {0}) (λ kind e. tt)
+      meets_weaker n (register_of script n caller pointer) i (λ kind. kind ≡ kind_of (type_names program) s.word)
+      (λ kind. Unit {0}) (λ kind e. tt)
       (meets_before program script n caller fits pointer i s.word s.before)
 
   global_store : (stored global : List ℕ) → (s : PointsToGlobal program script stored global)
-      → IfSome (slice_get (globals_of program) (place_of global (global_names program))) (λ ty. IsOfKind (register_of script n caller stored) (To ty 0))
+      → IfSome (slice_get (globals_of program) (place_of global (global_names program)))
+      (λ ty. IsOfKind (register_of script n caller stored) (To ty 0))
   global_store stored global s =
       subst (λ (o : Option ℕ). IfSome o (λ ty. IsOfKind (register_of script n caller stored) (To ty 0)))
-      (sym (global_place (type_names program) global program s.ty s.is)) (fits.declared stored (base_of s.ty) s.declared)
+      (sym (global_place (type_names program) global program s.ty s.is))
+      (fits.declared stored (base_of s.ty) s.declared)
 
   -- What a typed line asks for is admitted, also as it is noted.
-  pub admitted : (fed : Fed) (item : Item) → Says program script item → IfSome (op_of (scope_of program script) fed item) (λ o. (a : Answer) → Admits (flagged o a))
+  pub admitted : (fed : Fed) (item : Item) → Says program script item
+      → IfSome (op_of (scope_of program script) fed item) (λ o. (a : Answer) → Admits (flagged o a))
   admitted fed (New pointer ty) s = flagged_new Admits _ _ (λ full. record {
     of_a_caller = fits.of_a_caller;
     in_range = (pointers pointer _ s.declared, types pointer ty s);
@@ -129,9 +148,14 @@ module _ (program script : List Item) (few : HasFew (scope_of program script)) (
   }
   admitted fed (Casp number pointer index expected stored) s = λ a. record {
     of_a_caller = fits.of_a_caller;
-    in_range = (pointers pointer s.0.word.at s.0.word.declared, pointers expected s.0.at s.0.declared, pointers stored s.1.at s.1.declared);
+    in_range = (
+      pointers pointer s.0.word.at s.0.word.declared,
+      pointers expected s.0.at s.0.declared,
+      pointers stored s.1.at s.1.declared,
+    );
     access = pointer_access pointer index expected s.0;
-    store = meets_both n (register_of script n caller pointer) index _ _ (store_access pointer index expected s.0) (store_access pointer index stored s.1);
+    store = meets_both n (register_of script n caller pointer) index _ _ (store_access pointer index expected s.0)
+        (store_access pointer index stored s.1);
   }
   admitted fed (Lea moved pointer index) s = λ a. record {
     of_a_caller = fits.of_a_caller;
@@ -145,7 +169,13 @@ module _ (program script : List Item) (few : HasFew (scope_of program script)) (
     access = tt;
     store = tt;
   }
-  admitted fed (Clear pointer) s = λ a. record { of_a_caller = fits.of_a_caller; in_range = pointers pointer s.at s.declared; access = tt; store = tt }
+  admitted fed (Clear pointer) s =
+      λ a. record {
+        of_a_caller = fits.of_a_caller;
+        in_range = pointers pointer s.at s.declared;
+        access = tt;
+        store = tt;
+      }
   admitted fed (Loadg loaded global) s = λ a. record {
     of_a_caller = fits.of_a_caller;
     in_range = (pointers loaded _ s.declared, globals global s.ty s.is);
@@ -164,8 +194,20 @@ module _ (program script : List Item) (few : HasFew (scope_of program script)) (
     access = tt;
     store = tt;
   }
-  admitted fed (Isnull number pointer) s = λ a. record { of_a_caller = fits.of_a_caller; in_range = pointers pointer s.at s.declared; access = tt; store = tt }
-  admitted fed (Show pointer) s = λ a. record { of_a_caller = fits.of_a_caller; in_range = pointers pointer s.at s.declared; access = tt; store = tt }
+  admitted fed (Isnull number pointer) s =
+      λ a. record {
+        of_a_caller = fits.of_a_caller;
+        in_range = pointers pointer s.at s.declared;
+        access = tt;
+        store = tt;
+      }
+  admitted fed (Show pointer) s =
+      λ a. record {
+        of_a_caller = fits.of_a_caller;
+        in_range = pointers pointer s.at s.declared;
+        access = tt;
+        store = tt;
+      }
   admitted fed item s = tt
 
   -- Registers.
@@ -183,7 +225,8 @@ module _ (program script : List Item) (few : HasFew (scope_of program script)) (
   sets name at v is of_kind = set_register program script n caller name at v fits.declared is of_kind
 
   load_keeps : (loaded pointer : List ℕ) (i : ℕ) → PointsBeforeOne program script pointer i loaded
-      → Keeps (after_op n caller (op.GetPtr (place_of loaded (pointer_names script)) (place_of pointer (pointer_names script)) i))
+      → Keeps (after_op n caller
+      (op.GetPtr (place_of loaded (pointer_names script)) (place_of pointer (pointer_names script)) i))
   load_keeps loaded pointer i s =
       left_at_by Keeps (target_of n (register_of script n caller pointer) i) _ _ (sets loaded s.at Null s.declared tt)
       (λ number place e. sets loaded s.at (word_at n number place) s.declared
@@ -195,23 +238,29 @@ module _ (program script : List Item) (few : HasFew (scope_of program script)) (
       → IfSome (op_of (scope_of program script) fed item) (λ o. (a : Answer) → Keeps (after_op n caller (flagged o a)))
   line_keeps fed (New pointer ty) s = flagged_new (λ o. Keeps (after_op n caller o)) _ _ (λ full.
       if_by Keeps full _ _ (λ e. fits.declared)
-      (λ e. set_register program script (with_new n (place_of ty (type_names program))) caller pointer (base_of ty) _ fits.declared s.declared (refl, refl)))
+      (λ e. set_register program script (with_new n (place_of ty (type_names program))) caller pointer
+      (base_of ty) _ fits.declared s.declared (refl, refl)))
   line_keeps fed (Free pointer) s = λ a. free_keeps (register_of script n caller pointer)
   line_keeps fed (Getn number pointer index) s = λ a. fits.declared
   line_keeps fed (Setn pointer index number) s = λ a.
-      left_at_by Keeps (target_of n (register_of script n caller pointer) index) n _ fits.declared (λ number place e. fits.declared)
+      left_at_by Keeps (target_of n (register_of script n caller pointer) index) n _ fits.declared
+      (λ number place e. fits.declared)
   line_keeps fed (Getp loaded pointer index) s = λ a. load_keeps loaded pointer index s
   line_keeps fed (Setp pointer index stored) s = λ a.
-      left_at_by Keeps (target_of n (register_of script n caller pointer) index) n _ fits.declared (λ number place e. fits.declared)
+      left_at_by Keeps (target_of n (register_of script n caller pointer) index) n _ fits.declared
+      (λ number place e. fits.declared)
   line_keeps fed (Casp number pointer index expected stored) s = λ a.
       left_at_by Keeps (target_of n (register_of script n caller pointer) index) n _ fits.declared
-      (λ number place e. if_by Keeps (is_same (word_at n number place) (register_of script n caller expected)) _ _ (λ f. fits.declared) (λ f. fits.declared))
+      (λ number place e. if_by Keeps (is_same (word_at n number place) (register_of script n caller expected)) _ _
+      (λ f. fits.declared) (λ f. fits.declared))
   line_keeps fed (Lea moved pointer index) s = λ a.
       sets moved (moved_by index s.before.at) _ s.declared
-      (moved_word program (register_of script n caller pointer) index s.before.at (fits.declared pointer s.before.at s.before.declared))
+      (moved_word program (register_of script n caller pointer) index s.before.at
+      (fits.declared pointer s.before.at s.before.declared))
   line_keeps fed (Move copied pointer) s = λ a. sets copied s.at _ s.first_is (fits.declared pointer s.at s.second_is)
   line_keeps fed (Clear pointer) s = λ a. sets pointer s.at Null s.declared tt
-  line_keeps fed (Loadg loaded global) s = λ a. sets loaded (base_of s.ty) _ s.declared (global_word program n global s.ty fits.typed s.is)
+  line_keeps fed (Loadg loaded global) s =
+      λ a. sets loaded (base_of s.ty) _ s.declared (global_word program n global s.ty fits.typed s.is)
   line_keeps fed (Storeg stored global) s = λ a. fits.declared
   line_keeps fed (Same number first second) s = λ a. fits.declared
   line_keeps fed (Isnull number pointer) s = λ a. fits.declared

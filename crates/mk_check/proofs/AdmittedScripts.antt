@@ -1,5 +1,6 @@
 -- The operations of a well-typed program's scripts are admitted.
-use Rattle.std.proofs.Common.{◌≡◌, ◌≢◌, ℕ, ◌+◌, ◌*◌, ◌<◌, ◌≤◌, Bool, true, false, List, [], ◌∷◌, ◌++◌, length, Option, Some, None, refl, ap, sym, subst, ◌∙◌, ⊎_elim, arith}
+use Rattle.std.proofs.Common.{◌≡◌, ◌≢◌, ℕ, ◌+◌, ◌*◌, ◌<◌, ◌≤◌, Bool, true, false, List, [], ◌∷◌, ◌++◌, length, Option}
+use Rattle.std.proofs.Common.{Some, None, refl, ap, sym, subst, ◌∙◌, ⊎_elim, arith}
 use Rattle.std.specs.Prelude.{All, IfSome, option_map, ◌==◌, if◌then◌else◌}
 use Rattle.std.proofs.lemmas.Bool.{eqb-true, eq-eqb, cases_Bool, false≢true}
 use Rattle.std.proofs.lemmas.List.{append-nil, get_or-replicate, length-replicate}
@@ -21,9 +22,11 @@ use Rattle.mk_script.specs.declared.items.Item.TheVariants.{New}
 use Rattle.mk_script.specs.Scopes.{pointer_names, script_names}
 use Rattle.mk_check.specs.Blocks.{Blocks, Done, Line, Rounds, Choice, AllPlaced, blocks_from, script_of}
 use Rattle.mk_check.specs.Declarations.{place_of, types_of, globals_of}
-use Rattle.mk_check.specs.Feed.{Scope, Fed, op_of, note, with_answer, run, take_answer, take_answers, fed_before_lines, fed_before_answers, scope_of, feed}
+use Rattle.mk_check.specs.Feed.{Scope, Fed, op_of, note, with_answer, run, take_answer, take_answers, fed_before_lines}
+use Rattle.mk_check.specs.Feed.{fed_before_answers, scope_of, feed}
 use Rattle.mk_check.specs.Feeding.{script_scope, next_op}
-use Rattle.mk_check.specs.Laws.{IsChecked, IsScript, ops_of_caller, AreNotedBy, AnswersAreNoted, OthersAreIgnored, heap_of, AreAdmittedFor, NextIsAdmitted, AreOfScripts}
+use Rattle.mk_check.specs.Laws.{IsChecked, IsScript, ops_of_caller, AreNotedBy, AnswersAreNoted, OthersAreIgnored}
+use Rattle.mk_check.specs.Laws.{heap_of, AreAdmittedFor, NextIsAdmitted, AreOfScripts}
 use Rattle.mk_check.specs.NamesInScope.{HasFew}
 use Rattle.mk_check.proofs.AdmittedLines.{admitted, line_keeps}
 use Rattle.mk_check.proofs.DeclaredPlaces.{pointer_within}
@@ -46,22 +49,28 @@ record IsAsked (program script : List Item) (op : Op) : Type 0 where
   noted_so : op ≡ flagged asked answer
 
 -- No line asks for a New that is full, so an operation is asked for as it is noted with this answer.
-flagged_asked : (scope : Scope) (fed : Fed) (item : Item) → option_map (λ o. flagged o answer.Done) (op_of scope fed item) ≡ op_of scope fed item
+flagged_asked : (scope : Scope) (fed : Fed) (item : Item)
+    → option_map (λ o. flagged o answer.Done) (op_of scope fed item) ≡ op_of scope fed item
 flagged_asked scope fed (New pointer ty) = refl
 flagged_asked scope fed item = refl
 
 by_caller : {P : Type 0} (c caller : ℕ) → (c ≡ caller → P) → (c ≢ caller → P) → P
 by_caller c caller own other =
-    ⊎_elim (λ e. own (eqb-true c caller e)) (λ e. other (λ same. false≢true (sym e ∙ eq-eqb c caller same))) (cases_Bool (c == caller))
+    ⊎_elim (λ e. own (eqb-true c caller e)) (λ e. other (λ same. false≢true (sym e ∙ eq-eqb c caller same)))
+    (cases_Bool (c == caller))
 
 -- what holds of a caller's operations holds of the first call's, where it is the caller's, and of those behind it
 split_ops : (P : Op → Type 0) (caller : ℕ) (x : Call) (xs : List Call) → All P (ops_of_caller caller (x ∷ xs))
     → (x.caller ≡ caller → P x.op) × All P (ops_of_caller caller xs)
 split_ops P caller x xs h = by_test (x.caller == caller) refl h
   where
-    by_test : (same : Bool) → (x.caller == caller) ≡ same → All P (if same then x.op ∷ ops_of_caller caller xs else ops_of_caller caller xs)
+    by_test : (same : Bool) → (x.caller == caller) ≡ same
+        → All P (if same then x.op ∷ ops_of_caller caller xs else ops_of_caller caller xs)
         → (x.caller ≡ caller → P x.op) × All P (ops_of_caller caller xs)
-    by_test true e h = (λ same. All-head P x.op (ops_of_caller caller xs) h, All-tail P x.op (ops_of_caller caller xs) h)
+    by_test true e h = (
+      λ same. All-head P x.op (ops_of_caller caller xs) h,
+      All-tail P x.op (ops_of_caller caller xs) h,
+    )
     by_test false e h = (λ same. absurd (false≢true (sym e ∙ eq-eqb x.caller caller same)), h)
 
 of_some : {X : Type 0} (o : Option X) (P : X → Type 0) (x : X) → o ≡ Some x → IfSome o P → P x
@@ -77,7 +86,8 @@ module _ (program script : List Item) (few : HasFew (scope_of program script)) w
       → (o : Option Op) → op_of (scope_of program script) fed item ≡ o → All Asked (note fed o line a).ops
   note_asked fed line item a says before None is = before
   note_asked fed line item a says before (Some o) is =
-      All-push Asked fed.ops (flagged o a) before (record { item = item; says = says; fed = fed; asked = o; is = is; answer = a; noted_so = refl })
+      All-push Asked fed.ops (flagged o a) before
+      (record { item = item; says = says; fed = fed; asked = o; is = is; answer = a; noted_so = refl })
 
   take_asked : (fed : Fed) (left : Blocks) (a : Answer) → AllPlaced (λ l. Says program script) left → All Asked fed.ops
       → All Asked (take_answer (scope_of program script) fed left a).ops
@@ -96,37 +106,46 @@ module _ (program script : List Item) (few : HasFew (scope_of program script)) w
   takes_asked [] fed placed before = before
   takes_asked (a ∷ answers) fed placed before =
       let scope = scope_of program script in
-      takes_asked answers (take_answer scope fed fed.left a) (AllPlaced-take_answers (λ l. Says program script) scope (a ∷ []) fed placed)
+      takes_asked answers (take_answer scope fed fed.left a)
+      (AllPlaced-take_answers (λ l. Says program script) scope (a ∷ []) fed placed)
       (take_asked fed fed.left a placed before)
 
   -- An operation that is asked for is admitted, and leaves the registers as declared.
 
-  asked_admitted : (n : NeverState) (caller : ℕ) → FitsScript program script n caller → (o : Op) → Asked o → IsAdmitted (globals_of program) n caller o
+  asked_admitted : (n : NeverState) (caller : ℕ) → FitsScript program script n caller → (o : Op) → Asked o
+      → IsAdmitted (globals_of program) n caller o
   asked_admitted n caller fits o asked =
       subst (λ (x : Op). IsAdmitted (globals_of program) n caller x) (sym asked.noted_so)
-      (of_some (op_of (scope_of program script) asked.fed asked.item) (λ x. (a : Answer) → IsAdmitted (globals_of program) n caller (flagged x a)) asked.asked asked.is
+      (of_some (op_of (scope_of program script) asked.fed asked.item) (λ x. (a : Answer)
+      → IsAdmitted (globals_of program) n caller (flagged x a)) asked.asked asked.is
       (admitted program script few n caller fits asked.fed asked.item asked.says) asked.answer)
 
-  own_keeps : (n : NeverState) (caller : ℕ) → FitsScript program script n caller → (o : Op) → Asked o → AreAsDeclared program script (after_op n caller o) caller
+  own_keeps : (n : NeverState) (caller : ℕ) → FitsScript program script n caller → (o : Op) → Asked o
+      → AreAsDeclared program script (after_op n caller o) caller
   own_keeps n caller fits o asked =
       subst (λ (x : Op). AreAsDeclared program script (after_op n caller x) caller) (sym asked.noted_so)
-      (of_some (op_of (scope_of program script) asked.fed asked.item) (λ x. (a : Answer) → AreAsDeclared program script (after_op n caller (flagged x a)) caller) asked.asked asked.is
+      (of_some (op_of (scope_of program script) asked.fed asked.item) (λ x. (a : Answer)
+      → AreAsDeclared program script (after_op n caller (flagged x a)) caller) asked.asked asked.is
       (line_keeps program script few n caller fits asked.fed asked.item asked.says) asked.answer)
 
-  others_keep : (n : NeverState) (caller : ℕ) → AreAsDeclared program script n caller → (m : NeverState) → KeepsRegisters caller n m → AreAsDeclared program script m caller
+  others_keep : (n : NeverState) (caller : ℕ) → AreAsDeclared program script n caller → (m : NeverState)
+      → KeepsRegisters caller n m → AreAsDeclared program script m caller
   others_keep n caller before m same = λ name at is.
       let within = pointer_within name script at is in
       let most = few.pointers in
       let below : place_of name (pointer_names script) < 8 = omega arith in
-      subst (λ (v : Value). IsOfKind v (kind_at program at)) (sym (same (place_of name (pointer_names script)) below)) (before name at is)
+      subst (λ (v : Value). IsOfKind v (kind_at program at)) (sym (same (place_of name (pointer_names script)) below))
+      (before name at is)
 
   -- a call that is admitted, and is asked for by the script where it is the caller's
-  call_fits : (n : NeverState) (caller : ℕ) → FitsScript program script n caller → (x : Call) → IsAdmitted (globals_of program) n x.caller x.op
+  call_fits : (n : NeverState) (caller : ℕ) → FitsScript program script n caller → (x : Call)
+      → IsAdmitted (globals_of program) n x.caller x.op
       → (x.caller ≡ caller → Asked x.op) → FitsScript program script (after_op n x.caller x.op) caller
   call_fits n caller fits x admits asked =
       let goes_on : Continues n (after_op n x.caller x.op) = op_stays n x.caller x.op in
       let own : x.caller ≡ caller → AreAsDeclared program script (after_op n x.caller x.op) caller =
-      λ same. subst (λ (c : ℕ). AreAsDeclared program script (after_op n c x.op) caller) (sym same) (own_keeps n caller fits x.op (asked same)) in
+      λ same. subst (λ (c : ℕ). AreAsDeclared program script (after_op n c x.op) caller) (sym same)
+      (own_keeps n caller fits x.op (asked same)) in
       let other : x.caller ≢ caller → AreAsDeclared program script (after_op n x.caller x.op) caller =
       λ differs. others_keep n caller fits.declared (after_op n x.caller x.op)
       (registers.op_keeps n caller x.caller x.op differs (registers.destination n x.op admits.in_range)) in
@@ -135,11 +154,13 @@ module _ (program script : List Item) (few : HasFew (scope_of program script)) w
         types = goes_on.types ∙ fits.types;
         globals = goes_on.globals ∙ fits.globals;
         of_a_caller = omega (arith, goes_on.registers);
-        typed = typed_calls.op_keeps (globals_of program) n x.caller fits.typed x.op admits.in_range admits.access admits.store;
+        typed = typed_calls.op_keeps (globals_of program) n x.caller fits.typed x.op admits.in_range admits.access
+            admits.store;
         declared = by_caller x.caller caller own other;
       }
 
-  calls_fit : (n : NeverState) (caller : ℕ) (calls : List Call) → FitsScript program script n caller → AreAdmitted (globals_of program) n calls
+  calls_fit : (n : NeverState) (caller : ℕ) (calls : List Call) → FitsScript program script n caller
+      → AreAdmitted (globals_of program) n calls
       → All Asked (ops_of_caller caller calls) → FitsScript program script (after_calls n calls) caller
   calls_fit n caller [] fits admits asked = fits
   calls_fit n caller (x ∷ xs) fits admits asked =
@@ -157,7 +178,8 @@ module _ (program script : List Item) (few : HasFew (scope_of program script)) w
         let within = pointer_within name script at is' in
         let most = few.pointers in
         let below : 8 * k + place_of name (pointer_names script) < 8 * callers = omega arith in
-        subst (λ (v : Value). IsOfKind v (kind_at program at)) (sym (get_or-replicate (8 * callers) (8 * k + place_of name (pointer_names script)) Null Null below)) tt;
+        subst (λ (v : Value). IsOfKind v (kind_at program at))
+        (sym (get_or-replicate (8 * callers) (8 * k + place_of name (pointer_names script)) Null Null below)) tt;
   }
 
 -- Scripts of a program.
@@ -165,22 +187,27 @@ module _ (program script : List Item) (few : HasFew (scope_of program script)) w
 abbrev lines_of : List Item → ℕ → List Item
 lines_of program k = (script_of program k).items
 
-started_ops : (program : List Item) (k : ℕ) → (fed_before_answers (script_scope program k) (script_of program k)).ops ≡ []
+started_ops : (program : List Item) (k : ℕ)
+    → (fed_before_answers (script_scope program k) (script_of program k)).ops ≡ []
 started_ops program k =
-    (run_agrees (script_scope program k) (blocks_from (script_of program k).line (lines_of program k)) (fed_before_lines (script_scope program k) (script_of program k))).answers
+    (run_agrees (script_scope program k) (blocks_from (script_of program k).line (lines_of program k))
+    (fed_before_lines (script_scope program k) (script_of program k))).answers
 
 pub first_are_noted : (program : List Item) (k : ℕ) → AreNotedBy program k [] []
 first_are_noted program k = sym (started_ops program k)
 
 -- One call more.
 
-ops_push : (caller : ℕ) (calls : List Call) (x : Call) → ops_of_caller caller (calls ++ x ∷ []) ≡ ops_of_caller caller calls ++ ops_of_caller caller (x ∷ [])
+ops_push : (caller : ℕ) (calls : List Call) (x : Call)
+    → ops_of_caller caller (calls ++ x ∷ []) ≡ ops_of_caller caller calls ++ ops_of_caller caller (x ∷ [])
 ops_push caller [] x = refl
 ops_push caller (y ∷ calls) x = by_test (y.caller == caller) (ops_push caller calls x)
   where
-    by_test : (same : Bool) → ops_of_caller caller (calls ++ x ∷ []) ≡ ops_of_caller caller calls ++ ops_of_caller caller (x ∷ [])
+    by_test : (same : Bool)
+        → ops_of_caller caller (calls ++ x ∷ []) ≡ ops_of_caller caller calls ++ ops_of_caller caller (x ∷ [])
         → (if same then y.op ∷ ops_of_caller caller (calls ++ x ∷ []) else ops_of_caller caller (calls ++ x ∷ []))
-        ≡ (if same then y.op ∷ ops_of_caller caller calls else ops_of_caller caller calls) ++ ops_of_caller caller (x ∷ [])
+        ≡ (if same then y.op ∷ ops_of_caller caller calls else ops_of_caller caller calls)
+        ++ ops_of_caller caller (x ∷ [])
     by_test true e = ap (λ (ops : List Op). y.op ∷ ops) e
     by_test false e = e
 
@@ -194,60 +221,87 @@ other_op caller x differs = by_test (x.caller == caller) refl
     by_test true e = absurd (differs (eqb-true x.caller caller e))
     by_test false e = refl
 
-pub answers_are_noted : (program : List Item) (k : ℕ) (answers : List Answer) (calls : List Call) → AreNotedBy program k answers calls
+pub answers_are_noted : (program : List Item) (k : ℕ) (answers : List Answer) (calls : List Call)
+    → AreNotedBy program k answers calls
     → AnswersAreNoted program k answers calls
 answers_are_noted program k answers calls are o a e =
     let call : Call = record { caller = k; op = flagged o a } in
     ops_push k calls call ∙ (ap (λ (ops : List Op). ops ++ ops_of_caller k (call ∷ [])) are
-    ∙ (ap (λ (ops : List Op). (feed program k answers).ops ++ ops) (own_op k (flagged o a)) ∙ sym (ops-feed_push program k answers a o e)))
+    ∙ (ap (λ (ops : List Op). (feed program k answers).ops ++ ops) (own_op k (flagged o a))
+    ∙ sym (ops-feed_push program k answers a o e)))
 
-pub others_are_ignored : (program : List Item) (k : ℕ) (answers : List Answer) (calls : List Call) → AreNotedBy program k answers calls
+pub others_are_ignored : (program : List Item) (k : ℕ) (answers : List Answer) (calls : List Call)
+    → AreNotedBy program k answers calls
     → OthersAreIgnored program k answers calls
 others_are_ignored program k answers calls are call differs =
-    ops_push k calls call ∙ (ap (λ (ops : List Op). ops_of_caller k calls ++ ops) (other_op k call differs) ∙ (append-nil (ops_of_caller k calls) ∙ are))
+    ops_push k calls call
+    ∙ (ap (λ (ops : List Op). ops_of_caller k calls ++ ops) (other_op k call differs)
+    ∙ (append-nil (ops_of_caller k calls) ∙ are))
 
-feed_asked : (program : List Item) (k : ℕ) (answers : List Answer) → IsChecked program → All (IsAsked program (lines_of program k)) (feed program k answers).ops
+feed_asked : (program : List Item) (k : ℕ) (answers : List Answer) → IsChecked program
+    → All (IsAsked program (lines_of program k)) (feed program k answers).ops
 feed_asked program k answers checked =
     let script = script_of program k in
     let scope = script_scope program k in
     let P = λ (line : ℕ) (item : Item). Says program script.items item in
-    takes_asked program script.items (text_has_few program k checked.of_some_text) answers (fed_before_answers scope script)
-    (AllPlaced-run P scope (blocks_from script.line script.items) (placed_of_script P script.line script.items (script_says program k checked.well_typed)) (fed_before_lines scope script))
+    takes_asked program script.items (text_has_few program k checked.of_some_text) answers
+    (fed_before_answers scope script)
+    (AllPlaced-run P scope (blocks_from script.line script.items)
+    (placed_of_script P script.line script.items (script_says program k checked.well_typed))
+    (fed_before_lines scope script))
     (subst (All (IsAsked program script.items)) (sym (started_ops program k)) (All-nil (IsAsked program script.items)))
 
 -- the caller's operations are asked for, where its script notes them
-noted_asked : (program : List Item) (k : ℕ) (answers : List Answer) (calls : List Call) → IsChecked program → AreNotedBy program k answers calls
+noted_asked : (program : List Item) (k : ℕ) (answers : List Answer) (calls : List Call) → IsChecked program
+    → AreNotedBy program k answers calls
     → All (IsAsked program (lines_of program k)) (ops_of_caller k calls)
 noted_asked program k answers calls checked are =
     subst (All (IsAsked program (lines_of program k))) (sym are) (feed_asked program k answers checked)
 
-next_asked : (program : List Item) (k : ℕ) (answers : List Answer) (o : Op) (a : Answer) → IsChecked program → next_op program k answers ≡ Some o
+next_asked : (program : List Item) (k : ℕ) (answers : List Answer) (o : Op) (a : Answer) → IsChecked program
+    → next_op program k answers ≡ Some o
     → IsAsked program (lines_of program k) (flagged o a)
 next_asked program k answers o a checked e =
-    let at = next_placed (λ line. Says program (lines_of program k)) program k answers o (script_says program k checked.well_typed) e in
-    record { item = at.item; says = at.holds; fed = feed program k answers; asked = o; is = at.op; answer = a; noted_so = refl }
+    let at = next_placed (λ line. Says program (lines_of program k)) program k answers o
+    (script_says program k checked.well_typed) e in
+    record {
+      item = at.item;
+      says = at.holds;
+      fed = feed program k answers;
+      asked = o;
+      is = at.op;
+      answer = a;
+      noted_so = refl;
+    }
 
-flagged_next : (program : List Item) (k : ℕ) (answers : List Answer) (o : Op) → next_op program k answers ≡ Some o → flagged o answer.Done ≡ o
+flagged_next : (program : List Item) (k : ℕ) (answers : List Answer) (o : Op) → next_op program k answers ≡ Some o
+    → flagged o answer.Done ≡ o
 flagged_next program k answers o e =
     let at = next_stands program k answers o e in
-    some_value (ap (option_map (λ x. flagged x answer.Done)) (sym at.op) ∙ (flagged_asked (script_scope program k) (feed program k answers) at.item ∙ at.op))
+    some_value (ap (option_map (λ x. flagged x answer.Done)) (sym at.op)
+    ∙ (flagged_asked (script_scope program k) (feed program k answers) at.item ∙ at.op))
   where
     some_value : {a b : Op} → Some a ≡ Some b → a ≡ b
     some_value e = cc
 
-pub next_is_admitted : (program : List Item) (callers : ℕ) (calls : List Call) (k : ℕ) (answers : List Answer) → IsChecked program
-    → length (script_names program) ≤ callers → IsScript program k → AreAdmittedFor program callers calls → AreNotedBy program k answers calls
+pub next_is_admitted : (program : List Item) (callers : ℕ) (calls : List Call) (k : ℕ) (answers : List Answer)
+    → IsChecked program
+    → length (script_names program) ≤ callers → IsScript program k → AreAdmittedFor program callers calls
+    → AreNotedBy program k answers calls
     → NextIsAdmitted program callers calls k answers
 next_is_admitted program callers calls k answers checked enough is_script admits are =
     let script = lines_of program k in
     let few = text_has_few program k checked.of_some_text in
     let is_caller : k < callers = omega arith in
-    let fits = calls_fit program script few (heap_of program callers) k calls (start_fits program script few callers k is_caller) admits
+    let fits = calls_fit program script few (heap_of program callers) k calls
+    (start_fits program script few callers k is_caller) admits
     (noted_asked program k answers calls checked are) in
     let noted_too = λ (o : Op) (a : Answer) (e : next_op program k answers ≡ Some o).
-    asked_admitted program script few (after_calls (heap_of program callers) calls) k fits (flagged o a) (next_asked program k answers o a checked e) in
+    asked_admitted program script few (after_calls (heap_of program callers) calls) k fits (flagged o a)
+    (next_asked program k answers o a checked e) in
     record {
-      asked = λ o e. subst (λ (x : Op). IsAdmitted (globals_of program) (after_calls (heap_of program callers) calls) k x)
+      asked = λ o e. subst
+          (λ (x : Op). IsAdmitted (globals_of program) (after_calls (heap_of program callers) calls) k x)
           (flagged_next program k answers o e) (noted_too o answer.Done e);
       noted = noted_too;
     }
@@ -262,18 +316,22 @@ all_admitted : (program : List Item) → IsChecked program → (n : NeverState) 
 all_admitted program checked n [] fits callers asked = tt
 all_admitted program checked n (x ∷ xs) fits callers asked =
     let few = λ (k : ℕ). text_has_few program k checked.of_some_text in
-    let parts = λ (k : ℕ) (is : IsScript program k). split_ops (IsAsked program (lines_of program k)) k x xs (asked k is) in
+    let parts = λ (k : ℕ) (is : IsScript program k). split_ops (IsAsked program (lines_of program k)) k x xs
+    (asked k is) in
     let is_script = All-head (λ call. IsScript program call.caller) x xs callers in
-    let admits = asked_admitted program (lines_of program x.caller) (few x.caller) n x.caller (fits x.caller is_script) x.op ((parts x.caller is_script).0 refl) in (
+    let admits = asked_admitted program (lines_of program x.caller) (few x.caller) n x.caller (fits x.caller is_script)
+    x.op ((parts x.caller is_script).0 refl) in (
       admits,
       all_admitted program checked (after_op n x.caller x.op) xs
           (λ k is. call_fits program (lines_of program k) (few k) n k (fits k is) x admits (parts k is).0)
           (All-tail (λ call. IsScript program call.caller) x xs callers) (λ k is. (parts k is).1),
     )
 
-pub scripts_are_admitted : (program : List Item) (callers : ℕ) (calls : List Call) → IsChecked program → length (script_names program) ≤ callers
+pub scripts_are_admitted : (program : List Item) (callers : ℕ) (calls : List Call) → IsChecked program
+    → length (script_names program) ≤ callers
     → AreOfScripts program calls → AreAdmittedFor program callers calls
 scripts_are_admitted program callers calls checked enough are =
     all_admitted program checked (heap_of program callers) calls
-    (λ k is. start_fits program (lines_of program k) (text_has_few program k checked.of_some_text) callers k (omega arith)) are.callers
+    (λ k is. start_fits program (lines_of program k) (text_has_few program k checked.of_some_text) callers k
+    (omega arith)) are.callers
     (λ k is. noted_asked program k (are.ops k is).answers calls checked (are.ops k is).are_noted)

@@ -11,10 +11,12 @@ use Rattle.mk_check.specs.declared.feeding.tree.Node.TheVariants as node
 use Rattle.mk_check.specs.declared.feeding.building.Part.{Part}
 use Rattle.mk_check.specs.Steps.{Steps, Done}
 use Rattle.mk_check.specs.Trees.{steps_at, steps_from, with_node, trees}
-use Rattle.mk_check.specs.Building.{StepPart, with_element, Built, part_at, parts_at, parts_in, PartsAreWithin, IsSound, with_part, with_node_and_part, AddsLine}
+use Rattle.mk_check.specs.Building.{StepPart, with_element, Built, part_at, parts_at, parts_in, PartsAreWithin, IsSound}
+use Rattle.mk_check.specs.Building.{with_part, with_node_and_part, AddsLine}
 use Rattle.mk_check.proofs.Moves.{trees_push}
 
-length-fold_with_node : (built : List Steps) (nodes : List Node) → length (fold with_node built nodes) ≡ length built + length nodes
+length-fold_with_node : (built : List Steps) (nodes : List Node)
+    → length (fold with_node built nodes) ≡ length built + length nodes
 length-fold_with_node built [] = omega arith
 length-fold_with_node built (n ∷ nodes) =
     omega (arith, length-fold_with_node (with_node built n) nodes, length_push built (steps_from built n))
@@ -23,34 +25,42 @@ pub length-trees : (nodes : List Node) → length (trees nodes) ≡ length nodes
 length-trees nodes = omega (arith, length-fold_with_node [] nodes)
 
 -- what stands for a node stays, and what the next stands for
-pub steps_at_push : (nodes : List Node) (n : Node) (j : ℕ) → j < length nodes → steps_at (trees (nodes ++ n ∷ [])) j ≡ steps_at (trees nodes) j
+pub steps_at_push : (nodes : List Node) (n : Node) (j : ℕ) → j < length nodes
+    → steps_at (trees (nodes ++ n ∷ [])) j ≡ steps_at (trees nodes) j
 steps_at_push nodes n j h =
     ap (λ (ts : List Steps). steps_at ts j) (trees_push nodes n)
     ∙ get_or_append_left (trees nodes) (steps_from (trees nodes) n ∷ []) Done j (omega (arith, length-trees nodes))
 
-pub steps_at_last : (nodes : List Node) (n : Node) → steps_at (trees (nodes ++ n ∷ [])) (length nodes) ≡ steps_from (trees nodes) n
+pub steps_at_last : (nodes : List Node) (n : Node)
+    → steps_at (trees (nodes ++ n ∷ [])) (length nodes) ≡ steps_from (trees nodes) n
 steps_at_last nodes n =
     ap (λ (ts : List Steps). steps_at ts (length nodes)) (trees_push nodes n)
     ∙ get_or_at (trees nodes) (steps_from (trees nodes) n) [] Done (length nodes) (length-trees nodes)
 
-pub parts_at_push : (built : List Steps) (parts : List Part) (part : Part) → parts_at built (parts ++ part ∷ []) ≡ part_at built part ∷ parts_at built parts
-parts_at_push built parts part = fold_push (λ (behind : List StepPart) (p : Part). part_at built p ∷ behind) [] parts part
+pub parts_at_push : (built : List Steps) (parts : List Part) (part : Part)
+    → parts_at built (parts ++ part ∷ []) ≡ part_at built part ∷ parts_at built parts
+parts_at_push built parts part =
+    fold_push (λ (behind : List StepPart) (p : Part). part_at built p ∷ behind) [] parts part
 
-parts_keep : (nodes : List Node) (n : Node) (behind : List StepPart) (parts : List Part) → PartsAreWithin (length nodes) parts
+parts_keep : (nodes : List Node) (n : Node) (behind : List StepPart) (parts : List Part)
+    → PartsAreWithin (length nodes) parts
     → fold (λ (more : List StepPart) (p : Part). part_at (trees (nodes ++ n ∷ [])) p ∷ more) behind parts
     ≡ fold (λ (more : List StepPart) (p : Part). part_at (trees nodes) p ∷ more) behind parts
 parts_keep nodes n behind [] w = refl
 parts_keep nodes n behind (part ∷ parts) w =
     let e : part_at (trees (nodes ++ n ∷ [])) part ≡ part_at (trees nodes) part =
     (let f = steps_at_push nodes n part.steps w.0 in let g = steps_at_push nodes n part.second w.1 in cc) in
-    ap (λ (p : StepPart). fold (λ (more : List StepPart) (q : Part). part_at (trees (nodes ++ n ∷ [])) q ∷ more) (p ∷ behind) parts) e
+    ap (λ (p : StepPart). fold (λ (more : List StepPart) (q : Part). part_at (trees (nodes ++ n ∷ [])) q ∷ more)
+    (p ∷ behind) parts) e
     ∙ parts_keep nodes n (part_at (trees nodes) part ∷ behind) parts w.2
 
-PartsAreWithin-more : (few many : ℕ) (parts : List Part) → few ≤ many → PartsAreWithin few parts → PartsAreWithin many parts
+PartsAreWithin-more : (few many : ℕ) (parts : List Part) → few ≤ many → PartsAreWithin few parts
+    → PartsAreWithin many parts
 PartsAreWithin-more few many [] h w = tt
 PartsAreWithin-more few many (part ∷ parts) h w = (omega arith, omega arith, PartsAreWithin-more few many parts h w.2)
 
-PartsAreWithin_push : (count : ℕ) (parts : List Part) (part : Part) → PartsAreWithin count parts → part.steps < count → part.second < count
+PartsAreWithin_push : (count : ℕ) (parts : List Part) (part : Part) → PartsAreWithin count parts → part.steps < count
+    → part.second < count
     → PartsAreWithin count (parts ++ part ∷ [])
 PartsAreWithin_push count [] part w s t = (s, t, tt)
 PartsAreWithin_push count (p ∷ parts) part w s t = (w.0, w.1, PartsAreWithin_push count parts part w.2 s t)
@@ -58,14 +68,16 @@ PartsAreWithin_push count (p ∷ parts) part w s t = (w.0, w.1, PartsAreWithin_p
 PartsAreWithin_pop : (count : ℕ) (parts : List Part) (part : Part) → PartsAreWithin count (parts ++ part ∷ [])
     → PartsAreWithin count parts × (part.steps < count) × (part.second < count)
 PartsAreWithin_pop count [] part w = (tt, w.0, w.1)
-PartsAreWithin_pop count (p ∷ parts) part w = let rest = PartsAreWithin_pop count parts part w.2 in ((w.0, w.1, rest.0), rest.1, rest.2)
+PartsAreWithin_pop count (p ∷ parts) part w = let rest =
+    PartsAreWithin_pop count parts part w.2 in ((w.0, w.1, rest.0), rest.1, rest.2)
 
 -- the innermost part is taken away
 pub popped : (b : Built) (part : Part) (parts : List Part) → IsSound b → b.parts ≡ parts ++ part ∷ []
     → IsSound (record b { parts = parts }) × (part.steps < length b.nodes) × (part.second < length b.nodes)
     × (parts_in b ≡ part_at (trees b.nodes) part ∷ parts_at (trees b.nodes) parts)
 popped b part parts sound was =
-    let w = PartsAreWithin_pop (length b.nodes) parts part (subst (λ (ps : List Part). PartsAreWithin (length b.nodes) ps) was sound.parts) in (
+    let w = PartsAreWithin_pop (length b.nodes) parts part
+    (subst (λ (ps : List Part). PartsAreWithin (length b.nodes) ps) was sound.parts) in (
       record { some = sound.some; first = sound.first; parts = w.0 },
       w.1,
       w.2,
@@ -73,19 +85,23 @@ popped b part parts sound was =
     )
 
 -- one more node, which begins a part
-grown_sound : (b : Built) (n : Node) (second : ℕ) → IsSound b → second < length b.nodes → IsSound (with_node_and_part b n second)
+grown_sound : (b : Built) (n : Node) (second : ℕ) → IsSound b → second < length b.nodes
+    → IsSound (with_node_and_part b n second)
 grown_sound b n second sound h =
     let longer = length_push b.nodes n in
     let some = sound.some in
     record {
       some = omega arith;
       first = steps_at_push b.nodes n 0 sound.some ∙ sound.first;
-      parts = PartsAreWithin_push (length (b.nodes ++ n ∷ [])) b.parts (record { steps = length b.nodes; second = second })
-          (PartsAreWithin-more (length b.nodes) (length (b.nodes ++ n ∷ [])) b.parts (omega arith) sound.parts) (omega arith) (omega arith);
+      parts = PartsAreWithin_push (length (b.nodes ++ n ∷ [])) b.parts
+          (record { steps = length b.nodes; second = second })
+          (PartsAreWithin-more (length b.nodes) (length (b.nodes ++ n ∷ [])) b.parts (omega arith) sound.parts)
+          (omega arith) (omega arith);
     }
 
 grown_parts : (b : Built) (n : Node) (second : ℕ) → IsSound b → second < length b.nodes
-    → parts_in (with_node_and_part b n second) ≡ record { steps = steps_from (trees b.nodes) n; second = steps_at (trees b.nodes) second } ∷ parts_in b
+    → parts_in (with_node_and_part b n second)
+    ≡ record { steps = steps_from (trees b.nodes) n; second = steps_at (trees b.nodes) second } ∷ parts_in b
 grown_parts b n second sound h =
     let f = steps_at_last b.nodes n in
     let g = steps_at_push b.nodes n second h in
@@ -94,10 +110,15 @@ grown_parts b n second sound h =
     let e : at ≡ record { steps = steps_from (trees b.nodes) n; second = steps_at (trees b.nodes) second } = cc in
     parts_at_push (trees (b.nodes ++ n ∷ [])) b.parts (record { steps = length b.nodes; second = second })
     ∙ (ap (λ (p : StepPart). p ∷ parts_at (trees (b.nodes ++ n ∷ [])) b.parts) e
-    ∙ ap (λ (ps : List StepPart). record { steps = steps_from (trees b.nodes) n; second = steps_at (trees b.nodes) second } ∷ ps) k)
+    ∙ ap (λ (ps : List StepPart). record {
+      steps = steps_from (trees b.nodes) n;
+      second = steps_at (trees b.nodes) second;
+    } ∷ ps) k)
 
-pub line_added : (b : Built) (parts : List Part) (part : Part) (line : ℕ) (instruction : Instruction) → IsSound b → b.parts ≡ parts ++ part ∷ []
-    → AddsLine line (element.Line instruction) b (with_node_and_part (record b { parts = parts }) (node.Line line instruction part.steps) part.second)
+pub line_added : (b : Built) (parts : List Part) (part : Part) (line : ℕ) (instruction : Instruction) → IsSound b
+    → b.parts ≡ parts ++ part ∷ []
+    → AddsLine line (element.Line instruction) b
+    (with_node_and_part (record b { parts = parts }) (node.Line line instruction part.steps) part.second)
 line_added b parts part line instruction sound was =
     let p = popped b part parts sound was in
     record {
@@ -106,58 +127,85 @@ line_added b parts part line instruction sound was =
           ∙ sym (ap (with_element line (element.Line instruction)) p.3);
     }
 
-pub repeat_added : (b : Built) (parts : List Part) (part body : Part) (line rounds : ℕ) → IsSound b → b.parts ≡ (parts ++ part ∷ []) ++ body ∷ []
-    → AddsLine line (element.Repeat rounds) b (with_node_and_part (record b { parts = parts }) (node.Rounds rounds body.steps part.steps) part.second)
+pub repeat_added : (b : Built) (parts : List Part) (part body : Part) (line rounds : ℕ) → IsSound b
+    → b.parts ≡ (parts ++ part ∷ []) ++ body ∷ []
+    → AddsLine line (element.Repeat rounds) b
+    (with_node_and_part (record b { parts = parts }) (node.Rounds rounds body.steps part.steps) part.second)
 repeat_added b parts part body line rounds sound was =
     let p = popped b body (parts ++ part ∷ []) sound was in
     let q = popped (record b { parts = parts ++ part ∷ [] }) part parts p.0 refl in
     record {
       sound = grown_sound (record b { parts = parts }) (node.Rounds rounds body.steps part.steps) part.second q.0 q.2;
       parts = grown_parts (record b { parts = parts }) (node.Rounds rounds body.steps part.steps) part.second q.0 q.2
-          ∙ sym (ap (with_element line (element.Repeat rounds)) (p.3 ∙ ap (λ (ps : List StepPart). part_at (trees b.nodes) body ∷ ps) q.3));
+          ∙ sym (ap (with_element line (element.Repeat rounds)) (p.3
+          ∙ ap (λ (ps : List StepPart). part_at (trees b.nodes) body ∷ ps) q.3));
     }
 
-pub if_added : (b : Built) (parts : List Part) (part branches : Part) (line number : ℕ) → IsSound b → b.parts ≡ (parts ++ part ∷ []) ++ branches ∷ []
-    → AddsLine line (element.If number) b (with_node_and_part (record b { parts = parts }) (node.Choice number branches.steps branches.second part.steps) part.second)
+pub if_added : (b : Built) (parts : List Part) (part branches : Part) (line number : ℕ) → IsSound b
+    → b.parts ≡ (parts ++ part ∷ []) ++ branches ∷ []
+    → AddsLine line (element.If number) b
+    (with_node_and_part (record b { parts = parts }) (node.Choice number branches.steps branches.second part.steps)
+    part.second)
 if_added b parts part branches line number sound was =
     let p = popped b branches (parts ++ part ∷ []) sound was in
     let q = popped (record b { parts = parts ++ part ∷ [] }) part parts p.0 refl in
     record {
-      sound = grown_sound (record b { parts = parts }) (node.Choice number branches.steps branches.second part.steps) part.second q.0 q.2;
-      parts = grown_parts (record b { parts = parts }) (node.Choice number branches.steps branches.second part.steps) part.second q.0 q.2
-          ∙ sym (ap (with_element line (element.If number)) (p.3 ∙ ap (λ (ps : List StepPart). part_at (trees b.nodes) branches ∷ ps) q.3));
+      sound = grown_sound (record b { parts = parts }) (node.Choice number branches.steps branches.second part.steps)
+          part.second q.0 q.2;
+      parts = grown_parts (record b { parts = parts }) (node.Choice number branches.steps branches.second part.steps)
+          part.second q.0 q.2
+          ∙ sym (ap (with_element line (element.If number)) (p.3
+          ∙ ap (λ (ps : List StepPart). part_at (trees b.nodes) branches ∷ ps) q.3));
     }
 
 put_parts : (b : Built) (second : ℕ) → IsSound b
     → parts_in (with_part b 0 second) ≡ record { steps = Done; second = steps_at (trees b.nodes) second } ∷ parts_in b
 put_parts b second sound =
     parts_at_push (trees b.nodes) b.parts (record { steps = 0; second = second })
-    ∙ ap (λ (s : Steps). let p : StepPart = record { steps = s; second = steps_at (trees b.nodes) second } in p ∷ parts_in b) sound.first
+    ∙ ap (λ (s : Steps). let p : StepPart = record { steps = s; second = steps_at (trees b.nodes) second } in p
+    ∷ parts_in b) sound.first
 
 pub else_added : (b : Built) (parts : List Part) (part : Part) (line : ℕ) → IsSound b → b.parts ≡ parts ++ part ∷ []
     → AddsLine line element.Else b (with_part (record b { parts = parts }) 0 part.steps)
 else_added b parts part line sound was =
     let p = popped b part parts sound was in
     record {
-      sound = record { some = sound.some; first = sound.first; parts = PartsAreWithin_push (length b.nodes) parts (record { steps = 0; second = part.steps }) p.0.parts sound.some p.1 };
+      sound = record {
+        some = sound.some;
+        first = sound.first;
+        parts = PartsAreWithin_push (length b.nodes) parts (record { steps = 0; second = part.steps }) p.0.parts
+            sound.some p.1;
+      };
       parts = put_parts (record b { parts = parts }) part.steps p.0 ∙ sym (ap (with_element line element.Else) p.3);
     }
 
 pub end_added : (b : Built) (line : ℕ) → IsSound b → AddsLine line element.End b (with_part b 0 0)
 end_added b line sound = record {
-  sound = record { some = sound.some; first = sound.first; parts = PartsAreWithin_push (length b.nodes) b.parts (record { steps = 0; second = 0 }) sound.parts sound.some sound.some };
-  parts = put_parts b 0 sound ∙ ap (λ (s : Steps). let p : StepPart = record { steps = Done; second = s } in p ∷ parts_in b) sound.first;
+  sound = record {
+    some = sound.some;
+    first = sound.first;
+    parts = PartsAreWithin_push (length b.nodes) b.parts (record { steps = 0; second = 0 }) sound.parts sound.some
+        sound.some;
+  };
+  parts = put_parts b 0 sound
+      ∙ ap (λ (s : Steps). let p : StepPart = record { steps = Done; second = s } in p ∷ parts_in b) sound.first;
 }
 
 -- no part is open, or one
-pub none_added : (b c : Built) (line : ℕ) (e : Element) → IsSound b → b.parts ≡ [] → c ≡ b → with_element line e [] ≡ [] → AddsLine line e b c
+pub none_added : (b c : Built) (line : ℕ) (e : Element) → IsSound b → b.parts ≡ [] → c ≡ b → with_element line e [] ≡ []
+    → AddsLine line e b c
 none_added b c line e sound none same nothing =
     let f : parts_in b ≡ [] = ap (parts_at (trees b.nodes)) none in
-    subst (λ (x : Built). AddsLine line e b x) (sym same) (record { sound = sound; parts = f ∙ sym (ap (with_element line e) f ∙ nothing) })
+    subst (λ (x : Built). AddsLine line e b x) (sym same)
+    (record { sound = sound; parts = f ∙ sym (ap (with_element line e) f ∙ nothing) })
 
-pub one_added : (b c : Built) (part : Part) (line : ℕ) (e : Element) → IsSound b → b.parts ≡ part ∷ [] → c ≡ record b { parts = [] }
+pub one_added : (b c : Built) (part : Part) (line : ℕ) (e : Element) → IsSound b → b.parts ≡ part ∷ []
+    → c ≡ record b { parts = [] }
     → ((p : StepPart) → with_element line e (p ∷ []) ≡ []) → AddsLine line e b c
 one_added b c part line e sound one same nothing =
     let f : parts_in b ≡ part_at (trees b.nodes) part ∷ [] = ap (parts_at (trees b.nodes)) one in
     subst (λ (x : Built). AddsLine line e b x) (sym same)
-    (record { sound = record { some = sound.some; first = sound.first; parts = tt }; parts = sym (ap (with_element line e) f ∙ nothing (part_at (trees b.nodes) part)) })
+    (record {
+      sound = record { some = sound.some; first = sound.first; parts = tt };
+      parts = sym (ap (with_element line e) f ∙ nothing (part_at (trees b.nodes) part));
+    })

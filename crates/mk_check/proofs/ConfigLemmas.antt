@@ -1,5 +1,6 @@
 -- The configuration of a well typed program of some text is within its limits.
-use Rattle.std.proofs.Common.{◌≡◌, ℕ, ◌+◌, ◌≤◌, ◌<◌, Bool, true, false, List, [], ◌∷◌, ◌++◌, length, map, Option, Some, None, is_some, refl, ap, sym, subst, arith, add-one}
+use Rattle.std.proofs.Common.{◌≡◌, ℕ, ◌+◌, ◌≤◌, ◌<◌, Bool, true, false, List, [], ◌∷◌, ◌++◌, length, map, Option, Some}
+use Rattle.std.proofs.Common.{None, is_some, refl, ap, sym, subst, arith, add-one}
 use Rattle.std.specs.Prelude.{if◌then◌else◌, All, slice_get}
 use Rattle.std.specs.Str.{bytes_eq}
 use Rattle.std.proofs.lemmas.Bool.{false≢true}
@@ -19,10 +20,14 @@ use Rattle.mk_script.specs.Lines.{at_most}
 use Rattle.mk_script.specs.declared.faults.Which.TheVariants as which
 use Rattle.mk_check.specs.declared.typing_faults.TypeKind.{TypeKind}
 use Rattle.mk_check.specs.declared.typing_faults.TypeKind.TheVariants as kind
-use Rattle.mk_check.specs.Declarations.{config_of, place_of, kind_of, kinds_among, types_of, globals_among, globals_of, pages_of, resident_of}
-use Rattle.mk_check.specs.Typing.{Around, TypingFault, ◌or◌, unless, at_line, typing_fault, fault_from, type_words, word_among, word_at, type_fault, inside_fault, pointers_fault, offsets_fault, IsWellTyped}
+use Rattle.mk_check.specs.Declarations.{config_of, place_of, kind_of, kinds_among, types_of, globals_among, globals_of}
+use Rattle.mk_check.specs.Declarations.{pages_of, resident_of}
+use Rattle.mk_check.specs.Typing.{Around, TypingFault, ◌or◌, unless, at_line, typing_fault, fault_from, type_words}
+use Rattle.mk_check.specs.Typing.{word_among, word_at, type_fault, inside_fault, pointers_fault, offsets_fault}
+use Rattle.mk_check.specs.Typing.{IsWellTyped}
 use Rattle.mk_script.proofs.PassedLines.{ArePassed, IsWhole}
-use Rattle.mk_check.proofs.GrammarLemmas.{Some≢None, at_most-None, option_or-None, heap_within, length-script_names, length-type_names, length-global_names}
+use Rattle.mk_check.proofs.GrammarLemmas.{Some≢None, at_most-None, option_or-None, heap_within, length-script_names}
+use Rattle.mk_check.proofs.GrammarLemmas.{length-type_names, length-global_names}
 use Rattle.mk_core.specs.declared.config.Config.{Config}
 use Rattle.mk_check.proofs.FormLemmas.{line_item-word}
 use Rattle.mk_check.proofs.NumberLemmas.{length-kinds_among, length-globals_among}
@@ -35,7 +40,8 @@ unless-None : (b : Bool) (fault : TypeKind) → unless b fault ≡ None → b �
 unless-None true fault h = refl
 unless-None false fault h = absurd (Some≢None fault h)
 
-at_line-None : (line : ℕ) (fault : Option TypeKind) (other : Option TypingFault) → at_line line fault other ≡ None → (fault ≡ None) × (other ≡ None)
+at_line-None : (line : ℕ) (fault : Option TypeKind) (other : Option TypingFault) → at_line line fault other ≡ None
+    → (fault ≡ None) × (other ≡ None)
 at_line-None line None other h = (refl, h)
 at_line-None line (Some fault) other h = absurd (Some≢None _ h)
 
@@ -53,25 +59,33 @@ unfolding or_default
 some_value other x y h = ap (or_default other) h
 
 module _ (names : List (List ℕ)) where
-  first_type : (words : List TypeWord) (types : List (List Kind)) → IsAt (map (kind_of names) words ∷ types) 0 (map (kind_of names) words)
+  first_type : (words : List TypeWord) (types : List (List Kind))
+      → IsAt (map (kind_of names) words ∷ types) 0 (map (kind_of names) words)
   first_type words types = record { within = omega arith; kinds = refl }
 
-  later_type : (first : List Kind) (types : List (List Kind)) (place : ℕ) (found : List Kind) → IsAt types place found → IsAt (first ∷ types) (place + 1) found
+  later_type : (first : List Kind) (types : List (List Kind)) (place : ℕ) (found : List Kind) → IsAt types place found
+      → IsAt (first ∷ types) (place + 1) found
   later_type first types place found h = rw add-one (record { within = omega (arith, h.within); kinds = h.kinds })
 
-  chosen : (b : Bool) (words sought : List TypeWord) (later : Option (List TypeWord)) (types : List (List Kind)) (place : ℕ)
-      → (later ≡ Some sought → IsAt types place (map (kind_of names) sought)) → (if b then Some words else later) ≡ Some sought
+  chosen : (b : Bool) (words sought : List TypeWord) (later : Option (List TypeWord)) (types : List (List Kind))
+      (place : ℕ)
+      → (later ≡ Some sought → IsAt types place (map (kind_of names) sought))
+      → (if b then Some words else later) ≡ Some sought
       → IsAt (map (kind_of names) words ∷ types) (if b then 0 else place + 1) (map (kind_of names) sought)
   chosen true words sought later types place behind h =
-      subst (λ ws. IsAt (map (kind_of names) words ∷ types) 0 (map (kind_of names) ws)) (some_value words words sought h) (first_type words types)
-  chosen false words sought later types place behind h = later_type (map (kind_of names) words) types place (map (kind_of names) sought) (behind h)
+      subst (λ ws. IsAt (map (kind_of names) words ∷ types) 0 (map (kind_of names) ws))
+      (some_value words words sought h) (first_type words types)
+  chosen false words sought later types place behind h =
+      later_type (map (kind_of names) words) types place (map (kind_of names) sought) (behind h)
 
   -- the type of a name
-  pub type_words-IsAt : (name : List ℕ) (items : List Item) (sought : List TypeWord) → type_words name items ≡ Some sought
+  pub type_words-IsAt : (name : List ℕ) (items : List Item) (sought : List TypeWord)
+      → type_words name items ≡ Some sought
       → IsAt (kinds_among names items) (place_of name (type_names items)) (map (kind_of names) sought)
   type_words-IsAt name [] sought h = absurd (Some≢None sought (sym h))
   type_words-IsAt name (TypeLine other words ∷ items) sought h =
-      chosen (bytes_eq name other) words sought (type_words name items) (kinds_among names items) (place_of name (type_names items)) (type_words-IsAt name items sought) h
+      chosen (bytes_eq name other) words sought (type_words name items) (kinds_among names items)
+      (place_of name (type_names items)) (type_words-IsAt name items sought) h
   type_words-IsAt name (item ∷ items) sought h = type_words-IsAt name items sought h
 
 -- a value, by its test
@@ -85,63 +99,88 @@ has_value (Some x) h = record { value = x; is = refl }
 
 module _ (program : List Item) (script : List Item) where
   -- the place of a type that is declared
-  pub type_fault-within : (name : List ℕ) → type_fault (record { program = program; script = script }) name ≡ None → place_of name (type_names program) < length (types_of program)
+  pub type_fault-within : (name : List ℕ) → type_fault (record { program = program; script = script }) name ≡ None
+      → place_of name (type_names program) < length (types_of program)
   type_fault-within name h =
       let found = has_value (type_words name program) (unless-None (is_some (type_words name program)) kind.NoType h) in
       (type_words-IsAt (type_names program) name program found.value found.is).within
 
-  word_within : (at : At) (found : Option (List TypeWord)) → type_words at.name program ≡ found → is_some (word_among found at.offset) ≡ true
+  word_within : (at : At) (found : Option (List TypeWord)) → type_words at.name program ≡ found
+      → is_some (word_among found at.offset) ≡ true
       → IsAmong (types_of program) (kind_of (type_names program) (Pointer at))
   word_within at None is h = absurd (false≢true h)
   word_within at (Some words) is h =
       let type' = type_words-IsAt (type_names program) at.name program words is in
-      let word = has_value (slice_get words at.offset) h in
-      (type'.within, omega (arith, ap length type'.kinds, length-map words (kind_of (type_names program)), slice_get_within words at.offset word.value word.is))
+      let word = has_value (slice_get words at.offset) h in (
+        type'.within,
+        omega (
+          arith,
+          ap length type'.kinds,
+          length-map words (kind_of (type_names program)),
+          slice_get_within words at.offset word.value word.is,
+        ),
+      )
 
   -- a place that is inside its type
-  inside_fault-IsAmong : (at : At) → inside_fault (record { program = program; script = script }) (Some at) ≡ None → IsAmong (types_of program) (kind_of (type_names program) (Pointer at))
+  inside_fault-IsAmong : (at : At) → inside_fault (record { program = program; script = script }) (Some at) ≡ None
+      → IsAmong (types_of program) (kind_of (type_names program) (Pointer at))
   inside_fault-IsAmong at h =
-      word_within at (type_words at.name program) refl (unless-None (is_some (word_at (record { program = program; script = script }) (Some at))) kind.Offset h)
+      word_within at (type_words at.name program) refl
+      (unless-None (is_some (word_at (record { program = program; script = script }) (Some at))) kind.Offset h)
 
-  words_among : (words : List TypeWord) → offsets_fault (record { program = program; script = script }) words ≡ None → All (IsAmong (types_of program)) (map (kind_of (type_names program)) words)
+  words_among : (words : List TypeWord) → offsets_fault (record { program = program; script = script }) words ≡ None
+      → All (IsAmong (types_of program)) (map (kind_of (type_names program)) words)
   words_among [] h = All-nil (IsAmong (types_of program))
   words_among (Number ∷ words) h = All-cons (IsAmong (types_of program)) _ _ tt (words_among words h)
   words_among (Pointer at ∷ words) h =
-      let both = or-None (inside_fault (record { program = program; script = script }) (Some at)) (offsets_fault (record { program = program; script = script }) words) h in
+      let both = or-None (inside_fault (record { program = program; script = script }) (Some at))
+      (offsets_fault (record { program = program; script = script }) words) h in
       All-cons (IsAmong (types_of program)) _ _ (inside_fault-IsAmong at both.0) (words_among words both.1)
 
 -- the types that lines behind these declare
-pub types-within : (program : List Item) (line : ℕ) (before items : List Item) → ArePassed before items → fault_from program line before items ≡ None
+pub types-within : (program : List Item) (line : ℕ) (before items : List Item) → ArePassed before items
+    → fault_from program line before items ≡ None
     → All (IsTypeAmong (types_of program)) (kinds_among (type_names program) items)
 types-within program line before [] lines h = All-nil (IsTypeAmong (types_of program))
 types-within program line before (TypeLine name words ∷ items) lines h =
     let a : Around = record { program = program; script = this_script before } in
-    let both = at_line-None line (typing_fault a line items (TypeLine name words)) (fault_from program (line + 1) (before ++ TypeLine name words ∷ []) items) h in
+    let both = at_line-None line (typing_fault a line items (TypeLine name words))
+    (fault_from program (line + 1) (before ++ TypeLine name words ∷ []) items) h in
     let pointers = or-None (pointers_fault a words) (offsets_fault a words) both.0 in
-    let limits = option_or-None (at_most (length (type_names before) + 1) 64 which.Types) (at_most (length words) 4096 which.Words) lines.0.within in
+    let limits = option_or-None (at_most (length (type_names before) + 1) 64 which.Types)
+    (at_most (length words) 4096 which.Words) lines.0.within in
     let size = length-map words (kind_of (type_names program)) in
     All-cons (IsTypeAmong (types_of program)) _ _ (
-      (omega (arith, size, line_item-word before lines.0.words name words lines.0.says), omega (arith, size, at_most-None (length words) 4096 which.Words limits.1)),
+      (
+        omega (arith, size, line_item-word before lines.0.words name words lines.0.says),
+        omega (arith, size, at_most-None (length words) 4096 which.Words limits.1),
+      ),
       words_among program (this_script before) words pointers.1,
     )
     (types-within program (line + 1) (before ++ TypeLine name words ∷ []) items lines.1 both.1)
 types-within program line before (item ∷ items) lines h =
     types-within program (line + 1) (before ++ item ∷ []) items lines.1
-    (at_line-None line (typing_fault (record { program = program; script = this_script before }) line items item) (fault_from program (line + 1) (before ++ item ∷ []) items) h).1
+    (at_line-None line (typing_fault (record { program = program; script = this_script before }) line items item)
+    (fault_from program (line + 1) (before ++ item ∷ []) items) h).1
 
 -- the globals that lines behind these declare
-pub globals-within : (program : List Item) (line : ℕ) (before items : List Item) → fault_from program line before items ≡ None
+pub globals-within : (program : List Item) (line : ℕ) (before items : List Item)
+    → fault_from program line before items ≡ None
     → All (λ ty. ty < length (types_of program)) (globals_among (type_names program) items)
 globals-within program line before [] h = All-nil (λ ty. ty < length (types_of program))
 globals-within program line before (Global name ty ∷ items) h =
-    let both = at_line-None line (type_fault (record { program = program; script = this_script before }) ty) (fault_from program (line + 1) (before ++ Global name ty ∷ []) items) h in
-    All-cons (λ t. t < length (types_of program)) _ _ (type_fault-within program (this_script before) ty both.0) (globals-within program (line + 1) (before ++ Global name ty ∷ []) items both.1)
+    let both = at_line-None line (type_fault (record { program = program; script = this_script before }) ty)
+    (fault_from program (line + 1) (before ++ Global name ty ∷ []) items) h in
+    All-cons (λ t. t < length (types_of program)) _ _ (type_fault-within program (this_script before) ty both.0)
+    (globals-within program (line + 1) (before ++ Global name ty ∷ []) items both.1)
 globals-within program line before (item ∷ items) h =
     globals-within program (line + 1) (before ++ item ∷ []) items
-    (at_line-None line (typing_fault (record { program = program; script = this_script before }) line items item) (fault_from program (line + 1) (before ++ item ∷ []) items) h).1
+    (at_line-None line (typing_fault (record { program = program; script = this_script before }) line items item)
+    (fault_from program (line + 1) (before ++ item ∷ []) items) h).1
 
 -- the configuration of a program is within its limits
-pub config_within : (program : List Item) (markers : ℕ) → IsWhole program → IsWellTyped program → markers ≤ 8 → IsWithinLimits (config_of program markers)
+pub config_within : (program : List Item) (markers : ℕ) → IsWhole program → IsWellTyped program → markers ≤ 8
+    → IsWithinLimits (config_of program markers)
 config_within program markers lines typed few =
     let heap = heap_within program lines in
     record {
@@ -150,7 +189,11 @@ config_within program markers lines typed few =
       callers = length-script_names program lines;
       markers = few;
       type_count = omega (arith, length-kinds_among (type_names program) program, length-type_names program lines);
-      global_count = omega (arith, length-globals_among (type_names program) program, length-global_names program lines);
+      global_count = omega (
+        arith,
+        length-globals_among (type_names program) program,
+        length-global_names program lines,
+      );
       types = types-within program 1 [] program lines.lines typed;
       globals = globals-within program 1 [] program typed;
     }
@@ -159,5 +202,12 @@ config_within program markers lines typed few =
 pub config_is : (program : List Item) (pages resident callers markers : ℕ) (types : List (List Kind)) (globals : List ℕ)
     → pages ≡ pages_of program → resident ≡ resident_of program → callers ≡ length (script_names program)
     → types ≡ types_of program → globals ≡ globals_of program
-    → ◌≡◌ {A = Config} (record { pages = pages; resident = resident; callers = callers; markers = markers; types = types; globals = globals }) (config_of program markers)
+    → ◌≡◌ {A = Config} (record {
+      pages = pages;
+      resident = resident;
+      callers = callers;
+      markers = markers;
+      types = types;
+      globals = globals;
+    }) (config_of program markers)
 config_is program pages resident callers markers types globals p r c t g = cc

@@ -1,9 +1,11 @@
 -- Counts of parts, as a script is read from its end.
-use Rattle.std.proofs.Common.{◌≡◌, ℕ, zero, suc, ◌+◌, ◌*◌, ◌-◌, ◌^◌, ◌≤◌, ◌<◌, max, Bool, true, false, List, [], ◌∷◌, ◌++◌, length, get_or, set, take, drop, reverse, refl, ap, ◌∙◌, sym, arith, ⊎_elim}
+use Rattle.std.proofs.Common.{◌≡◌, ℕ, zero, suc, ◌+◌, ◌*◌, ◌-◌, ◌^◌, ◌≤◌, ◌<◌, max, Bool, true, false, List, [], ◌∷◌}
+use Rattle.std.proofs.Common.{◌++◌, length, get_or, set, take, drop, reverse, refl, ap, ◌∙◌, sym, arith, ⊎_elim}
 use Rattle.std.specs.Prelude.{if◌then◌else◌}
 use Rattle.std.proofs.lemmas.Bool.{cases_lt, false≢true}
 use Rattle.std.proofs.lemmas.Grind.{reverse_onto}
-use Rattle.std.proofs.lemmas.List.{append_assoc, reverse-append, reverse-reverse, length-reverse, length-append, set_at, get_or_at, drop_more, take_more}
+use Rattle.std.proofs.lemmas.List.{append_assoc, reverse-append, reverse-reverse, length-reverse, length-append, set_at}
+use Rattle.std.proofs.lemmas.List.{get_or_at, drop_more, take_more}
 use Rattle.mk_script.specs.declared.items.Item.{Item}
 use Rattle.mk_script.specs.declared.items.Item.TheVariants.{Script, Repeat, If, Else, End}
 use Rattle.mk_script.specs.Scopes.{is_script, is_instruction}
@@ -15,7 +17,8 @@ use Rattle.mk_check.specs.Counts.{saturated_count, counts_of, counts_with, inner
 saturated_count-add : (n m : ℕ) → saturated_count (n + m) ≡ saturated_count (saturated_count m + n)
 saturated_count-add n m = omega arith
 
-saturated_count-rounds : (rounds body : ℕ) → saturated_count (1 + rounds * (1 + body)) ≡ saturated_count (1 + rounds * (1 + saturated_count body))
+saturated_count-rounds : (rounds body : ℕ)
+    → saturated_count (1 + rounds * (1 + body)) ≡ saturated_count (1 + rounds * (1 + saturated_count body))
 saturated_count-rounds zero body = omega arith
 saturated_count-rounds (suc rounds) body =
     ⊎_elim
@@ -23,23 +26,31 @@ saturated_count-rounds (suc rounds) body =
     (λ (great : 2 ^ 64 - 1 ≤ body). omega arith)
     (cases_lt body (2 ^ 64 - 1))
 
-saturated_count-repeat : (rounds body rest : ℕ) → saturated_count (1 + rounds * (1 + body) + rest) ≡ saturated_count (saturated_count rest + saturated_count (1 + rounds * (1 + saturated_count body)))
+saturated_count-repeat : (rounds body rest : ℕ)
+    → saturated_count (1 + rounds * (1 + body) + rest)
+    ≡ saturated_count (saturated_count rest + saturated_count (1 + rounds * (1 + saturated_count body)))
 saturated_count-repeat rounds body rest = omega (arith, saturated_count-rounds rounds body)
 
-saturated_count-if : (first second rest : ℕ) → saturated_count (1 + max first second + rest) ≡ saturated_count (saturated_count rest + saturated_count (1 + max (saturated_count first) (saturated_count second)))
+saturated_count-if : (first second rest : ℕ)
+    → saturated_count (1 + max first second + rest)
+    ≡ saturated_count (saturated_count rest
+    + saturated_count (1 + max (saturated_count first) (saturated_count second)))
 saturated_count-if first second rest = omega arith
 
 with_lines : Part → List Part → ℕ → List PartCount
-with_lines part parts n = record { lines = n; second = saturated_count (length_of (branch part.second)) } ∷ counts_of parts
+with_lines part parts n = record { lines = n; second = saturated_count (length_of (branch part.second)) }
+    ∷ counts_of parts
 
 counts-with_line : (instruction : Bool) (part : Part) (parts : List Part)
-    → with_lines part parts (saturated_count ((if instruction then 1 else 0) + length_of part.blocks)) ≡ (if instruction then with_count 1 (counts_of (part ∷ parts)) else counts_of (part ∷ parts))
+    → with_lines part parts (saturated_count ((if instruction then 1 else 0) + length_of part.blocks))
+    ≡ (if instruction then with_count 1 (counts_of (part ∷ parts)) else counts_of (part ∷ parts))
 unfolding with_lines
 counts-with_line true part parts = ap (with_lines part parts) (saturated_count-add 1 (length_of part.blocks))
 counts-with_line false part parts = ap (with_lines part parts) (ap saturated_count (omega arith))
 
 -- what is kept of the open parts is what is kept of them with an item before
-pub counts-with_item : (line : ℕ) (item : Item) (parts : List Part) → counts_of (with_item line item parts) ≡ counts_with item (counts_of parts)
+pub counts-with_item : (line : ℕ) (item : Item) (parts : List Part)
+    → counts_of (with_item line item parts) ≡ counts_with item (counts_of parts)
 unfolding with_lines
 counts-with_item line (Repeat rounds) [] = refl
 counts-with_item line (Repeat rounds) (body ∷ []) = refl
@@ -48,7 +59,8 @@ counts-with_item line (Repeat rounds) (body ∷ part ∷ parts) =
 counts-with_item line (If number) [] = refl
 counts-with_item line (If number) (first ∷ []) = refl
 counts-with_item line (If number) (first ∷ part ∷ parts) =
-    ap (with_lines part parts) (saturated_count-if (length_of first.blocks) (length_of (branch first.second)) (length_of part.blocks))
+    ap (with_lines part parts)
+    (saturated_count-if (length_of first.blocks) (length_of (branch first.second)) (length_of part.blocks))
 counts-with_item line Else [] = refl
 counts-with_item line Else (second ∷ parts) = refl
 counts-with_item line End parts = refl
@@ -56,7 +68,8 @@ counts-with_item line item [] = refl
 counts-with_item line item (part ∷ parts) = counts-with_line (is_instruction item) part parts
 
 -- the items that open and end no part
-pub counts_with-line : (item : Item) (counts : List PartCount) → ((rounds : ℕ) → item ≡ Repeat rounds → ⊥) → ((number : List ℕ) → item ≡ If number → ⊥) → (item ≡ Else → ⊥) → (item ≡ End → ⊥)
+pub counts_with-line : (item : Item) (counts : List PartCount) → ((rounds : ℕ) → item ≡ Repeat rounds → ⊥)
+    → ((number : List ℕ) → item ≡ If number → ⊥) → (item ≡ Else → ⊥) → (item ≡ End → ⊥)
     → counts_with item counts ≡ (if is_instruction item then with_count 1 counts else counts)
 counts_with-line (Repeat rounds) counts not_repeat not_if not_else not_end = absurd (not_repeat rounds refl)
 counts_with-line (If number) counts not_repeat not_if not_else not_end = absurd (not_if number refl)
@@ -66,44 +79,62 @@ counts_with-line item counts not_repeat not_if not_else not_end = refl
 
 -- The innermost part is the last in memory.
 
-reverse-set_last : {X : Type 0} (f : X → X) (front : List X) (last x : X) (xs : List X) (n : ℕ) → xs ≡ front ++ last ∷ [] → length front ≡ n → x ≡ get_or xs n x → reverse (set xs n (f x)) ≡ f last ∷ reverse front
+reverse-set_last : {X : Type 0} (f : X → X) (front : List X) (last x : X) (xs : List X) (n : ℕ)
+    → xs ≡ front ++ last ∷ [] → length front ≡ n → x ≡ get_or xs n x → reverse (set xs n (f x)) ≡ f last ∷ reverse front
 reverse-set_last f front last x xs n is ends read =
     let same : x ≡ last = (rw is at read) ∙ get_or_at front last [] x n ends in
     rw (is, set_at front last [] (f x) n ends, reverse-append front (f x ∷ []), same) refl
 
-at_end : (f : PartCount → PartCount) (counts xs : List PartCount) (n : ℕ) (x : PartCount) → reverse xs ≡ counts → n ≡ length xs → 0 < n → x ≡ get_or xs (n - 1) x → reverse (set xs (n - 1) (f x)) ≡ with_innermost f counts
+at_end : (f : PartCount → PartCount) (counts xs : List PartCount) (n : ℕ) (x : PartCount) → reverse xs ≡ counts
+    → n ≡ length xs → 0 < n → x ≡ get_or xs (n - 1) x → reverse (set xs (n - 1) (f x)) ≡ with_innermost f counts
 at_end f [] xs n x is counted some read = absurd (omega (arith, length-reverse xs, ap length is))
 at_end f (count ∷ counts) xs n x is counted some read =
-    let front : xs ≡ reverse counts ++ count ∷ [] = sym (reverse-reverse xs) ∙ ap reverse is ∙ reverse_onto counts count [] in
-    reverse-set_last f (reverse counts) count x xs (n - 1) front (omega (arith, ap length front, length-append (reverse counts) (count ∷ []))) read
+    let front : xs ≡ reverse counts ++ count ∷ [] = sym (reverse-reverse xs) ∙ ap reverse is
+    ∙ reverse_onto counts count [] in
+    reverse-set_last f (reverse counts) count x xs (n - 1) front
+    (omega (arith, ap length front, length-append (reverse counts) (count ∷ []))) read
     ∙ ap (λ rest. f count ∷ rest) (reverse-reverse counts)
 
 -- n counts the parts
-pub reverse-set : (f : PartCount → PartCount) (xs : List PartCount) (n : ℕ) (x : PartCount) → n ≡ length xs → 0 < n → x ≡ get_or xs (n - 1) x → reverse (set xs (n - 1) (f x)) ≡ with_innermost f (reverse xs)
+pub reverse-set : (f : PartCount → PartCount) (xs : List PartCount) (n : ℕ) (x : PartCount) → n ≡ length xs → 0 < n
+    → x ≡ get_or xs (n - 1) x → reverse (set xs (n - 1) (f x)) ≡ with_innermost f (reverse xs)
 reverse-set f xs n x counted some read = at_end f (reverse xs) xs n x refl counted some read
 
-pub reverse-none : (f : PartCount → PartCount) (xs : List PartCount) (n : ℕ) → n ≡ length xs → n ≡ 0 → reverse xs ≡ with_innermost f (reverse xs)
+pub reverse-none : (f : PartCount → PartCount) (xs : List PartCount) (n : ℕ) → n ≡ length xs → n ≡ 0
+    → reverse xs ≡ with_innermost f (reverse xs)
 reverse-none f [] n counted none = refl
 reverse-none f (x ∷ xs) n counted none = absurd (omega arith)
 
-pub lines-innermost : (parts : List Part) → (innermost_count (counts_of parts)).lines ≡ saturated_count (length_of (outermost_blocks parts))
+pub lines-innermost : (parts : List Part)
+    → (innermost_count (counts_of parts)).lines ≡ saturated_count (length_of (outermost_blocks parts))
 lines-innermost [] = refl
 lines-innermost (part ∷ parts) = refl
 
 -- Where a script ends.
 
-before_next_script-script : (item : Item) (items : List Item) → is_script item ≡ true → before_next_script (item ∷ items) ≡ []
+before_next_script-script : (item : Item) (items : List Item) → is_script item ≡ true
+    → before_next_script (item ∷ items) ≡ []
 before_next_script-script (Script name) items h = refl
 before_next_script-script item items h = absurd (false≢true h)
 
-before_next_script-other : (item : Item) (items : List Item) → is_script item ≡ false → before_next_script (item ∷ items) ≡ item ∷ before_next_script items
+before_next_script-other : (item : Item) (items : List Item) → is_script item ≡ false
+    → before_next_script (item ∷ items) ≡ item ∷ before_next_script items
 before_next_script-other (Script name) items h = absurd (false≢true (sym h))
 before_next_script-other item items h = refl
 
 module _ (items : List Item) (i : ℕ) (item : Item) (within : i < length items) (read : item ≡ get_or items i item) where
   pub before_next_script-end : is_script item ≡ true → before_next_script (drop i items) ≡ []
-  before_next_script-end h = rw (drop_more items i item within, ← read) (before_next_script-script item (drop (i + 1) items) h)
+  before_next_script-end h =
+      rw (drop_more items i item within, ← read) (before_next_script-script item (drop (i + 1) items) h)
 
-  pub before_next_script-more : is_script item ≡ false → take i items ++ before_next_script (drop i items) ≡ take (i + 1) items ++ before_next_script (drop (i + 1) items)
+  pub before_next_script-more : is_script item ≡ false
+      → take i items ++ before_next_script (drop i items)
+      ≡ take (i + 1) items ++ before_next_script (drop (i + 1) items)
   before_next_script-more h =
-      rw (drop_more items i item within, take_more items i item within, ← read, before_next_script-other item (drop (i + 1) items) h, append_assoc) refl
+      rw (
+        drop_more items i item within,
+        take_more items i item within,
+        ← read,
+        before_next_script-other item (drop (i + 1) items) h,
+        append_assoc,
+      ) refl

@@ -1,5 +1,6 @@
 -- A caller's registers hold what its script declares them for, and its typed lines keep them so.
-use Rattle.std.proofs.Common.{◌≡◌, ℕ, ◌+◌, ◌*◌, ◌<◌, List, length, map, get_or, Option, Some, None, refl, ap, sym, subst, ◌∙◌, arith}
+use Rattle.std.proofs.Common.{◌≡◌, ℕ, ◌+◌, ◌*◌, ◌<◌, List, length, map, get_or, Option, Some, None, refl, ap, sym}
+use Rattle.std.proofs.Common.{subst, ◌∙◌, arith}
 use Rattle.std.specs.Prelude.{IfSome, option_map, slice_get}
 use Rattle.std.proofs.lemmas.List.{length-map}
 use Rattle.std.proofs.lemmas.Option.{same_Some, slice_get-map, slice_get_within, get_or_from_slice_get}
@@ -9,7 +10,8 @@ use Rattle.mk_never.specs.declared.values.Value.{Value}
 use Rattle.mk_never.specs.declared.values.Value.TheVariants.{Null, Num, Ptr}
 use Rattle.mk_never.specs.declared.values.Target.TheVariants.{Unmapped, WordOf}
 use Rattle.mk_never.specs.Types.{kinds_of}
-use Rattle.mk_never.specs.NeverHeap.{NeverState, register_at, allocation_at, global_at, words_of, word_at, with_register, is_unmapped, target_of, moved_on}
+use Rattle.mk_never.specs.NeverHeap.{NeverState, register_at, allocation_at, global_at, words_of, word_at}
+use Rattle.mk_never.specs.NeverHeap.{with_register, is_unmapped, target_of, moved_on}
 use Rattle.mk_never.specs.Admitted.{IsCaller, Meets, IsOfKind}
 use Rattle.mk_never.specs.Typed.{IsSound, Suits, kind_in, IsTyped}
 use Rattle.mk_never.proofs.Edits.{if_by, set_by, exists}
@@ -34,7 +36,8 @@ register_of script n caller name = register_at n caller (place_of name (pointer_
 -- Each register that the script declares is null or points to the place that it is declared for.
 abbrev pub AreAsDeclared : List Item → List Item → NeverState → ℕ → Type 0
 AreAsDeclared program script n caller =
-    (name : List ℕ) (at : At) → pointer_at name script ≡ Some at → IsOfKind (register_of script n caller name) (kind_at program at)
+    (name : List ℕ) (at : At) → pointer_at name script ≡ Some at
+    → IsOfKind (register_of script n caller name) (kind_at program at)
 
 -- A state of the program's types, in which the caller has the script's registers.
 pub record FitsScript (program script : List Item) (n : NeverState) (caller : ℕ) : Type 0 where
@@ -49,14 +52,17 @@ pub set_register : (program script : List Item) (n : NeverState) (caller : ℕ) 
     → AreAsDeclared program script n caller → pointer_at name script ≡ Some at → IsOfKind v (kind_at program at)
     → AreAsDeclared program script (with_register n caller (place_of name (pointer_names script)) v) caller
 set_register program script n caller name at v before is of_kind = λ other at' is'.
-    let here : 8 * caller + place_of other (pointer_names script) ≡ 8 * caller + place_of name (pointer_names script) → IsOfKind v (kind_at program at') =
+    let here : 8 * caller + place_of other (pointer_names script) ≡ 8 * caller + place_of name (pointer_names script)
+    → IsOfKind v (kind_at program at') =
     λ e.
     let same_places : place_of other (pointer_names script) ≡ place_of name (pointer_names script) = omega arith in
     let same : other ≡ name =
-    same_place other name (pointer_names script) (pointer_within other script at' is') (pointer_within name script at is) same_places in
+    same_place other name (pointer_names script) (pointer_within other script at' is')
+    (pointer_within name script at is) same_places in
     let places : at' ≡ at = same_Some at' at (sym is' ∙ (ap (λ (x : List ℕ). pointer_at x script) same ∙ is)) in
     subst (λ (x : At). IsOfKind v (kind_at program x)) (sym places) of_kind in
-    set_by (λ x. IsOfKind x (kind_at program at')) n.registers (8 * caller + place_of name (pointer_names script)) (8 * caller + place_of other (pointer_names script)) v Null here
+    set_by (λ x. IsOfKind x (kind_at program at')) n.registers (8 * caller + place_of name (pointer_names script))
+    (8 * caller + place_of other (pointer_names script)) v Null here
     (before other at' is')
 
 -- What is i words on from a register.
@@ -66,11 +72,13 @@ record WordAmong (words : Option (List TypeWord)) (i : ℕ) (word : TypeWord) : 
   is : words ≡ Some all
   at : slice_get all i ≡ Some word
 
-word_in : (words : Option (List TypeWord)) (i : ℕ) (word : TypeWord) → word_among words i ≡ Some word → WordAmong words i word
+word_in : (words : Option (List TypeWord)) (i : ℕ) (word : TypeWord) → word_among words i ≡ Some word
+    → WordAmong words i word
 word_in None i word e = cc
 word_in (Some all) i word e = record { all = all; is = refl; at = e }
 
-pub meets_weaker : (n : NeverState) (v : Value) (i : ℕ) (P Q : Kind → Type 0) → ((kind : Kind) → P kind → Q kind) → Meets n v i P → Meets n v i Q
+pub meets_weaker : (n : NeverState) (v : Value) (i : ℕ) (P Q : Kind → Type 0) → ((kind : Kind) → P kind → Q kind)
+    → Meets n v i P → Meets n v i Q
 meets_weaker n Null i P Q weaker meets = tt
 meets_weaker n (Num m) i P Q weaker meets = tt
 meets_weaker n (Ptr number ty offset) i P Q weaker meets = (meets.0, weaker _ meets.1)
@@ -85,19 +93,23 @@ meets_word program n (Num m) at i word types typed sound of_kind is = tt
 meets_word program n (Ptr number ty offset) at i word types typed sound of_kind is =
     let names = type_names program in
     let found = word_in (type_words at.name program) (at.offset + i) word is in
-    let whole : kinds_of (types_of program) (place_of at.name names) ≡ map (kind_of names) found.all = (type_place names at.name program found.all found.is).1 in
+    let whole : kinds_of (types_of program) (place_of at.name names) ≡ map (kind_of names) found.all =
+    (type_place names at.name program found.all found.is).1 in
     let ty_is : (allocation_at n number).ty ≡ place_of at.name names = sym sound.1 ∙ of_kind.0 in
     let kinds : kinds_of n.types (allocation_at n number).ty ≡ map (kind_of names) found.all =
-    ap (λ (t : ℕ). kinds_of n.types t) ty_is ∙ (ap (λ (t : List (List Kind)). kinds_of t (place_of at.name names)) types ∙ whole) in
+    ap (λ (t : ℕ). kinds_of n.types t) ty_is
+    ∙ (ap (λ (t : List (List Kind)). kinds_of t (place_of at.name names)) types ∙ whole) in
     let within : at.offset + i < length found.all = slice_get_within found.all (at.offset + i) word found.at in
     let size : length (words_of n number) ≡ length (map (kind_of names) found.all) =
     (typed.allocations number sound.0).size ∙ ap (λ (k : List Kind). length k) kinds in
     let offset_is : offset + i ≡ at.offset + i = ap (λ (o : ℕ). o + i) of_kind.1 in
     let here : get_or (map (kind_of names) found.all) (at.offset + i) NumKind ≡ kind_of names word =
     get_or_from_slice_get (map (kind_of names) found.all) (at.offset + i) (kind_of names word) NumKind
-    (slice_get-map (kind_of names) found.all (at.offset + i) ∙ ap (λ (w : Option TypeWord). option_map (kind_of names) w) found.at) in (
+    (slice_get-map (kind_of names) found.all (at.offset + i)
+    ∙ ap (λ (w : Option TypeWord). option_map (kind_of names) w) found.at) in (
       omega (arith, length-map found.all (kind_of names)),
-      ap (λ (k : List Kind). get_or k (offset + i) NumKind) kinds ∙ (ap (λ (o : ℕ). get_or (map (kind_of names) found.all) o NumKind) offset_is ∙ here),
+      ap (λ (k : List Kind). get_or k (offset + i) NumKind) kinds
+          ∙ (ap (λ (o : ℕ). get_or (map (kind_of names) found.all) o NumKind) offset_is ∙ here),
     )
 
 pub meets_before : (program script : List Item) (n : NeverState) (caller : ℕ) → FitsScript program script n caller
@@ -113,11 +125,13 @@ record IsReached (n : NeverState) (number place : ℕ) (Q : Kind → Type 0) : T
   inside : place < length (words_of n number)
   is : Q (kind_in n (allocation_at n number) place)
 
-reached : (n : NeverState) (v : Value) (i : ℕ) (Q : Kind → Type 0) (number place : ℕ) → Meets n v i Q → target_of n v i ≡ WordOf number place → IsReached n number place Q
+reached : (n : NeverState) (v : Value) (i : ℕ) (Q : Kind → Type 0) (number place : ℕ) → Meets n v i Q
+    → target_of n v i ≡ WordOf number place → IsReached n number place Q
 reached n Null i Q number place meets e = cc
 reached n (Num m) i Q number place meets e = cc
 reached n (Ptr a ty offset) i Q number place meets e =
-    if_by (λ t. t ≡ WordOf number place → IsReached n number place Q) (is_unmapped (allocation_at n a)) Unmapped (WordOf a (offset + i))
+    if_by (λ t. t ≡ WordOf number place → IsReached n number place Q) (is_unmapped (allocation_at n a)) Unmapped
+    (WordOf a (offset + i))
     (λ unmapped f. absurd (cc))
     (λ mapped f.
     let number_is : a ≡ number = cc in
@@ -126,22 +140,27 @@ reached n (Ptr a ty offset) i Q number place meets e =
     (record { there = exists n a (offset + i) meets.0; inside = meets.0; is = meets.1 }))) e
 
 -- a pointer word that is loaded points to where it is declared to
-pub loaded_word : (program : List Item) (n : NeverState) (v : Value) (i : ℕ) (at : At) (number place : ℕ) → IsTyped (globals_of program) n
-    → Meets n v i (λ kind. kind ≡ kind_at program at) → target_of n v i ≡ WordOf number place → IsOfKind (word_at n number place) (kind_at program at)
+pub loaded_word : (program : List Item) (n : NeverState) (v : Value) (i : ℕ) (at : At) (number place : ℕ)
+    → IsTyped (globals_of program) n
+    → Meets n v i (λ kind. kind ≡ kind_at program at) → target_of n v i ≡ WordOf number place
+    → IsOfKind (word_at n number place) (kind_at program at)
 loaded_word program n v i at number place typed meets e =
     let r = reached n v i (λ kind. kind ≡ kind_at program at) number place meets e in
     let suits : Suits n (word_at n number place) (kind_at program at) =
-    subst (λ (k : Kind). Suits n (word_at n number place) k) r.is ((typed.allocations number r.there).words place r.inside) in
+    subst (λ (k : Kind). Suits n (word_at n number place) k) r.is
+    ((typed.allocations number r.there).words place r.inside) in
     suits.1
 
 -- a pointer that is moved on points to where its place is moved on to
-pub moved_word : (program : List Item) (v : Value) (i : ℕ) (at : At) → IsOfKind v (kind_at program at) → IsOfKind (moved_on v i) (kind_at program (moved_by i at))
+pub moved_word : (program : List Item) (v : Value) (i : ℕ) (at : At) → IsOfKind v (kind_at program at)
+    → IsOfKind (moved_on v i) (kind_at program (moved_by i at))
 moved_word program Null i at of_kind = tt
 moved_word program (Num m) i at of_kind = absurd of_kind
 moved_word program (Ptr number ty offset) i at of_kind = (of_kind.0, ap (λ (o : ℕ). o + i) of_kind.1)
 
 -- what a global holds
-pub global_word : (program : List Item) (n : NeverState) (name ty : List ℕ) → IsTyped (globals_of program) n → global_type name program ≡ Some ty
+pub global_word : (program : List Item) (n : NeverState) (name ty : List ℕ) → IsTyped (globals_of program) n
+    → global_type name program ≡ Some ty
     → IsOfKind (global_at n (place_of name (global_names program))) (kind_at program (base_of ty))
 global_word program n name ty typed is =
     subst (λ (o : Option ℕ). IfSome o (λ t. IsOfKind (global_at n (place_of name (global_names program))) (To t 0)))

@@ -1,5 +1,6 @@
 -- The first fault, as lines are read one by one.
-use Rattle.std.proofs.Common.{◌≡◌, ℕ, ◌+◌, ◌<◌, cond, List, ◌∷◌, take, drop, length, get_or, Option, Some, None, count_by, refl, ◌∙◌, arith}
+use Rattle.std.proofs.Common.{◌≡◌, ℕ, ◌+◌, ◌<◌, cond, List, ◌∷◌, take, drop, length, get_or, Option, Some, None}
+use Rattle.std.proofs.Common.{count_by, refl, ◌∙◌, arith}
 use Rattle.std.specs.Prelude.{IfOk, Result, Ok, Err}
 use Rattle.std.proofs.lemmas.List.Recursion.{is_count_by}
 use Rattle.std.proofs.lemmas.List.{drop_more, take_more}
@@ -14,22 +15,31 @@ pub IfOk-map : {T E : Type 0} {P Q : T → Type 0} (r : Result T E) → ((x : T)
 IfOk-map (Ok x) f p = f x p
 IfOk-map (Err e) f p = tt
 
-module _ (program : List Item) (i : ℕ) (item : Item) (within : i < length program) (read : item ≡ get_or program i item) (reading : Reading) (at : reading ≡ record { program = program; count = i }) (behind : List Item) (rest : behind ≡ drop (i + 1) program) where
+module _ (program : List Item) (i : ℕ) (item : Item) (within : i < length program) (read : item ≡ get_or program i item)
+    (reading : Reading) (at : reading ≡ record { program = program; count = i }) (behind : List Item)
+    (rest : behind ≡ drop (i + 1) program) where
   fault_from-next : (fault : Option TypeKind) → fault ≡ typing_fault (around reading) (i + 1) behind item
-      → fault_from program (i + 1) (take i program) (drop i program) ≡ at_line (i + 1) fault (fault_from program (i + 1 + 1) (take (i + 1) program) (drop (i + 1) program))
-  fault_from-next fault is = rw (is, at, rest, drop_more program i item within, take_more program i item within, ← read) refl
+      → fault_from program (i + 1) (take i program) (drop i program)
+      ≡ at_line (i + 1) fault (fault_from program (i + 1 + 1) (take (i + 1) program) (drop (i + 1) program))
+  fault_from-next fault is = rw (is, at, rest, drop_more program i item within, take_more program i item within, ← read)
+      refl
 
   -- the line is ill typed
-  pub fault_from-some : (fault : Option TypeKind) (what : TypeKind) → fault ≡ typing_fault (around reading) (i + 1) behind item → fault ≡ Some what
+  pub fault_from-some : (fault : Option TypeKind) (what : TypeKind)
+      → fault ≡ typing_fault (around reading) (i + 1) behind item → fault ≡ Some what
       → fault_from program (i + 1) (take i program) (drop i program) ≡ Some (record { line = i + 1; kind = what })
   fault_from-some fault what is some = fault_from-next fault is ∙ rw some refl
 
   -- it isn't
-  pub fault_from-none : (fault : Option TypeKind) → fault ≡ typing_fault (around reading) (i + 1) behind item → fault ≡ None
-      → fault_from program (i + 1) (take i program) (drop i program) ≡ fault_from program (i + 1 + 1) (take (i + 1) program) (drop (i + 1) program)
+  pub fault_from-none : (fault : Option TypeKind) → fault ≡ typing_fault (around reading) (i + 1) behind item
+      → fault ≡ None
+      → fault_from program (i + 1) (take i program) (drop i program)
+      ≡ fault_from program (i + 1 + 1) (take (i + 1) program) (drop (i + 1) program)
   fault_from-none fault is none = fault_from-next fault is ∙ rw none refl
 
-script_names-cons : (item : Item) (items : List Item) → length (script_names (item ∷ items)) ≡ cond (is_script item) (1 + length (script_names items)) (length (script_names items))
+script_names-cons : (item : Item) (items : List Item)
+    → length (script_names (item ∷ items))
+    ≡ cond (is_script item) (1 + length (script_names items)) (length (script_names items))
 script_names-cons (Script name) items = omega arith
 script_names-cons item items = refl
 

@@ -6,42 +6,52 @@ use Rattle.mk_core.specs.declared.events.Answer.{Answer}
 use Rattle.mk_core.specs.Decided.{flagged}
 use Rattle.mk_script.specs.declared.items.Item.{Item}
 use Rattle.mk_check.specs.Blocks.{Blocks, Done, Line, Rounds, Choice, is_done, script_of}
-use Rattle.mk_check.specs.Feed.{Scope, Fed, op_of, with_answer, note, take_answer, take_answers, fed_before_answers, feed, has_ended}
+use Rattle.mk_check.specs.Feed.{Scope, Fed, op_of, with_answer, note, take_answer, take_answers, fed_before_answers}
+use Rattle.mk_check.specs.Feed.{feed, has_ended}
 use Rattle.mk_check.specs.Feeding.{FeedState, FeedStandsFor, IsWaiting, first_op, script_scope, next_op}
 use Rattle.mk_check.proofs.Numbered.{run_agrees, ops-with_answer}
 
 pub take_answers_push : (scope : Scope) (fed : Fed) (answers : List Answer) (a : Answer)
-    → take_answers scope fed (answers ++ a ∷ []) ≡ take_answer scope (take_answers scope fed answers) (take_answers scope fed answers).left a
+    → take_answers scope fed (answers ++ a ∷ [])
+    ≡ take_answer scope (take_answers scope fed answers) (take_answers scope fed answers).left a
 take_answers_push scope fed [] a = refl
 take_answers_push scope fed (b ∷ answers) a = take_answers_push scope (take_answer scope fed fed.left b) answers a
 
 pub feed_push : (program : List Item) (k : ℕ) (answers : List Answer) (a : Answer)
-    → feed program k (answers ++ a ∷ []) ≡ take_answer (script_scope program k) (feed program k answers) (feed program k answers).left a
-feed_push program k answers a = take_answers_push (script_scope program k) (fed_before_answers (script_scope program k) (script_of program k)) answers a
+    → feed program k (answers ++ a ∷ [])
+    ≡ take_answer (script_scope program k) (feed program k answers) (feed program k answers).left a
+feed_push program k answers a =
+    take_answers_push (script_scope program k) (fed_before_answers (script_scope program k) (script_of program k))
+    answers a
 
-taken_at_end : (scope : Scope) (fed : Fed) (left : Blocks) (a : Answer) → is_done left ≡ true → take_answer scope fed left a ≡ fed
+taken_at_end : (scope : Scope) (fed : Fed) (left : Blocks) (a : Answer) → is_done left ≡ true
+    → take_answer scope fed left a ≡ fed
 taken_at_end scope fed Done a h = refl
 taken_at_end scope fed (Line line item rest) a h = cc
 taken_at_end scope fed (Rounds rounds body rest) a h = refl
 taken_at_end scope fed (Choice number first second rest) a h = refl
 
 -- A script that has ended takes no answer.
-pub feed_push-ended : (program : List Item) (k : ℕ) (answers : List Answer) (a : Answer) → has_ended (feed program k answers) ≡ true
+pub feed_push-ended : (program : List Item) (k : ℕ) (answers : List Answer) (a : Answer)
+    → has_ended (feed program k answers) ≡ true
     → feed program k (answers ++ a ∷ []) ≡ feed program k answers
 feed_push-ended program k answers a h =
-    feed_push program k answers a ∙ taken_at_end (script_scope program k) (feed program k answers) (feed program k answers).left a h
+    feed_push program k answers a
+    ∙ taken_at_end (script_scope program k) (feed program k answers) (feed program k answers).left a h
 
 ops_taken : (scope : Scope) (fed : Fed) (left : Blocks) (a : Answer) (o : Op) → first_op scope fed left ≡ Some o
     → (take_answer scope fed left a).ops ≡ fed.ops ++ flagged o a ∷ []
 ops_taken scope fed Done a o h = cc
 ops_taken scope fed (Line line item rest) a o h =
     (run_agrees scope rest (with_answer scope (note fed (op_of scope fed item) line a) item a)).answers
-    ∙ (ops-with_answer scope (note fed (op_of scope fed item) line a) item a ∙ ap (λ (p : Option Op). (note fed p line a).ops) h)
+    ∙ (ops-with_answer scope (note fed (op_of scope fed item) line a) item a
+    ∙ ap (λ (p : Option Op). (note fed p line a).ops) h)
 ops_taken scope fed (Rounds rounds body rest) a o h = cc
 ops_taken scope fed (Choice number first second rest) a o h = cc
 
 -- The operation that is answered is noted behind those before it.
-pub ops-feed_push : (program : List Item) (k : ℕ) (answers : List Answer) (a : Answer) (o : Op) → next_op program k answers ≡ Some o
+pub ops-feed_push : (program : List Item) (k : ℕ) (answers : List Answer) (a : Answer) (o : Op)
+    → next_op program k answers ≡ Some o
     → (feed program k (answers ++ a ∷ [])).ops ≡ (feed program k answers).ops ++ flagged o a ∷ []
 ops-feed_push program k answers a o h =
     ap (λ (f : Fed). f.ops) (feed_push program k answers a)
@@ -49,9 +59,11 @@ ops-feed_push program k answers a o h =
 
 -- A feed that has an operation waits.
 pub waits_for_op : (s : FeedState) (o : Option Op)
-    → ((program : List Item) (k : ℕ) (answers : List Answer) → FeedStandsFor program k s answers → IsNone o ↔ IsTrue (has_ended (feed program k answers)))
+    → ((program : List Item) (k : ℕ) (answers : List Answer) → FeedStandsFor program k s answers
+    → IsNone o ↔ IsTrue (has_ended (feed program k answers)))
     → is_some o ≡ true → IsWaiting s
-waits_for_op s o none some = λ program k answers st. by_end (has_ended (feed program k answers)) (none program k answers st).1
+waits_for_op s o none some = λ program k answers st. by_end (has_ended (feed program k answers))
+    (none program k answers st).1
   where
     by_end : (b : Bool) → (IsTrue b → IsNone o) → b ≡ false
     by_end true f = let e : is_some o ≡ false = f refl in cc

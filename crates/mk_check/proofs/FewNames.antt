@@ -1,5 +1,6 @@
 -- A program of a text declares so few pointer registers and globals that a byte numbers them.
-use Rattle.std.proofs.Common.{◌≡◌, ℕ, zero, suc, ◌+◌, ◌≤◌, Bool, false, List, [], ◌∷◌, ◌++◌, length, refl, ap, ◌∙◌, if◌then◌else◌, arith}
+use Rattle.std.proofs.Common.{◌≡◌, ℕ, zero, suc, ◌+◌, ◌≤◌, Bool, false, List, [], ◌∷◌, ◌++◌, length, refl, ap, ◌∙◌}
+use Rattle.std.proofs.Common.{if◌then◌else◌, arith}
 use Rattle.std.specs.Prelude.{None}
 use Rattle.std.proofs.lemmas.List.{append_assoc}
 use Rattle.std.proofs.lemmas.List.Sums.{fold_push}
@@ -34,13 +35,17 @@ globals-append [] ys = omega arith
 globals-append (Global name ty ∷ xs) ys = omega (arith, globals-append xs ys)
 globals-append (item ∷ xs) ys = omega (arith, globals-append xs ys)
 
-this_script_push : (before : List Item) (item : Item) → this_script (before ++ item ∷ []) ≡ (if is_script item then [] else this_script before ++ item ∷ [])
-this_script_push before item = fold_push (λ (lines : List Item) (x : Item). if is_script x then [] else lines ++ x ∷ []) [] before item
+this_script_push : (before : List Item) (item : Item)
+    → this_script (before ++ item ∷ []) ≡ (if is_script item then [] else this_script before ++ item ∷ [])
+this_script_push before item = fold_push (λ (lines : List Item) (x : Item). if is_script x then []
+    else lines ++ x ∷ []) [] before item
 
 -- behind a line that is no script, the script has its pointer registers and the line's
-pointers_more : (before : List Item) (item : Item) → is_script item ≡ false → pointers (this_script (before ++ item ∷ [])) ≡ pointers (this_script before) + pointers (item ∷ [])
+pointers_more : (before : List Item) (item : Item) → is_script item ≡ false
+    → pointers (this_script (before ++ item ∷ [])) ≡ pointers (this_script before) + pointers (item ∷ [])
 pointers_more before item e =
-    ap pointers (this_script_push before item ∙ ap (λ (b : Bool). if b then [] else this_script before ++ item ∷ []) e) ∙ pointers-append (this_script before) (item ∷ [])
+    ap pointers (this_script_push before item ∙ ap (λ (b : Bool). if b then [] else this_script before ++ item ∷ []) e)
+    ∙ pointers-append (this_script before) (item ∷ [])
 
 pointers_none : (before : List Item) (name : List ℕ) → pointers (this_script (before ++ Script name ∷ [])) ≡ 0
 pointers_none before name = ap pointers (this_script_push before (Script name))
@@ -58,12 +63,17 @@ rest_is_few before [] limited h = omega arith
 rest_is_few before (Script name ∷ more) limited h = omega arith
 rest_is_few before (Ptr name at ∷ more) limited h =
     let e = pointers_more before (Ptr name at) refl in
-    omega (arith, rest_is_few (before ++ Ptr name at ∷ []) more limited.1 (pointer_fits before name at limited.0.within))
+    omega (
+      arith,
+      rest_is_few (before ++ Ptr name at ∷ []) more limited.1
+          (pointer_fits before name at limited.0.within),
+    )
 rest_is_few before (item ∷ more) limited h =
     let e = pointers_more before item refl in
     omega (arith, rest_is_few (before ++ item ∷ []) more limited.1 (omega arith))
 
-script_is_few : (before more : List Item) (line k : ℕ) → ArePassed before more → pointers (this_script before) ≤ 8 → pointers (script_from line k more).items ≤ 8
+script_is_few : (before more : List Item) (line k : ℕ) → ArePassed before more → pointers (this_script before) ≤ 8
+    → pointers (script_from line k more).items ≤ 8
 script_is_few before [] line k limited h = omega arith
 script_is_few before (Script name ∷ more) line zero limited h =
     let e = pointers_none before name in
@@ -72,9 +82,11 @@ script_is_few before (Script name ∷ more) line (suc k) limited h =
     let e = pointers_none before name in
     script_is_few (before ++ Script name ∷ []) more (line + 1) k limited.1 (omega arith)
 script_is_few before (Ptr name at ∷ more) line zero limited h =
-    script_is_few (before ++ Ptr name at ∷ []) more (line + 1) zero limited.1 (pointer_fits before name at limited.0.within)
+    script_is_few (before ++ Ptr name at ∷ []) more (line + 1) zero limited.1
+    (pointer_fits before name at limited.0.within)
 script_is_few before (Ptr name at ∷ more) line (suc k) limited h =
-    script_is_few (before ++ Ptr name at ∷ []) more (line + 1) (suc k) limited.1 (pointer_fits before name at limited.0.within)
+    script_is_few (before ++ Ptr name at ∷ []) more (line + 1) (suc k) limited.1
+    (pointer_fits before name at limited.0.within)
 script_is_few before (item ∷ more) line zero limited h =
     let e = pointers_more before item refl in
     script_is_few (before ++ item ∷ []) more (line + 1) zero limited.1 (omega arith)
@@ -82,7 +94,8 @@ script_is_few before (item ∷ more) line (suc k) limited h =
     let e = pointers_more before item refl in
     script_is_few (before ++ item ∷ []) more (line + 1) (suc k) limited.1 (omega arith)
 
-globals_are_few : (before more : List Item) → ArePassed before more → globals before ≤ 64 → globals (before ++ more) ≤ 64
+globals_are_few : (before more : List Item) → ArePassed before more → globals before ≤ 64
+    → globals (before ++ more) ≤ 64
 globals_are_few before [] limited h = omega (arith, globals-append before [])
 globals_are_few before (Global name ty ∷ more) limited h =
     let e = globals-append before (Global name ty ∷ []) in

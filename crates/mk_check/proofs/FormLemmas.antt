@@ -1,5 +1,6 @@
 -- A type has a word.
-use Rattle.std.proofs.Common.{◌≡◌, ℕ, suc, ◌≤◌, Bool, true, false, List, [], ◌∷◌, length, replicate, Option, Some, None, option_map, unwrap_or, Result, Ok, Err, refl, ap, sym, ◌∙◌, subst, arith}
+use Rattle.std.proofs.Common.{◌≡◌, ℕ, suc, ◌≤◌, Bool, true, false, List, [], ◌∷◌, length, replicate, Option, Some, None}
+use Rattle.std.proofs.Common.{option_map, unwrap_or, Result, Ok, Err, refl, ap, sym, ◌∙◌, subst, arith}
 use Rattle.std.specs.Prelude.{if◌then◌else◌, nat_le, ◌&&◌, ◌==◌, is_some, option_and_then}
 use Rattle.std.proofs.lemmas.List.{length-append, length-replicate}
 use Rattle.std.proofs.lemmas.Bool.{false≢true, leb-true}
@@ -11,13 +12,17 @@ use Rattle.mk_script.specs.declared.items.TypeWord.TheVariants.{Number, Pointer}
 use Rattle.mk_script.specs.declared.items.Item.{Item}
 use Rattle.mk_script.specs.declared.items.Item.TheVariants.{TypeLine as TypeItem}
 use Rattle.mk_script.specs.declared.keywords.Keyword.{Keyword}
-use Rattle.mk_script.specs.declared.keywords.Keyword.TheVariants.{Heap, TypeLine, Global, Script, Ptr, Num, New, Free, Getn, Setn, Getp, Setp, Casp, Lea, Move, Clear, Loadg, Storeg, Same, Isnull, Show, Const, Add, Sub, Print, Repeat, If, Else, End}
+use Rattle.mk_script.specs.declared.keywords.Keyword.TheVariants.{Heap, TypeLine, Global, Script, Ptr, Num, New, Free}
+use Rattle.mk_script.specs.declared.keywords.Keyword.TheVariants.{Getn, Setn, Getp, Setp, Casp, Lea, Move, Clear, Loadg}
+use Rattle.mk_script.specs.declared.keywords.Keyword.TheVariants.{Storeg, Same, Isnull, Show, Const, Add, Sub, Print}
+use Rattle.mk_script.specs.declared.keywords.Keyword.TheVariants.{Repeat, If, Else, End}
 use Rattle.mk_script.specs.declared.faults.LineFault.{LineFault}
 use Rattle.mk_script.specs.declared.faults.LineFault.TheVariants.{Text}
 use Rattle.mk_script.specs.declared.faults.TextKind.TheVariants as kind
 use Rattle.mk_script.specs.Names.{number_of_word}
 use Rattle.mk_script.specs.Keywords.{keyword_of, has_operands}
-use Rattle.mk_script.specs.Operands.{◌>>=◌, name, at, number, numbers, number_field, pointer_field, field_of, fields_of, have_form, item_from}
+use Rattle.mk_script.specs.Operands.{◌>>=◌, name, at, number, numbers, number_field, pointer_field, field_of, fields_of}
+use Rattle.mk_script.specs.Operands.{have_form, item_from}
 use Rattle.mk_script.specs.Lines.{line_item, other_line, placed_item, is_placed}
 use Rattle.mk_check.proofs.GrammarLemmas.{Err≢Ok, and-true, heap_line-item}
 
@@ -29,11 +34,13 @@ HasWord words = is_some words ≡ true → 1 ≤ length (unwrap_or words [])
 none-HasWord : HasWord None
 none-HasWord some = absurd (false≢true some)
 
-if-HasWord : (b : Bool) (words others : Option (List TypeWord)) → HasWord words → HasWord others → HasWord (if b then words else others)
+if-HasWord : (b : Bool) (words others : Option (List TypeWord)) → HasWord words → HasWord others
+    → HasWord (if b then words else others)
 if-HasWord true words others h k = h
 if-HasWord false words others h k = k
 
-replicate-HasWord : (count : ℕ) (b : Bool) → b ≡ nat_le 1 count → HasWord (if b then Some (replicate count Number) else None)
+replicate-HasWord : (count : ℕ) (b : Bool) → b ≡ nat_le 1 count
+    → HasWord (if b then Some (replicate count Number) else None)
 replicate-HasWord count true h some = omega (arith, leb-true 1 count (sym h), length-replicate count Number)
 replicate-HasWord count false h some = absurd (false≢true some)
 
@@ -43,7 +50,8 @@ counted-HasWord (Some count) = replicate-HasWord count (nat_le 1 count) refl
 
 number_field-HasWord : (bytes : List ℕ) → HasWord (number_field bytes)
 number_field-HasWord [] = λ some. omega arith
-number_field-HasWord (star ∷ digits) = if-HasWord (star == 42) (option_and_then numbers (number_of_word digits)) None (counted-HasWord (number_of_word digits)) none-HasWord
+number_field-HasWord (star ∷ digits) = if-HasWord (star == 42) (option_and_then numbers (number_of_word digits)) None
+    (counted-HasWord (number_of_word digits)) none-HasWord
 
 pointer-HasWord : (place : Option At) → HasWord (option_map (λ a. Pointer a ∷ []) place)
 pointer-HasWord None some = absurd (false≢true some)
@@ -51,18 +59,27 @@ pointer-HasWord (Some place) some = omega arith
 
 pointer_field-HasWord : (bytes : List ℕ) → HasWord (pointer_field bytes)
 pointer_field-HasWord [] = none-HasWord
-pointer_field-HasWord (colon ∷ place) = if-HasWord (colon == 58) (option_map (λ a. Pointer a ∷ []) (result_ok (at place))) None (pointer-HasWord (result_ok (at place))) none-HasWord
+pointer_field-HasWord (colon ∷ place) =
+    if-HasWord (colon == 58) (option_map (λ a. Pointer a ∷ []) (result_ok (at place))) None
+    (pointer-HasWord (result_ok (at place))) none-HasWord
 
 field-HasWord : (field : List ℕ) → HasWord (field_of field)
 field-HasWord [] = none-HasWord
 field-HasWord (letter ∷ rest) =
-    if-HasWord (letter == 110) (number_field rest) (if letter == 112 then pointer_field rest else None) (number_field-HasWord rest)
+    if-HasWord (letter == 110) (number_field rest) (if letter == 112 then pointer_field rest else None)
+    (number_field-HasWord rest)
     (if-HasWord (letter == 112) (pointer_field rest) None (pointer_field-HasWord rest) none-HasWord)
 
-fields-word : (fields : List (List ℕ)) → nat_le 2 (suc (length fields)) ≡ true → list_all (λ field. is_some (field_of field)) fields ≡ true → 1 ≤ length (fields_of fields)
+fields-word : (fields : List (List ℕ)) → nat_le 2 (suc (length fields)) ≡ true
+    → list_all (λ field. is_some (field_of field)) fields ≡ true → 1 ≤ length (fields_of fields)
 fields-word [] two forms = absurd (omega (arith, leb-true 2 1 two))
 fields-word (field ∷ fields) two forms =
-    omega (arith, field-HasWord field (and-true (is_some (field_of field)) (list_all (λ f. is_some (field_of f)) fields) forms).0, length-append (unwrap_or (field_of field) []) (fields_of fields))
+    omega (
+      arith,
+      field-HasWord field
+          (and-true (is_some (field_of field)) (list_all (λ f. is_some (field_of f)) fields) forms).0,
+      length-append (unwrap_or (field_of field) []) (fields_of fields),
+    )
 
 -- Other forms are of no type.
 
@@ -70,7 +87,8 @@ abbrev is_type : Result Item LineFault → Bool
 is_type (Ok (TypeItem name' words)) = true
 is_type r = false
 
-bind : {A : Type 0} (r : Result A LineFault) (f : A → Result Item LineFault) → ((x : A) → is_type (f x) ≡ false) → is_type (r >>= f) ≡ false
+bind : {A : Type 0} (r : Result A LineFault) (f : A → Result Item LineFault) → ((x : A) → is_type (f x) ≡ false)
+    → is_type (r >>= f) ≡ false
 bind (Ok x) f other = other x
 bind (Err fault) f other = refl
 
@@ -78,7 +96,8 @@ abbrev is_type_form : Keyword → Bool
 is_type_form TypeLine = true
 is_type_form form = false
 
-other_form : (form : Keyword) (operands : List (List ℕ)) → is_type_form form ≡ false → is_type (item_from form operands) ≡ false
+other_form : (form : Keyword) (operands : List (List ℕ)) → is_type_form form ≡ false
+    → is_type (item_from form operands) ≡ false
 unfolding item_from
 other_form TypeLine operands other = absurd (false≢true (sym other))
 other_form Heap (a ∷ b ∷ []) other = bind (number a) _ (λ x. bind (number b) _ (λ y. refl))
@@ -92,7 +111,9 @@ other_form Getn (a ∷ b ∷ c ∷ []) other = bind (name a) _ (λ x. bind (name
 other_form Setn (a ∷ b ∷ c ∷ []) other = bind (name a) _ (λ x. bind (number b) _ (λ y. bind (name c) _ (λ z. refl)))
 other_form Getp (a ∷ b ∷ c ∷ []) other = bind (name a) _ (λ x. bind (name b) _ (λ y. bind (number c) _ (λ z. refl)))
 other_form Setp (a ∷ b ∷ c ∷ []) other = bind (name a) _ (λ x. bind (number b) _ (λ y. bind (name c) _ (λ z. refl)))
-other_form Casp (a ∷ b ∷ c ∷ d ∷ e ∷ []) other = bind (name a) _ (λ x. bind (name b) _ (λ y. bind (number c) _ (λ z. bind (name d) _ (λ v. bind (name e) _ (λ w. refl)))))
+other_form Casp (a ∷ b ∷ c ∷ d ∷ e ∷ []) other =
+    bind (name a) _ (λ x. bind (name b) _
+    (λ y. bind (number c) _ (λ z. bind (name d) _ (λ v. bind (name e) _ (λ w. refl)))))
 other_form Lea (a ∷ b ∷ c ∷ []) other = bind (name a) _ (λ x. bind (name b) _ (λ y. bind (number c) _ (λ z. refl)))
 other_form Move (a ∷ b ∷ []) other = bind (name a) _ (λ x. bind (name b) _ (λ y. refl))
 other_form Clear (a ∷ []) other = bind (name a) _ (λ x. refl)
@@ -115,34 +136,45 @@ words_in : List TypeWord → Result Item LineFault → List TypeWord
 words_in others (Ok (TypeItem name' words)) = words
 words_in others r = others
 
-type_from : (found : Result (List ℕ) LineFault) (fields : List (List ℕ)) (t : List ℕ) (words : List TypeWord) → (found >>= (λ t'. Ok (TypeItem t' (fields_of fields)))) ≡ Ok (TypeItem t words) → fields_of fields ≡ words
+type_from : (found : Result (List ℕ) LineFault) (fields : List (List ℕ)) (t : List ℕ) (words : List TypeWord)
+    → (found >>= (λ t'. Ok (TypeItem t' (fields_of fields)))) ≡ Ok (TypeItem t words) → fields_of fields ≡ words
 unfolding words_in
 type_from (Ok t') fields t words h = ap (words_in words) h
 type_from (Err fault) fields t words h = absurd (Err≢Ok fault (TypeItem t words) h)
 
-form-word : (form : Keyword) (operands : List (List ℕ)) (t : List ℕ) (words : List TypeWord) → has_operands form (length operands) ≡ true → have_form form operands ≡ true → item_from form operands ≡ Ok (TypeItem t words) → 1 ≤ length words
+form-word : (form : Keyword) (operands : List (List ℕ)) (t : List ℕ) (words : List TypeWord)
+    → has_operands form (length operands) ≡ true → have_form form operands ≡ true
+    → item_from form operands ≡ Ok (TypeItem t words) → 1 ≤ length words
 unfolding item_from
 form-word TypeLine [] t words two forms h = absurd (Err≢Ok (Text kind.Word) (TypeItem t words) h)
-form-word TypeLine (first ∷ fields) t words two forms h = subst (λ ws. 1 ≤ length ws) (type_from (name first) fields t words h) (fields-word fields two forms)
+form-word TypeLine (first ∷ fields) t words two forms h =
+    subst (λ ws. 1 ≤ length ws) (type_from (name first) fields t words h) (fields-word fields two forms)
 form-word form operands t words two forms h = absurd (false≢true (sym (other_form form operands refl) ∙ ap is_type h))
 
-if-Ok-both : {T E : Type 0} (b : Bool) (r : Result T E) (e : E) (x : T) → (if b then r else Err e) ≡ Ok x → (b ≡ true) × (r ≡ Ok x)
+if-Ok-both : {T E : Type 0} (b : Bool) (r : Result T E) (e : E) (x : T) → (if b then r else Err e) ≡ Ok x
+    → (b ≡ true) × (r ≡ Ok x)
 if-Ok-both true r e x h = (refl, h)
 if-Ok-both false r e x h = absurd (Err≢Ok e x h)
 
-placed-word : (before : List Item) (form : Option Keyword) (operands : List (List ℕ)) (t : List ℕ) (words : List TypeWord) → placed_item before form operands ≡ Ok (TypeItem t words) → 1 ≤ length words
+placed-word : (before : List Item) (form : Option Keyword) (operands : List (List ℕ)) (t : List ℕ)
+    (words : List TypeWord) → placed_item before form operands ≡ Ok (TypeItem t words) → 1 ≤ length words
 placed-word before None operands t words h = absurd (Err≢Ok (Text kind.Word) (TypeItem t words) h)
 placed-word before (Some form) operands t words h =
-    let both = if-Ok-both (has_operands form (length operands) && have_form form operands && is_placed before form) (item_from form operands) (Text kind.Word) (TypeItem t words) h in
-    let fits = and-true (has_operands form (length operands) && have_form form operands) (is_placed before form) both.0 in
+    let both = if-Ok-both (has_operands form (length operands) && have_form form operands && is_placed before form)
+    (item_from form operands) (Text kind.Word) (TypeItem t words) h in
+    let fits = and-true (has_operands form (length operands) && have_form form operands) (is_placed before form) both.0
+    in
     let parts = and-true (has_operands form (length operands)) (have_form form operands) fits.0 in
     form-word form operands t words parts.0 parts.1 both.1
 
-other_line-word : (before : List Item) (words : List (List ℕ)) (t : List ℕ) (kinds : List TypeWord) → other_line before words ≡ Ok (TypeItem t kinds) → 1 ≤ length kinds
+other_line-word : (before : List Item) (words : List (List ℕ)) (t : List ℕ) (kinds : List TypeWord)
+    → other_line before words ≡ Ok (TypeItem t kinds) → 1 ≤ length kinds
 other_line-word before [] t kinds h = absurd (Err≢Ok (Text kind.Word) (TypeItem t kinds) h)
 other_line-word before (word ∷ operands) t kinds h = placed-word before (keyword_of word) operands t kinds h
 
 -- a type that a line says has a word
-pub line_item-word : (before : List Item) (words : List (List ℕ)) (t : List ℕ) (kinds : List TypeWord) → line_item before words ≡ Ok (TypeItem t kinds) → 1 ≤ length kinds
-line_item-word [] words t kinds h = let heap = heap_line-item words (TypeItem t kinds) h in absurd (false≢true (sym (ap (λ item. is_type (Ok item)) heap.is)))
+pub line_item-word : (before : List Item) (words : List (List ℕ)) (t : List ℕ) (kinds : List TypeWord)
+    → line_item before words ≡ Ok (TypeItem t kinds) → 1 ≤ length kinds
+line_item-word [] words t kinds h = let heap =
+    heap_line-item words (TypeItem t kinds) h in absurd (false≢true (sym (ap (λ item. is_type (Ok item)) heap.is)))
 line_item-word (first ∷ before) words t kinds h = other_line-word (first ∷ before) words t kinds h

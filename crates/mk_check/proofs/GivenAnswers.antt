@@ -1,11 +1,14 @@
 -- What a script was given behind a history, with one event more.
-use Rattle.std.proofs.Common.{◌≡◌, ◌≢◌, ℕ, zero, suc, ◌+◌, ◌<◌, ◌≤◌, eq-eqb, Bool, true, false, List, [], ◌∷◌, ◌++◌, length, take, map, get_or, set, replicate, refl, sym, ◌∙◌, ap, subst, append-nil, append_assoc, arith, inl, inr}
+use Rattle.std.proofs.Common.{◌≡◌, ◌≢◌, ℕ, zero, suc, ◌+◌, ◌<◌, ◌≤◌, eq-eqb, Bool, true, false, List, [], ◌∷◌, ◌++◌}
+use Rattle.std.proofs.Common.{length, take, map, get_or, set, replicate, refl, sym, ◌∙◌, ap, subst, append-nil}
+use Rattle.std.proofs.Common.{append_assoc, arith, inl, inr}
 use Rattle.std.specs.Prelude.{Option, Some, None, if◌then◌else◌, ◌==◌, ◌&&◌, filter}
 use Rattle.std.specs.List.{slice_get, cons_option}
 use Rattle.std.specs.Option.{option_or}
 use Rattle.std.proofs.lemmas.Bool.{cases_eq, ltb-true}
 use Rattle.std.proofs.lemmas.Bool.Decides.{nat_tests}
-use Rattle.std.proofs.lemmas.List.{map-append, length-append, length-take, length-set, length-replicate, take-append-le, take_more, get_or-set_same, get_or-set_other}
+use Rattle.std.proofs.lemmas.List.{map-append, length-append, length-take, length-set, length-replicate, take-append-le}
+use Rattle.std.proofs.lemmas.List.{take_more, get_or-set_same, get_or-set_other}
 use Rattle.std.proofs.lemmas.Option.{slice_get-get_or, slice_get_past}
 use Rattle.std.proofs.lemmas.List.Elements.{filter-append}
 use Rattle.std.proofs.lemmas.List.Sums.{sum_by-cons, sum_by_push, count_by-le-length}
@@ -29,10 +32,12 @@ use Rattle.mk_core.specs.Enabled.{IsEnabled}
 use Rattle.mk_core.specs.Effects.{progress, flights_behind, answer_decided}
 use Rattle.mk_core.specs.Growing.{is_same_seat}
 use Rattle.mk_core.specs.Moments.{Moment, flight_of}
-use Rattle.mk_core.specs.History.{World, first_world, world_behind, left_from, left, AreEnabledFrom, AreEnabled, call_decided, calls_from, calls}
+use Rattle.mk_core.specs.History.{World, first_world, world_behind, left_from, left, AreEnabledFrom, AreEnabled}
+use Rattle.mk_core.specs.History.{call_decided, calls_from, calls}
 use Rattle.mk_core.proofs.Conditions.{enabled_meets}
 use Rattle.mk_core.proofs.Histories.{calls_more, enabled_parts, last_enabled}
-use Rattle.mk_check.specs.Output.{ends_call, ends_call_of, ended_calls, answers_among, answers_given, answer_waiting, EndedCallsAreAnswered}
+use Rattle.mk_check.specs.Output.{ends_call, ends_call_of, ended_calls, answers_among, answers_given, answer_waiting}
+use Rattle.mk_check.specs.Output.{EndedCallsAreAnswered}
 use Rattle.mk_check.proofs.DecidedStages.{has_stage, pending, count, Goes, goes, ends}
 
 abbrev pub as_list : Option Answer → List Answer
@@ -49,7 +54,8 @@ pub record Serves (callers : ℕ) (flights : List Flight) (k n : ℕ) (answers :
   pub decided : length answers ≡ n + pending (get_or flights k at_rest).stage
 
 -- the same behind an event, which is caller k's or another's, and may be its call's last one
-pub record ServesMore (callers : ℕ) (new : List Flight) (k n : ℕ) (answers : List Answer) (decided : Option Answer) (mine is_last : Bool) : Type 0 where
+pub record ServesMore (callers : ℕ) (new : List Flight) (k n : ℕ) (answers : List Answer) (decided : Option Answer)
+    (mine is_last : Bool) : Type 0 where
   pub serves : Serves callers new k (counted n (mine && is_last)) (answers ++ (if mine then as_list decided else []))
   -- at the last step an answer is decided, which no step decides anew
   pub last : (mine && is_last) ≡ true → (decided ≡ None) × (length answers ≡ n + 1)
@@ -60,8 +66,10 @@ pub record ServesMore (callers : ℕ) (new : List Flight) (k n : ℕ) (answers :
 
 among_more : (k : ℕ) (xs ys : List Decided) → answers_among k (xs ++ ys) ≡ answers_among k xs ++ answers_among k ys
 among_more k xs ys =
-    ap (λ (zs : List Decided). map (λ (x : Decided). x.answer) zs) (filter-append (λ (x : Decided). x.caller == k) xs ys)
-    ∙ map-append (λ (x : Decided). x.answer) (filter (λ (x : Decided). x.caller == k) xs) (filter (λ (x : Decided). x.caller == k) ys)
+    ap (λ (zs : List Decided). map (λ (x : Decided). x.answer) zs)
+    (filter-append (λ (x : Decided). x.caller == k) xs ys)
+    ∙ map-append (λ (x : Decided). x.answer) (filter (λ (x : Decided). x.caller == k) xs)
+    (filter (λ (x : Decided). x.caller == k) ys)
 
 same_number : (j : ℕ) → (j == j) ≡ true
 same_number j = eq-eqb j j refl
@@ -78,7 +86,8 @@ among_others k j o (Some a) ne = rw (other_number j k ne) refl
 among_others k j o None ne = refl
 
 -- a caller's last step leaves it at rest, and decides nothing
-last_rests : (c : Config) (m : Moment) (f : Flight) (found : ℕ) (x : Step) → ends_call x ≡ true → progress c m f found x ≡ record { flight = at_rest; answer = None }
+last_rests : (c : Config) (m : Moment) (f : Flight) (found : ℕ) (x : Step) → ends_call x ≡ true
+    → progress c m f found x ≡ record { flight = at_rest; answer = None }
 last_rests c m f found step.Leave h = refl
 last_rests c m f found step.Give h = refl
 last_rests c m f found _ h = cc
@@ -94,8 +103,10 @@ pending_behind n p p' k None h i = omega arith
 none_before : (a : Answer) (b : Option Answer) (p p' : ℕ) → b ≡ Some a → p' ≤ 1 → p' ≡ p + count b → p ≡ 0
 none_before a b p p' is few h = let e : count b ≡ 1 = ap count is in omega arith
 
-serves_at : (callers : ℕ) (flights : List Flight) (k n : ℕ) (answers : List Answer) (f : Flight) → get_or flights k at_rest ≡ f
-    → length flights ≡ callers → has_stage f.op f.stage ≡ true → length answers ≡ n + pending f.stage → Serves callers flights k n answers
+serves_at : (callers : ℕ) (flights : List Flight) (k n : ℕ) (answers : List Answer) (f : Flight)
+    → get_or flights k at_rest ≡ f
+    → length flights ≡ callers → has_stage f.op f.stage ≡ true → length answers ≡ n + pending f.stage
+    → Serves callers flights k n answers
 serves_at callers flights k n answers f is long stage answered = record {
   long = long;
   stage = subst (λ (g : Flight). has_stage g.op g.stage ≡ true) (sym is) stage;
@@ -104,7 +115,8 @@ serves_at callers flights k n answers f is long stage answered = record {
 
 -- a step of caller k's that isn't its call's last one
 goes_more : (callers : ℕ) (flights : List Flight) (k n : ℕ) (answers : List Answer) (p : Progress) → k < callers
-    → Serves callers flights k n answers → Goes (get_or flights k at_rest) p → ServesMore callers (set flights k p.flight) k n answers p.answer true false
+    → Serves callers flights k n answers → Goes (get_or flights k at_rest) p
+    → ServesMore callers (set flights k p.flight) k n answers p.answer true false
 goes_more callers flights k n answers p lt h g =
     let was = pending (get_or flights k at_rest).stage in
     let total = length-append answers (as_list p.answer) in
@@ -114,15 +126,18 @@ goes_more callers flights k n answers p lt h g =
     record {
       serves =
           serves_at callers (set flights k p.flight) k n (answers ++ as_list p.answer) p.flight
-          (get_or-set_same flights k p.flight at_rest (omega arith)) (length-set flights k p.flight ∙ h.long) g.stage (omega arith);
+          (get_or-set_same flights k p.flight at_rest (omega arith)) (length-set flights k p.flight
+          ∙ h.long) g.stage (omega arith);
       last = λ e. cc;
-      once = λ b _ e. (let none = none_before b p.answer was (pending p.flight.stage) e (few_pending p.flight.stage) g.pending in omega arith);
+      once = λ b _ e. (let none = none_before b p.answer was (pending p.flight.stage) e (few_pending p.flight.stage)
+          g.pending in omega arith);
       few = omega arith;
     }
 
 -- the last step of its call
 ends_more : (callers : ℕ) (flights : List Flight) (k n : ℕ) (answers : List Answer) (p : Progress) → k < callers
-    → Serves callers flights k n answers → pending (get_or flights k at_rest).stage ≡ 1 → p ≡ record { flight = at_rest; answer = None }
+    → Serves callers flights k n answers → pending (get_or flights k at_rest).stage ≡ 1
+    → p ≡ record { flight = at_rest; answer = None }
     → ServesMore callers (set flights k p.flight) k n answers p.answer true true
 ends_more callers flights k n answers p lt h one is =
     let a = h.decided in
@@ -130,10 +145,12 @@ ends_more callers flights k n answers p lt h one is =
     let none : p.answer ≡ None = ap (λ (x : Progress). x.answer) is in
     let rests : get_or (set flights k p.flight) k at_rest ≡ at_rest =
     get_or-set_same flights k p.flight at_rest (omega arith) ∙ ap (λ (x : Progress). x.flight) is in
-    let more : answers ++ as_list p.answer ≡ answers = ap (λ (x : Option Answer). answers ++ as_list x) none ∙ append-nil answers in
+    let more : answers ++ as_list p.answer ≡ answers = ap (λ (x : Option Answer). answers ++ as_list x) none
+    ∙ append-nil answers in
     record {
       serves =
-          serves_at callers (set flights k p.flight) k (n + 1) (answers ++ as_list p.answer) at_rest rests (length-set flights k p.flight ∙ h.long) refl
+          serves_at callers (set flights k p.flight) k (n + 1) (answers ++ as_list p.answer) at_rest rests
+          (length-set flights k p.flight ∙ h.long) refl
           (ap length more ∙ omega arith);
       last = λ _. (none, omega arith);
       once = λ b _ e. (let never = sym none ∙ e in cc);
@@ -141,7 +158,8 @@ ends_more callers flights k n answers p lt h one is =
     }
 
 -- a step of another's
-others_more : (callers : ℕ) (flights new : List Flight) (k n : ℕ) (answers : List Answer) (decided : Option Answer) (last : Bool)
+others_more : (callers : ℕ) (flights new : List Flight) (k n : ℕ) (answers : List Answer) (decided : Option Answer)
+    (last : Bool)
     → get_or new k at_rest ≡ get_or flights k at_rest → length new ≡ length flights
     → Serves callers flights k n answers → ServesMore callers new k n answers decided false last
 others_more callers flights new k n answers decided last same long h =
@@ -158,7 +176,8 @@ others_more callers flights new k n answers decided last same long h =
 abbrev Behind : Config → Moment → Seat → Step → ℕ → ℕ → List Answer → Type 0
 Behind c m seat x k n answers =
     let e : Event = record { seat = seat; step = x } in
-    ServesMore c.callers (flights_behind c m seat (found c m e) x) k n answers (answer_decided c m e) (is_same_seat (Caller k) seat) (ends_call x)
+    ServesMore c.callers (flights_behind c m seat (found c m e) x) k n answers (answer_decided c m e)
+    (is_same_seat (Caller k) seat) (ends_call x)
 
 own_step : (c : Config) (m : Moment) (k n : ℕ) (answers : List Answer) (x : Step) (last : Bool) → ends_call x ≡ last
     → IsEnabled c m (record { seat = Caller k; step = x }) → Serves c.callers m.seats.flights k n answers
@@ -178,7 +197,8 @@ own_step c m k n answers x false is enabled h =
     (goes c m f.stage f.op f.q f.p f.r f.loaded (found c m e) x h.stage meets.order is)
 
 serves_more : (c : Config) (m : Moment) (k n : ℕ) (answers : List Answer) (seat : Seat) (x : Step)
-    → IsEnabled c m (record { seat = seat; step = x }) → Serves c.callers m.seats.flights k n answers → Behind c m seat x k n answers
+    → IsEnabled c m (record { seat = seat; step = x }) → Serves c.callers m.seats.flights k n answers
+    → Behind c m seat x k n answers
 serves_more c m k n answers (Caller j) x enabled h =
     elim (cases_eq k j) [
       | inl same ↦ subst (λ (i : ℕ). Behind c m (Caller i) x k n answers) same
@@ -188,8 +208,10 @@ serves_more c m k n answers (Caller j) x enabled h =
           (others_more c.callers m.seats.flights _ k n answers _ (ends_call x)
           (get_or-set_other m.seats.flights j k _ at_rest ne) (length-set m.seats.flights j _) h)
     ]
-serves_more c m k n answers (Marker j) x enabled h = others_more c.callers m.seats.flights m.seats.flights k n answers None (ends_call x) refl refl h
-serves_more c m k n answers Host x enabled h = others_more c.callers m.seats.flights m.seats.flights k n answers None (ends_call x) refl refl h
+serves_more c m k n answers (Marker j) x enabled h =
+    others_more c.callers m.seats.flights m.seats.flights k n answers None (ends_call x) refl refl h
+serves_more c m k n answers Host x enabled h = others_more c.callers m.seats.flights m.seats.flights k n answers None
+    (ends_call x) refl refl h
 
 -- the answers that an event adds
 event_among : (c : Config) (m : Moment) (k : ℕ) (seat : Seat) (x : Step)
@@ -212,7 +234,8 @@ counts_more n false = omega arith
 
 serves_from : (c : Config) (w : World) (k n : ℕ) (answers : List Answer) (es : List Event) → AreEnabledFrom c w es
     → Serves c.callers w.now.seats.flights k n answers
-    → Serves c.callers (left_from c w es).now.seats.flights k (n + ended_calls k es) (answers ++ answers_among k (calls_from c w es))
+    → Serves c.callers (left_from c w es).now.seats.flights k (n + ended_calls k es)
+    (answers ++ answers_among k (calls_from c w es))
 unfolding left_from AreEnabledFrom calls_from
 serves_from c w k n answers [] en h =
     subst (λ (xs : List Answer). Serves c.callers w.now.seats.flights k (n + 0) xs) (sym (append-nil answers))
@@ -228,9 +251,13 @@ serves_from c w k n answers (e ∷ es) en h =
     ∙ (let cons = sum_by-cons (λ (x : Event). if ends_call_of k x then 1 else 0) e es in omega arith) in
     let all : (answers ++ more) ++ rest ≡ answers ++ answers_among k (call_decided c w.now e ++ calls_from c next es) =
     append_assoc answers more rest
-    ∙ ap (λ (xs : List Answer). answers ++ xs) (ap (λ (xs : List Answer). xs ++ rest) (sym (event_among c w.now k e.seat e.step)) ∙ sym (among_more k (call_decided c w.now e) (calls_from c next es))) in
-    subst (λ (xs : List Answer). Serves c.callers (left_from c next es).now.seats.flights k (n + ended_calls k (e ∷ es)) xs) all
-    (subst (λ (i : ℕ). Serves c.callers (left_from c next es).now.seats.flights k i ((answers ++ more) ++ rest)) ended ih)
+    ∙ ap (λ (xs : List Answer). answers ++ xs)
+    (ap (λ (xs : List Answer). xs ++ rest) (sym (event_among c w.now k e.seat e.step))
+    ∙ sym (among_more k (call_decided c w.now e) (calls_from c next es))) in
+    subst (λ (xs : List Answer). Serves c.callers (left_from c next es).now.seats.flights k (n + ended_calls k (e ∷ es))
+    xs) all
+    (subst (λ (i : ℕ). Serves c.callers (left_from c next es).now.seats.flights k i ((answers ++ more) ++ rest)) ended
+    ih)
 
 first_flight : (callers k : ℕ) → get_or (replicate callers at_rest) k at_rest ≡ at_rest
 first_flight zero k = refl
@@ -242,7 +269,8 @@ pub serves : (c : Config) (es : List Event) (k : ℕ) → AreEnabled c es
 serves c es k h =
     subst (λ (n : ℕ). Serves c.callers (left c es).now.seats.flights k n (answers_among k (calls c es))) (omega arith)
     (serves_from c (first_world c) k 0 [] es h
-    (serves_at c.callers (replicate c.callers at_rest) k 0 [] at_rest (first_flight c.callers k) (length-replicate c.callers at_rest) refl refl))
+    (serves_at c.callers (replicate c.callers at_rest) k 0 [] at_rest (first_flight c.callers k)
+    (length-replicate c.callers at_rest) refl refl))
 
 -- one event more: what is given, and what waits for its call's last step
 
@@ -258,7 +286,8 @@ last_of (a ∷ answers) n b h = rw (sym h) (last_of answers (length answers) b r
 
 given_case : (answers : List Answer) (n : ℕ) (a : Option Answer) (mine last : Bool) → n ≤ length answers
     → ((mine && last) ≡ true → (a ≡ None) × (length answers ≡ n + 1))
-    → take (counted n (mine && last)) (answers ++ (if mine then as_list a else [])) ≡ take n answers ++ given_by mine last a (slice_get answers n)
+    → take (counted n (mine && last)) (answers ++ (if mine then as_list a else []))
+    ≡ take n answers ++ given_by mine last a (slice_get answers n)
 given_case answers n a true true few l =
     let lt : n < length answers = (let e = (l refl).1 in omega arith) in
     let waits = slice_get-get_or answers n answer.Done lt in
@@ -269,7 +298,8 @@ given_case answers n a false last few l = ap (take n) (append-nil answers) ∙ s
 waiting_case : (answers : List Answer) (n : ℕ) (a : Option Answer) (mine last : Bool)
     → ((mine && last) ≡ true → (a ≡ None) × (length answers ≡ n + 1))
     → ((b : Answer) → mine ≡ true → a ≡ Some b → length answers ≡ n)
-    → slice_get (answers ++ (if mine then as_list a else [])) (counted n (mine && last)) ≡ waiting_by mine last a (slice_get answers n)
+    → slice_get (answers ++ (if mine then as_list a else [])) (counted n (mine && last))
+    ≡ waiting_by mine last a (slice_get answers n)
 waiting_case answers n a true true l o =
     rw ((l refl).0, append-nil answers) (slice_get_past answers (n + 1) (let e = (l refl).1 in omega arith))
 waiting_case answers n (Some b) true false l o = last_of answers n b (o b refl refl)
@@ -279,14 +309,17 @@ waiting_case answers n a false last l o = ap (λ (xs : List Answer). slice_get x
 -- the answers and the count of the ended calls, with one event more
 more_answers : (c : Config) (es : List Event) (e : Event) (k : ℕ)
     → answers_among k (calls c (es ++ e ∷ []))
-    ≡ answers_among k (calls c es) ++ (if is_same_seat (Caller k) e.seat then as_list (answer_decided c (left c es).now e) else [])
+    ≡ answers_among k (calls c es)
+    ++ (if is_same_seat (Caller k) e.seat then as_list (answer_decided c (left c es).now e) else [])
 more_answers c es e k =
     ap (answers_among k) (calls_more c (first_world c) es e)
     ∙ (among_more k (calls c es) (call_decided c (left c es).now e)
     ∙ ap (λ (xs : List Answer). answers_among k (calls c es) ++ xs) (event_among c (left c es).now k e.seat e.step))
 
-more_ended : (es : List Event) (e : Event) (k : ℕ) → ended_calls k (es ++ e ∷ []) ≡ counted (ended_calls k es) (ends_call_of k e)
-more_ended es e k = sum_by_push (λ (x : Event). if ends_call_of k x then 1 else 0) es e ∙ counts_more (ended_calls k es) (ends_call_of k e)
+more_ended : (es : List Event) (e : Event) (k : ℕ)
+    → ended_calls k (es ++ e ∷ []) ≡ counted (ended_calls k es) (ends_call_of k e)
+more_ended es e k = sum_by_push (λ (x : Event). if ends_call_of k x then 1 else 0) es e
+    ∙ counts_more (ended_calls k es) (ends_call_of k e)
 
 step_of : (c : Config) (es : List Event) (e : Event) (k : ℕ) → AreEnabled c (es ++ e ∷ [])
     → Behind c (left c es).now e.seat e.step k (ended_calls k es) (answers_among k (calls c es))
@@ -297,19 +330,23 @@ step_of c es e k h =
 
 pub given_more : (c : Config) (es : List Event) (e : Event) (k : ℕ) → AreEnabled c (es ++ e ∷ [])
     → answers_given c (es ++ e ∷ []) k
-    ≡ answers_given c es k ++ given_by (is_same_seat (Caller k) e.seat) (ends_call e.step) (answer_decided c (left c es).now e) (answer_waiting c es k)
+    ≡ answers_given c es k ++ given_by (is_same_seat (Caller k) e.seat) (ends_call e.step)
+    (answer_decided c (left c es).now e) (answer_waiting c es k)
 given_more c es e k h =
     let s = step_of c es e k h in
     rw (more_ended es e k, more_answers c es e k)
-    (given_case (answers_among k (calls c es)) (ended_calls k es) (answer_decided c (left c es).now e) (is_same_seat (Caller k) e.seat) (ends_call e.step) s.few s.last)
+    (given_case (answers_among k (calls c es)) (ended_calls k es) (answer_decided c (left c es).now e)
+    (is_same_seat (Caller k) e.seat) (ends_call e.step) s.few s.last)
 
 pub waiting_more : (c : Config) (es : List Event) (e : Event) (k : ℕ) → AreEnabled c (es ++ e ∷ [])
     → answer_waiting c (es ++ e ∷ []) k
-    ≡ waiting_by (is_same_seat (Caller k) e.seat) (ends_call e.step) (answer_decided c (left c es).now e) (answer_waiting c es k)
+    ≡ waiting_by (is_same_seat (Caller k) e.seat) (ends_call e.step) (answer_decided c (left c es).now e)
+    (answer_waiting c es k)
 waiting_more c es e k h =
     let s = step_of c es e k h in
     rw (more_ended es e k, more_answers c es e k)
-    (waiting_case (answers_among k (calls c es)) (ended_calls k es) (answer_decided c (left c es).now e) (is_same_seat (Caller k) e.seat) (ends_call e.step) s.last s.once)
+    (waiting_case (answers_among k (calls c es)) (ended_calls k es) (answer_decided c (left c es).now e)
+    (is_same_seat (Caller k) e.seat) (ends_call e.step) s.last s.once)
 
 -- There are no more answers than events.
 pub few_answers : (c : Config) (es : List Event) (k : ℕ) → length (answers_given c es k) ≤ length es

@@ -1,5 +1,6 @@
 -- Limits that the lines of a program of some text keep.
-use Rattle.std.proofs.Common.{◌≡◌, ℕ, ◌+◌, ◌-◌, ◌^◌, ◌≤◌, min, Bool, true, false, List, [], ◌∷◌, ◌++◌, length, Option, Some, None, Result, Ok, Err, refl, ap, sym, ◌∙◌, subst, arith}
+use Rattle.std.proofs.Common.{◌≡◌, ℕ, ◌+◌, ◌-◌, ◌^◌, ◌≤◌, min, Bool, true, false, List, [], ◌∷◌, ◌++◌, length, Option}
+use Rattle.std.proofs.Common.{Some, None, Result, Ok, Err, refl, ap, sym, ◌∙◌, subst, arith}
 use Rattle.std.specs.Prelude.{if◌then◌else◌, nat_le, is_ok, is_some, ◌&&◌}
 use Rattle.std.proofs.lemmas.List.{append_assoc, append-nil, length-append}
 use Rattle.std.proofs.lemmas.Bool.{false≢true, leb-true}
@@ -51,7 +52,9 @@ and-true false b h = absurd (false≢true h)
 -- Counts of declarations.
 
 -- a count that each line keeps within its limit
-bound : (count : List Item → ℕ) (most : ℕ) → ((before : List Item) (item : Item) → limit_fault before item ≡ None → count before ≤ most → count (before ++ item ∷ []) ≤ most)
+bound : (count : List Item → ℕ) (most : ℕ)
+    → ((before : List Item) (item : Item) → limit_fault before item ≡ None → count before ≤ most
+    → count (before ++ item ∷ []) ≤ most)
     → (before rest : List Item) → ArePassed before rest → count before ≤ most → count (before ++ rest) ≤ most
 bound count most keeps before [] lines h = subst (λ items. count items ≤ most) (sym (append-nil before)) h
 bound count most keeps before (item ∷ rest) lines h =
@@ -59,36 +62,60 @@ bound count most keeps before (item ∷ rest) lines h =
     (bound count most keeps (before ++ item ∷ []) rest lines.1 (keeps before item lines.0.within h))
 
 pub at_most-None : (found greatest : ℕ) (which' : Which) → at_most found greatest which' ≡ None → found ≤ greatest
-at_most-None found greatest which' h = leb-true found greatest (if-None (nat_le found greatest) (Limit which' (min found (2 ^ 64 - 1))) h)
+at_most-None found greatest which' h =
+    leb-true found greatest (if-None (nat_le found greatest) (Limit which' (min found (2 ^ 64 - 1))) h)
 
 pub option_or-None : (fault other : Option LineFault) → option_or fault other ≡ None → (fault ≡ None) × (other ≡ None)
 option_or-None None other h = (refl, h)
 option_or-None (Some fault) other h = absurd (Some≢None fault h)
 
-globals-keep : (before : List Item) (item : Item) → limit_fault before item ≡ None → length (global_names before) ≤ 64 → length (global_names (before ++ item ∷ [])) ≤ 64
-globals-keep before (Global name ty) within h = omega (arith, length-global_names-append before (Global name ty ∷ []), at_most-None (length (global_names before) + 1) 64 which.Globals within)
+globals-keep : (before : List Item) (item : Item) → limit_fault before item ≡ None → length (global_names before) ≤ 64
+    → length (global_names (before ++ item ∷ [])) ≤ 64
+globals-keep before (Global name ty) within h =
+    omega (
+      arith,
+      length-global_names-append before (Global name ty ∷ []),
+      at_most-None (length (global_names before) + 1) 64 which.Globals within,
+    )
 globals-keep before item within h = omega (arith, length-global_names-append before (item ∷ []))
 
 pub length-global_names : (items : List Item) → IsWhole items → length (global_names items) ≤ 64
-length-global_names items program = bound (λ xs. length (global_names xs)) 64 globals-keep [] items program.lines (omega arith)
+length-global_names items program = bound (λ xs. length (global_names xs)) 64 globals-keep [] items program.lines
+    (omega arith)
 
-types-keep : (before : List Item) (item : Item) → limit_fault before item ≡ None → length (type_names before) ≤ 64 → length (type_names (before ++ item ∷ [])) ≤ 64
+types-keep : (before : List Item) (item : Item) → limit_fault before item ≡ None → length (type_names before) ≤ 64
+    → length (type_names (before ++ item ∷ [])) ≤ 64
 types-keep before (TypeLine name words) within h =
-    let most = at_most-None (length (type_names before) + 1) 64 which.Types (option_or-None (at_most (length (type_names before) + 1) 64 which.Types) (at_most (length words) 4096 which.Words) within).0 in
-    omega (arith, ap length (type_names-append before (TypeLine name words ∷ [])), length-append (type_names before) (name ∷ []), most)
+    let most = at_most-None (length (type_names before) + 1) 64 which.Types
+    (option_or-None (at_most (length (type_names before) + 1) 64 which.Types)
+    (at_most (length words) 4096 which.Words) within).0 in
+    omega (
+      arith,
+      ap length (type_names-append before (TypeLine name words ∷ [])),
+      length-append (type_names before) (name ∷ []),
+      most,
+    )
 types-keep before item within h =
     omega (arith, ap length (type_names-append before (item ∷ [])), length-append (type_names before) [])
 
 pub length-type_names : (items : List Item) → IsWhole items → length (type_names items) ≤ 64
-length-type_names items program = bound (λ xs. length (type_names xs)) 64 types-keep [] items program.lines (omega arith)
+length-type_names items program = bound (λ xs. length (type_names xs)) 64 types-keep [] items program.lines
+    (omega arith)
 
-length-script_names-append : (items behind : List Item) → length (script_names (items ++ behind)) ≡ length (script_names items) + length (script_names behind)
+length-script_names-append : (items behind : List Item)
+    → length (script_names (items ++ behind)) ≡ length (script_names items) + length (script_names behind)
 length-script_names-append [] behind = omega arith
 length-script_names-append (Script name ∷ items) behind = omega (arith, length-script_names-append items behind)
 length-script_names-append (item ∷ items) behind = length-script_names-append items behind
 
-scripts-keep : (before : List Item) (item : Item) → limit_fault before item ≡ None → length (script_names before) ≤ 16 → length (script_names (before ++ item ∷ [])) ≤ 16
-scripts-keep before (Script name) within h = omega (arith, length-script_names-append before (Script name ∷ []), at_most-None (length (script_names before) + 1) 16 which.Scripts within)
+scripts-keep : (before : List Item) (item : Item) → limit_fault before item ≡ None → length (script_names before) ≤ 16
+    → length (script_names (before ++ item ∷ [])) ≤ 16
+scripts-keep before (Script name) within h =
+    omega (
+      arith,
+      length-script_names-append before (Script name ∷ []),
+      at_most-None (length (script_names before) + 1) 16 which.Scripts within,
+    )
 scripts-keep before item within h = omega (arith, length-script_names-append before (item ∷ []))
 
 some_script : (items : List Item) → has_script items ≡ true → 1 ≤ length (script_names items)
@@ -97,14 +124,19 @@ some_script (Script name ∷ items) has = omega arith
 some_script (item ∷ items) has = some_script items has
 
 pub length-script_names : (items : List Item) → IsWhole items → IsBetween 1 16 (length (script_names items))
-length-script_names items program =
-    (some_script items program.script, bound (λ xs. length (script_names xs)) 16 scripts-keep [] items program.lines (omega arith))
+length-script_names items program = (
+  some_script items program.script,
+  bound (λ xs. length (script_names xs)) 16 scripts-keep [] items program.lines
+      (omega arith),
+)
 
 -- The pages of the heap.
 
-within-None : (least found greatest : ℕ) (which' : Which) → within least found greatest which' ≡ None → IsBetween least greatest found
+within-None : (least found greatest : ℕ) (which' : Which) → within least found greatest which' ≡ None
+    → IsBetween least greatest found
 within-None least found greatest which' h =
-    let both = and-true (nat_le least found) (nat_le found greatest) (if-None (nat_le least found && nat_le found greatest) (Limit which' found) h) in
+    let both = and-true (nat_le least found) (nat_le found greatest)
+    (if-None (nat_le least found && nat_le found greatest) (Limit which' found) h) in
     (leb-true least found both.0, leb-true found greatest both.1)
 
 pub record IsHeapLine (item : Item) : Type 0 where
@@ -112,7 +144,8 @@ pub record IsHeapLine (item : Item) : Type 0 where
   pub resident : ℕ
   pub is : item ≡ Heap pages resident
 
-two_numbers : (pages resident : Result ℕ LineFault) (item : Item) → (pages >>= (λ p. resident >>= (λ r. Ok (Heap p r)))) ≡ Ok item → IsHeapLine item
+two_numbers : (pages resident : Result ℕ LineFault) (item : Item)
+    → (pages >>= (λ p. resident >>= (λ r. Ok (Heap p r)))) ≡ Ok item → IsHeapLine item
 two_numbers (Ok p) (Ok r) item h = record { pages = p; resident = r; is = sym (Ok-injective (Heap p r) item h) }
 two_numbers (Ok p) (Err fault) item h = absurd (Err≢Ok fault item h)
 two_numbers (Err fault) resident item h = absurd (Err≢Ok fault item h)
@@ -123,18 +156,24 @@ item_from-heap a b item h = two_numbers (number a) (number b) item h
 
 pub heap_line-item : (words : List (List ℕ)) (item : Item) → heap_line words ≡ Ok item → IsHeapLine item
 heap_line-item (word ∷ a ∷ b ∷ []) item h =
-    item_from-heap a b item (if-Ok (bytes_eq word (codes "heap")) (item_from keyword.Heap (a ∷ b ∷ [])) (Text Header) item h)
+    item_from-heap a b item
+    (if-Ok (bytes_eq word (codes "heap")) (item_from keyword.Heap (a ∷ b ∷ [])) (Text Header) item h)
 heap_line-item words item h = absurd (Err≢Ok (Text Header) item h)
 
 pub record IsHeapWithin (items : List Item) : Type 0 where
   pub pages : IsBetween 1 4096 (pages_of items)
   pub resident : IsBetween 1 (pages_of items) (resident_of items)
 
-heap_first : (item : Item) (items : List Item) → limit_fault [] item ≡ None → IsHeapLine item → IsHeapWithin (item ∷ items)
+heap_first : (item : Item) (items : List Item) → limit_fault [] item ≡ None → IsHeapLine item
+    → IsHeapWithin (item ∷ items)
 heap_first item items h heap =
-    let both = option_or-None (within 1 heap.pages 4096 which.Pages) (within 1 heap.resident heap.pages which.Resident) (ap (limit_fault []) (sym heap.is) ∙ h) in
+    let both = option_or-None (within 1 heap.pages 4096 which.Pages) (within 1 heap.resident heap.pages which.Resident)
+    (ap (limit_fault []) (sym heap.is) ∙ h) in
     subst (λ first. IsHeapWithin (first ∷ items)) (sym heap.is)
-    (record { pages = within-None 1 heap.pages 4096 which.Pages both.0; resident = within-None 1 heap.resident heap.pages which.Resident both.1 })
+    (record {
+      pages = within-None 1 heap.pages 4096 which.Pages both.0;
+      resident = within-None 1 heap.resident heap.pages which.Resident both.1;
+    })
 
 pub heap_within : (items : List Item) → IsWhole items → IsHeapWithin items
 heap_within [] program = absurd (false≢true program.script)

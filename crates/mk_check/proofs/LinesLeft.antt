@@ -1,5 +1,6 @@
 -- Each line that a script has left to run is a line of the script.
-use Rattle.std.proofs.Common.{◌≡◌, ℕ, zero, suc, ◌+◌, Bool, true, false, List, [], ◌∷◌, ◌++◌, length, refl, sym, ◌∙◌, if◌then◌else◌, arith}
+use Rattle.std.proofs.Common.{◌≡◌, ℕ, zero, suc, ◌+◌, Bool, true, false, List, [], ◌∷◌, ◌++◌, length, refl, sym, ◌∙◌}
+use Rattle.std.proofs.Common.{if◌then◌else◌, arith}
 use Rattle.std.specs.Prelude.{All, ◌==◌, Some, is_some}
 use Rattle.std.proofs.lemmas.List.{length_push, append_assoc}
 use Rattle.std.proofs.lemmas.List.Elements.{All-head, All-tail}
@@ -7,8 +8,11 @@ use Rattle.mk_never.specs.declared.operations.Op.{Op}
 use Rattle.mk_core.specs.declared.events.Answer.{Answer}
 use Rattle.mk_script.specs.declared.items.Item.{Item}
 use Rattle.mk_script.specs.declared.items.Item.TheVariants.{Repeat, If, Else, End}
-use Rattle.mk_check.specs.Blocks.{Blocks, Done, Line, Rounds, Choice, followed_by, is_done, AllPlaced, AllLines, AllFrom, Part, branch, with_line, with_item, parts_from, outermost_blocks, blocks_from, ScriptText, script_of}
-use Rattle.mk_check.specs.Feed.{Scope, Fed, number_in, op_of, run_line, then_run, run_rounds, run, with_answer, note, take_answer, take_answers, fed_before_lines, fed_before_answers, feed}
+use Rattle.mk_check.specs.Blocks.{Blocks, Done, Line, Rounds, Choice, followed_by, is_done, AllPlaced, AllLines}
+use Rattle.mk_check.specs.Blocks.{AllFrom, Part, branch, with_line, with_item, parts_from, outermost_blocks}
+use Rattle.mk_check.specs.Blocks.{blocks_from, ScriptText, script_of}
+use Rattle.mk_check.specs.Feed.{Scope, Fed, number_in, op_of, run_line, then_run, run_rounds, run, with_answer, note}
+use Rattle.mk_check.specs.Feed.{take_answer, take_answers, fed_before_lines, fed_before_answers, feed}
 use Rattle.mk_check.specs.Feeding.{first_op, script_scope, next_op}
 
 module _ (P : ℕ → Item → Type 0) where
@@ -18,12 +22,14 @@ module _ (P : ℕ → Item → Type 0) where
   AllPlacedParts [] = Unit {0}
   AllPlacedParts (part ∷ parts) = AllPlaced P part.blocks × AllPlaced P (branch part.second) × AllPlacedParts parts
 
-  AllPlacedParts-with_line : (line : ℕ) (item : Item) (parts : List Part) → P line item → AllPlacedParts parts → AllPlacedParts (with_line line item parts)
+  AllPlacedParts-with_line : (line : ℕ) (item : Item) (parts : List Part) → P line item → AllPlacedParts parts
+      → AllPlacedParts (with_line line item parts)
   unfolding AllPlacedParts
   AllPlacedParts-with_line line item [] here h = tt
   AllPlacedParts-with_line line item (part ∷ parts) here h = ((here, h.0), h.1, h.2)
 
-  AllPlacedParts-with_item : (line : ℕ) (item : Item) (parts : List Part) → P line item → AllPlacedParts parts → AllPlacedParts (with_item line item parts)
+  AllPlacedParts-with_item : (line : ℕ) (item : Item) (parts : List Part) → P line item → AllPlacedParts parts
+      → AllPlacedParts (with_item line item parts)
   unfolding AllPlacedParts
   AllPlacedParts-with_item line (Repeat rounds) [] here h = tt
   AllPlacedParts-with_item line (Repeat rounds) (body ∷ []) here h = tt
@@ -36,11 +42,13 @@ module _ (P : ℕ → Item → Type 0) where
   AllPlacedParts-with_item line End parts here h = (tt, tt, h)
   AllPlacedParts-with_item line item parts here h = AllPlacedParts-with_line line item parts here h
 
-  AllPlacedParts-parts_from : (line : ℕ) (items : List Item) → AllFrom P line items → AllPlacedParts (parts_from line items)
+  AllPlacedParts-parts_from : (line : ℕ) (items : List Item) → AllFrom P line items
+      → AllPlacedParts (parts_from line items)
   unfolding AllPlacedParts
   AllPlacedParts-parts_from line [] h = (tt, tt, tt)
   AllPlacedParts-parts_from line (item ∷ items) h =
-      AllPlacedParts-with_item line item (parts_from (line + 1) items) h.0 (AllPlacedParts-parts_from (line + 1) items h.1)
+      AllPlacedParts-with_item line item (parts_from (line + 1) items) h.0
+      (AllPlacedParts-parts_from (line + 1) items h.1)
 
   AllPlaced-outermost_blocks : (parts : List Part) → AllPlacedParts parts → AllPlaced P (outermost_blocks parts)
   unfolding AllPlacedParts
@@ -48,7 +56,8 @@ module _ (P : ℕ → Item → Type 0) where
   AllPlaced-outermost_blocks (part ∷ parts) h = h.0
 
   pub placed_of_script : (line : ℕ) (items : List Item) → AllFrom P line items → AllPlaced P (blocks_from line items)
-  placed_of_script line items h = AllPlaced-outermost_blocks (parts_from line items) (AllPlacedParts-parts_from line items h)
+  placed_of_script line items h =
+      AllPlaced-outermost_blocks (parts_from line items) (AllPlacedParts-parts_from line items h)
 
   -- What a run leaves.
 
@@ -58,7 +67,8 @@ module _ (P : ℕ → Item → Type 0) where
   AllPlaced-followed_by (Rounds rounds body rest) b h more = (h.0, AllPlaced-followed_by rest b h.1 more)
   AllPlaced-followed_by (Choice number first second rest) b h more = (h.0, h.1, AllPlaced-followed_by rest b h.2 more)
 
-  AllPlaced-then_run : (fed : Fed) (go : Fed → Fed) (rest : Blocks) → AllPlaced P fed.left → ((f : Fed) → AllPlaced P (go f).left) → AllPlaced P rest
+  AllPlaced-then_run : (fed : Fed) (go : Fed → Fed) (rest : Blocks) → AllPlaced P fed.left
+      → ((f : Fed) → AllPlaced P (go f).left) → AllPlaced P rest
       → AllPlaced P (then_run fed go rest).left
   AllPlaced-then_run fed go rest h goes behind = by_test (is_done fed.left)
     where
@@ -66,11 +76,13 @@ module _ (P : ℕ → Item → Type 0) where
       by_test true = goes fed
       by_test false = AllPlaced-followed_by fed.left rest h behind
 
-  AllPlaced-run_rounds : (rounds : ℕ) (body : Blocks) (go : Fed → Fed) → AllPlaced P body → ((f : Fed) → AllPlaced P (go f).left)
+  AllPlaced-run_rounds : (rounds : ℕ) (body : Blocks) (go : Fed → Fed) → AllPlaced P body
+      → ((f : Fed) → AllPlaced P (go f).left)
       → (fed : Fed) → AllPlaced P (run_rounds rounds body go fed).left
   AllPlaced-run_rounds zero body go inside goes fed = tt
   AllPlaced-run_rounds (suc more) body go inside goes fed =
-      AllPlaced-then_run (go fed) (run_rounds more body go) (Rounds more body Done) (goes fed) (AllPlaced-run_rounds more body go inside goes) (inside, tt)
+      AllPlaced-then_run (go fed) (run_rounds more body go) (Rounds more body Done) (goes fed)
+      (AllPlaced-run_rounds more body go inside goes) (inside, tt)
 
   pub AllPlaced-run : (scope : Scope) (b : Blocks) → AllPlaced P b → (fed : Fed) → AllPlaced P (run scope b fed).left
   AllPlaced-run scope Done h fed = tt
@@ -78,15 +90,19 @@ module _ (P : ℕ → Item → Type 0) where
       by_test (is_some (op_of scope fed item)) (AllPlaced-run scope rest h.1 (run_line scope fed item))
     where
       by_test : (t : Bool) → AllPlaced P (run scope rest (run_line scope fed item)).left
-          → AllPlaced P (if t then record fed { left = Line line item rest } else run scope rest (run_line scope fed item)).left
+          → AllPlaced P (if t then record fed { left = Line line item rest }
+          else run scope rest (run_line scope fed item)).left
       by_test true ran = h
       by_test false ran = ran
   AllPlaced-run scope (Rounds rounds body rest) h fed =
       AllPlaced-then_run (run_rounds rounds body (run scope body) fed) (run scope rest) rest
-      (AllPlaced-run_rounds rounds body (run scope body) h.0 (AllPlaced-run scope body h.0) fed) (AllPlaced-run scope rest h.1) h.1
+      (AllPlaced-run_rounds rounds body (run scope body) h.0 (AllPlaced-run scope body h.0) fed)
+      (AllPlaced-run scope rest h.1) h.1
   AllPlaced-run scope (Choice number first second rest) h fed =
-      AllPlaced-then_run (if number_in scope fed number == 0 then run scope second fed else run scope first fed) (run scope rest) rest
-      (by_test (number_in scope fed number == 0) (AllPlaced-run scope first h.0 fed) (AllPlaced-run scope second h.1 fed)) (AllPlaced-run scope rest h.2) h.2
+      AllPlaced-then_run (if number_in scope fed number == 0 then run scope second fed else run scope first fed)
+      (run scope rest) rest
+      (by_test (number_in scope fed number == 0) (AllPlaced-run scope first h.0 fed)
+      (AllPlaced-run scope second h.1 fed)) (AllPlaced-run scope rest h.2) h.2
     where
       by_test : (t : Bool) → AllPlaced P (run scope first fed).left → AllPlaced P (run scope second fed).left
           → AllPlaced P (if t then run scope second fed else run scope first fed).left
@@ -95,7 +111,8 @@ module _ (P : ℕ → Item → Type 0) where
 
   -- What answers leave.
 
-  AllPlaced-take_answer : (scope : Scope) (fed : Fed) (left : Blocks) (a : Answer) → AllPlaced P left → AllPlaced P fed.left
+  AllPlaced-take_answer : (scope : Scope) (fed : Fed) (left : Blocks) (a : Answer) → AllPlaced P left
+      → AllPlaced P fed.left
       → AllPlaced P (take_answer scope fed left a).left
   AllPlaced-take_answer scope fed Done a h now = now
   AllPlaced-take_answer scope fed (Line line item rest) a h now =
@@ -103,19 +120,23 @@ module _ (P : ℕ → Item → Type 0) where
   AllPlaced-take_answer scope fed (Rounds rounds body rest) a h now = now
   AllPlaced-take_answer scope fed (Choice number first second rest) a h now = now
 
-  pub AllPlaced-take_answers : (scope : Scope) (answers : List Answer) (fed : Fed) → AllPlaced P fed.left → AllPlaced P (take_answers scope fed answers).left
+  pub AllPlaced-take_answers : (scope : Scope) (answers : List Answer) (fed : Fed) → AllPlaced P fed.left
+      → AllPlaced P (take_answers scope fed answers).left
   AllPlaced-take_answers scope [] fed h = h
   AllPlaced-take_answers scope (a ∷ answers) fed h =
-      AllPlaced-take_answers scope answers (take_answer scope fed fed.left a) (AllPlaced-take_answer scope fed fed.left a h h)
+      AllPlaced-take_answers scope answers (take_answer scope fed fed.left a)
+      (AllPlaced-take_answer scope fed fed.left a h h)
 
   -- Whatever holds of each line of a script holds of each that is left.
-  pub placed_left : (program : List Item) (k : ℕ) (answers : List Answer) → AllFrom P (script_of program k).line (script_of program k).items
+  pub placed_left : (program : List Item) (k : ℕ) (answers : List Answer)
+      → AllFrom P (script_of program k).line (script_of program k).items
       → AllPlaced P (feed program k answers).left
   placed_left program k answers h =
       let script = script_of program k in
       let scope = script_scope program k in
       AllPlaced-take_answers scope answers (fed_before_answers scope script)
-      (AllPlaced-run scope (blocks_from script.line script.items) (placed_of_script script.line script.items h) (fed_before_lines scope script))
+      (AllPlaced-run scope (blocks_from script.line script.items) (placed_of_script script.line script.items h)
+      (fed_before_lines scope script))
 
 -- a script stands at a line, which P holds of, and waits for its operation's answer
 pub record IsAtLine (P : ℕ → Item → Type 0) (scope : Scope) (fed : Fed) (o : Op) : Type 0 where
@@ -126,10 +147,12 @@ pub record IsAtLine (P : ℕ → Item → Type 0) (scope : Scope) (fed : Fed) (o
   pub holds : P line item
   pub op : op_of scope fed item ≡ Some o
 
-line_of_op : (P : ℕ → Item → Type 0) (scope : Scope) (fed : Fed) (left : Blocks) (o : Op) → fed.left ≡ left → AllPlaced P left → first_op scope fed left ≡ Some o
+line_of_op : (P : ℕ → Item → Type 0) (scope : Scope) (fed : Fed) (left : Blocks) (o : Op) → fed.left ≡ left
+    → AllPlaced P left → first_op scope fed left ≡ Some o
     → IsAtLine P scope fed o
 line_of_op P scope fed Done o is h e = cc
-line_of_op P scope fed (Line line item rest) o is h e = record { line = line; item = item; rest = rest; left = is; holds = h.0; op = e }
+line_of_op P scope fed (Line line item rest) o is h e =
+    record { line = line; item = item; rest = rest; left = is; holds = h.0; op = e }
 line_of_op P scope fed (Rounds rounds body rest) o is h e = cc
 line_of_op P scope fed (Choice number first second rest) o is h e = cc
 
@@ -145,12 +168,15 @@ next_placed P program k answers o h e =
 
 pub AllFrom-All : (P : Item → Type 0) (line : ℕ) (items : List Item) → All P items → AllFrom (λ l. P) line items
 AllFrom-All P line [] h = tt
-AllFrom-All P line (item ∷ items) h = (All-head P item items h, AllFrom-All P (line + 1) items (All-tail P item items h))
+AllFrom-All P line (item ∷ items) h =
+    (All-head P item items h, AllFrom-All P (line + 1) items (All-tail P item items h))
 
-pub lines_of_script : (P : Item → Type 0) (line : ℕ) (items : List Item) → All P items → AllLines P (blocks_from line items)
+pub lines_of_script : (P : Item → Type 0) (line : ℕ) (items : List Item) → All P items
+    → AllLines P (blocks_from line items)
 lines_of_script P line items h = placed_of_script (λ l. P) line items (AllFrom-All P line items h)
 
-pub lines_left : (P : Item → Type 0) (program : List Item) (k : ℕ) (answers : List Answer) → All P (script_of program k).items
+pub lines_left : (P : Item → Type 0) (program : List Item) (k : ℕ) (answers : List Answer)
+    → All P (script_of program k).items
     → AllLines P (feed program k answers).left
 lines_left P program k answers h =
     placed_left (λ l. P) program k answers (AllFrom-All P (script_of program k).line (script_of program k).items h)
@@ -170,20 +196,24 @@ pub record StandsIn (script : ScriptText) (line : ℕ) (item : Item) : Type 0 wh
   pub items : script.items ≡ before ++ item ∷ behind
   pub at : line ≡ script.line + length before
 
-stand_from : (script : ScriptText) (before items : List Item) (line : ℕ) → script.items ≡ before ++ items → line ≡ script.line + length before
+stand_from : (script : ScriptText) (before items : List Item) (line : ℕ) → script.items ≡ before ++ items
+    → line ≡ script.line + length before
     → AllFrom (StandsIn script) line items
 stand_from script before [] line is at = tt
 stand_from script before (item ∷ items) line is at = (
   record { before = before; behind = items; items = is; at = at },
-  stand_from script (before ++ item ∷ []) items (line + 1) (is ∙ sym (append_assoc before (item ∷ []) items)) (omega (arith, length_push before item)),
+  stand_from script (before ++ item ∷ []) items (line + 1) (is
+      ∙ sym (append_assoc before (item ∷ []) items)) (omega (arith, length_push before item)),
 )
 
 pub all_stand : (script : ScriptText) → AllFrom (StandsIn script) script.line script.items
 all_stand script = stand_from script [] script.items script.line refl (omega arith)
 
 -- Each line that is left stands in its script.
-pub left_stands : (program : List Item) (k : ℕ) (answers : List Answer) → AllPlaced (StandsIn (script_of program k)) (feed program k answers).left
-left_stands program k answers = placed_left (StandsIn (script_of program k)) program k answers (all_stand (script_of program k))
+pub left_stands : (program : List Item) (k : ℕ) (answers : List Answer)
+    → AllPlaced (StandsIn (script_of program k)) (feed program k answers).left
+left_stands program k answers =
+    placed_left (StandsIn (script_of program k)) program k answers (all_stand (script_of program k))
 
 -- So does the line whose operation is asked for.
 pub next_stands : (program : List Item) (k : ℕ) (answers : List Answer) (o : Op) → next_op program k answers ≡ Some o

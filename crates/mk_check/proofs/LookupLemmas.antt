@@ -1,5 +1,6 @@
 -- What names stand for with one more line.
-use Rattle.std.proofs.Common.{◌≡◌, ℕ, Bool, true, false, cond, List, [], ◌∷◌, ◌++◌, Option, Some, None, Bor, refl, ap, sym, ◌∙◌, subst, ⊎_elim}
+use Rattle.std.proofs.Common.{◌≡◌, ℕ, Bool, true, false, cond, List, [], ◌∷◌, ◌++◌, Option, Some, None, Bor, refl, ap}
+use Rattle.std.proofs.Common.{sym, ◌∙◌, subst, ⊎_elim}
 use Rattle.std.specs.Prelude.{if◌then◌else◌, ◌||◌, is_some, OnOk, Result, Ok, Err}
 use Rattle.std.specs.Cmp.Lexicographic.{nat_list_eq_equiv}
 use Rattle.std.specs.List.{list_any}
@@ -26,60 +27,76 @@ pub option_or-none : {X : Type 0} (o : Option X) → option_or o None ≡ o
 option_or-none None = refl
 option_or-none (Some x) = refl
 
-if-or : {X : Type 0} (b : Bool) (x : X) (o p : Option X) → (if b then Some x else option_or o p) ≡ option_or (if b then Some x else o) p
+if-or : {X : Type 0} (b : Bool) (x : X) (o p : Option X)
+    → (if b then Some x else option_or o p) ≡ option_or (if b then Some x else o) p
 if-or true x o p = refl
 if-or false x o p = refl
 
-module _ {X : Type 0} (old new : List ℕ → Option X) (name : List ℕ) (value : X) (absent : old name ≡ None) (updated : (other : List ℕ) → new other ≡ cond (bytes_eq name other) (Some value) (old other)) where
-  at_name : (other : List ℕ) → bytes_eq name other ≡ true → new other ≡ option_or (old other) (if bytes_eq other name then Some value else None)
+module _ {X : Type 0} (old new : List ℕ → Option X) (name : List ℕ) (value : X) (absent : old name ≡ None)
+    (updated : (other : List ℕ) → new other ≡ cond (bytes_eq name other) (Some value) (old other)) where
+  at_name : (other : List ℕ) → bytes_eq name other ≡ true
+      → new other ≡ option_or (old other) (if bytes_eq other name then Some value else None)
   at_name other same =
       let none : old other ≡ None = subst (λ n. old n ≡ None) ((bytes_eq-Decides name other).0 same) absent in
       let back : bytes_eq other name ≡ true = nat_list_eq_equiv.symm other name ∙ same in
       updated other ∙ rw (same, none, back) refl
 
-  apart : (other : List ℕ) → bytes_eq name other ≡ false → new other ≡ option_or (old other) (if bytes_eq other name then Some value else None)
+  apart : (other : List ℕ) → bytes_eq name other ≡ false
+      → new other ≡ option_or (old other) (if bytes_eq other name then Some value else None)
   apart other differs =
       let back : bytes_eq other name ≡ false = nat_list_eq_equiv.symm other name ∙ differs in
       updated other ∙ rw (differs, back) (sym (option_or-none (old other)))
 
   -- a value is put for a name that has none
-  pub put_first : (other : List ℕ) → new other ≡ option_or (old other) (if bytes_eq other name then Some value else None)
+  pub put_first : (other : List ℕ)
+      → new other ≡ option_or (old other) (if bytes_eq other name then Some value else None)
   put_first other = ⊎_elim (at_name other) (apart other) (cases_Bool (bytes_eq name other))
 
-copied-or : {X : Type 0} (o : Option (Bor X)) (b : Bool) (x : Bor X) → option_copied (option_or o (if b then Some x else None)) ≡ option_or (option_copied o) (if b then Some x.now else None)
+copied-or : {X : Type 0} (o : Option (Bor X)) (b : Bool) (x : Bor X)
+    → option_copied (option_or o (if b then Some x else None))
+    ≡ option_or (option_copied o) (if b then Some x.now else None)
 copied-or None true x = refl
 copied-or None false x = refl
 copied-or (Some y) b x = refl
 
 -- a line that declares a name, where the names before are known
-pub known-more : {X : Type 0} (old new : List ℕ → Option (Bor X)) (before behind : List ℕ → Option X) (name : List ℕ) (value : Bor X)
+pub known-more : {X : Type 0} (old new : List ℕ → Option (Bor X)) (before behind : List ℕ
+    → Option X) (name : List ℕ) (value : Bor X)
     → ((other : List ℕ) → new other ≡ option_or (old other) (if bytes_eq other name then Some value else None))
     → ((other : List ℕ) → option_copied (old other) ≡ before other)
-    → ((other : List ℕ) → behind other ≡ option_or (before other) (if bytes_eq other name then Some value.now else None))
+    → ((other : List ℕ) → behind other ≡ option_or (before other) (if bytes_eq other name then Some value.now
+    else None))
     → (other : List ℕ) → option_copied (new other) ≡ behind other
 known-more old new before behind name value adds known more other =
     ap option_copied (adds other) ∙ copied-or (old other) (bytes_eq other name) value
     ∙ ap (λ o. option_or o (if bytes_eq other name then Some value.now else None)) (known other) ∙ sym (more other)
 
-pub type_words-append : (name : List ℕ) (items behind : List Item) → type_words name (items ++ behind) ≡ option_or (type_words name items) (type_words name behind)
+pub type_words-append : (name : List ℕ) (items behind : List Item)
+    → type_words name (items ++ behind) ≡ option_or (type_words name items) (type_words name behind)
 type_words-append name [] behind = refl
 type_words-append name (TypeLine other words ∷ items) behind =
-    rw (type_words-append name items behind) (if-or (bytes_eq name other) words (type_words name items) (type_words name behind))
+    rw (type_words-append name items behind)
+    (if-or (bytes_eq name other) words (type_words name items) (type_words name behind))
 type_words-append name (item ∷ items) behind = type_words-append name items behind
 
-pub global_type-append : (name : List ℕ) (items behind : List Item) → global_type name (items ++ behind) ≡ option_or (global_type name items) (global_type name behind)
+pub global_type-append : (name : List ℕ) (items behind : List Item)
+    → global_type name (items ++ behind) ≡ option_or (global_type name items) (global_type name behind)
 global_type-append name [] behind = refl
 global_type-append name (Global other ty ∷ items) behind =
-    rw (global_type-append name items behind) (if-or (bytes_eq name other) ty (global_type name items) (global_type name behind))
+    rw (global_type-append name items behind)
+    (if-or (bytes_eq name other) ty (global_type name items) (global_type name behind))
 global_type-append name (item ∷ items) behind = global_type-append name items behind
 
-pub pointer_at-append : (name : List ℕ) (items behind : List Item) → pointer_at name (items ++ behind) ≡ option_or (pointer_at name items) (pointer_at name behind)
+pub pointer_at-append : (name : List ℕ) (items behind : List Item)
+    → pointer_at name (items ++ behind) ≡ option_or (pointer_at name items) (pointer_at name behind)
 pointer_at-append name [] behind = refl
 pointer_at-append name (Ptr other at ∷ items) behind =
-    rw (pointer_at-append name items behind) (if-or (bytes_eq name other) at (pointer_at name items) (pointer_at name behind))
+    rw (pointer_at-append name items behind)
+    (if-or (bytes_eq name other) at (pointer_at name items) (pointer_at name behind))
 pointer_at-append name (item ∷ items) behind = pointer_at-append name items behind
 
-number_names-append : (items behind : List Item) → number_names (items ++ behind) ≡ number_names items ++ number_names behind
+number_names-append : (items behind : List Item)
+    → number_names (items ++ behind) ≡ number_names items ++ number_names behind
 number_names-append [] behind = refl
 number_names-append (Num name ∷ items) behind = ap (λ names. name ∷ names) (number_names-append items behind)
 number_names-append (item ∷ items) behind = number_names-append items behind
@@ -87,9 +104,11 @@ number_names-append (item ∷ items) behind = number_names-append items behind
 abbrev pub is_number : List ℕ → List Item → Bool
 is_number name items = list_any (bytes_eq name) (number_names items)
 
-is_number-append : (name : List ℕ) (items behind : List Item) → is_number name (items ++ behind) ≡ (is_number name items || is_number name behind)
+is_number-append : (name : List ℕ) (items behind : List Item)
+    → is_number name (items ++ behind) ≡ (is_number name items || is_number name behind)
 is_number-append name items behind =
-    ap (list_any (bytes_eq name)) (number_names-append items behind) ∙ list_any-append (bytes_eq name) (number_names items) (number_names behind)
+    ap (list_any (bytes_eq name)) (number_names-append items behind)
+    ∙ list_any-append (bytes_eq name) (number_names items) (number_names behind)
 
 or-false : (b : Bool) → (b || false) ≡ b
 or-false true = refl
@@ -101,47 +120,65 @@ or-number true false = refl
 or-number false true = refl
 or-number false false = refl
 
-pub is_number-push : (name : List ℕ) (items : List Item) (other : List ℕ) → is_number name (items ++ Num other ∷ []) ≡ cond (bytes_eq other name) true (is_number name items)
+pub is_number-push : (name : List ℕ) (items : List Item) (other : List ℕ)
+    → is_number name (items ++ Num other ∷ []) ≡ cond (bytes_eq other name) true (is_number name items)
 is_number-push name items other =
     is_number-append name items (Num other ∷ []) ∙ or-number (is_number name items) (bytes_eq name other)
     ∙ ap (λ same. cond same true (is_number name items)) (nat_list_eq_equiv.symm name other)
 
-pub is_number-push_pointer : (name : List ℕ) (items : List Item) (other : List ℕ) (at : At) → is_number name (items ++ Ptr other at ∷ []) ≡ is_number name items
-is_number-push_pointer name items other at = is_number-append name items (Ptr other at ∷ []) ∙ or-false (is_number name items)
+pub is_number-push_pointer : (name : List ℕ) (items : List Item) (other : List ℕ) (at : At)
+    → is_number name (items ++ Ptr other at ∷ []) ≡ is_number name items
+is_number-push_pointer name items other at = is_number-append name items (Ptr other at ∷ [])
+    ∙ or-false (is_number name items)
 
 -- Other lines declare no such name.
 
 none-of : {X : Type 0} (all before behind : Option X) → all ≡ option_or before behind → behind ≡ None → all ≡ before
 none-of all before behind split none = split ∙ ap (option_or before) none ∙ option_or-none before
 
-type_words-other : (name : List ℕ) (item : Item) → ((other : List ℕ) (words : List TypeWord) → item ≡ TypeLine other words → ⊥) → type_words name (item ∷ []) ≡ None
+type_words-other : (name : List ℕ) (item : Item)
+    → ((other : List ℕ) (words : List TypeWord) → item ≡ TypeLine other words → ⊥) → type_words name (item ∷ []) ≡ None
 type_words-other name (TypeLine other words) differs = absurd (differs other words refl)
 type_words-other name item differs = refl
 
-pub type_words-push_other : (name : List ℕ) (items : List Item) (item : Item) → ((other : List ℕ) (words : List TypeWord) → item ≡ TypeLine other words → ⊥) → type_words name (items ++ item ∷ []) ≡ type_words name items
-type_words-push_other name items item differs = none-of _ _ _ (type_words-append name items (item ∷ [])) (type_words-other name item differs)
+pub type_words-push_other : (name : List ℕ) (items : List Item) (item : Item)
+    → ((other : List ℕ) (words : List TypeWord) → item ≡ TypeLine other words → ⊥)
+    → type_words name (items ++ item ∷ []) ≡ type_words name items
+type_words-push_other name items item differs =
+    none-of _ _ _ (type_words-append name items (item ∷ [])) (type_words-other name item differs)
 
-global_type-other : (name : List ℕ) (item : Item) → ((other ty : List ℕ) → item ≡ Global other ty → ⊥) → global_type name (item ∷ []) ≡ None
+global_type-other : (name : List ℕ) (item : Item) → ((other ty : List ℕ) → item ≡ Global other ty → ⊥)
+    → global_type name (item ∷ []) ≡ None
 global_type-other name (Global other ty) differs = absurd (differs other ty refl)
 global_type-other name item differs = refl
 
-pub global_type-push_other : (name : List ℕ) (items : List Item) (item : Item) → ((other ty : List ℕ) → item ≡ Global other ty → ⊥) → global_type name (items ++ item ∷ []) ≡ global_type name items
-global_type-push_other name items item differs = none-of _ _ _ (global_type-append name items (item ∷ [])) (global_type-other name item differs)
+pub global_type-push_other : (name : List ℕ) (items : List Item) (item : Item)
+    → ((other ty : List ℕ) → item ≡ Global other ty → ⊥)
+    → global_type name (items ++ item ∷ []) ≡ global_type name items
+global_type-push_other name items item differs =
+    none-of _ _ _ (global_type-append name items (item ∷ [])) (global_type-other name item differs)
 
-pointer_at-other : (name : List ℕ) (item : Item) → ((other : List ℕ) (at : At) → item ≡ Ptr other at → ⊥) → pointer_at name (item ∷ []) ≡ None
+pointer_at-other : (name : List ℕ) (item : Item) → ((other : List ℕ) (at : At) → item ≡ Ptr other at → ⊥)
+    → pointer_at name (item ∷ []) ≡ None
 pointer_at-other name (Ptr other at) differs = absurd (differs other at refl)
 pointer_at-other name item differs = refl
 
-pub pointer_at-push_other : (name : List ℕ) (items : List Item) (item : Item) → ((other : List ℕ) (at : At) → item ≡ Ptr other at → ⊥) → pointer_at name (items ++ item ∷ []) ≡ pointer_at name items
-pointer_at-push_other name items item differs = none-of _ _ _ (pointer_at-append name items (item ∷ [])) (pointer_at-other name item differs)
+pub pointer_at-push_other : (name : List ℕ) (items : List Item) (item : Item)
+    → ((other : List ℕ) (at : At) → item ≡ Ptr other at → ⊥)
+    → pointer_at name (items ++ item ∷ []) ≡ pointer_at name items
+pointer_at-push_other name items item differs =
+    none-of _ _ _ (pointer_at-append name items (item ∷ [])) (pointer_at-other name item differs)
 
-is_number-other : (name : List ℕ) (item : Item) → ((other : List ℕ) → item ≡ Num other → ⊥) → is_number name (item ∷ []) ≡ false
+is_number-other : (name : List ℕ) (item : Item) → ((other : List ℕ) → item ≡ Num other → ⊥)
+    → is_number name (item ∷ []) ≡ false
 is_number-other name (Num other) differs = absurd (differs other refl)
 is_number-other name item differs = refl
 
-pub is_number-push_other : (name : List ℕ) (items : List Item) (item : Item) → ((other : List ℕ) → item ≡ Num other → ⊥) → is_number name (items ++ item ∷ []) ≡ is_number name items
+pub is_number-push_other : (name : List ℕ) (items : List Item) (item : Item) → ((other : List ℕ) → item ≡ Num other → ⊥)
+    → is_number name (items ++ item ∷ []) ≡ is_number name items
 is_number-push_other name items item differs =
-    is_number-append name items (item ∷ []) ∙ ap (λ b. is_number name items || b) (is_number-other name item differs) ∙ or-false (is_number name items)
+    is_number-append name items (item ∷ []) ∙ ap (λ b. is_number name items || b) (is_number-other name item differs)
+    ∙ or-false (is_number name items)
 
 pub is_script-other : (item : Item) → ((name : List ℕ) → item ≡ Script name → ⊥) → is_script item ≡ false
 is_script-other (Script name) differs = absurd (differs name refl)
@@ -151,5 +188,7 @@ pub OnOk-map : {T E : Type 0} {P Q : Type 0} (r : Result T E) → (P → Q) → 
 OnOk-map (Ok x) f p = f p
 OnOk-map (Err e) f p = tt
 
-pub this_script-push : (items : List Item) (item : Item) → this_script (items ++ item ∷ []) ≡ lines_behind (this_script items) item
-this_script-push items item = fold-append (λ lines item. if is_script item then [] else lines ++ item ∷ []) [] items (item ∷ [])
+pub this_script-push : (items : List Item) (item : Item)
+    → this_script (items ++ item ∷ []) ≡ lines_behind (this_script items) item
+this_script-push items item = fold-append (λ lines item. if is_script item then [] else lines ++ item ∷ []) [] items
+    (item ∷ [])

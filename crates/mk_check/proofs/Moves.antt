@@ -1,5 +1,6 @@
 -- A place that moves on keeps where its steps stop, and comes nearer to it.
-use Rattle.std.proofs.Common.{◌≡◌, ℕ, zero, suc, ◌+◌, ◌*◌, ◌<◌, ◌≤◌, Bool, true, false, List, [], ◌∷◌, ◌++◌, length, refl, ap, sym, ◌∙◌, subst, if◌then◌else◌, arith, inl, inr}
+use Rattle.std.proofs.Common.{◌≡◌, ℕ, zero, suc, ◌+◌, ◌*◌, ◌<◌, ◌≤◌, Bool, true, false, List, [], ◌∷◌, ◌++◌, length}
+use Rattle.std.proofs.Common.{refl, ap, sym, ◌∙◌, subst, if◌then◌else◌, arith, inl, inr}
 use Rattle.std.specs.Prelude.{slice_index, fold, ◌==◌, is_some}
 use Rattle.std.proofs.lemmas.List.{get_or_append_left, get_or_at, length_push}
 use Rattle.std.proofs.lemmas.List.Sums.{fold_push}
@@ -9,8 +10,12 @@ use Rattle.mk_check.specs.declared.feeding.tree.Node.{Node}
 use Rattle.mk_check.specs.declared.feeding.tree.Node.TheVariants as node
 use Rattle.mk_check.specs.declared.feeding.tree.Frame.{Frame}
 use Rattle.mk_check.specs.declared.feeding.tree.Frame.TheVariants as frame
-use Rattle.mk_check.specs.Steps.{Steps, Done, Line, Rounds, Choice, then_steps, Kept, Stopped, op_asked, after_line, stop_of}
-use Rattle.mk_check.specs.Trees.{steps_at, steps_from, with_node, trees, IsBelow, node_at, IsTree, Place, frame_steps, behind_frames, left_in, kept_in, with_kept, FrameIsWithin, FramesAreWithin, IsWithin, StopsAt, place_in_rounds, place_behind_block, place_in_branch, LeavesBlock, work_of, work_in, MovesOn, HasStopped}
+use Rattle.mk_check.specs.Steps.{Steps, Done, Line, Rounds, Choice, then_steps, Kept, Stopped, op_asked, after_line}
+use Rattle.mk_check.specs.Steps.{stop_of}
+use Rattle.mk_check.specs.Trees.{steps_at, steps_from, with_node, trees, IsBelow, node_at, IsTree, Place, frame_steps}
+use Rattle.mk_check.specs.Trees.{behind_frames, left_in, kept_in, with_kept, FrameIsWithin, FramesAreWithin, IsWithin}
+use Rattle.mk_check.specs.Trees.{StopsAt, place_in_rounds, place_behind_block, place_in_branch, LeavesBlock, work_of}
+use Rattle.mk_check.specs.Trees.{work_in, MovesOn, HasStopped}
 use Rattle.mk_check.proofs.StepLaws.{stop_of-round, stop_of-choice_zero, stop_of-choice_other}
 
 -- The steps from a node are those that it names.
@@ -19,11 +24,13 @@ steps_from_same : (count : ℕ) (a b : List Steps) (n : Node) → ((j : ℕ) →
     → IsBelow count n → steps_from a n ≡ steps_from b n
 steps_from_same count a b node.Done h below = refl
 steps_from_same count a b (node.Line line instruction next) h below = ap (Line line instruction) (h next below)
-steps_from_same count a b (node.Rounds rounds body next) h below = let e = h body below.0 in let f = h next below.1 in cc
+steps_from_same count a b (node.Rounds rounds body next) h below = let e = h body below.0 in let f =
+    h next below.1 in cc
 steps_from_same count a b (node.Choice number first second next) h below =
     let e = h first below.0 in let f = h second below.1 in let g = h next below.2 in cc
 
-trees_keep : (built : List Steps) (nodes : List Node) (j : ℕ) → j < length built → steps_at (fold with_node built nodes) j ≡ steps_at built j
+trees_keep : (built : List Steps) (nodes : List Node) (j : ℕ) → j < length built
+    → steps_at (fold with_node built nodes) j ≡ steps_at built j
 trees_keep built [] j h = refl
 trees_keep built (n ∷ nodes) j h =
     trees_keep (with_node built n) nodes j (omega (arith, length_push built (steps_from built n)))
@@ -31,7 +38,8 @@ trees_keep built (n ∷ nodes) j h =
 
 trees_behind : (built : List Steps) (nodes : List Node) (i : ℕ)
     → ((k : ℕ) → k < length nodes → IsBelow (length built + k) (node_at nodes k)) → i < length nodes
-    → steps_at (fold with_node built nodes) (length built + i) ≡ steps_from (fold with_node built nodes) (node_at nodes i)
+    → steps_at (fold with_node built nodes) (length built + i)
+    ≡ steps_from (fold with_node built nodes) (node_at nodes i)
 trees_behind built [] i below h = absurd (omega arith)
 trees_behind built (n ∷ nodes) zero below h =
     let here : IsBelow (length built) n = subst (λ (c : ℕ). IsBelow c n) (omega arith) (below 0 h) in
@@ -49,7 +57,8 @@ trees_behind built (n ∷ nodes) (suc i) below h =
     ∙ trees_behind (with_node built n) nodes i
     (λ k g. subst (λ (c : ℕ). IsBelow c (node_at nodes k)) (omega arith) (below (suc k) (omega arith))) (omega arith)
 
-pub steps_at-trees : (nodes : List Node) (at : ℕ) → IsTree nodes → at < length nodes → steps_at (trees nodes) at ≡ steps_from (trees nodes) (node_at nodes at)
+pub steps_at-trees : (nodes : List Node) (at : ℕ) → IsTree nodes → at < length nodes
+    → steps_at (trees nodes) at ≡ steps_from (trees nodes) (node_at nodes at)
 steps_at-trees nodes at tree h =
     let e : 0 + at ≡ at = omega arith in
     ap (λ (j : ℕ). steps_at (trees nodes) j) (sym e)
@@ -67,17 +76,20 @@ IsTree_push nodes n tree below at h = elim (cases_lt at (length nodes)) [
   | inl lt ↦ subst (λ (m : Node). IsBelow at m) (sym (get_or_append_left nodes (n ∷ []) node.Done at lt)) (tree at lt)
   | inr ge ↦
       let e : length nodes ≡ at = omega (arith, length_push nodes n) in
-      subst (λ (m : Node). IsBelow at m) (sym (get_or_at nodes n [] node.Done at e)) (subst (λ (c : ℕ). IsBelow c n) e below)
+      subst (λ (m : Node). IsBelow at m) (sym (get_or_at nodes n [] node.Done at e))
+      (subst (λ (c : ℕ). IsBelow c n) e below)
 ]
 
-pub trees_push : (nodes : List Node) (n : Node) → trees (nodes ++ n ∷ []) ≡ trees nodes ++ steps_from (trees nodes) n ∷ []
+pub trees_push : (nodes : List Node) (n : Node)
+    → trees (nodes ++ n ∷ []) ≡ trees nodes ++ steps_from (trees nodes) n ∷ []
 trees_push nodes n = fold_push with_node [] nodes n
 
 pub behind_frames_push : (built : List Steps) (frames : List Frame) (f : Frame)
     → behind_frames built (frames ++ f ∷ []) ≡ frame_steps built (behind_frames built frames) f
 behind_frames_push built frames f = fold_push (frame_steps built) Done frames f
 
-pub FramesAreWithin_push : (count : ℕ) (frames : List Frame) (f : Frame) → FramesAreWithin count frames → FrameIsWithin count f
+pub FramesAreWithin_push : (count : ℕ) (frames : List Frame) (f : Frame) → FramesAreWithin count frames
+    → FrameIsWithin count f
     → FramesAreWithin count (frames ++ f ∷ [])
 FramesAreWithin_push count [] f w here = (here, tt)
 FramesAreWithin_push count (g ∷ frames) f w here = (w.0, FramesAreWithin_push count frames f w.1 here)
@@ -85,7 +97,8 @@ FramesAreWithin_push count (g ∷ frames) f w here = (w.0, FramesAreWithin_push 
 pub FramesAreWithin_pop : (count : ℕ) (frames : List Frame) (f : Frame) → FramesAreWithin count (frames ++ f ∷ [])
     → FramesAreWithin count frames × FrameIsWithin count f
 FramesAreWithin_pop count [] f w = (tt, w.0)
-FramesAreWithin_pop count (g ∷ frames) f w = let rest = FramesAreWithin_pop count frames f w.1 in ((w.0, rest.0), rest.1)
+FramesAreWithin_pop count (g ∷ frames) f w = let rest =
+    FramesAreWithin_pop count frames f w.1 in ((w.0, rest.0), rest.1)
 
 pub work_of-then_steps : (a b : Steps) → work_of (then_steps a b) ≡ work_of a + work_of b
 work_of-then_steps Done b = omega arith
@@ -97,24 +110,29 @@ module _ (nodes : List Node) where
   -- the steps that are left once a `repeat` is entered
   entered_runs : (p : Place) (rounds body next : ℕ) (k : Kept)
       → stop_of (left_in nodes (place_in_rounds p rounds body next)) k
-      ≡ stop_of (Rounds rounds (steps_at (trees nodes) body) (then_steps (steps_at (trees nodes) next) (behind_frames (trees nodes) p.frames))) k
+      ≡ stop_of (Rounds rounds (steps_at (trees nodes) body)
+      (then_steps (steps_at (trees nodes) next) (behind_frames (trees nodes) p.frames))) k
   entered_runs p zero body next k = refl
   entered_runs p (suc more) body next k =
       let rest = then_steps (steps_at (trees nodes) next) (behind_frames (trees nodes) p.frames) in
-      ap (λ (s : Steps). stop_of (then_steps (steps_at (trees nodes) body) s) k) (behind_frames_push (trees nodes) p.frames (frame.Rounds more body next))
+      ap (λ (s : Steps). stop_of (then_steps (steps_at (trees nodes) body) s) k)
+      (behind_frames_push (trees nodes) p.frames (frame.Rounds more body next))
       ∙ sym (stop_of-round more (steps_at (trees nodes) body) rest k)
 
   entered_nearer : (p : Place) (rounds body next : ℕ)
       → work_in nodes (place_in_rounds p rounds body next)
-      < 2 * work_of (Rounds rounds (steps_at (trees nodes) body) (then_steps (steps_at (trees nodes) next) (behind_frames (trees nodes) p.frames))) + length p.frames
+      < 2 * work_of (Rounds rounds (steps_at (trees nodes) body)
+      (then_steps (steps_at (trees nodes) next) (behind_frames (trees nodes) p.frames))) + length p.frames
   entered_nearer p zero body next = omega arith
   entered_nearer p (suc more) body next =
       let rest = then_steps (steps_at (trees nodes) next) (behind_frames (trees nodes) p.frames) in
-      let e = ap work_of (ap (then_steps (steps_at (trees nodes) body)) (behind_frames_push (trees nodes) p.frames (frame.Rounds more body next))) in
+      let e = ap work_of (ap (then_steps (steps_at (trees nodes) body))
+      (behind_frames_push (trees nodes) p.frames (frame.Rounds more body next))) in
       let f = work_of-then_steps (steps_at (trees nodes) body) (Rounds more (steps_at (trees nodes) body) rest) in
       omega (arith, e, f, length_push p.frames (frame.Rounds more body next))
 
-  entered_within : (p : Place) (rounds body next : ℕ) → FramesAreWithin (length nodes) p.frames → body < length nodes → next < length nodes
+  entered_within : (p : Place) (rounds body next : ℕ) → FramesAreWithin (length nodes) p.frames → body < length nodes
+      → next < length nodes
       → IsWithin (length nodes) (place_in_rounds p rounds body next)
   entered_within p zero body next w b n = record { at = n; frames = w }
   entered_within p (suc more) body next w b n =
@@ -124,20 +142,27 @@ module _ (nodes : List Node) where
   unfolded : (p : Place) (n : Node) → IsTree nodes → IsWithin (length nodes) p → node_at nodes p.at ≡ n
       → left_in nodes p ≡ then_steps (steps_from (trees nodes) n) (behind_frames (trees nodes) p.frames)
   unfolded p n tree w e =
-      ap (λ (s : Steps). then_steps s (behind_frames (trees nodes) p.frames)) (steps_at-trees nodes p.at tree w.at ∙ ap (steps_from (trees nodes)) e)
+      ap (λ (s : Steps). then_steps s (behind_frames (trees nodes) p.frames)) (steps_at-trees nodes p.at tree w.at
+      ∙ ap (steps_from (trees nodes)) e)
 
-  pub unfolded_line : (p : Place) (line : ℕ) (instruction : Instruction) (next : ℕ) → IsTree nodes → IsWithin (length nodes) p
+  pub unfolded_line : (p : Place) (line : ℕ) (instruction : Instruction) (next : ℕ) → IsTree nodes
+      → IsWithin (length nodes) p
       → node_at nodes p.at ≡ node.Line line instruction next
       → left_in nodes p ≡ Line line instruction (left_in nodes (record p { at = next }))
   unfolded_line p line instruction next tree w e = unfolded p (node.Line line instruction next) tree w e
 
-  pub unfolded_done : (p : Place) → IsTree nodes → IsWithin (length nodes) p → node_at nodes p.at ≡ node.Done → p.frames ≡ [] → left_in nodes p ≡ Done
+  pub unfolded_done : (p : Place) → IsTree nodes → IsWithin (length nodes) p → node_at nodes p.at ≡ node.Done
+      → p.frames ≡ [] → left_in nodes p ≡ Done
   unfolded_done p tree w e none = unfolded p node.Done tree w e ∙ ap (behind_frames (trees nodes)) none
 
-  below_length : (p : Place) (n : Node) → IsTree nodes → IsWithin (length nodes) p → node_at nodes p.at ≡ n → IsBelow (length nodes) n
-  below_length p n tree w e = subst (λ (m : Node). IsBelow (length nodes) m) e (IsBelow-more p.at (length nodes) (node_at nodes p.at) (let h = w.at in omega arith) (tree p.at w.at))
+  below_length : (p : Place) (n : Node) → IsTree nodes → IsWithin (length nodes) p → node_at nodes p.at ≡ n
+      → IsBelow (length nodes) n
+  below_length p n tree w e =
+      subst (λ (m : Node). IsBelow (length nodes) m) e
+      (IsBelow-more p.at (length nodes) (node_at nodes p.at) (let h = w.at in omega arith) (tree p.at w.at))
 
-  pub line_goes_on : (p : Place) (line : ℕ) (instruction : Instruction) (next : ℕ) → IsTree nodes → IsWithin (length nodes) p
+  pub line_goes_on : (p : Place) (line : ℕ) (instruction : Instruction) (next : ℕ) → IsTree nodes
+      → IsWithin (length nodes) p
       → node_at nodes p.at ≡ node.Line line instruction next → is_some (op_asked p.numbers instruction) ≡ false
       → MovesOn nodes p (with_kept (record p { at = next }) (after_line instruction (kept_in p)))
   line_goes_on p line instruction next tree w e none =
@@ -146,7 +171,8 @@ module _ (nodes : List Node) where
       let stop : Stopped = record { left = Line line instruction rest; kept = kept_in p } in
       record {
         within = record { at = below_length p (node.Line line instruction next) tree w e; frames = w.frames };
-        run = sym (ap (λ (s : Steps). stop_of s (kept_in p)) here ∙ ap (λ (b : Bool). if b then stop else stop_of rest (after_line instruction (kept_in p))) none);
+        run = sym (ap (λ (s : Steps). stop_of s (kept_in p)) here
+            ∙ ap (λ (b : Bool). if b then stop else stop_of rest (after_line instruction (kept_in p))) none);
         nearer = omega (arith, ap work_of here);
       }
 
@@ -157,16 +183,19 @@ module _ (nodes : List Node) where
       let below = below_length p (node.Rounds rounds body next) tree w e in
       record {
         within = entered_within p rounds body next w.frames below.0 below.1;
-        run = kept rounds ∙ (entered_runs p rounds body next (kept_in p) ∙ sym (ap (λ (s : Steps). stop_of s (kept_in p)) here));
+        run = kept rounds ∙ (entered_runs p rounds body next (kept_in p)
+            ∙ sym (ap (λ (s : Steps). stop_of s (kept_in p)) here));
         nearer = omega (arith, ap work_of here, entered_nearer p rounds body next);
       }
     where
-      kept : (r : ℕ) → stop_of (left_in nodes (place_in_rounds p r body next)) (kept_in (place_in_rounds p r body next)) ≡ stop_of (left_in nodes (place_in_rounds p r body next)) (kept_in p)
+      kept : (r : ℕ) → stop_of (left_in nodes (place_in_rounds p r body next)) (kept_in (place_in_rounds p r body next))
+          ≡ stop_of (left_in nodes (place_in_rounds p r body next)) (kept_in p)
       kept zero = refl
       kept (suc m) = refl
 
   pub choice_goes_on : (p : Place) (number first second next : ℕ) → IsTree nodes → IsWithin (length nodes) p
-      → node_at nodes p.at ≡ node.Choice number first second next → MovesOn nodes p (place_in_branch p number first second next)
+      → node_at nodes p.at ≡ node.Choice number first second next
+      → MovesOn nodes p (place_in_branch p number first second next)
   choice_goes_on p number first second next tree w e =
       let n = node.Choice number first second next in
       by_test (slice_index p.numbers number == 0) refl (unfolded p n tree w e) (below_length p n tree w e)
@@ -175,69 +204,106 @@ module _ (nodes : List Node) where
       rest = then_steps (steps_at (trees nodes) next) (behind_frames (trees nodes) p.frames)
 
       by_test : (b : Bool) → (slice_index p.numbers number == 0) ≡ b
-          → left_in nodes p ≡ Choice number (steps_at (trees nodes) first) (steps_at (trees nodes) second) (then_steps (steps_at (trees nodes) next) (behind_frames (trees nodes) p.frames))
+          → left_in nodes p ≡ Choice number (steps_at (trees nodes) first) (steps_at (trees nodes) second)
+          (then_steps (steps_at (trees nodes) next) (behind_frames (trees nodes) p.frames))
           → IsBelow (length nodes) (node.Choice number first second next)
           → MovesOn nodes p (record p { at = if b then second else first; frames = p.frames ++ frame.Branch next ∷ [] })
       by_test true t here below = record {
-        within = record { at = below.1; frames = FramesAreWithin_push (length nodes) p.frames (frame.Branch next) w.frames below.2 };
-        run = ap (λ (s : Steps). stop_of (then_steps (steps_at (trees nodes) second) s) (kept_in p)) (behind_frames_push (trees nodes) p.frames (frame.Branch next))
-            ∙ (sym (stop_of-choice_zero number (steps_at (trees nodes) first) (steps_at (trees nodes) second) (then_steps (steps_at (trees nodes) next) (behind_frames (trees nodes) p.frames)) (kept_in p) t)
+        within = record {
+          at = below.1;
+          frames = FramesAreWithin_push (length nodes) p.frames (frame.Branch next) w.frames below.2;
+        };
+        run = ap (λ (s : Steps). stop_of (then_steps (steps_at (trees nodes) second) s) (kept_in p))
+            (behind_frames_push (trees nodes) p.frames (frame.Branch next))
+            ∙ (sym (stop_of-choice_zero number (steps_at (trees nodes) first) (steps_at (trees nodes) second)
+            (then_steps (steps_at (trees nodes) next) (behind_frames (trees nodes) p.frames)) (kept_in p) t)
             ∙ sym (ap (λ (s : Steps). stop_of s (kept_in p)) here));
         nearer = omega (
           arith,
           ap work_of here,
           length_push p.frames (frame.Branch next),
-          ap work_of (ap (then_steps (steps_at (trees nodes) second)) (behind_frames_push (trees nodes) p.frames (frame.Branch next))),
-          work_of-then_steps (steps_at (trees nodes) second) (then_steps (steps_at (trees nodes) next) (behind_frames (trees nodes) p.frames)),
+          ap work_of (ap (then_steps (steps_at (trees nodes) second))
+              (behind_frames_push (trees nodes) p.frames (frame.Branch next))),
+          work_of-then_steps (steps_at (trees nodes) second)
+              (then_steps (steps_at (trees nodes) next) (behind_frames (trees nodes) p.frames)),
         );
       }
       by_test false t here below = record {
-        within = record { at = below.0; frames = FramesAreWithin_push (length nodes) p.frames (frame.Branch next) w.frames below.2 };
-        run = ap (λ (s : Steps). stop_of (then_steps (steps_at (trees nodes) first) s) (kept_in p)) (behind_frames_push (trees nodes) p.frames (frame.Branch next))
-            ∙ (sym (stop_of-choice_other number (steps_at (trees nodes) first) (steps_at (trees nodes) second) (then_steps (steps_at (trees nodes) next) (behind_frames (trees nodes) p.frames)) (kept_in p) t)
+        within = record {
+          at = below.0;
+          frames = FramesAreWithin_push (length nodes) p.frames (frame.Branch next) w.frames below.2;
+        };
+        run = ap (λ (s : Steps). stop_of (then_steps (steps_at (trees nodes) first) s) (kept_in p))
+            (behind_frames_push (trees nodes) p.frames (frame.Branch next))
+            ∙ (sym (stop_of-choice_other number (steps_at (trees nodes) first) (steps_at (trees nodes) second)
+            (then_steps (steps_at (trees nodes) next) (behind_frames (trees nodes) p.frames)) (kept_in p) t)
             ∙ sym (ap (λ (s : Steps). stop_of s (kept_in p)) here));
         nearer = omega (
           arith,
           ap work_of here,
           length_push p.frames (frame.Branch next),
-          ap work_of (ap (then_steps (steps_at (trees nodes) first)) (behind_frames_push (trees nodes) p.frames (frame.Branch next))),
-          work_of-then_steps (steps_at (trees nodes) first) (then_steps (steps_at (trees nodes) next) (behind_frames (trees nodes) p.frames)),
+          ap work_of (ap (then_steps (steps_at (trees nodes) first))
+              (behind_frames_push (trees nodes) p.frames (frame.Branch next))),
+          work_of-then_steps (steps_at (trees nodes) first)
+              (then_steps (steps_at (trees nodes) next) (behind_frames (trees nodes) p.frames)),
         );
       }
 
   -- the end of an open block
-  block_goes_on : (p : Place) (frames : List Frame) (f : Frame) → p.frames ≡ frames ++ f ∷ [] → left_in nodes p ≡ frame_steps (trees nodes) (behind_frames (trees nodes) frames) f
+  block_goes_on : (p : Place) (frames : List Frame) (f : Frame) → p.frames ≡ frames ++ f ∷ []
+      → left_in nodes p ≡ frame_steps (trees nodes) (behind_frames (trees nodes) frames) f
       → FramesAreWithin (length nodes) frames × FrameIsWithin (length nodes) f
       → MovesOn nodes p (place_behind_block (record p { frames = frames }) f)
   block_goes_on p frames (frame.Branch next) was here w = record {
     within = record { at = w.1; frames = w.0 };
     run = sym (ap (λ (s : Steps). stop_of s (kept_in p)) here);
-    nearer = omega (arith, ap work_of here, ap (λ (fs : List Frame). length fs) was, length_push frames (frame.Branch next));
+    nearer = omega (
+      arith,
+      ap work_of here,
+      ap (λ (fs : List Frame). length fs) was,
+      length_push frames (frame.Branch next),
+    );
   }
   block_goes_on p frames (frame.Rounds rounds body next) was here w = record {
     within = entered_within (record p { frames = frames }) rounds body next w.0 w.1.0 w.1.1;
-    run = kept rounds ∙ (entered_runs (record p { frames = frames }) rounds body next (kept_in p) ∙ sym (ap (λ (s : Steps). stop_of s (kept_in p)) here));
-    nearer = omega (arith, ap work_of here, ap (λ (fs : List Frame). length fs) was, length_push frames (frame.Rounds rounds body next), entered_nearer (record p { frames = frames }) rounds body next);
+    run = kept rounds ∙ (entered_runs (record p { frames = frames }) rounds body next (kept_in p)
+        ∙ sym (ap (λ (s : Steps). stop_of s (kept_in p)) here));
+    nearer = omega (
+      arith,
+      ap work_of here,
+      ap (λ (fs : List Frame). length fs) was,
+      length_push frames (frame.Rounds rounds body next),
+      entered_nearer (record p { frames = frames }) rounds body next,
+    );
   }
     where
-      kept : (r : ℕ) → stop_of (left_in nodes (place_in_rounds (record p { frames = frames }) r body next)) (kept_in (place_in_rounds (record p { frames = frames }) r body next))
+      kept : (r : ℕ) → stop_of (left_in nodes (place_in_rounds (record p { frames = frames }) r body next))
+          (kept_in (place_in_rounds (record p { frames = frames }) r body next))
           ≡ stop_of (left_in nodes (place_in_rounds (record p { frames = frames }) r body next)) (kept_in p)
       kept zero = refl
       kept (suc m) = refl
 
-  pub end_goes_on : (p q : Place) → IsTree nodes → IsWithin (length nodes) p → node_at nodes p.at ≡ node.Done → LeavesBlock p q → MovesOn nodes p q
+  pub end_goes_on : (p q : Place) → IsTree nodes → IsWithin (length nodes) p → node_at nodes p.at ≡ node.Done
+      → LeavesBlock p q → MovesOn nodes p q
   end_goes_on p q tree w e leaves =
       let here : left_in nodes p ≡ frame_steps (trees nodes) (behind_frames (trees nodes) leaves.frames) leaves.frame =
-      unfolded p node.Done tree w e ∙ (ap (behind_frames (trees nodes)) leaves.was ∙ behind_frames_push (trees nodes) leaves.frames leaves.frame) in
-      let fs = FramesAreWithin_pop (length nodes) leaves.frames leaves.frame (subst (λ (xs : List Frame). FramesAreWithin (length nodes) xs) leaves.was w.frames) in
-      subst (λ (x : Place). MovesOn nodes p x) (sym leaves.is) (block_goes_on p leaves.frames leaves.frame leaves.was here fs)
+      unfolded p node.Done tree w e
+      ∙ (ap (behind_frames (trees nodes)) leaves.was
+      ∙ behind_frames_push (trees nodes) leaves.frames leaves.frame) in
+      let fs = FramesAreWithin_pop (length nodes) leaves.frames leaves.frame
+      (subst (λ (xs : List Frame). FramesAreWithin (length nodes) xs) leaves.was w.frames) in
+      subst (λ (x : Place). MovesOn nodes p x) (sym leaves.is)
+      (block_goes_on p leaves.frames leaves.frame leaves.was here fs)
 
   -- A place where the steps stop.
 
-  pub ends_at : (p : Place) → IsTree nodes → IsWithin (length nodes) p → node_at nodes p.at ≡ node.Done → p.frames ≡ [] → HasStopped nodes p p
+  pub ends_at : (p : Place) → IsTree nodes → IsWithin (length nodes) p → node_at nodes p.at ≡ node.Done → p.frames ≡ []
+      → HasStopped nodes p p
   ends_at p tree w e none =
       let here : left_in nodes p ≡ Done = unfolded p node.Done tree w e ∙ ap (behind_frames (trees nodes)) none in
-      let at : (s : Steps) → s ≡ Done → record { left = s; kept = kept_in p } ≡ stop_of s (kept_in p) = λ s d. subst (λ (x : Steps). record { left = x; kept = kept_in p } ≡ stop_of x (kept_in p)) (sym d) refl in
+      let at : (s : Steps) → s ≡ Done
+      → record { left = s; kept = kept_in p } ≡ stop_of s (kept_in p) =
+      λ s d. subst (λ (x : Steps). record { left = x; kept = kept_in p } ≡ stop_of x (kept_in p)) (sym d) refl in
       record {
         within = w;
         at = subst (λ (m : Node). StopsAt m p) (sym e) none;
@@ -245,7 +311,8 @@ module _ (nodes : List Node) where
       }
 
   pub asks_at : (p : Place) (line : ℕ) (instruction : Instruction) (next : ℕ) → IsTree nodes → IsWithin (length nodes) p
-      → node_at nodes p.at ≡ node.Line line instruction next → is_some (op_asked p.numbers instruction) ≡ true → HasStopped nodes p p
+      → node_at nodes p.at ≡ node.Line line instruction next → is_some (op_asked p.numbers instruction) ≡ true
+      → HasStopped nodes p p
   asks_at p line instruction next tree w e some =
       let rest = then_steps (steps_at (trees nodes) next) (behind_frames (trees nodes) p.frames) in
       let stop : Stopped = record { left = Line line instruction rest; kept = kept_in p } in
@@ -254,5 +321,6 @@ module _ (nodes : List Node) where
         within = w;
         at = subst (λ (m : Node). StopsAt m p) (sym e) some;
         run = ap (λ (s : Steps). let at : Stopped = record { left = s; kept = kept_in p } in at) here
-            ∙ sym (ap (λ (s : Steps). stop_of s (kept_in p)) here ∙ ap (λ (b : Bool). if b then stop else stop_of rest (after_line instruction (kept_in p))) some);
+            ∙ sym (ap (λ (s : Steps). stop_of s (kept_in p)) here
+            ∙ ap (λ (b : Bool). if b then stop else stop_of rest (after_line instruction (kept_in p))) some);
       }

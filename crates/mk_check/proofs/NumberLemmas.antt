@@ -1,6 +1,7 @@
 -- Numbers of types, and tables of types and globals, as lines are read.
 use Rattle.std.proofs.lemmas.List.{take-append-drop, take_more, drop_more}
-use Rattle.std.proofs.Common.{◌≡◌, ℕ, suc, ◌+◌, ◌<◌, Bool, true, false, List, [], ◌∷◌, ◌++◌, length, take, drop, get_or, map, Option, Some, None, option_map, unwrap_or, refl, ap, sym, ◌∙◌, arith}
+use Rattle.std.proofs.Common.{◌≡◌, ℕ, suc, ◌+◌, ◌<◌, Bool, true, false, List, [], ◌∷◌, ◌++◌, length, take, drop, get_or}
+use Rattle.std.proofs.Common.{map, Option, Some, None, option_map, unwrap_or, refl, ap, sym, ◌∙◌, arith}
 use Rattle.std.specs.Prelude.{if◌then◌else◌}
 use Rattle.std.specs.Option.{option_or}
 use Rattle.std.specs.Str.{bytes_eq}
@@ -15,61 +16,81 @@ use Rattle.std.proofs.lemmas.List.{length-append}
 use Rattle.mk_check.specs.Lookups.{AddsFirst}
 use Rattle.mk_check.specs.Numbers.{place_among, AreNumbers}
 
-place-step : (b : Bool) (o : Option ℕ) (n : ℕ) → (if b then 0 else unwrap_or o n + 1) ≡ unwrap_or (if b then Some 0 else option_map (λ place. place + 1) o) (suc n)
+place-step : (b : Bool) (o : Option ℕ) (n : ℕ)
+    → (if b then 0 else unwrap_or o n + 1) ≡ unwrap_or (if b then Some 0 else option_map (λ place. place + 1) o) (suc n)
 place-step true o n = refl
 place-step false None n = omega arith
 place-step false (Some place) n = refl
 
-pub place_of-among : (name : List ℕ) (names : List (List ℕ)) → place_of name names ≡ unwrap_or (place_among name names) (length names)
+pub place_of-among : (name : List ℕ) (names : List (List ℕ))
+    → place_of name names ≡ unwrap_or (place_among name names) (length names)
 place_of-among name [] = refl
 place_of-among name (other ∷ others) =
-    ap (λ place. if bytes_eq name other then 0 else place + 1) (place_of-among name others) ∙ place-step (bytes_eq name other) (place_among name others) (length others)
+    ap (λ place. if bytes_eq name other then 0 else place + 1) (place_of-among name others)
+    ∙ place-step (bytes_eq name other) (place_among name others) (length others)
 
 place_among-step : (b c : Bool) (o : Option ℕ) (n : ℕ)
-    → (if b then Some 0 else option_map (λ place. place + 1) (option_or o (if c then Some n else None))) ≡ option_or (if b then Some 0 else option_map (λ place. place + 1) o) (if c then Some (suc n) else None)
+    → (if b then Some 0 else option_map (λ place. place + 1) (option_or o (if c then Some n else None)))
+    ≡ option_or (if b then Some 0 else option_map (λ place. place + 1) o) (if c then Some (suc n) else None)
 place_among-step true c o n = refl
 place_among-step false true None n = ap Some (omega arith)
 place_among-step false false None n = refl
 place_among-step false c (Some place) n = refl
 
-pub place_among-push : (name : List ℕ) (names : List (List ℕ)) (last : List ℕ) → place_among name (names ++ last ∷ []) ≡ option_or (place_among name names) (if bytes_eq name last then Some (length names) else None)
+pub place_among-push : (name : List ℕ) (names : List (List ℕ)) (last : List ℕ)
+    → place_among name (names ++ last ∷ [])
+    ≡ option_or (place_among name names) (if bytes_eq name last then Some (length names) else None)
 place_among-push name [] last = refl
 place_among-push name (other ∷ others) last =
-    ap (λ place. if bytes_eq name other then Some 0 else option_map (λ n. n + 1) place) (place_among-push name others last)
+    ap (λ place. if bytes_eq name other then Some 0 else option_map (λ n. n + 1) place)
+    (place_among-push name others last)
     ∙ place_among-step (bytes_eq name other) (bytes_eq name last) (place_among name others) (length others)
 
-pub type_names-append : (items behind : List Item) → type_names (items ++ behind) ≡ type_names items ++ type_names behind
+pub type_names-append : (items behind : List Item)
+    → type_names (items ++ behind) ≡ type_names items ++ type_names behind
 type_names-append [] behind = refl
 type_names-append (TypeLine name words ∷ items) behind = ap (λ names. name ∷ names) (type_names-append items behind)
 type_names-append (item ∷ items) behind = type_names-append items behind
 
-pub type_names-push_other : (items : List Item) (item : Item) → ((name : List ℕ) (words : List TypeWord) → item ≡ TypeLine name words → ⊥) → type_names (items ++ item ∷ []) ≡ type_names items
+pub type_names-push_other : (items : List Item) (item : Item)
+    → ((name : List ℕ) (words : List TypeWord) → item ≡ TypeLine name words → ⊥)
+    → type_names (items ++ item ∷ []) ≡ type_names items
 type_names-push_other [] (TypeLine name words) differs = absurd (differs name words refl)
 type_names-push_other [] item differs = refl
-type_names-push_other (TypeLine name words ∷ items) item differs = ap (λ names. name ∷ names) (type_names-push_other items item differs)
+type_names-push_other (TypeLine name words ∷ items) item differs =
+    ap (λ names. name ∷ names) (type_names-push_other items item differs)
 type_names-push_other (first ∷ items) item differs = type_names-push_other items item differs
 
 module _ (types : List (List ℕ)) where
-  pub kinds_among-append : (items behind : List Item) → kinds_among types (items ++ behind) ≡ kinds_among types items ++ kinds_among types behind
+  pub kinds_among-append : (items behind : List Item)
+      → kinds_among types (items ++ behind) ≡ kinds_among types items ++ kinds_among types behind
   kinds_among-append [] behind = refl
-  kinds_among-append (TypeLine name words ∷ items) behind = ap (λ kinds. map (kind_of types) words ∷ kinds) (kinds_among-append items behind)
+  kinds_among-append (TypeLine name words ∷ items) behind =
+      ap (λ kinds. map (kind_of types) words ∷ kinds) (kinds_among-append items behind)
   kinds_among-append (item ∷ items) behind = kinds_among-append items behind
 
-  pub kinds_among-push_other : (items : List Item) (item : Item) → ((name : List ℕ) (words : List TypeWord) → item ≡ TypeLine name words → ⊥) → kinds_among types (items ++ item ∷ []) ≡ kinds_among types items
+  pub kinds_among-push_other : (items : List Item) (item : Item)
+      → ((name : List ℕ) (words : List TypeWord) → item ≡ TypeLine name words → ⊥)
+      → kinds_among types (items ++ item ∷ []) ≡ kinds_among types items
   kinds_among-push_other [] (TypeLine name words) differs = absurd (differs name words refl)
   kinds_among-push_other [] item differs = refl
-  kinds_among-push_other (TypeLine name words ∷ items) item differs = ap (λ kinds. map (kind_of types) words ∷ kinds) (kinds_among-push_other items item differs)
+  kinds_among-push_other (TypeLine name words ∷ items) item differs =
+      ap (λ kinds. map (kind_of types) words ∷ kinds) (kinds_among-push_other items item differs)
   kinds_among-push_other (first ∷ items) item differs = kinds_among-push_other items item differs
 
-  pub globals_among-append : (items behind : List Item) → globals_among types (items ++ behind) ≡ globals_among types items ++ globals_among types behind
+  pub globals_among-append : (items behind : List Item)
+      → globals_among types (items ++ behind) ≡ globals_among types items ++ globals_among types behind
   globals_among-append [] behind = refl
-  globals_among-append (Global name ty ∷ items) behind = ap (λ globals. place_of ty types ∷ globals) (globals_among-append items behind)
+  globals_among-append (Global name ty ∷ items) behind =
+      ap (λ globals. place_of ty types ∷ globals) (globals_among-append items behind)
   globals_among-append (item ∷ items) behind = globals_among-append items behind
 
-  pub globals_among-push_other : (items : List Item) (item : Item) → ((name ty : List ℕ) → item ≡ Global name ty → ⊥) → globals_among types (items ++ item ∷ []) ≡ globals_among types items
+  pub globals_among-push_other : (items : List Item) (item : Item) → ((name ty : List ℕ) → item ≡ Global name ty → ⊥)
+      → globals_among types (items ++ item ∷ []) ≡ globals_among types items
   globals_among-push_other [] (Global name ty) differs = absurd (differs name ty refl)
   globals_among-push_other [] item differs = refl
-  globals_among-push_other (Global name ty ∷ items) item differs = ap (λ globals. place_of ty types ∷ globals) (globals_among-push_other items item differs)
+  globals_among-push_other (Global name ty ∷ items) item differs =
+      ap (λ globals. place_of ty types ∷ globals) (globals_among-push_other items item differs)
   globals_among-push_other (first ∷ items) item differs = globals_among-push_other items item differs
 
   pub length-globals_among : (items : List Item) → length (globals_among types items) ≡ length (global_names items)
@@ -83,7 +104,8 @@ module _ (types : List (List ℕ)) where
   length-kinds_among (item ∷ items) = length-kinds_among items
 
 -- names of globals are no more with more lines
-pub length-global_names-append : (items behind : List Item) → length (global_names (items ++ behind)) ≡ length (global_names items) + length (global_names behind)
+pub length-global_names-append : (items behind : List Item)
+    → length (global_names (items ++ behind)) ≡ length (global_names items) + length (global_names behind)
 length-global_names-append [] behind = omega arith
 length-global_names-append (Global name ty ∷ items) behind = omega (arith, length-global_names-append items behind)
 length-global_names-append (item ∷ items) behind = length-global_names-append items behind
@@ -94,18 +116,25 @@ module _ (items : List Item) (i : ℕ) (item : Item) (within : i < length items)
   take-step = take_more items i item within ∙ ap (λ last. take i items ++ last ∷ []) (sym read)
 
   -- a global stands before the last
-  pub length-global_names-take : (name ty : List ℕ) → item ≡ Global name ty → length (global_names (take i items)) < length (global_names items)
+  pub length-global_names-take : (name ty : List ℕ) → item ≡ Global name ty
+      → length (global_names (take i items)) < length (global_names items)
   length-global_names-take name ty is =
       let parts : items ≡ take i items ++ item ∷ drop (i + 1) items =
-      sym (take-append-drop i items) ∙ ap (λ rest. take i items ++ rest) (drop_more items i item within ∙ ap (λ first. first ∷ drop (i + 1) items) (sym read)) in
-      let split = ap (λ xs. length (global_names xs)) (parts ∙ ap (λ first. take i items ++ first ∷ drop (i + 1) items) is) in
+      sym (take-append-drop i items)
+      ∙ ap (λ rest. take i items ++ rest) (drop_more items i item within
+      ∙ ap (λ first. first ∷ drop (i + 1) items) (sym read)) in
+      let split = ap (λ xs. length (global_names xs)) (parts
+      ∙ ap (λ first. take i items ++ first ∷ drop (i + 1) items) is) in
       omega (arith, split, length-global_names-append (take i items) (Global name ty ∷ drop (i + 1) items))
 
 -- one more name
-pub AreNumbers-push : {S : Type 0} (old new : HashMap (Bor (List ℕ)) ℕ S) (count : ℕ) (names : List (List ℕ)) (name : List ℕ) → AddsFirst old new name count → AreNumbers old count names → AreNumbers new (count + 1) (names ++ name ∷ [])
+pub AreNumbers-push : {S : Type 0} (old new : HashMap (Bor (List ℕ)) ℕ S) (count : ℕ) (names : List (List ℕ))
+    (name : List ℕ) → AddsFirst old new name count → AreNumbers old count names
+    → AreNumbers new (count + 1) (names ++ name ∷ [])
 AreNumbers-push old new count names name adds known = record {
   places = λ other.
       adds other ∙ ap (λ place. option_or place (if bytes_eq other name then Some count else None)) (known.places other)
-      ∙ ap (λ n. option_or (place_among other names) (if bytes_eq other name then Some n else None)) known.all ∙ sym (place_among-push other names name);
+      ∙ ap (λ n. option_or (place_among other names) (if bytes_eq other name then Some n else None)) known.all
+      ∙ sym (place_among-push other names name);
   all = omega (arith, known.all, length-append names (name ∷ []));
 }

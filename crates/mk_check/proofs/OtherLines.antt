@@ -6,7 +6,8 @@ use Rattle.mk_check.specs.declared.feeding.instructions.Element.TheVariants as e
 use Rattle.mk_check.specs.Feed.{Scope}
 use Rattle.mk_check.specs.Steps.{instruction_of, element_of}
 
-pub element_of_others : (scope : Scope) (i : Item) → ((x : ℕ) → i ≡ Repeat x → ⊥) → ((x : List ℕ) → i ≡ If x → ⊥) → (i ≡ Else → ⊥) → (i ≡ End → ⊥)
+pub element_of_others : (scope : Scope) (i : Item) → ((x : ℕ) → i ≡ Repeat x → ⊥) → ((x : List ℕ) → i ≡ If x → ⊥)
+    → (i ≡ Else → ⊥) → (i ≡ End → ⊥)
     → element.Line (instruction_of scope i) ≡ element_of scope i
 element_of_others scope (Repeat rounds) not_repeat _ _ _ = absurd (not_repeat rounds refl)
 element_of_others scope (If number) _ not_if _ _ = absurd (not_if number refl)

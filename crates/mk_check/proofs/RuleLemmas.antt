@@ -3,17 +3,22 @@ use Rattle.std.proofs.Common.{◌≡◌, ℕ, false, List, Option, None, refl, s
 use Rattle.std.specs.Option.{option_or}
 use Rattle.std.proofs.lemmas.Bool.{false≢true}
 use Rattle.mk_script.specs.declared.items.Item.{Item}
-use Rattle.mk_script.specs.declared.items.Item.TheVariants.{Heap, TypeLine, Global, Script, Ptr, Num, New, Free, Getn, Setn, Getp, Setp, Casp, Lea, Move, Clear, Loadg, Storeg, Same, Isnull, Show, Const, Add, Sub, Print, Repeat, If, Else, End}
+use Rattle.mk_script.specs.declared.items.Item.TheVariants.{Heap, TypeLine, Global, Script, Ptr, Num, New, Free, Getn}
+use Rattle.mk_script.specs.declared.items.Item.TheVariants.{Setn, Getp, Setp, Casp, Lea, Move, Clear, Loadg, Storeg}
+use Rattle.mk_script.specs.declared.items.Item.TheVariants.{Same, Isnull, Show, Const, Add, Sub, Print, Repeat, If}
+use Rattle.mk_script.specs.declared.items.Item.TheVariants.{Else, End}
 use Rattle.mk_script.specs.Scopes.{is_script}
 use Rattle.mk_check.specs.declared.typing_faults.TypeKind.{TypeKind}
 use Rattle.mk_check.specs.Typing.{Around, ◌or◌, typing_fault}
-use Rattle.mk_check.specs.Rules.{fault_of_sort, is_declaration, is_number_access, is_pointer_access, is_pointer_line, is_number_line}
+use Rattle.mk_check.specs.Rules.{fault_of_sort, is_declaration, is_number_access, is_pointer_access, is_pointer_line}
+use Rattle.mk_check.specs.Rules.{is_number_line}
 use Rattle.mk_check.proofs.LookupLemmas.{option_or-none}
 
 -- what is wrong by the rules of all sorts, one after the other
 abbrev pub fault_of_sorts : Around → Item → Option TypeKind
 fault_of_sorts a item =
-    fault_of_sort is_declaration a item or fault_of_sort is_number_access a item or fault_of_sort is_pointer_access a item or fault_of_sort is_pointer_line a item or fault_of_sort is_number_line a item
+    fault_of_sort is_declaration a item or fault_of_sort is_number_access a item or fault_of_sort is_pointer_access a
+    item or fault_of_sort is_pointer_line a item or fault_of_sort is_number_line a item
 
 or-2 : (fault : Option TypeKind) → fault or None or None ≡ fault
 or-2 fault = option_or-none (option_or fault None) ∙ option_or-none fault
@@ -24,7 +29,8 @@ or-3 fault = option_or-none (fault or None or None) ∙ or-2 fault
 or-4 : (fault : Option TypeKind) → fault or None or None or None or None ≡ fault
 or-4 fault = option_or-none (fault or None or None or None) ∙ or-3 fault
 
-pub fault_of_sorts-line : (a : Around) (line : ℕ) (behind : List Item) (item : Item) → is_script item ≡ false → fault_of_sorts a item ≡ typing_fault a line behind item
+pub fault_of_sorts-line : (a : Around) (line : ℕ) (behind : List Item) (item : Item) → is_script item ≡ false
+    → fault_of_sorts a item ≡ typing_fault a line behind item
 fault_of_sorts-line a line behind (Heap pages resident) other = refl
 fault_of_sorts-line a line behind (TypeLine name words) other = or-4 _
 fault_of_sorts-line a line behind (Global name ty) other = or-4 _

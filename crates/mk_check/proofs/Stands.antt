@@ -7,22 +7,28 @@ use Rattle.mk_core.specs.declared.events.Answer.{Answer}
 use Rattle.mk_core.specs.Decided.{flagged}
 use Rattle.mk_script.specs.declared.items.Item.{Item}
 use Rattle.mk_check.specs.declared.feeding.instructions.Instruction.{Instruction}
-use Rattle.mk_check.specs.declared.feeding.instructions.Instruction.TheVariants.{Nothing, Const, Add, Sub, Print, Ask, Store, Load, Show}
+use Rattle.mk_check.specs.declared.feeding.instructions.Instruction.TheVariants.{Nothing, Const, Add, Sub, Print, Ask}
+use Rattle.mk_check.specs.declared.feeding.instructions.Instruction.TheVariants.{Store, Load, Show}
 use Rattle.mk_check.specs.declared.feeding.tree.Node.{Node}
 use Rattle.mk_check.specs.declared.feeding.tree.Node.TheVariants as node
 use Rattle.mk_check.specs.Blocks.{Blocks, Done, Line, Rounds, Choice, ScriptText, script_of, blocks_from, is_done}
-use Rattle.mk_check.specs.Feed.{Scope, Fed, op_of, refusal_line, refusal_text, answered_number, show_text, with_answer, note, take_answer, fed_before_lines, feed, has_ended}
-use Rattle.mk_check.specs.Steps.{Steps, then_steps, steps_of, instruction_of, Kept, Stopped, op_asked, with_text, after_answer, stop_of, stop_on_answer}
+use Rattle.mk_check.specs.Feed.{Scope, Fed, op_of, refusal_line, refusal_text, answered_number, show_text, with_answer}
+use Rattle.mk_check.specs.Feed.{note, take_answer, fed_before_lines, feed, has_ended}
+use Rattle.mk_check.specs.Steps.{Steps, then_steps, steps_of, instruction_of, Kept, Stopped, op_asked, with_text}
+use Rattle.mk_check.specs.Steps.{after_answer, stop_of, stop_on_answer}
 use Rattle.mk_check.specs.Steps as steps
-use Rattle.mk_check.specs.Trees.{Place, steps_at, trees, left_in, kept_in, stopped_in, with_kept, node_at, IsTree, IsWithin, StopsAt, HasStopped}
-use Rattle.mk_check.specs.Feeding.{FeedState, IsAtStop, op_of_node, op_in, first_op, script_scope, FeedStandsFor, IsFeed, IsWaiting}
+use Rattle.mk_check.specs.Trees.{Place, steps_at, trees, left_in, kept_in, stopped_in, with_kept, node_at, IsTree}
+use Rattle.mk_check.specs.Trees.{IsWithin, StopsAt, HasStopped}
+use Rattle.mk_check.specs.Feeding.{FeedState, IsAtStop, op_of_node, op_in, first_op, script_scope, FeedStandsFor}
+use Rattle.mk_check.specs.Feeding.{IsFeed, IsWaiting}
 use Rattle.mk_check.proofs.StepLaws.{behind_text, stopped_behind_text, stop_of-text}
 use Rattle.mk_check.proofs.Numbered.{kept_of, stopped_of, run_agrees, op_of-asked, kept_of-with_answer, ops-with_answer}
 use Rattle.mk_check.proofs.FeedLaws.{feed_push}
 use Rattle.mk_check.proofs.Moves.{unfolded_done, unfolded_line}
 
 -- blocks that begin with a line
-pub record BeginsWith (scope : Scope) (left : Blocks) (line : ℕ) (instruction : Instruction) (rest : Steps) : Type 0 where
+pub record BeginsWith (scope : Scope) (left : Blocks) (line : ℕ) (instruction : Instruction)
+    (rest : Steps) : Type 0 where
   pub item : Item
   pub more : Blocks
   pub is : left ≡ Line line item more
@@ -51,7 +57,8 @@ pub record Tells (scope : Scope) (fed : Fed) (o : Option Op) : Type 0 where
   pub ended : is_some o ≡ false → has_ended fed ≡ true
   pub none : has_ended fed ≡ true → is_some o ≡ false
 
-tells : (scope : Scope) (fed : Fed) (nodes : List Node) (p : Place) (n : Node) → IsTree nodes → IsWithin (length nodes) p → node_at nodes p.at ≡ n → StopsAt n p
+tells : (scope : Scope) (fed : Fed) (nodes : List Node) (p : Place) (n : Node) → IsTree nodes
+    → IsWithin (length nodes) p → node_at nodes p.at ≡ n → StopsAt n p
     → left_in nodes p ≡ steps_of scope fed.left → p.numbers ≡ fed.numbers → Tells scope fed (op_of_node p.numbers n)
 tells scope fed nodes p node.Done tree w e stops left numbers =
     let over = no_more scope fed.left (sym left ∙ unfolded_done nodes p tree w e stops) in
@@ -61,25 +68,31 @@ tells scope fed nodes p node.Done tree w e stops left numbers =
       none = λ h. refl;
     }
 tells scope fed nodes p (node.Line line instruction next) tree w e stops left numbers =
-    let here = begins_with scope fed.left line instruction _ (sym left ∙ unfolded_line nodes p line instruction next tree w e) in
+    let here = begins_with scope fed.left line instruction _ (sym left
+    ∙ unfolded_line nodes p line instruction next tree w e) in
     let op : op_asked p.numbers instruction ≡ first_op scope fed fed.left =
-    ap (λ (ns : List ℕ). op_asked ns instruction) numbers ∙ (ap (op_asked fed.numbers) (sym here.named) ∙ (sym (op_of-asked scope fed here.item) ∙ sym (ap (first_op scope fed) here.is))) in
+    ap (λ (ns : List ℕ). op_asked ns instruction) numbers
+    ∙ (ap (op_asked fed.numbers) (sym here.named)
+    ∙ (sym (op_of-asked scope fed here.item) ∙ sym (ap (first_op scope fed) here.is))) in
     let on : has_ended fed ≡ false = ap is_done here.is in
     record { op = op; ended = λ h. cc; none = λ h. cc }
 tells scope fed nodes p (node.Rounds rounds body next) tree w e stops left numbers = absurd stops
 tells scope fed nodes p (node.Choice number first second next) tree w e stops left numbers = absurd stops
 
-pub op_of_others : (numbers : List ℕ) (n : Node) → ((line : ℕ) (instruction : Instruction) (next : ℕ) → n ≡ node.Line line instruction next → ⊥)
+pub op_of_others : (numbers : List ℕ) (n : Node)
+    → ((line : ℕ) (instruction : Instruction) (next : ℕ) → n ≡ node.Line line instruction next → ⊥)
     → op_of_node numbers n ≡ None
 op_of_others numbers node.Done h = refl
 op_of_others numbers (node.Line line instruction next) h = absurd (h line instruction next refl)
 op_of_others numbers (node.Rounds rounds body next) h = refl
 op_of_others numbers (node.Choice number first second next) h = refl
 
-pub op_stands : (program : List Item) (k : ℕ) (s : FeedState) (answers : List Answer) → IsTree s.nodes → IsAtStop s → FeedStandsFor program k s answers
+pub op_stands : (program : List Item) (k : ℕ) (s : FeedState) (answers : List Answer) → IsTree s.nodes → IsAtStop s
+    → FeedStandsFor program k s answers
     → Tells (script_scope program k) (feed program k answers) (op_in s)
 op_stands program k s answers tree stop st =
-    tells (script_scope program k) (feed program k answers) s.nodes s.place (node_at s.nodes s.place.at) tree stop.within refl stop.stops st.left st.numbers
+    tells (script_scope program k) (feed program k answers) s.nodes s.place (node_at s.nodes s.place.at) tree
+    stop.within refl stop.stops st.left st.numbers
 
 -- A script that hasn't ended waits for the answer of an operation.
 pub waits_for_answer : (s : FeedState) → IsTree s.nodes → IsFeed s → IsWaiting s → is_some (op_in s) ≡ true
@@ -95,10 +108,12 @@ waits_for_answer s tree h waiting = by_op (is_some (op_in s)) refl
 
 pub start_stands : (program : List Item) (k : ℕ) (s : FeedState)
     → stopped_in s.nodes s.place
-    ≡ stop_of (steps_of (script_scope program k) (blocks_from (script_of program k).line (script_of program k).items)) (kept_of (fed_before_lines (script_scope program k) (script_of program k)))
+    ≡ stop_of (steps_of (script_scope program k) (blocks_from (script_of program k).line (script_of program k).items))
+    (kept_of (fed_before_lines (script_scope program k) (script_of program k)))
     → FeedStandsFor program k s []
 start_stands program k s e =
-    let a = run_agrees (script_scope program k) (blocks_from (script_of program k).line (script_of program k).items) (fed_before_lines (script_scope program k) (script_of program k)) in
+    let a = run_agrees (script_scope program k) (blocks_from (script_of program k).line (script_of program k).items)
+    (fed_before_lines (script_scope program k) (script_of program k)) in
     let same : stopped_in s.nodes s.place ≡ stopped_of (script_scope program k) (feed program k []) = e ∙ sym a.stop in
     record {
       taken = ap (λ (os : List Op). length os) a.answers;
@@ -116,13 +131,20 @@ then_steps-done (steps.Choice number first second rest) = ap (steps.Choice numbe
 -- a script that ran from its first line
 pub start_stops : (nodes : List Node) (scope : Scope) (script : ScriptText) (at : ℕ) (p q : Place)
     → steps_at (trees nodes) at ≡ steps_of scope (blocks_from script.line script.items)
-    → p ≡ record { at = at; frames = []; numbers = (fed_before_lines scope script).numbers; text = (fed_before_lines scope script).text }
+    → p ≡ record {
+      at = at;
+      frames = [];
+      numbers = (fed_before_lines scope script).numbers;
+      text = (fed_before_lines scope script).text;
+    }
     → HasStopped nodes p q
-    → stopped_in nodes q ≡ stop_of (steps_of scope (blocks_from script.line script.items)) (kept_of (fed_before_lines scope script))
+    → stopped_in nodes q
+    ≡ stop_of (steps_of scope (blocks_from script.line script.items)) (kept_of (fed_before_lines scope script))
 start_stops nodes scope script at p q tree begins stopped =
     let left : left_in nodes p ≡ steps_of scope (blocks_from script.line script.items) =
     ap (left_in nodes) begins ∙ (then_steps-done (steps_at (trees nodes) at) ∙ tree) in
-    stopped.run ∙ (ap (λ (s : Steps). stop_of s (kept_in p)) left ∙ ap (λ (x : Place). stop_of (steps_of scope (blocks_from script.line script.items)) (kept_in x)) begins)
+    stopped.run ∙ (ap (λ (s : Steps). stop_of s (kept_in p)) left
+    ∙ ap (λ (x : Place). stop_of (steps_of scope (blocks_from script.line script.items)) (kept_in x)) begins)
 
 -- One more answer.
 
@@ -135,10 +157,12 @@ notes fed None line a h = cc
 notes fed (Some o) line a h = record { kept = refl; more = length_push fed.ops (flagged o a) }
 
 record Answers (scope : Scope) (fed : Fed) (line : ℕ) (item : Item) (rest : Blocks) (a : Answer) : Type 0 where
-  stop : stopped_of scope (take_answer scope fed (Line line item rest) a) ≡ stop_on_answer (steps_of scope (Line line item rest)) a (kept_of fed)
+  stop : stopped_of scope (take_answer scope fed (Line line item rest) a)
+      ≡ stop_on_answer (steps_of scope (Line line item rest)) a (kept_of fed)
   more : length (take_answer scope fed (Line line item rest) a).ops ≡ length fed.ops + 1
 
-answer_agrees : (scope : Scope) (fed : Fed) (line : ℕ) (item : Item) (rest : Blocks) (a : Answer) → is_some (op_of scope fed item) ≡ true
+answer_agrees : (scope : Scope) (fed : Fed) (line : ℕ) (item : Item) (rest : Blocks) (a : Answer)
+    → is_some (op_of scope fed item) ≡ true
     → Answers scope fed line item rest a
 answer_agrees scope fed line item rest a h =
     let n = notes fed (op_of scope fed item) line a h in
@@ -150,10 +174,12 @@ answer_agrees scope fed line item rest a h =
       more = ap (λ (os : List Op). length os) (agrees.answers ∙ ops-with_answer scope noted_fed item a) ∙ n.more;
     }
 
-answered_from : (program : List Item) (k : ℕ) (answers : List Answer) (a : Answer) (line : ℕ) (item : Item) (rest : Blocks) (s : FeedState)
+answered_from : (program : List Item) (k : ℕ) (answers : List Answer) (a : Answer) (line : ℕ) (item : Item)
+    (rest : Blocks) (s : FeedState)
     → (feed program k answers).left ≡ Line line item rest → length (feed program k answers).ops ≡ length answers
     → is_some (op_of (script_scope program k) (feed program k answers) item) ≡ true
-    → stopped_in s.nodes s.place ≡ stop_on_answer (steps_of (script_scope program k) (feed program k answers).left) a (kept_of (feed program k answers))
+    → stopped_in s.nodes s.place ≡ stop_on_answer (steps_of (script_scope program k) (feed program k answers).left) a
+    (kept_of (feed program k answers))
     → FeedStandsFor program k s (answers ++ a ∷ [])
 answered_from program k answers a line item rest s is taken some stop =
     let scope = script_scope program k in
@@ -162,7 +188,8 @@ answered_from program k answers a line item rest s is taken some stop =
     let at : feed program k (answers ++ a ∷ []) ≡ take_answer scope fed (Line line item rest) a =
     feed_push program k answers a ∙ ap (λ (b : Blocks). take_answer scope fed b a) is in
     let same : stopped_in s.nodes s.place ≡ stopped_of scope (feed program k (answers ++ a ∷ [])) =
-    stop ∙ (ap (λ (b : Blocks). stop_on_answer (steps_of scope b) a (kept_of fed)) is ∙ (sym agrees.stop ∙ ap (stopped_of scope) (sym at))) in
+    stop ∙ (ap (λ (b : Blocks). stop_on_answer (steps_of scope b) a (kept_of fed)) is
+    ∙ (sym agrees.stop ∙ ap (stopped_of scope) (sym at))) in
     record {
       taken = ap (λ (f : Fed). length f.ops) at ∙ (agrees.more ∙ omega (arith, taken, length_push answers a));
       left = ap (λ (t : Stopped). t.left) same;
@@ -170,7 +197,8 @@ answered_from program k answers a line item rest s is taken some stop =
       text = ap (λ (t : Stopped). t.kept.text) same;
     }
 
-pub answer_stands : (program : List Item) (k : ℕ) (answers : List Answer) (a : Answer) (s t : FeedState) (line : ℕ) (instruction : Instruction) (next : ℕ)
+pub answer_stands : (program : List Item) (k : ℕ) (answers : List Answer) (a : Answer) (s t : FeedState) (line : ℕ)
+    (instruction : Instruction) (next : ℕ)
     → IsTree s.nodes → IsWithin (length s.nodes) s.place → node_at s.nodes s.place.at ≡ node.Line line instruction next
     → is_some (op_asked s.place.numbers instruction) ≡ true
     → stopped_in t.nodes t.place ≡ stop_on_answer (left_in s.nodes s.place) a (kept_in s.place)
@@ -178,16 +206,21 @@ pub answer_stands : (program : List Item) (k : ℕ) (answers : List Answer) (a :
 answer_stands program k answers a s t line instruction next tree w e some stop st =
     let scope = script_scope program k in
     let fed = feed program k answers in
-    let here = begins_with scope fed.left line instruction _ (sym st.left ∙ unfolded_line s.nodes s.place line instruction next tree w e) in
+    let here = begins_with scope fed.left line instruction _ (sym st.left
+    ∙ unfolded_line s.nodes s.place line instruction next tree w e) in
     let op : op_of scope fed here.item ≡ op_asked s.place.numbers instruction =
-    op_of-asked scope fed here.item ∙ (ap (op_asked fed.numbers) here.named ∙ ap (λ (ns : List ℕ). op_asked ns instruction) (sym st.numbers)) in
+    op_of-asked scope fed here.item
+    ∙ (ap (op_asked fed.numbers) here.named ∙ ap (λ (ns : List ℕ). op_asked ns instruction) (sym st.numbers)) in
     let kept : kept_in s.place ≡ kept_of fed = (let f = st.numbers in let g = st.text in cc) in
-    answered_from program k answers a line here.item here.more t here.is st.taken (ap (λ (o : Option Op). is_some o) op ∙ some)
-    (stop ∙ (ap (λ (x : Steps). stop_on_answer x a (kept_in s.place)) st.left ∙ ap (stop_on_answer (steps_of scope fed.left) a) kept))
+    answered_from program k answers a line here.item here.more t here.is st.taken (ap (λ (o : Option Op). is_some o) op
+    ∙ some)
+    (stop ∙ (ap (λ (x : Steps). stop_on_answer x a (kept_in s.place)) st.left
+    ∙ ap (stop_on_answer (steps_of scope fed.left) a) kept))
 
 -- The text of an answer is made apart, and stands behind the text before.
 
-after_answer-text : (text : List ℕ) (instruction : Instruction) (a : Answer) (k : Kept) → after_answer instruction a (behind_text text k) ≡ behind_text text (after_answer instruction a k)
+after_answer-text : (text : List ℕ) (instruction : Instruction) (a : Answer) (k : Kept)
+    → after_answer instruction a (behind_text text k) ≡ behind_text text (after_answer instruction a k)
 after_answer-text text Nothing a k = refl
 after_answer-text text (Const number value) a k = refl
 after_answer-text text (Add number left right) a k = refl
@@ -196,19 +229,24 @@ after_answer-text text (Print number) a k = refl
 after_answer-text text (Ask o) a k = refl
 after_answer-text text (Store q i number) a k = refl
 after_answer-text text (Load number o) a k = refl
-after_answer-text text (Show p) a k = ap (λ (t : List ℕ). let kept : Kept = record k { text = t } in kept) (append_assoc text k.text (show_text (answered_number a)))
+after_answer-text text (Show p) a k = ap (λ (t : List ℕ). let kept : Kept = record k { text = t } in kept)
+    (append_assoc text k.text (show_text (answered_number a)))
 
 pub stop_on_answer-text : (rest : Steps) (line : ℕ) (instruction : Instruction) (a : Answer) (k : Kept)
     → stop_on_answer (steps.Line line instruction rest) a k
-    ≡ stopped_behind_text k.text (stop_of rest (after_answer instruction a (record { numbers = k.numbers; text = refusal_line line (refusal_text a) })))
+    ≡ stopped_behind_text k.text
+    (stop_of rest (after_answer instruction a
+    (record { numbers = k.numbers; text = refusal_line line (refusal_text a) })))
 stop_on_answer-text rest line instruction a k =
     let apart : Kept = record { numbers = k.numbers; text = refusal_line line (refusal_text a) } in
-    ap (stop_of rest) (after_answer-text k.text instruction a apart) ∙ stop_of-text k.text rest (after_answer instruction a apart)
+    ap (stop_of rest) (after_answer-text k.text instruction a apart)
+    ∙ stop_of-text k.text rest (after_answer instruction a apart)
 
 -- A copy that runs on without the text so far stops where the script stops.
 pub answer_stops : (nodes : List Node) (p r q t : Place) (line : ℕ) (instruction : Instruction) (next : ℕ) (a : Answer)
     → IsTree nodes → IsWithin (length nodes) p → node_at nodes p.at ≡ node.Line line instruction next
-    → r ≡ with_kept (record p { at = next }) (after_answer instruction a (record { numbers = p.numbers; text = refusal_line line (refusal_text a) }))
+    → r ≡ with_kept (record p { at = next })
+    (after_answer instruction a (record { numbers = p.numbers; text = refusal_line line (refusal_text a) }))
     → HasStopped nodes r q → t ≡ record q { text = p.text ++ q.text }
     → stopped_in nodes t ≡ stop_on_answer (left_in nodes p) a (kept_in p)
 answer_stops nodes p r q t line instruction next a tree w e starts stopped follows =

@@ -4,9 +4,11 @@ use Rattle.std.specs.Prelude.{slice_index, ◌==◌, is_some}
 use Rattle.std.specs.Fmt.{decimal}
 use Rattle.std.proofs.lemmas.List.{append_assoc}
 use Rattle.mk_check.specs.declared.feeding.instructions.Instruction.{Instruction}
-use Rattle.mk_check.specs.declared.feeding.instructions.Instruction.TheVariants.{Nothing, Const, Add, Sub, Print, Ask, Store, Load, Show}
+use Rattle.mk_check.specs.declared.feeding.instructions.Instruction.TheVariants.{Nothing, Const, Add, Sub, Print, Ask}
+use Rattle.mk_check.specs.declared.feeding.instructions.Instruction.TheVariants.{Store, Load, Show}
 use Rattle.mk_check.specs.Feed.{newline}
-use Rattle.mk_check.specs.Steps.{Steps, Done, Line, Rounds, Choice, then_steps, Kept, Stopped, op_asked, after_line, stop_behind, stop_of_rounds, stop_of}
+use Rattle.mk_check.specs.Steps.{Steps, Done, Line, Rounds, Choice, then_steps, Kept, Stopped, op_asked, after_line}
+use Rattle.mk_check.specs.Steps.{stop_behind, stop_of_rounds, stop_of}
 
 pub then_steps_assoc : (a b c : Steps) → then_steps (then_steps a b) c ≡ then_steps a (then_steps b c)
 then_steps_assoc Done b c = refl
@@ -21,11 +23,14 @@ then_ran_then : (left : Steps) (kept : Kept) (rest more : Steps)
     ≡ stop_behind (stop_behind (record { left = left; kept = kept }) (stop_of rest) rest) (stop_of more) more
 then_ran_then Done kept rest more h = h kept
 then_ran_then (Line line instruction left) kept rest more h =
-    ap (λ (s : Steps). let at : Stopped = record { left = s; kept = kept } in at) (sym (then_steps_assoc (Line line instruction left) rest more))
+    ap (λ (s : Steps). let at : Stopped = record { left = s; kept = kept } in at)
+    (sym (then_steps_assoc (Line line instruction left) rest more))
 then_ran_then (Rounds rounds body left) kept rest more h =
-    ap (λ (s : Steps). let at : Stopped = record { left = s; kept = kept } in at) (sym (then_steps_assoc (Rounds rounds body left) rest more))
+    ap (λ (s : Steps). let at : Stopped = record { left = s; kept = kept } in at)
+    (sym (then_steps_assoc (Rounds rounds body left) rest more))
 then_ran_then (Choice number first second left) kept rest more h =
-    ap (λ (s : Steps). let at : Stopped = record { left = s; kept = kept } in at) (sym (then_steps_assoc (Choice number first second left) rest more))
+    ap (λ (s : Steps). let at : Stopped = record { left = s; kept = kept } in at)
+    (sym (then_steps_assoc (Choice number first second left) rest more))
 
 -- One part runs, and then the other.
 pub stop_of-then_steps : (a b : Steps) (k : Kept) → stop_of (then_steps a b) k ≡ stop_behind (stop_of a k) (stop_of b) b
@@ -33,9 +38,13 @@ stop_of-then_steps Done b k = refl
 stop_of-then_steps (Line line instruction rest) b k =
     by_test (is_some (op_asked k.numbers instruction)) (stop_of-then_steps rest b (after_line instruction k))
   where
-    by_test : (t : Bool) → stop_of (then_steps rest b) (after_line instruction k) ≡ stop_behind (stop_of rest (after_line instruction k)) (stop_of b) b
-        → (if t then record { left = Line line instruction (then_steps rest b); kept = k } else stop_of (then_steps rest b) (after_line instruction k))
-        ≡ stop_behind (if t then record { left = Line line instruction rest; kept = k } else stop_of rest (after_line instruction k)) (stop_of b) b
+    by_test : (t : Bool)
+        → stop_of (then_steps rest b) (after_line instruction k)
+        ≡ stop_behind (stop_of rest (after_line instruction k)) (stop_of b) b
+        → (if t then record { left = Line line instruction (then_steps rest b); kept = k }
+        else stop_of (then_steps rest b) (after_line instruction k))
+        ≡ stop_behind (if t then record { left = Line line instruction rest; kept = k }
+        else stop_of rest (after_line instruction k)) (stop_of b) b
     by_test true h = refl
     by_test false h = h
 stop_of-then_steps (Rounds rounds body rest) b k =
@@ -47,31 +56,40 @@ stop_of-then_steps (Choice number first second rest) b k =
 
 -- rounds behind the first, which may have stopped
 rounds_behind : (left : Steps) (kept : Kept) (more : ℕ) (body rest : Steps)
-    → stop_behind (stop_behind (record { left = left; kept = kept }) (stop_of_rounds more body (stop_of body)) (Rounds more body Done)) (stop_of rest) rest
+    → stop_behind (stop_behind (record { left = left; kept = kept }) (stop_of_rounds more body (stop_of body))
+    (Rounds more body Done)) (stop_of rest) rest
     ≡ stop_behind (record { left = left; kept = kept }) (stop_of (Rounds more body rest)) (Rounds more body rest)
 rounds_behind Done kept more body rest = refl
 rounds_behind (Line line instruction left) kept more body rest =
-    ap (λ (s : Steps). let at : Stopped = record { left = s; kept = kept } in at) (then_steps_assoc (Line line instruction left) (Rounds more body Done) rest)
+    ap (λ (s : Steps). let at : Stopped = record { left = s; kept = kept } in at)
+    (then_steps_assoc (Line line instruction left) (Rounds more body Done) rest)
 rounds_behind (Rounds rounds inner left) kept more body rest =
-    ap (λ (s : Steps). let at : Stopped = record { left = s; kept = kept } in at) (then_steps_assoc (Rounds rounds inner left) (Rounds more body Done) rest)
+    ap (λ (s : Steps). let at : Stopped = record { left = s; kept = kept } in at)
+    (then_steps_assoc (Rounds rounds inner left) (Rounds more body Done) rest)
 rounds_behind (Choice number first second left) kept more body rest =
-    ap (λ (s : Steps). let at : Stopped = record { left = s; kept = kept } in at) (then_steps_assoc (Choice number first second left) (Rounds more body Done) rest)
+    ap (λ (s : Steps). let at : Stopped = record { left = s; kept = kept } in at)
+    (then_steps_assoc (Choice number first second left) (Rounds more body Done) rest)
 
 -- A round more is the body, and then the other rounds.
 pub stop_of-round : (more : ℕ) (body rest : Steps) (k : Kept)
     → stop_of (Rounds (suc more) body rest) k ≡ stop_of (then_steps body (Rounds more body rest)) k
 stop_of-round more body rest k =
-    rounds_behind (stop_of body k).left (stop_of body k).kept more body rest ∙ sym (stop_of-then_steps body (Rounds more body rest) k)
+    rounds_behind (stop_of body k).left (stop_of body k).kept more body rest
+    ∙ sym (stop_of-then_steps body (Rounds more body rest) k)
 
-pub stop_of-choice_zero : (number : ℕ) (first second rest : Steps) (k : Kept) → (slice_index k.numbers number == 0) ≡ true
+pub stop_of-choice_zero : (number : ℕ) (first second rest : Steps) (k : Kept)
+    → (slice_index k.numbers number == 0) ≡ true
     → stop_of (Choice number first second rest) k ≡ stop_of (then_steps second rest) k
 stop_of-choice_zero number first second rest k h =
-    ap (λ (t : Bool). stop_behind (if t then stop_of second k else stop_of first k) (stop_of rest) rest) h ∙ sym (stop_of-then_steps second rest k)
+    ap (λ (t : Bool). stop_behind (if t then stop_of second k else stop_of first k) (stop_of rest) rest) h
+    ∙ sym (stop_of-then_steps second rest k)
 
-pub stop_of-choice_other : (number : ℕ) (first second rest : Steps) (k : Kept) → (slice_index k.numbers number == 0) ≡ false
+pub stop_of-choice_other : (number : ℕ) (first second rest : Steps) (k : Kept)
+    → (slice_index k.numbers number == 0) ≡ false
     → stop_of (Choice number first second rest) k ≡ stop_of (then_steps first rest) k
 stop_of-choice_other number first second rest k h =
-    ap (λ (t : Bool). stop_behind (if t then stop_of second k else stop_of first k) (stop_of rest) rest) h ∙ sym (stop_of-then_steps first rest k)
+    ap (λ (t : Bool). stop_behind (if t then stop_of second k else stop_of first k) (stop_of rest) rest) h
+    ∙ sym (stop_of-then_steps first rest k)
 
 -- Text before.
 
@@ -88,7 +106,8 @@ after_line-text text (Const number value) k = refl
 after_line-text text (Add number left right) k = refl
 after_line-text text (Sub number left right) k = refl
 after_line-text text (Print number) k =
-    ap (λ (t : List ℕ). let kept : Kept = record k { text = t } in kept) (append_assoc text k.text (decimal (slice_index k.numbers number) ++ newline))
+    ap (λ (t : List ℕ). let kept : Kept = record k { text = t } in kept)
+    (append_assoc text k.text (decimal (slice_index k.numbers number) ++ newline))
 after_line-text text (Ask o) k = refl
 after_line-text text (Store q i number) k = refl
 after_line-text text (Load number o) k = refl
@@ -105,34 +124,47 @@ stop_behind-text text (Choice number first second left) kept go rest h = refl
 
 stop_of_rounds-text : (text : List ℕ) (rounds : ℕ) (body : Steps) (go : Kept → Stopped)
     → ((k : Kept) → go (behind_text text k) ≡ stopped_behind_text text (go k))
-    → (k : Kept) → stop_of_rounds rounds body go (behind_text text k) ≡ stopped_behind_text text (stop_of_rounds rounds body go k)
+    → (k : Kept) → stop_of_rounds rounds body go (behind_text text k)
+    ≡ stopped_behind_text text (stop_of_rounds rounds body go k)
 stop_of_rounds-text text zero body go h k = refl
 stop_of_rounds-text text (suc more) body go h k =
     ap (λ (s : Stopped). stop_behind s (stop_of_rounds more body go) (Rounds more body Done)) (h k)
-    ∙ stop_behind-text text (go k).left (go k).kept (stop_of_rounds more body go) (Rounds more body Done) (stop_of_rounds-text text more body go h)
+    ∙ stop_behind-text text (go k).left (go k).kept (stop_of_rounds more body go) (Rounds more body Done)
+    (stop_of_rounds-text text more body go h)
 
 -- Text that stands before stays before.
-pub stop_of-text : (text : List ℕ) (steps : Steps) (k : Kept) → stop_of steps (behind_text text k) ≡ stopped_behind_text text (stop_of steps k)
+pub stop_of-text : (text : List ℕ) (steps : Steps) (k : Kept)
+    → stop_of steps (behind_text text k) ≡ stopped_behind_text text (stop_of steps k)
 stop_of-text text Done k = refl
 stop_of-text text (Line line instruction rest) k =
-    by_test (is_some (op_asked k.numbers instruction)) (ap (stop_of rest) (after_line-text text instruction k) ∙ stop_of-text text rest (after_line instruction k))
+    by_test (is_some (op_asked k.numbers instruction)) (ap (stop_of rest) (after_line-text text instruction k)
+    ∙ stop_of-text text rest (after_line instruction k))
   where
-    by_test : (t : Bool) → stop_of rest (after_line instruction (behind_text text k)) ≡ stopped_behind_text text (stop_of rest (after_line instruction k))
-        → (if t then record { left = Line line instruction rest; kept = behind_text text k } else stop_of rest (after_line instruction (behind_text text k)))
-        ≡ stopped_behind_text text (if t then record { left = Line line instruction rest; kept = k } else stop_of rest (after_line instruction k))
+    by_test : (t : Bool)
+        → stop_of rest (after_line instruction (behind_text text k))
+        ≡ stopped_behind_text text (stop_of rest (after_line instruction k))
+        → (if t then record { left = Line line instruction rest; kept = behind_text text k }
+        else stop_of rest (after_line instruction (behind_text text k)))
+        ≡ stopped_behind_text text (if t then record { left = Line line instruction rest; kept = k }
+        else stop_of rest (after_line instruction k))
     by_test true h = refl
     by_test false h = h
 stop_of-text text (Rounds rounds body rest) k =
     let s = stop_of_rounds rounds body (stop_of body) k in
-    ap (λ (t : Stopped). stop_behind t (stop_of rest) rest) (stop_of_rounds-text text rounds body (stop_of body) (stop_of-text text body) k)
+    ap (λ (t : Stopped). stop_behind t (stop_of rest) rest)
+    (stop_of_rounds-text text rounds body (stop_of body) (stop_of-text text body) k)
     ∙ stop_behind-text text s.left s.kept (stop_of rest) rest (stop_of-text text rest)
 stop_of-text text (Choice number first second rest) k =
-    by_test (slice_index k.numbers number == 0) (stop_of-text text first k) (stop_of-text text second k) (stop_of-text text rest)
+    by_test (slice_index k.numbers number == 0) (stop_of-text text first k) (stop_of-text text second k)
+    (stop_of-text text rest)
   where
     by_test : (t : Bool) → stop_of first (behind_text text k) ≡ stopped_behind_text text (stop_of first k)
         → stop_of second (behind_text text k) ≡ stopped_behind_text text (stop_of second k)
         → ((k' : Kept) → stop_of rest (behind_text text k') ≡ stopped_behind_text text (stop_of rest k'))
-        → stop_behind (if t then stop_of second (behind_text text k) else stop_of first (behind_text text k)) (stop_of rest) rest
+        → stop_behind (if t then stop_of second (behind_text text k) else stop_of first (behind_text text k))
+        (stop_of rest) rest
         ≡ stopped_behind_text text (stop_behind (if t then stop_of second k else stop_of first k) (stop_of rest) rest)
-    by_test true f g h = ap (λ (u : Stopped). stop_behind u (stop_of rest) rest) g ∙ stop_behind-text text (stop_of second k).left (stop_of second k).kept (stop_of rest) rest h
-    by_test false f g h = ap (λ (u : Stopped). stop_behind u (stop_of rest) rest) f ∙ stop_behind-text text (stop_of first k).left (stop_of first k).kept (stop_of rest) rest h
+    by_test true f g h = ap (λ (u : Stopped). stop_behind u (stop_of rest) rest) g
+        ∙ stop_behind-text text (stop_of second k).left (stop_of second k).kept (stop_of rest) rest h
+    by_test false f g h = ap (λ (u : Stopped). stop_behind u (stop_of rest) rest) f
+        ∙ stop_behind-text text (stop_of first k).left (stop_of first k).kept (stop_of rest) rest h

@@ -9,10 +9,14 @@ use Rattle.mk_script.specs.declared.items.At.{At}
 use Rattle.mk_script.specs.declared.items.TypeWord.{TypeWord}
 use Rattle.mk_script.specs.declared.items.TypeWord.TheVariants.{Number, Pointer}
 use Rattle.mk_script.specs.declared.items.Item.{Item}
-use Rattle.mk_script.specs.declared.items.Item.TheVariants.{New, Free, Getn, Setn, Getp, Setp, Casp, Lea, Move, Clear, Loadg, Storeg, Same, Isnull, Show}
+use Rattle.mk_script.specs.declared.items.Item.TheVariants.{New, Free, Getn, Setn, Getp, Setp, Casp, Lea, Move, Clear}
+use Rattle.mk_script.specs.declared.items.Item.TheVariants.{Loadg, Storeg, Same, Isnull, Show}
 use Rattle.mk_check.specs.declared.typing_faults.TypeKind.{TypeKind}
 use Rattle.mk_check.specs.declared.typing_faults.TypeKind.TheVariants as kind
-use Rattle.mk_check.specs.Typing.{Around, type_words, global_type, pointer_at, ◌or◌, unless, type_fault, pointer_fault, same_at, moved_by, place_behind, word_among, word_at, inside_fault, is_number_word, pointed_place, base_of, is_base, global_at, kind_fault, number_word_fault, pointer_word_fault, typing_fault}
+use Rattle.mk_check.specs.Typing.{Around, type_words, global_type, pointer_at, ◌or◌, unless, type_fault, pointer_fault}
+use Rattle.mk_check.specs.Typing.{same_at, moved_by, place_behind, word_among, word_at, inside_fault, is_number_word}
+use Rattle.mk_check.specs.Typing.{pointed_place, base_of, is_base, global_at, kind_fault, number_word_fault}
+use Rattle.mk_check.specs.Typing.{pointer_word_fault, typing_fault}
 
 -- The register points to a place from which this word is i words on.
 pub record PointsBefore (program script : List Item) (pointer : List ℕ) (i : ℕ) (word : TypeWord) : Type 0 where
@@ -125,25 +129,31 @@ pointer_word (Some (Pointer at')) at e = ap (λ (t : At). Some (Pointer t)) (sam
 pointer_word (Some Number) at e = cc
 pointer_word None at e = cc
 
-module _ (a : Around) (script : List Item) (stays : (name : List ℕ) (at : At) → pointer_at name a.script ≡ Some at → pointer_at name script ≡ Some at) where
+module _ (a : Around) (script : List Item) (stays : (name : List ℕ) (at : At) → pointer_at name a.script ≡ Some at
+    → pointer_at name script ≡ Some at) where
   declared : (pointer : List ℕ) → pointer_fault a pointer ≡ None → IsDeclared script pointer
   declared pointer e =
       let found = is_some_one (pointer_at pointer a.script) (unless_none _ kind.NoRegister e) in
       record { at = found.value; declared = stays pointer found.value found.is }
 
-  before : (pointer : List ℕ) (i : ℕ) (word : TypeWord) → word_at a (place_behind a pointer i) ≡ Some word → PointsBefore a.program script pointer i word
+  before : (pointer : List ℕ) (i : ℕ) (word : TypeWord) → word_at a (place_behind a pointer i) ≡ Some word
+      → PointsBefore a.program script pointer i word
   before pointer i word e = by_place (pointer_at pointer a.script) refl e
     where
-      by_place : (place : Option At) → pointer_at pointer a.script ≡ place → word_at a (option_map (moved_by i) place) ≡ Some word → PointsBefore a.program script pointer i word
+      by_place : (place : Option At) → pointer_at pointer a.script ≡ place
+          → word_at a (option_map (moved_by i) place) ≡ Some word → PointsBefore a.program script pointer i word
       by_place None is f = cc
       by_place (Some at) is f = record { at = at; declared = stays pointer at is; is = f }
 
-  before_number : (pointer : List ℕ) (i : ℕ) → number_word_fault a pointer i ≡ None → PointsBefore a.program script pointer i Number
+  before_number : (pointer : List ℕ) (i : ℕ) → number_word_fault a pointer i ≡ None
+      → PointsBefore a.program script pointer i Number
   before_number pointer i e = before pointer i Number (number_word _ (unless_none _ kind.Kind e))
 
-  before_one : (pointer : List ℕ) (i : ℕ) (register : List ℕ) → pointer_word_fault a pointer i register ≡ None → PointsBeforeOne a.program script pointer i register
+  before_one : (pointer : List ℕ) (i : ℕ) (register : List ℕ) → pointer_word_fault a pointer i register ≡ None
+      → PointsBeforeOne a.program script pointer i register
   before_one pointer i register e =
-      let one = are_one (pointed_place (word_at a (place_behind a pointer i))) (pointer_at register a.script) (unless_none _ kind.Kind e) in
+      let one = are_one (pointed_place (word_at a (place_behind a pointer i))) (pointer_at register a.script)
+      (unless_none _ kind.Kind e) in
       record {
         at = one.at;
         word = before pointer i (Pointer one.at) (pointer_word _ one.at one.first);
@@ -151,12 +161,16 @@ module _ (a : Around) (script : List Item) (stays : (name : List ℕ) (at : At) 
       }
 
   behind : (pointer : List ℕ) (i : ℕ) (register : List ℕ) → inside_fault a (place_behind a pointer i) ≡ None
-      → kind_fault (pointer_at register a.script) (place_behind a pointer i) ≡ None → PointsBehind a.program script pointer i register
+      → kind_fault (pointer_at register a.script) (place_behind a pointer i) ≡ None
+      → PointsBehind a.program script pointer i register
   behind pointer i register inside alike =
-      by_place (pointer_at pointer a.script) refl (is_some_one _ (unless_none _ kind.Offset inside)) (are_one _ _ (unless_none _ kind.Kind alike))
+      by_place (pointer_at pointer a.script) refl (is_some_one _ (unless_none _ kind.Offset inside))
+      (are_one _ _ (unless_none _ kind.Kind alike))
     where
-      by_place : (place : Option At) → pointer_at pointer a.script ≡ place → Is (word_at a (option_map (moved_by i) place))
-          → AreOne (pointer_at register a.script) (option_map (moved_by i) place) → PointsBehind a.program script pointer i register
+      by_place : (place : Option At) → pointer_at pointer a.script ≡ place
+          → Is (word_at a (option_map (moved_by i) place))
+          → AreOne (pointer_at register a.script) (option_map (moved_by i) place)
+          → PointsBehind a.program script pointer i register
       by_place None is word one = let f = one.second in cc
       by_place (Some at) is word one =
           let same : one.at ≡ moved_by i at = sym (same_Some (moved_by i at) one.at one.second) in
@@ -166,12 +180,14 @@ module _ (a : Around) (script : List Item) (stays : (name : List ℕ) (at : At) 
             declared = stays register (moved_by i at) (one.first ∙ ap Some same);
           }
 
-  alike : (first second : List ℕ) → kind_fault (pointer_at first a.script) (pointer_at second a.script) ≡ None → AreAlike script first second
+  alike : (first second : List ℕ) → kind_fault (pointer_at first a.script) (pointer_at second a.script) ≡ None
+      → AreAlike script first second
   alike first second e =
       let one = are_one (pointer_at first a.script) (pointer_at second a.script) (unless_none _ kind.Kind e) in
       record { at = one.at; first_is = stays first one.at one.first; second_is = stays second one.at one.second }
 
-  to_type : (pointer ty : List ℕ) → type_fault a ty ≡ None → kind_fault (pointer_at pointer a.script) (Some (base_of ty)) ≡ None → PointsToType a.program script pointer ty
+  to_type : (pointer ty : List ℕ) → type_fault a ty ≡ None
+      → kind_fault (pointer_at pointer a.script) (Some (base_of ty)) ≡ None → PointsToType a.program script pointer ty
   to_type pointer ty e f =
       let found = is_some_one (type_words ty a.program) (unless_none _ kind.NoType e) in
       let one = are_one (pointer_at pointer a.script) (Some (base_of ty)) (unless_none _ kind.Kind f) in
@@ -181,23 +197,31 @@ module _ (a : Around) (script : List Item) (stays : (name : List ℕ) (at : At) 
         declared = stays pointer (base_of ty) (one.first ∙ sym one.second);
       }
 
-  to_global : (pointer global : List ℕ) → kind_fault (pointer_at pointer a.script) (global_at a global) ≡ None → PointsToGlobal a.program script pointer global
-  to_global pointer global e = by_type (global_type global a.program) refl (are_one (pointer_at pointer a.script) (global_at a global) (unless_none _ kind.Kind e))
+  to_global : (pointer global : List ℕ) → kind_fault (pointer_at pointer a.script) (global_at a global) ≡ None
+      → PointsToGlobal a.program script pointer global
+  to_global pointer global e =
+      by_type (global_type global a.program) refl
+      (are_one (pointer_at pointer a.script) (global_at a global) (unless_none _ kind.Kind e))
     where
-      by_type : (ty : Option (List ℕ)) → global_type global a.program ≡ ty → AreOne (pointer_at pointer a.script) (option_map base_of ty)
+      by_type : (ty : Option (List ℕ)) → global_type global a.program ≡ ty
+          → AreOne (pointer_at pointer a.script) (option_map base_of ty)
           → PointsToGlobal a.program script pointer global
       by_type None is one = let f = one.second in cc
-      by_type (Some ty) is one = record { ty = ty; is = is; declared = stays pointer (base_of ty) (one.first ∙ sym one.second) }
+      by_type (Some ty) is one =
+          record { ty = ty; is = is; declared = stays pointer (base_of ty) (one.first ∙ sym one.second) }
 
-  to_base : (pointer : List ℕ) → unless (is_base (pointer_at pointer a.script)) kind.InteriorFree ≡ None → PointsToBase script pointer
+  to_base : (pointer : List ℕ) → unless (is_base (pointer_at pointer a.script)) kind.InteriorFree ≡ None
+      → PointsToBase script pointer
   to_base pointer e = by_place (pointer_at pointer a.script) refl (unless_none _ kind.InteriorFree e)
     where
-      by_place : (place : Option At) → pointer_at pointer a.script ≡ place → is_base place ≡ true → PointsToBase script pointer
+      by_place : (place : Option At) → pointer_at pointer a.script ≡ place → is_base place ≡ true
+          → PointsToBase script pointer
       by_place None is f = absurd (false≢true f)
       by_place (Some at) is f = record { at = at; declared = stays pointer at is; base = eqb-true at.offset 0 f }
 
   -- a well-typed line
-  pub says : (line : ℕ) (after : List Item) (item : Item) → typing_fault a line after item ≡ None → Says a.program script item
+  pub says : (line : ℕ) (after : List Item) (item : Item) → typing_fault a line after item ≡ None
+      → Says a.program script item
   says line after (New pointer ty) e =
       let last = or_none _ _ e in to_type pointer ty (or_none (pointer_fault a pointer) _ last.0).1 last.1
   says line after (Free pointer) e = to_base pointer (or_none (pointer_fault a pointer) _ e).1
@@ -206,7 +230,10 @@ module _ (a : Around) (script : List Item) (stays : (name : List ℕ) (at : At) 
   says line after (Getp loaded pointer index) e = before_one pointer index loaded (or_none _ _ e).1
   says line after (Setp pointer index stored) e = before_one pointer index stored (or_none _ _ e).1
   says line after (Casp number pointer index expected stored) e =
-      let last = or_none _ _ e in (before_one pointer index expected (or_none _ _ last.0).1, before_one pointer index stored last.1)
+      let last = or_none _ _ e in (
+        before_one pointer index expected (or_none _ _ last.0).1,
+        before_one pointer index stored last.1,
+      )
   says line after (Lea moved pointer index) e =
       let last = or_none _ _ e in behind pointer index moved (or_none _ _ last.0).1 last.1
   says line after (Move copied pointer) e = alike copied pointer (or_none _ _ e).1

@@ -13,46 +13,62 @@ use Rattle.mk_check.specs.Lookups.{lines_behind}
 use Rattle.mk_check.proofs.LookupLemmas.{pointer_at-append, this_script-push}
 use Rattle.mk_check.proofs.TypedLines.{Says, says}
 
-line_none : (line : ℕ) (fault : Option TypeKind) (other : Option TypingFault) → at_line line fault other ≡ None → (fault ≡ None) × (other ≡ None)
+line_none : (line : ℕ) (fault : Option TypeKind) (other : Option TypingFault) → at_line line fault other ≡ None
+    → (fault ≡ None) × (other ≡ None)
 line_none line None other e = (refl, e)
 line_none line (Some k) other e = cc
 
 -- what is declared before stays declared with more lines
-stays : (script before behind : List Item) → script ≡ before ++ behind → (name : List ℕ) (at : At) → pointer_at name before ≡ Some at → pointer_at name script ≡ Some at
+stays : (script before behind : List Item) → script ≡ before ++ behind → (name : List ℕ) (at : At)
+    → pointer_at name before ≡ Some at → pointer_at name script ≡ Some at
 stays script before behind all name at is =
-    ap (pointer_at name) all ∙ (pointer_at-append name before behind ∙ ap (λ (o : Option At). option_or o (pointer_at name behind)) is)
+    ap (pointer_at name) all
+    ∙ (pointer_at-append name before behind ∙ ap (λ (o : Option At). option_or o (pointer_at name behind)) is)
 
 module _ (program : List Item) where
   next_none : (before more : List Item) (line : ℕ) (item : Item) → fault_from program line before (item ∷ more) ≡ None
-      → (typing_fault (record { program = program; script = this_script before }) line more item ≡ None) × (fault_from program (line + 1) (before ++ item ∷ []) more ≡ None)
+      → (typing_fault (record { program = program; script = this_script before }) line more item ≡ None)
+      × (fault_from program (line + 1) (before ++ item ∷ []) more ≡ None)
   next_none before more line item e = line_none line _ _ e
 
   -- a line that is no script line, with the lines of its script around it
   more_lines : (script before more : List Item) (item : Item) → script ≡ this_script before ++ item ∷ more
-      → lines_behind (this_script before) item ≡ this_script before ++ item ∷ [] → script ≡ this_script (before ++ item ∷ []) ++ more
+      → lines_behind (this_script before) item ≡ this_script before ++ item ∷ []
+      → script ≡ this_script (before ++ item ∷ []) ++ more
   more_lines script before more item all behind =
-      all ∙ (sym (append_assoc (this_script before) (item ∷ []) more) ∙ ap (λ (lines : List Item). lines ++ more) (sym (this_script-push before item ∙ behind)))
+      all ∙ (sym (append_assoc (this_script before) (item ∷ []) more)
+      ∙ ap (λ (lines : List Item). lines ++ more) (sym (this_script-push before item ∙ behind)))
 
   -- the lines that are left of a script
-  rest_says : (script before more : List Item) (line place : ℕ) → script ≡ this_script before ++ before_next_script more → fault_from program line before more ≡ None
+  rest_says : (script before more : List Item) (line place : ℕ) → script ≡ this_script before ++ before_next_script more
+      → fault_from program line before more ≡ None
       → AllFrom (λ l. Says program script) place (before_next_script more)
   rest_says script before [] line place all e = tt
   rest_says script before (Script name ∷ more) line place all e = tt
   rest_says script before (item ∷ more) line place all e =
       let none = next_none before more line item e in (
-        says (record { program = program; script = this_script before }) script (stays script (this_script before) (before_next_script (item ∷ more)) all) line more item none.0,
-        rest_says script (before ++ item ∷ []) more (line + 1) (place + 1) (more_lines script before (before_next_script more) item all refl) none.1,
+        says (record { program = program; script = this_script before }) script
+            (stays script (this_script before) (before_next_script (item ∷ more)) all) line more item none.0,
+        rest_says script (before ++ item ∷ []) more (line + 1) (place + 1)
+            (more_lines script before (before_next_script more) item all refl) none.1,
       )
 
   from_says : (before more : List Item) (line place k : ℕ) → fault_from program line before more ≡ None
-      → AllFrom (λ l. Says program (script_from place k more).items) (script_from place k more).line (script_from place k more).items
+      → AllFrom (λ l. Says program (script_from place k more).items) (script_from place k more).line
+      (script_from place k more).items
   from_says before [] line place k e = tt
   from_says before (Script name ∷ more) line place zero e =
       rest_says (before_next_script more) (before ++ Script name ∷ []) more (line + 1) (place + 1)
-      (ap (λ (lines : List Item). lines ++ before_next_script more) (sym (this_script-push before (Script name)))) (next_none before more line (Script name) e).1
-  from_says before (item ∷ more) line place zero e = from_says (before ++ item ∷ []) more (line + 1) (place + 1) zero (next_none before more line item e).1
-  from_says before (Script name ∷ more) line place (suc k) e = from_says (before ++ Script name ∷ []) more (line + 1) (place + 1) k (next_none before more line (Script name) e).1
-  from_says before (item ∷ more) line place (suc k) e = from_says (before ++ item ∷ []) more (line + 1) (place + 1) (suc k) (next_none before more line item e).1
+      (ap (λ (lines : List Item). lines ++ before_next_script more) (sym (this_script-push before (Script name))))
+      (next_none before more line (Script name) e).1
+  from_says before (item ∷ more) line place zero e =
+      from_says (before ++ item ∷ []) more (line + 1) (place + 1) zero (next_none before more line item e).1
+  from_says before (Script name ∷ more) line place (suc k) e =
+      from_says (before ++ Script name ∷ []) more (line + 1) (place + 1) k
+      (next_none before more line (Script name) e).1
+  from_says before (item ∷ more) line place (suc k) e =
+      from_says (before ++ item ∷ []) more (line + 1) (place + 1) (suc k) (next_none before more line item e).1
 
-  pub script_says : (k : ℕ) → IsWellTyped program → AllFrom (λ l. Says program (script_of program k).items) (script_of program k).line (script_of program k).items
+  pub script_says : (k : ℕ) → IsWellTyped program
+      → AllFrom (λ l. Says program (script_of program k).items) (script_of program k).line (script_of program k).items
   script_says k typed = from_says [] program 1 1 k typed

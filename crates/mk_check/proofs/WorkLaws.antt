@@ -1,24 +1,31 @@
 -- What a run leaves is no more work than it began with, and an answer leaves less.
-use Rattle.std.proofs.Common.{◌≡◌, ℕ, zero, suc, ◌+◌, ◌*◌, ◌<◌, ◌≤◌, Bool, true, false, List, length, sym, subst, if◌then◌else◌, arith}
+use Rattle.std.proofs.Common.{◌≡◌, ℕ, zero, suc, ◌+◌, ◌*◌, ◌<◌, ◌≤◌, Bool, true, false, List, length, sym, subst}
+use Rattle.std.proofs.Common.{if◌then◌else◌, arith}
 use Rattle.std.specs.Prelude.{slice_index, ◌==◌, is_some, max}
 use Rattle.mk_core.specs.declared.events.Answer.{Answer}
 use Rattle.mk_check.specs.declared.feeding.instructions.Instruction.{Instruction}
 use Rattle.mk_check.specs.declared.feeding.tree.Node.{Node}
 use Rattle.mk_check.specs.declared.feeding.tree.Node.TheVariants as node
 use Rattle.mk_check.specs.Feed.{refusal_line, refusal_text}
-use Rattle.mk_check.specs.Steps.{Steps, Done, Line, Rounds, Choice, then_steps, none_left, Kept, Stopped, op_asked, with_text, after_line, stop_behind, stop_of_rounds, stop_of, after_answer, stop_on_answer}
+use Rattle.mk_check.specs.Steps.{Steps, Done, Line, Rounds, Choice, then_steps, none_left, Kept, Stopped, op_asked}
+use Rattle.mk_check.specs.Steps.{with_text, after_line, stop_behind, stop_of_rounds, stop_of, after_answer}
+use Rattle.mk_check.specs.Steps.{stop_on_answer}
 use Rattle.mk_check.specs.Trees.{Place, left_in, kept_in, stopped_in, node_at, IsTree, IsWithin, work_of}
 use Rattle.mk_check.proofs.Moves.{work_of-then_steps, unfolded_line}
 
-work_of-stop_behind : (stopped : Stopped) (go : Kept → Stopped) (rest : Steps) → ((k : Kept) → work_of (go k).left ≤ work_of rest)
+work_of-stop_behind : (stopped : Stopped) (go : Kept → Stopped) (rest : Steps)
+    → ((k : Kept) → work_of (go k).left ≤ work_of rest)
     → work_of (stop_behind stopped go rest).left ≤ work_of stopped.left + work_of rest
 work_of-stop_behind stopped go rest goes = by_test (none_left stopped.left)
   where
-    by_test : (t : Bool) → work_of (if t then go stopped.kept else record stopped { left = then_steps stopped.left rest }).left ≤ work_of stopped.left + work_of rest
+    by_test : (t : Bool)
+        → work_of (if t then go stopped.kept else record stopped { left = then_steps stopped.left rest }).left
+        ≤ work_of stopped.left + work_of rest
     by_test true = omega (arith, goes stopped.kept)
     by_test false = omega (arith, work_of-then_steps stopped.left rest)
 
-work_of-stop_of_rounds : (rounds : ℕ) (body : Steps) (go : Kept → Stopped) → ((k : Kept) → work_of (go k).left ≤ work_of body)
+work_of-stop_of_rounds : (rounds : ℕ) (body : Steps) (go : Kept → Stopped)
+    → ((k : Kept) → work_of (go k).left ≤ work_of body)
     → (k : Kept) → work_of (stop_of_rounds rounds body go k).left ≤ rounds * (1 + work_of body)
 work_of-stop_of_rounds zero body go goes k = omega arith
 work_of-stop_of_rounds (suc more) body go goes k =
@@ -33,16 +40,27 @@ work_of-stop_of (Line line instruction rest) k =
     by_test (is_some (op_asked k.numbers instruction)) (work_of-stop_of rest (after_line instruction k))
   where
     by_test : (t : Bool) → work_of (stop_of rest (after_line instruction k)).left ≤ work_of rest
-        → work_of (if t then record { left = Line line instruction rest; kept = k } else stop_of rest (after_line instruction k)).left ≤ 1 + work_of rest
+        → work_of (if t then record { left = Line line instruction rest; kept = k }
+        else stop_of rest (after_line instruction k)).left ≤ 1 + work_of rest
     by_test true h = omega arith
     by_test false h = omega arith
 work_of-stop_of (Rounds rounds body rest) k =
-    omega (arith, work_of-stop_behind (stop_of_rounds rounds body (stop_of body) k) (stop_of rest) rest (work_of-stop_of rest), work_of-stop_of_rounds rounds body (stop_of body) (work_of-stop_of body) k)
+    omega (
+      arith,
+      work_of-stop_behind (stop_of_rounds rounds body (stop_of body) k) (stop_of rest) rest
+          (work_of-stop_of rest),
+      work_of-stop_of_rounds rounds body (stop_of body) (work_of-stop_of body) k,
+    )
 work_of-stop_of (Choice number first second rest) k =
     let chosen : Stopped = if slice_index k.numbers number == 0 then stop_of second k else stop_of first k in
-    omega (arith, work_of-stop_behind chosen (stop_of rest) rest (work_of-stop_of rest), by_test (slice_index k.numbers number == 0) (work_of-stop_of first k) (work_of-stop_of second k))
+    omega (
+      arith,
+      work_of-stop_behind chosen (stop_of rest) rest (work_of-stop_of rest),
+      by_test (slice_index k.numbers number == 0) (work_of-stop_of first k) (work_of-stop_of second k),
+    )
   where
-    by_test : (t : Bool) → work_of (stop_of first k).left ≤ work_of first → work_of (stop_of second k).left ≤ work_of second
+    by_test : (t : Bool) → work_of (stop_of first k).left ≤ work_of first
+        → work_of (stop_of second k).left ≤ work_of second
         → work_of (if t then stop_of second k else stop_of first k).left ≤ max (work_of first) (work_of second)
     by_test true f g = omega arith
     by_test false f g = omega arith
@@ -62,5 +80,6 @@ answer_nearer nodes p t line instruction next a tree w here stop =
     let rest = left_in nodes (record p { at = next }) in
     let unfolded = unfolded_line nodes p line instruction next tree w here in
     let less : work_of (stop_on_answer (left_in nodes p) a (kept_in p)).left < work_of (left_in nodes p) =
-    subst (λ (s : Steps). work_of (stop_on_answer s a (kept_in p)).left < work_of s) (sym unfolded) (work_of-stop_on_answer line instruction rest a (kept_in p)) in
+    subst (λ (s : Steps). work_of (stop_on_answer s a (kept_in p)).left < work_of s) (sym unfolded)
+    (work_of-stop_on_answer line instruction rest a (kept_in p)) in
     subst (λ (s : Stopped). work_of s.left < work_of (left_in nodes p)) (sym stop) less

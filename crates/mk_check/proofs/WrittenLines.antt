@@ -1,11 +1,14 @@
 -- The blocks of a script are its lines.
-use Rattle.std.proofs.Common.{◌≡◌, ℕ, zero, suc, ◌+◌, Bool, true, false, List, [], ◌∷◌, ◌++◌, length, refl, ap, sym, ◌∙◌, subst, append_assoc, arith, inl, inr}
+use Rattle.std.proofs.Common.{◌≡◌, ℕ, zero, suc, ◌+◌, Bool, true, false, List, [], ◌∷◌, ◌++◌, length, refl, ap, sym}
+use Rattle.std.proofs.Common.{◌∙◌, subst, append_assoc, arith, inl, inr}
 use Rattle.std.specs.Prelude.{Option, Some, None}
 use Rattle.std.proofs.lemmas.List.{length-append}
 use Rattle.mk_script.specs.declared.items.Item.{Item}
 use Rattle.mk_script.specs.declared.items.Item.TheVariants.{Script, Repeat, If, Else, End}
 use Rattle.mk_script.proofs.ClosedBlocks.{Closes, program_closes}
-use Rattle.mk_check.specs.Blocks.{Blocks, Done, Line, Rounds, Choice, Part, branch, with_line, with_repeat, with_if, with_else, no_lines, parts_from, outermost_blocks, before_next_script, script_from, script_of}
+use Rattle.mk_check.specs.Blocks.{Blocks, Done, Line, Rounds, Choice, Part, branch, with_line, with_repeat, with_if}
+use Rattle.mk_check.specs.Blocks.{with_else, no_lines, parts_from, outermost_blocks, before_next_script, script_from}
+use Rattle.mk_check.specs.Blocks.{script_of}
 use Rattle.mk_check.specs.WrittenBlocks.{is_plain, IsSecondBranch, AreWritten, ScriptsAreTheirLines}
 
 -- what stands behind the `else` of a part, which may be one that has none
@@ -17,14 +20,16 @@ MayHave false second = second ≡ None
 abbrev BranchesAreWritten : ℕ → Blocks → Option Blocks → List Item → Type 0
 BranchesAreWritten line blocks None items = AreWritten line blocks items
 BranchesAreWritten line blocks (Some second) items =
-    (first other : List Item) × (items ≡ first ++ Else ∷ other) × AreWritten line blocks first × AreWritten (line + length first + 1) second other
+    (first other : List Item) × (items ≡ first ++ Else ∷ other) × AreWritten line blocks first
+    × AreWritten (line + length first + 1) second other
 
 -- The lines are those of the innermost part, its `end`, and those of the parts around it.
 abbrev Stands : ℕ → List Bool → List Part → List Item → Type 0
 Stands line [] (part ∷ []) items = (part.second ≡ None) × AreWritten line part.blocks items
 Stands line (block ∷ blocks) (part ∷ next ∷ parts) items =
     (inner more : List Item) × (items ≡ inner ++ End ∷ more) × MayHave block part.second
-    × BranchesAreWritten line part.blocks part.second inner × Stands (line + length inner + 1) blocks (next ∷ parts) more
+    × BranchesAreWritten line part.blocks part.second inner
+    × Stands (line + length inner + 1) blocks (next ∷ parts) more
 Stands line blocks parts items = ⊥
 
 moved : (P : ℕ → Type 0) (m n : ℕ) → m ≡ n → P m → P n
@@ -47,7 +52,8 @@ branches_behind line line' front B e f blocks (Some second) items (first, other,
 
 in_front : (line line' : ℕ) (front : List Item) (B : Blocks → Blocks) → line + length front ≡ line'
     → ((rest : Blocks) (items : List Item) → AreWritten line' rest items → AreWritten line (B rest) (front ++ items))
-    → (blocks : List Bool) (part : Part) (parts : List Part) (items : List Item) → Stands line' blocks (part ∷ parts) items
+    → (blocks : List Bool) (part : Part) (parts : List Part) (items : List Item)
+    → Stands line' blocks (part ∷ parts) items
     → Stands line blocks (record part { blocks = B part.blocks } ∷ parts) (front ++ items)
 in_front line line' front B e f [] part [] items (none, written) = (none, f part.blocks items written)
 in_front line line' front B e f [] part (next ∷ parts) items h = absurd h
@@ -61,27 +67,33 @@ in_front line line' front B e f (block ∷ blocks) part (next ∷ parts) items (
   moved (λ n. Stands n blocks (next ∷ parts) more) _ _ (omega (arith, e, length-append front inner)) rest,
 )
 
-plain_stands : (line : ℕ) (item : Item) (blocks : List Bool) (parts : List Part) (items : List Item) → is_plain item ≡ true
+plain_stands : (line : ℕ) (item : Item) (blocks : List Bool) (parts : List Part) (items : List Item)
+    → is_plain item ≡ true
     → Stands (line + 1) blocks parts items → Stands line blocks (with_line line item parts) (item ∷ items)
 plain_stands line item [] [] items plain h = absurd h
 plain_stands line item (block ∷ blocks) [] items plain h = absurd h
 plain_stands line item blocks (part ∷ parts) items plain h =
-    in_front line (line + 1) (item ∷ []) (Line line item) (omega arith) (λ rest xs w. (xs, refl, refl, plain, w)) blocks part parts items h
+    in_front line (line + 1) (item ∷ []) (Line line item) (omega arith) (λ rest xs w. (xs, refl, refl, plain, w)) blocks
+    part parts items h
 
 -- a part without an `else`
-only_first : (line : ℕ) (part : Part) (items : List Item) → part.second ≡ None → BranchesAreWritten line part.blocks part.second items → AreWritten line part.blocks items
+only_first : (line : ℕ) (part : Part) (items : List Item) → part.second ≡ None
+    → BranchesAreWritten line part.blocks part.second items → AreWritten line part.blocks items
 only_first line part items none h = subst (λ (s : Option Blocks). BranchesAreWritten line part.blocks s items) none h
 
 repeat_stands : (line rounds : ℕ) (blocks : List Bool) (parts : List Part) (items : List Item)
-    → Stands (line + 1) (false ∷ blocks) parts items → Stands line blocks (with_repeat rounds parts) (Repeat rounds ∷ items)
+    → Stands (line + 1) (false ∷ blocks) parts items
+    → Stands line blocks (with_repeat rounds parts) (Repeat rounds ∷ items)
 repeat_stands line rounds blocks [] items h = absurd h
 repeat_stands line rounds blocks (body ∷ []) items h = absurd h
 repeat_stands line rounds blocks (body ∷ part ∷ parts) items (inner, more, are, none, written, rest) =
     let front : List Item = Repeat rounds ∷ (inner ++ End ∷ []) in
     let whole : front ++ more ≡ Repeat rounds ∷ items =
     ap (λ (xs : List Item). Repeat rounds ∷ xs) (append_assoc inner (End ∷ []) more ∙ sym are) in
-    subst (λ (xs : List Item). Stands line blocks (record part { blocks = Rounds rounds body.blocks part.blocks } ∷ parts) xs) whole
-    (in_front line (line + 1 + length inner + 1) front (Rounds rounds body.blocks) (omega (arith, length-append inner (End ∷ [])))
+    subst (λ (xs : List Item). Stands line blocks
+    (record part { blocks = Rounds rounds body.blocks part.blocks } ∷ parts) xs) whole
+    (in_front line (line + 1 + length inner + 1) front (Rounds rounds body.blocks)
+    (omega (arith, length-append inner (End ∷ [])))
     (λ others xs w. (
       inner,
       xs,
@@ -92,33 +104,40 @@ repeat_stands line rounds blocks (body ∷ part ∷ parts) items (inner, more, a
     blocks part parts more rest)
 
 -- a first branch with its second
-if_stands : (line : ℕ) (number : List ℕ) (first second : Blocks) (one other : List Item) (blocks : List Bool) (part : Part) (parts : List Part) (more : List Item)
+if_stands : (line : ℕ) (number : List ℕ) (first second : Blocks) (one other : List Item) (blocks : List Bool)
+    (part : Part) (parts : List Part) (more : List Item)
     → AreWritten (line + 1) first one → IsSecondBranch (AreWritten (line + 1 + length one + 1) second) second other
     → Stands (line + 1 + length one + length other + 1) blocks (part ∷ parts) more
-    → Stands line blocks (record part { blocks = Choice number first second part.blocks } ∷ parts) (If number ∷ (one ++ (other ++ End ∷ more)))
+    → Stands line blocks (record part { blocks = Choice number first second part.blocks } ∷ parts)
+    (If number ∷ (one ++ (other ++ End ∷ more)))
 if_stands line number first second one other blocks part parts more f s rest =
     let front : List Item = If number ∷ (one ++ (other ++ End ∷ [])) in
     let joined : (xs : List Item) → front ++ xs ≡ If number ∷ (one ++ (other ++ End ∷ xs)) =
     λ xs. ap (λ (ys : List Item). If number ∷ ys)
     (append_assoc one (other ++ End ∷ []) xs ∙ ap (λ (ys : List Item). one ++ ys) (append_assoc other (End ∷ []) xs)) in
-    subst (λ (xs : List Item). Stands line blocks (record part { blocks = Choice number first second part.blocks } ∷ parts) xs) (joined more)
+    subst (λ (xs : List Item). Stands line blocks
+    (record part { blocks = Choice number first second part.blocks } ∷ parts) xs) (joined more)
     (in_front line (line + 1 + length one + length other + 1) front (Choice number first second)
     (omega (arith, length-append one (other ++ End ∷ []), length-append other (End ∷ [])))
     (λ others xs w. (one, other, xs, joined xs, f, s, w))
     blocks part parts more rest)
 
-choice_stands : (line : ℕ) (number : List ℕ) (first : Blocks) (second : Option Blocks) (inner more : List Item) (blocks : List Bool) (part : Part) (parts : List Part)
+choice_stands : (line : ℕ) (number : List ℕ) (first : Blocks) (second : Option Blocks) (inner more : List Item)
+    (blocks : List Bool) (part : Part) (parts : List Part)
     → BranchesAreWritten (line + 1) first second inner → Stands (line + 1 + length inner + 1) blocks (part ∷ parts) more
-    → Stands line blocks (record part { blocks = Choice number first (branch second) part.blocks } ∷ parts) (If number ∷ (inner ++ End ∷ more))
+    → Stands line blocks (record part { blocks = Choice number first (branch second) part.blocks } ∷ parts)
+    (If number ∷ (inner ++ End ∷ more))
 choice_stands line number first None inner more blocks part parts written rest =
     if_stands line number first Done inner [] blocks part parts more written (inl (refl, refl))
     (moved (λ n. Stands n blocks (part ∷ parts) more) _ _ (omega arith) rest)
 choice_stands line number first (Some second) inner more blocks part parts (one, other, are, written, others) rest =
     let whole : one ++ ((Else ∷ other) ++ End ∷ more) ≡ inner ++ End ∷ more =
     sym (append_assoc one (Else ∷ other) (End ∷ more)) ∙ ap (λ (xs : List Item). xs ++ End ∷ more) (sym are) in
-    subst (λ (xs : List Item). Stands line blocks (record part { blocks = Choice number first second part.blocks } ∷ parts) (If number ∷ xs)) whole
+    subst (λ (xs : List Item). Stands line blocks
+    (record part { blocks = Choice number first second part.blocks } ∷ parts) (If number ∷ xs)) whole
     (if_stands line number first second one (Else ∷ other) blocks part parts more written (inr (other, refl, others))
-    (moved (λ n. Stands n blocks (part ∷ parts) more) _ _ (omega (arith, ap length are, length-append one (Else ∷ other))) rest))
+    (moved (λ n. Stands n blocks (part ∷ parts) more) _ _
+    (omega (arith, ap length are, length-append one (Else ∷ other))) rest))
 
 if_first : (line : ℕ) (number : List ℕ) (blocks : List Bool) (parts : List Part) (items : List Item)
     → Stands (line + 1) (true ∷ blocks) parts items → Stands line blocks (with_if number parts) (If number ∷ items)
@@ -137,7 +156,14 @@ else_stands line blocks (second ∷ part ∷ parts) items (inner, more, are, non
   more,
   ap (λ (xs : List Item). Else ∷ xs) are,
   tt,
-  ([], inner, refl, refl, moved (λ n. AreWritten n second.blocks inner) _ _ (omega arith) (only_first (line + 1) second inner none written)),
+  (
+    [],
+    inner,
+    refl,
+    refl,
+    moved (λ n. AreWritten n second.blocks inner) _ _ (omega arith)
+        (only_first (line + 1) second inner none written),
+  ),
   moved (λ n. Stands n blocks (part ∷ parts) more) _ _ (omega arith) rest,
 )
 
@@ -155,12 +181,14 @@ end_stands line block blocks (part ∷ parts) items h =
     may true = tt
     may false = refl
 
-stands : (line : ℕ) (blocks : List Bool) (items : List Item) → Closes blocks items → Stands line blocks (parts_from line items) items
+stands : (line : ℕ) (blocks : List Bool) (items : List Item) → Closes blocks items
+    → Stands line blocks (parts_from line items) items
 stands line [] [] h = (refl, refl)
 stands line (block ∷ blocks) [] h = cc
 stands line blocks (Repeat rounds ∷ items) h =
     repeat_stands line rounds blocks (parts_from (line + 1) items) items (stands (line + 1) (false ∷ blocks) items h)
-stands line blocks (If number ∷ items) h = if_first line number blocks (parts_from (line + 1) items) items (stands (line + 1) (true ∷ blocks) items h)
+stands line blocks (If number ∷ items) h =
+    if_first line number blocks (parts_from (line + 1) items) items (stands (line + 1) (true ∷ blocks) items h)
 stands line [] (Else ∷ items) h = absurd h
 stands line (true ∷ blocks) (Else ∷ items) h =
     else_stands line blocks (parts_from (line + 1) items) items (stands (line + 1) (false ∷ blocks) items h)
@@ -171,9 +199,11 @@ stands line (block ∷ blocks) (End ∷ items) h =
 stands line [] (Script name ∷ items) h =
     plain_stands line (Script name) [] (parts_from (line + 1) items) items refl (stands (line + 1) [] items h)
 stands line (block ∷ blocks) (Script name ∷ items) h = absurd h
-stands line blocks (item ∷ items) h = plain_stands line item blocks (parts_from (line + 1) items) items refl (stands (line + 1) blocks items h)
+stands line blocks (item ∷ items) h = plain_stands line item blocks (parts_from (line + 1) items) items refl
+    (stands (line + 1) blocks items h)
 
-outermost_written : (line : ℕ) (parts : List Part) (items : List Item) → Stands line [] parts items → AreWritten line (outermost_blocks parts) items
+outermost_written : (line : ℕ) (parts : List Part) (items : List Item) → Stands line [] parts items
+    → AreWritten line (outermost_blocks parts) items
 outermost_written line [] items h = absurd h
 outermost_written line (part ∷ []) items (none, written) = written
 outermost_written line (part ∷ next ∷ parts) items h = absurd h
@@ -217,12 +247,15 @@ script_closes line zero (Script name ∷ items) l = by_blocks l.blocks l.closes
     by_blocks : (blocks : List Bool) → Closes blocks (Script name ∷ items) → Closes [] (before_next_script items)
     by_blocks [] h = front_closes [] items h
     by_blocks (block ∷ blocks) h = absurd h
-script_closes line (suc k) (Script name ∷ items) l = script_closes (line + 1) k items (later l.blocks (Script name) items l.closes)
+script_closes line (suc k) (Script name ∷ items) l =
+    script_closes (line + 1) k items (later l.blocks (Script name) items l.closes)
 script_closes line zero (item ∷ items) l = script_closes (line + 1) zero items (later l.blocks item items l.closes)
-script_closes line (suc k) (item ∷ items) l = script_closes (line + 1) (suc k) items (later l.blocks item items l.closes)
+script_closes line (suc k) (item ∷ items) l =
+    script_closes (line + 1) (suc k) items (later l.blocks item items l.closes)
 
 pub scripts_are_their_lines : (program : List Item) → ScriptsAreTheirLines program
 scripts_are_their_lines program text k =
     let script = script_of program k in
     let closes = script_closes 1 k program (record { blocks = []; closes = program_closes program text }) in
-    outermost_written script.line (parts_from script.line script.items) script.items (stands script.line [] script.items closes)
+    outermost_written script.line (parts_from script.line script.items) script.items
+    (stands script.line [] script.items closes)

@@ -1,5 +1,6 @@
 -- Tests that hold of each number below one.
-use Rattle.std.proofs.Common.{◌≡◌, ℕ, zero, suc, ◌+◌, ◌<◌, Bool, true, false, ◌&&◌, refl, sym, ◌∙◌, ap, inl, inr, arith, add-one}
+use Rattle.std.proofs.Common.{◌≡◌, ℕ, zero, suc, ◌+◌, ◌<◌, Bool, true, false, ◌&&◌, refl, sym, ◌∙◌, ap, inl, inr, arith}
+use Rattle.std.proofs.Common.{add-one}
 use Rattle.std.proofs.lemmas.Bool.{cases_eq}
 use Rattle.mk_core.specs.Bounded.{all_below}
 
@@ -17,7 +18,8 @@ unfolding all_below
 all_below_zero_is test = refl
 
 -- one more
-pub all_below_more_is : (n : ℕ) (test : ℕ → Bool) → all_below n test ≡ true → test n ≡ true → all_below (n + 1) test ≡ true
+pub all_below_more_is : (n : ℕ) (test : ℕ → Bool) → all_below n test ≡ true → test n ≡ true
+    → all_below (n + 1) test ≡ true
 unfolding all_below
 all_below_more_is n test h t = rw (add-one, h) t
 

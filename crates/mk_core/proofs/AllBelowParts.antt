@@ -4,7 +4,8 @@ use Rattle.std.proofs.Math.Bool.{and_assoc, and-false, and-true}
 use Rattle.mk_core.specs.Bounded.{all_below}
 
 -- so many, and so many behind them
-pub all_below-add : (a b : ℕ) (test : ℕ → Bool) → all_below (a + b) test ≡ (all_below a test && all_below b (λ i. test (a + i)))
+pub all_below-add : (a b : ℕ) (test : ℕ → Bool)
+    → all_below (a + b) test ≡ (all_below a test && all_below b (λ i. test (a + i)))
 unfolding all_below
 all_below-add a zero test =
     let e : a + 0 ≡ a = omega arith in
@@ -13,14 +14,16 @@ all_below-add a (suc b) test =
     rw (add-suc, all_below-add a b test) (and_assoc (all_below a test) (all_below b (λ i. test (a + i))) (test (a + b)))
 
 -- where one of some in the middle fails, all does
-pub all_below_part_not_is : (n a b : ℕ) (test : ℕ → Bool) → a + b ≤ n → all_below b (λ i. test (a + i)) ≡ false → all_below n test ≡ false
+pub all_below_part_not_is : (n a b : ℕ) (test : ℕ → Bool) → a + b ≤ n → all_below b (λ i. test (a + i)) ≡ false
+    → all_below n test ≡ false
 all_below_part_not_is n a b test le f =
     let e : n ≡ (a + b) + (n - (a + b)) = omega arith in
     let part : all_below (a + b) test ≡ false = rw (all_below-add a b test, f) (and-false (all_below a test)) in
     ap (λ m. all_below m test) e ∙ all_below-add (a + b) (n - (a + b)) test
     ∙ ap (λ t. t && all_below (n - (a + b)) (λ i. test (a + b + i))) part
 
-pub all_below_same : (n : ℕ) (test other : ℕ → Bool) → ((i : ℕ) → test i ≡ other i) → all_below n test ≡ all_below n other
+pub all_below_same : (n : ℕ) (test other : ℕ → Bool) → ((i : ℕ) → test i ≡ other i)
+    → all_below n test ≡ all_below n other
 unfolding all_below
 all_below_same zero test other same = refl
 all_below_same (suc n) test other same = rw (all_below_same n test other same, same n)

@@ -1,5 +1,6 @@
 -- The bits that a word has and another hasn't.
-use Rattle.std.proofs.Common.{◌≡◌, ℕ, zero, suc, ◌-◌, ◌/◌, ◌%◌, ◌<◌, ◌≤◌, min, ◌&&◌, not, bit_and, refl, sym, ◌∙◌, ap, arith}
+use Rattle.std.proofs.Common.{◌≡◌, ℕ, zero, suc, ◌-◌, ◌/◌, ◌%◌, ◌<◌, ◌≤◌, min, ◌&&◌, not, bit_and, refl, sym, ◌∙◌, ap}
+use Rattle.std.proofs.Common.{arith}
 use Rattle.std.specs.Prelude.{◌==◌}
 use Rattle.std.specs.Int.{bit_at}
 use Rattle.std.proofs.lemmas.Nat.{and_le_l}
@@ -31,7 +32,8 @@ bit_without a b (suc k) =
     let half : (a - bit_and a b) / 2 ≡ a / 2 - bit_and a b / 2 = omega arith in
     bit_at-suc (a - bit_and a b) k ∙ ap (λ n. bit_at n k) half ∙ ap (λ n. bit_at (a / 2 - n) k) (half_and a b)
     ∙ bit_without (a / 2) (b / 2) k
-    ∙ ap (λ x. min x (1 - bit_at (b / 2) k)) (sym (bit_at-suc a k)) ∙ ap (λ y. min (bit_at a (suc k)) (1 - y)) (sym (bit_at-suc b k))
+    ∙ ap (λ x. min x (1 - bit_at (b / 2) k)) (sym (bit_at-suc a k))
+    ∙ ap (λ y. min (bit_at a (suc k)) (1 - y)) (sym (bit_at-suc b k))
 
 bit_tests : (x y : ℕ) → x < 2 → y < 2 → (min x (1 - y) == 1) ≡ ((x == 1) && not (y == 1))
 bit_tests zero y lx ly = let none : min 0 (1 - y) ≡ 0 = omega arith in ap (λ n. n == 1) none
@@ -41,4 +43,5 @@ bit_tests (suc zero) (suc (suc y)) lx ly = absurd (omega arith)
 bit_tests (suc (suc x)) y lx ly = absurd (omega arith)
 
 pub has_bit_without : BitsWithout
-has_bit_without word other k = ap (λ b. b == 1) (bit_without word other k) ∙ bit_tests (bit_at word k) (bit_at other k) (bit_at-lt word k) (bit_at-lt other k)
+has_bit_without word other k = ap (λ b. b == 1) (bit_without word other k)
+    ∙ bit_tests (bit_at word k) (bit_at other k) (bit_at-lt word k) (bit_at-lt other k)

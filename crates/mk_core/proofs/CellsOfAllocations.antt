@@ -43,8 +43,10 @@ cell_on_page (Some (LeafRun count)) index known = run_on_page (64 * count) index
 cell_on_page (Some (Later distance mapped)) index known = absurd (omega arith)
 
 -- A cell that begins at the base of an allocation is its cell.
-pub cell_from_base : (c : Config) (w : Words) (a : PlacedAllocation) (cell : Cell) → IsSized (object_placed c a) → HasItsHeaders c w a
-    → cell.index < cells_under (header_in w cell.page) → first_word w cell ≡ a.base → cell_of_storage (storage_of c a) ≡ cell
+pub cell_from_base : (c : Config) (w : Words) (a : PlacedAllocation) (cell : Cell) → IsSized (object_placed c a)
+    → HasItsHeaders c w a
+    → cell.index < cells_under (header_in w cell.page) → first_word w cell ≡ a.base
+    → cell_of_storage (storage_of c a) ≡ cell
 cell_from_base c w a cell sized has known first =
     let on_page = cell_on_page (header_in w cell.page) cell.index known in
     let page : a.base / 64 ≡ cell.page = omega arith in
@@ -53,19 +55,26 @@ cell_from_base c w a cell sized has known first =
     ap (λ p. cells_under (header_in w p)) (sym page) ∙ part_cells (object_placed c a) _ part in
     let words : words_under (header_in w cell.page) ≡ words_made (object_placed c a) =
     ap (λ p. words_under (header_in w p)) (sym page) ∙ part_words (object_placed c a) _ part in
-    let product : cell.index * words_under (header_in w cell.page) ≡ cell.index * words_made (object_placed c a) = ap (λ n. cell.index * n) words in
-    let b : BeginsAtCell (object_placed c a) a.base = record { index = cell.index; known = omega arith; first = omega arith } in
+    let product : cell.index * words_under (header_in w cell.page) ≡ cell.index * words_made (object_placed c a) =
+    ap (λ n. cell.index * n) words in
+    let b : BeginsAtCell (object_placed c a) a.base =
+    record { index = cell.index; known = omega arith; first = omega arith } in
     placed_cell c a sized b ∙ ap (λ (p : ℕ). record { page = p; index = cell.index }) page
 
 -- So it is the one cell in which the allocation stands.
-pub stands_in_its_cell : (c : Config) (w : Words) (a : PlacedAllocation) → IsWithinLimits c → StandsOnHeap c a → HasItsHeaders c w a
+pub stands_in_its_cell : (c : Config) (w : Words) (a : PlacedAllocation) → IsWithinLimits c → StandsOnHeap c a
+    → HasItsHeaders c w a
     → stands_in w (cell_of_storage (storage_of c a)) a ≡ true
 stands_in_its_cell c w a limits st has =
     and_from (not a.released) (a.base == first_word w (cell_of_storage (storage_of c a))) (ap not st.unreleased)
     (eq-eqb a.base (first_word w (cell_of_storage (storage_of c a))) (sym (cells_begin c w a limits st has).0))
 
-pub stands_in_no_other : (c : Config) (w : Words) (a : PlacedAllocation) (cell : Cell) → IsSized (object_placed c a) → HasItsHeaders c w a
-    → cell.index < cells_under (header_in w cell.page) → stands_in w cell a ≡ true → (a.released ≡ false) × (cell_of_storage (storage_of c a) ≡ cell)
+pub stands_in_no_other : (c : Config) (w : Words) (a : PlacedAllocation) (cell : Cell) → IsSized (object_placed c a)
+    → HasItsHeaders c w a
+    → cell.index < cells_under (header_in w cell.page) → stands_in w cell a ≡ true
+    → (a.released ≡ false) × (cell_of_storage (storage_of c a) ≡ cell)
 stands_in_no_other c w a cell sized has known h =
-    let parts = and_parts (not a.released) (a.base == first_word w cell) h in
-    (not-true a.released parts.0, cell_from_base c w a cell sized has known (sym (eqb-true a.base (first_word w cell) parts.1)))
+    let parts = and_parts (not a.released) (a.base == first_word w cell) h in (
+      not-true a.released parts.0,
+      cell_from_base c w a cell sized has known (sym (eqb-true a.base (first_word w cell) parts.1)),
+    )

@@ -1,5 +1,6 @@
 -- Allocations that change one by one, and stay at their places.
-use Rattle.std.proofs.Common.{◌≡◌, ℕ, ◌+◌, ◌*◌, ◌/◌, ◌<◌, ◌≤◌, Bool, true, false, List, [], ◌∷◌, ◌++◌, map, length, get_or, refl, sym, ap, subst, ◌∙◌}
+use Rattle.std.proofs.Common.{◌≡◌, ℕ, ◌+◌, ◌*◌, ◌/◌, ◌<◌, ◌≤◌, Bool, true, false, List, [], ◌∷◌, ◌++◌, map, length}
+use Rattle.std.proofs.Common.{get_or, refl, sym, ap, subst, ◌∙◌}
 use Rattle.std.specs.Prelude.{◌&&◌, not, if◌then◌else◌, Option, Some, None}
 use Rattle.std.proofs.Math.Bool.{and-false}
 use Rattle.std.proofs.Math.ListN.{get_or-map as get_or-map-default}
@@ -11,7 +12,8 @@ use Rattle.mk_core.specs.declared.config.Config.{Config}
 use Rattle.mk_core.specs.Words.{Words, header_at}
 use Rattle.mk_core.specs.NewPlaces.{object_of, is_small_object, pages_made}
 use Rattle.mk_core.specs.ObjectHeaders.{words_made, IsHeaderOf}
-use Rattle.mk_core.specs.Allocations.{PlacedAllocation, never_granted, placed_at, stands_in, freed_where_it_stands, with_released, no_longer_fresh, storage_of, unreleased_storage}
+use Rattle.mk_core.specs.Allocations.{PlacedAllocation, never_granted, placed_at, stands_in, freed_where_it_stands}
+use Rattle.mk_core.specs.Allocations.{with_released, no_longer_fresh, storage_of, unreleased_storage}
 use Rattle.mk_core.specs.StandingAllocations.{object_placed, BeginsAtCell, StandsOnHeap, HasItsHeaders}
 use Rattle.mk_core.proofs.Sizes.{large_is_not_small}
 use Rattle.mk_core.proofs.UnreleasedStorage.{unreleased_kept}
@@ -22,23 +24,28 @@ pub record LeavesPlaces (change : PlacedAllocation → PlacedAllocation) : Type 
   pub ty : (a : PlacedAllocation) → (change a).ty ≡ a.ty
   pub none : change never_granted ≡ never_granted
 
-pub changed_at : (change : PlacedAllocation → PlacedAllocation) (xs : List PlacedAllocation) (i : ℕ) → change never_granted ≡ never_granted
+pub changed_at : (change : PlacedAllocation → PlacedAllocation) (xs : List PlacedAllocation) (i : ℕ)
+    → change never_granted ≡ never_granted
     → placed_at (map change xs) i ≡ change (placed_at xs i)
-changed_at change xs i e = subst (λ d. get_or (map change xs) i d ≡ change (placed_at xs i)) e (get_or-map-default change xs i never_granted)
+changed_at change xs i e = subst (λ d. get_or (map change xs) i d ≡ change (placed_at xs i)) e
+    (get_or-map-default change xs i never_granted)
 
 -- with one more at the end
 pub granted_at : (xs : List PlacedAllocation) (a : PlacedAllocation) → placed_at (xs ++ a ∷ []) (length xs) ≡ a
 granted_at xs a = get_or-append_seam xs a [] never_granted
 
-pub earlier_at : (xs : List PlacedAllocation) (a : PlacedAllocation) (i : ℕ) → i < length xs → placed_at (xs ++ a ∷ []) i ≡ placed_at xs i
+pub earlier_at : (xs : List PlacedAllocation) (a : PlacedAllocation) (i : ℕ) → i < length xs
+    → placed_at (xs ++ a ∷ []) i ≡ placed_at xs i
 earlier_at xs a i lt = get_or_append_left xs (a ∷ []) never_granted i lt
 
 -- The three changes leave the places,
 pub freed_leaves : (w : Words) (cell : Option Cell) → LeavesPlaces (freed_where_it_stands w cell)
 freed_leaves w None = record { base = λ a. refl; ty = λ a. refl; none = refl }
-freed_leaves w (Some cell) = record { base = λ a. base_by a (stands_in w cell a); ty = λ a. ty_by a (stands_in w cell a); none = refl }
+freed_leaves w (Some cell) =
+    record { base = λ a. base_by a (stands_in w cell a); ty = λ a. ty_by a (stands_in w cell a); none = refl }
   where
-    base_by : (a : PlacedAllocation) (b : Bool) → (if b then record a { freed = true; fresh = true } else a).base ≡ a.base
+    base_by : (a : PlacedAllocation) (b : Bool)
+        → (if b then record a { freed = true; fresh = true } else a).base ≡ a.base
     base_by a true = refl
     base_by a false = refl
 
@@ -53,16 +60,19 @@ pub fresh_leaves : LeavesPlaces no_longer_fresh
 fresh_leaves = record { base = λ a. refl; ty = λ a. refl; none = refl }
 
 -- and a free releases none,
-pub freed_released : (w : Words) (cell : Option Cell) (a : PlacedAllocation) → (freed_where_it_stands w cell a).released ≡ a.released
+pub freed_released : (w : Words) (cell : Option Cell) (a : PlacedAllocation)
+    → (freed_where_it_stands w cell a).released ≡ a.released
 freed_released w None a = refl
 freed_released w (Some cell) a = by a (stands_in w cell a)
   where
-    by : (a : PlacedAllocation) (b : Bool) → (if b then record a { freed = true; fresh = true } else a).released ≡ a.released
+    by : (a : PlacedAllocation) (b : Bool)
+        → (if b then record a { freed = true; fresh = true } else a).released ≡ a.released
     by a true = refl
     by a false = refl
 
 -- nor changes the storage of a small object.
-pub freed_storage : (c : Config) (w : Words) (cell : Option Cell) (a : PlacedAllocation) → is_small_object (object_placed c a) ≡ true
+pub freed_storage : (c : Config) (w : Words) (cell : Option Cell) (a : PlacedAllocation)
+    → is_small_object (object_placed c a) ≡ true
     → storage_of c (freed_where_it_stands w cell a) ≡ storage_of c a
 freed_storage c w None a small = refl
 freed_storage c w (Some cell) a small = by a small (stands_in w cell a)
@@ -70,12 +80,14 @@ freed_storage c w (Some cell) a small = by a small (stands_in w cell a)
     never_large : (a : PlacedAllocation) (freed : Bool) → is_small_object (object_placed c a) ≡ true
         → (not a.released && not (freed && is_large (kinds_of c.types a.ty))) ≡ (not a.released && true)
     never_large a freed small =
-        let large : is_large (kinds_of c.types a.ty) ≡ false = large_is_not_small (kinds_of c.types a.ty) ∙ ap not small in
+        let large : is_large (kinds_of c.types a.ty) ≡ false = large_is_not_small (kinds_of c.types a.ty)
+        ∙ ap not small in
         ap (λ b. not a.released && not (freed && b)) large ∙ ap (λ b. not a.released && not b) (and-false freed)
 
     by : (a : PlacedAllocation) → is_small_object (object_placed c a) ≡ true → (b : Bool)
         → storage_of c (if b then record a { freed = true; fresh = true } else a) ≡ storage_of c a
-    by a small true = ap (λ b. record (storage_of c a) { mapped = b }) (never_large a true small ∙ sym (never_large a a.freed small))
+    by a small true = ap (λ b. record (storage_of c a) { mapped = b }) (never_large a true small
+        ∙ sym (never_large a a.freed small))
     by a small false = refl
 
 -- Where nothing is freed, nothing changes.
@@ -83,11 +95,13 @@ pub none_freed : (w : Words) (xs : List PlacedAllocation) → map (freed_where_i
 none_freed w [] = refl
 none_freed w (a ∷ xs) = ap (λ (ys : List PlacedAllocation). a ∷ ys) (none_freed w xs)
 
-pub fresh_storage : (c : Config) (xs : List PlacedAllocation) → unreleased_storage c (map no_longer_fresh xs) ≡ unreleased_storage c xs
+pub fresh_storage : (c : Config) (xs : List PlacedAllocation)
+    → unreleased_storage c (map no_longer_fresh xs) ≡ unreleased_storage c xs
 fresh_storage c xs = unreleased_kept c no_longer_fresh (λ a. refl) (λ a unreleased. refl) xs
 
 -- An allocation of the same type and base stands as the other does.
-pub same_stands : (c : Config) (a b : PlacedAllocation) → b.base ≡ a.base → b.ty ≡ a.ty → b.released ≡ false → StandsOnHeap c a → StandsOnHeap c b
+pub same_stands : (c : Config) (a b : PlacedAllocation) → b.base ≡ a.base → b.ty ≡ a.ty → b.released ≡ false
+    → StandsOnHeap c a → StandsOnHeap c b
 same_stands c a b base ty unreleased st =
     record {
       typed = subst (λ t. t < length c.types) (sym ty) st.typed;
@@ -98,7 +112,10 @@ same_stands c a b base ty unreleased st =
           (subst (λ t. a.base + words_made (object_of (kinds_of c.types t)) ≤ 64 * c.pages) (sym ty) st.within);
     }
 
-pub same_headers : (c : Config) (w : Words) (a b : PlacedAllocation) → b.base ≡ a.base → b.ty ≡ a.ty → HasItsHeaders c w a → HasItsHeaders c w b
+pub same_headers : (c : Config) (w : Words) (a b : PlacedAllocation) → b.base ≡ a.base → b.ty ≡ a.ty
+    → HasItsHeaders c w a → HasItsHeaders c w b
 same_headers c w a b base ty has =
-    subst (λ n. (d : ℕ) → d < pages_made (object_placed c b) → IsHeaderOf (object_placed c b) d (header_at w (n / 64 + d))) (sym base)
-    (subst (λ t. (d : ℕ) → d < pages_made (object_of (kinds_of c.types t)) → IsHeaderOf (object_of (kinds_of c.types t)) d (header_at w (a.base / 64 + d))) (sym ty) has)
+    subst (λ n. (d : ℕ) → d < pages_made (object_placed c b)
+    → IsHeaderOf (object_placed c b) d (header_at w (n / 64 + d))) (sym base)
+    (subst (λ t. (d : ℕ) → d < pages_made (object_of (kinds_of c.types t))
+    → IsHeaderOf (object_of (kinds_of c.types t)) d (header_at w (a.base / 64 + d))) (sym ty) has)

@@ -9,11 +9,14 @@ use Rattle.mk_core.specs.Cells.{pointed_cell}
 use Rattle.mk_core.specs.StopConditions.{may_turn_black}
 use Rattle.mk_core.specs.Decided.{asked, answered}
 use Rattle.mk_core.specs.History.{left_from, calls_from, calls, never_first, RefinesNever}
-use Rattle.mk_core.proofs.Schedules.{by, c0, m0, host, one_page, pointer_page, freed_after_begin, blackened_before_the_move}
-use Rattle.mk_core.proofs.MoreSchedules.{two_pages, full_then_reused, a_quarter_and_all, granted_while_marking, exchanged}
+use Rattle.mk_core.proofs.Schedules.{by, c0, m0, host, one_page, pointer_page, freed_after_begin}
+use Rattle.mk_core.proofs.Schedules.{blackened_before_the_move}
+use Rattle.mk_core.proofs.MoreSchedules.{two_pages, full_then_reused, a_quarter_and_all, granted_while_marking}
+use Rattle.mk_core.proofs.MoreSchedules.{exchanged}
 
 -- Two News, two Frees, two clears and a New, and then the register of the last New isn't null.
-pub replies_freed : replies_of (never_first one_page) (asked (calls one_page freed_after_begin)) ≡ replicate 7 reply.Done ++ reply.Num 0 ∷ []
+pub replies_freed : replies_of (never_first one_page) (asked (calls one_page freed_after_begin))
+    ≡ replicate 7 reply.Done ++ reply.Num 0 ∷ []
 unfolding by c0 host all_below pointed_cell one_page freed_after_begin calls_from
 replies_freed = refl
 
@@ -29,12 +32,14 @@ unfolding by c0 m0 host all_below pointed_cell may_turn_black pointer_page black
 answers_blackened = refl
 
 pub replies_blackened : replies_of (never_first pointer_page) (asked (calls pointer_page blackened_before_the_move))
-    ≡ replicate 7 reply.Done ++ reply.Val (Ptr 2 0 0) ∷ replicate 3 reply.Done ++ reply.Val (Ptr 2 0 0) ∷ reply.Num 7 ∷ []
+    ≡ replicate 7 reply.Done ++ reply.Val (Ptr 2 0 0) ∷ replicate 3 reply.Done ++ reply.Val (Ptr 2 0 0) ∷ reply.Num 7
+    ∷ []
 unfolding by c0 m0 host all_below pointed_cell may_turn_black pointer_page blackened_before_the_move calls_from
 replies_blackened = refl
 
 pub blackened_refines : RefinesNever pointer_page blackened_before_the_move
-unfolding by c0 m0 host all_below pointed_cell may_turn_black pointer_page blackened_before_the_move left_from calls_from
+unfolding by c0 m0 host all_below pointed_cell may_turn_black pointer_page blackened_before_the_move left_from
+    calls_from
 blackened_refines = refl
 
 -- The third New is refused, and so the heap that never reuses storage is told to refuse it. The fourth isn't.
@@ -53,7 +58,8 @@ unfolding by c0 all_below pointed_cell may_turn_black one_page full_then_reused 
 full_refines = refl
 
 -- The first exchange finds null, as it expects, and the second the address that the first stored.
-pub answers_exchanged : answered (calls pointer_page exchanged) ≡ answer.Done ∷ answer.Done ∷ answer.Num 1 ∷ answer.Num 0 ∷ []
+pub answers_exchanged : answered (calls pointer_page exchanged) ≡ answer.Done ∷ answer.Done ∷ answer.Num 1
+    ∷ answer.Num 0 ∷ []
 unfolding by c0 all_below pointed_cell pointer_page exchanged calls_from
 answers_exchanged = refl
 

@@ -13,7 +13,8 @@ use Rattle.mk_core.specs.History.{left_from}
 use Rattle.mk_core.specs.HeldGates.{is_gate_held_from, is_gate_held}
 use Rattle.mk_core.specs.Growing.{AreOfOthers, Grows, own_from, in_this_call}
 use Rattle.mk_core.proofs.EventsAt.{events_from}
-use Rattle.mk_core.proofs.Schedules.{by, c0, m0, host, fault, first_fault, one_page, pointer_page, freed_after_begin, blackened_before_the_move}
+use Rattle.mk_core.proofs.Schedules.{by, c0, m0, host, fault, first_fault, one_page, pointer_page, freed_after_begin}
+use Rattle.mk_core.proofs.Schedules.{blackened_before_the_move}
 
 -- In a call of its own a caller's gate isn't held. It is behind the host's `hold`, and no longer behind its `open`.
 pub not_held_in_call : is_gate_held one_page 0 (take 23 freed_after_begin) ≡ false
@@ -51,17 +52,19 @@ load_among_a_scan =
     ++ by m0 (step.Mload ∷ step.Mblack ∷ step.Quit ∷ []) ++ by c0 (step.Read ∷ [])
 
 pub no_fault_among : first_fault pointer_page (before_the_load ++ load_among_a_scan) ≡ None
-unfolding first_fault fault by c0 m0 all_below pointed_cell may_turn_black pointer_page blackened_before_the_move before_the_load load_among_a_scan
+unfolding first_fault fault by c0 m0 all_below pointed_cell may_turn_black pointer_page blackened_before_the_move
+    before_the_load load_among_a_scan
 no_fault_among = refl
 
--- The caller's own steps have found its gate free, the address of the second object, at heap word 2, the header of cells
--- of 2 words, and the address of the third object, at heap word 4.
+-- The caller's own steps have found its gate free, the address of the second object, at heap word 2, the header of
+-- cells of 2 words, and the address of the third object, at heap word 4.
 pub found_in_the_call : in_this_call pointer_page c0 before_the_load load_among_a_scan
     ≡ record { event = record { seat = c0; step = step.Enter (op.GetPtr 2 1 0) }; found = 0 }
     ∷ record { event = record { seat = c0; step = step.Reg }; found = 65552 }
     ∷ record { event = record { seat = c0; step = step.Probe }; found = 1 }
     ∷ record { event = record { seat = c0; step = step.Read }; found = 65568 } ∷ []
-unfolding by c0 m0 all_below pointed_cell may_turn_black pointer_page blackened_before_the_move before_the_load load_among_a_scan left_from own_from
+unfolding by c0 m0 all_below pointed_cell may_turn_black pointer_page blackened_before_the_move before_the_load
+    load_among_a_scan left_from own_from
 found_in_the_call = refl
 
 -- The seven events of the marker are of others than the caller, and not of others than the marker.

@@ -11,7 +11,8 @@ use Rattle.mk_core.specs.Cycles.{is_give}
 use Rattle.mk_core.specs.Counts.{ends, releases, fulls, TalliesAreTidy, IsTidy, TalliesAreExact, IsDue}
 use Rattle.mk_core.specs.History.{left_from, left, calls_from}
 use Rattle.mk_core.proofs.EventsAt.{◌and◌, event_number, AtEach, Also, at_each}
-use Rattle.mk_core.proofs.Schedules.{by, c0, m0, host, one_page, pointer_page, freed_after_begin, blackened_before_the_move}
+use Rattle.mk_core.proofs.Schedules.{by, c0, m0, host, one_page, pointer_page, freed_after_begin}
+use Rattle.mk_core.proofs.Schedules.{blackened_before_the_move}
 use Rattle.mk_core.proofs.MoreSchedules.{two_pages, full_then_reused, a_quarter_and_all}
 
 -- Both freed objects are released at the end. The third has taken the cell of the first.
@@ -40,7 +41,8 @@ pub counts_behind_second_free : (held_words one_page (left one_page (take 20 fre
 unfolding by c0 host all_below pointed_cell one_page freed_after_begin left_from unreleased_storage
 counts_behind_second_free = (refl, refl)
 
--- In the schedule with a marker each object has 2 words. The third is freed, and stays so behind the cycle that reaches it.
+-- In the schedule with a marker each object has 2 words. The third is freed, and stays so behind the cycle that reaches
+-- it.
 pub allocations_blackened : (left pointer_page blackened_before_the_move).allocations
     ≡ record { base = 0; ty = 0; freed = false; fresh = false; released = false }
     ∷ record { base = 2; ty = 0; freed = false; fresh = false; released = false }
@@ -52,7 +54,8 @@ allocations_blackened = refl
 pub counts_blackened : (held_words pointer_page (left pointer_page blackened_before_the_move).allocations ≡ 6)
     × (fresh_words_of pointer_page (left pointer_page (take 32 blackened_before_the_move)).allocations ≡ 2)
     × (fresh_words_of pointer_page (left pointer_page (take 35 blackened_before_the_move)).allocations ≡ 0)
-unfolding by c0 m0 host all_below pointed_cell may_turn_black pointer_page blackened_before_the_move left_from unreleased_storage
+unfolding by c0 m0 host all_below pointed_cell may_turn_black pointer_page blackened_before_the_move left_from
+    unreleased_storage
 counts_blackened = (refl, refl, refl)
 
 -- Two cycles have ended, each with a released object, and no call was refused.
@@ -73,7 +76,8 @@ freed_is_not_tidy h = let wrong : ◌≡◌ {A = ℕ} 0 2 = h.cycles in omega ar
 pub freed_has_untidy_give : IsTidy one_page freed_after_begin → ⊥
 unfolding by c0 host freed_after_begin event_number
 freed_has_untidy_give h =
-    freed_is_not_tidy (h (take 55 freed_after_begin) (event_number 55 freed_after_begin) (drop 56 freed_after_begin) refl refl)
+    freed_is_not_tidy (h (take 55 freed_after_begin) (event_number 55 freed_after_begin) (drop 56 freed_after_begin)
+    refl refl)
 
 -- Here every tally is stored before its `give`.
 pub full_is_tidy : IsTidy one_page full_then_reused
@@ -107,6 +111,7 @@ unfolding by c0 all_below pointed_cell two_pages a_quarter_and_all left_from unr
 second_free_is_due = record { decides = refl; quarter = omega arith }
 
 -- The step that takes the snapshot frees nothing, though half of the held words is fresh behind it.
-pub snapshot_is_not_due : IsDue one_page (take 14 freed_after_begin) (record { seat = c0; step = step.Quar 0 4294967297 }) → ⊥
+pub snapshot_is_not_due : IsDue one_page (take 14 freed_after_begin)
+    (record { seat = c0; step = step.Quar 0 4294967297 }) → ⊥
 unfolding by c0 host all_below pointed_cell one_page freed_after_begin left_from unreleased_storage
 snapshot_is_not_due h = let wrong : false ≡ true = h.decides in false≢true wrong

@@ -9,9 +9,11 @@ use Rattle.mk_core.specs.StopConditions.{may_turn_black}
 use Rattle.mk_core.specs.Moments.{flight_of}
 use Rattle.mk_core.specs.Allocations.{placed_at}
 use Rattle.mk_core.specs.History.{World, world_behind, left_from, left}
-use Rattle.mk_core.specs.Cycles.{is_begin, is_close, is_release, is_end, Cycle, IsInSnapshot, sweeps, NoneSweepsFrom, NoneSweeps}
+use Rattle.mk_core.specs.Cycles.{is_begin, is_close, is_release, is_end, Cycle, IsInSnapshot, sweeps, NoneSweepsFrom}
+use Rattle.mk_core.specs.Cycles.{NoneSweeps}
 use Rattle.mk_core.proofs.EventsAt.{event_number, at_number}
-use Rattle.mk_core.proofs.Schedules.{by, c0, m0, host, one_page, pointer_page, freed_after_begin, blackened_before_the_move}
+use Rattle.mk_core.proofs.Schedules.{by, c0, m0, host, one_page, pointer_page, freed_after_begin}
+use Rattle.mk_core.proofs.Schedules.{blackened_before_the_move}
 use Rattle.mk_core.proofs.MoreSchedules.{exchanged, before_the_sweep, sweeping_mark}
 
 -- The first cycle is begun in a caller's turn and ended in the host's.
@@ -70,15 +72,22 @@ cycle_of_blackened =
       releasing = record {
         marking = record {
           begin = at_number is_begin 34 blackened_before_the_move refl refl;
-          close = record { at = at_number is_close 50 (drop 35 blackened_before_the_move) refl refl; none_before = refl };
+          close = record {
+            at = at_number is_close 50 (drop 35 blackened_before_the_move) refl refl;
+            none_before = refl;
+          };
         };
-        release = record { at = at_number is_release 0 (drop 86 blackened_before_the_move) refl refl; none_before = refl };
+        release = record {
+          at = at_number is_release 0 (drop 86 blackened_before_the_move) refl refl;
+          none_before = refl;
+        };
       };
       end = record { at = at_number is_end 0 (drop 87 blackened_before_the_move) refl refl; none_before = refl };
     }
 
 pub in_snapshot_of_blackened : IsInSnapshot pointer_page cycle_of_blackened.releasing.marking 2
-unfolding by c0 m0 host all_below pointed_cell may_turn_black pointer_page blackened_before_the_move left_from event_number at_number cycle_of_blackened
+unfolding by c0 m0 host all_below pointed_cell may_turn_black pointer_page blackened_before_the_move left_from
+    event_number at_number cycle_of_blackened
 in_snapshot_of_blackened = refl
 
 pub not_released : (placed_at (left pointer_page blackened_before_the_move).allocations 2).released ≡ false
@@ -102,13 +111,16 @@ none_sweeps c w (e ∷ es) h =
     let both = neither (sweeps c w.now (flight_of w.now e.seat) e.step) (any_sweeps c (world_behind c w e) es) h in
     (both.0, none_sweeps c (world_behind c w e) es both.1)
 
--- No mark at all is made in the first cycle, and in the other schedule each is by a register or by a word of a marked cell.
+-- No mark at all is made in the first cycle, and in the other schedule each is by a register or by a word of a marked
+-- cell.
 pub first_has_none : NoneSweeps one_page first_cycle.releasing.marking
-unfolding by c0 host all_below pointed_cell one_page freed_after_begin left_from event_number at_number first_cycle any_sweeps
+unfolding by c0 host all_below pointed_cell one_page freed_after_begin left_from event_number at_number first_cycle
+    any_sweeps
 first_has_none = none_sweeps one_page _ _ refl
 
 pub blackened_has_none : NoneSweeps pointer_page cycle_of_blackened.releasing.marking
-unfolding by c0 m0 host all_below pointed_cell may_turn_black pointer_page blackened_before_the_move left_from event_number at_number cycle_of_blackened any_sweeps
+unfolding by c0 m0 host all_below pointed_cell may_turn_black pointer_page blackened_before_the_move left_from
+    event_number at_number cycle_of_blackened any_sweeps
 blackened_has_none = none_sweeps pointer_page _ _ refl
 
 -- A word of an object that has no mark, looked at in the stop, gives a sweeping mark.

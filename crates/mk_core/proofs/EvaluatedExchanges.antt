@@ -47,22 +47,28 @@ Compares c es k p number place =
 -- what is to be shown of an exchange by the caller of an event
 abbrev ExchangeCompares : Config → List Event → Event → Type 0
 ExchangeCompares c es e =
-    (k q i p r number : ℕ) → e ≡ record { seat = Caller k; step = step.Cas } → (flight_of (left c es).now (Caller k)).op ≡ op.CasPtr q i p r
+    (k q i p r number : ℕ) → e ≡ record { seat = Caller k; step = step.Cas }
+    → (flight_of (left c es).now (Caller k)).op ≡ op.CasPtr q i p r
     → ComparesValues c es k q i p number
 
 -- The operation and the word that are compared are these alone.
-compares_there : (c : Config) (es : List Event) (q i p r number place : ℕ) → (flight_of (left c es).now (Caller 0)).op ≡ op.CasPtr q i p r
-    → target_of (never_behind c es) (register_at (never_behind c es) 0 q) i ≡ WordOf number place → Compares c es 0 p number place
+compares_there : (c : Config) (es : List Event) (q i p r number place : ℕ)
+    → (flight_of (left c es).now (Caller 0)).op ≡ op.CasPtr q i p r
+    → target_of (never_behind c es) (register_at (never_behind c es) 0 q) i ≡ WordOf number place
+    → Compares c es 0 p number place
     → ExchangeCompares c es (record { seat = Caller 0; step = step.Cas })
 unfolding number_in place_in
 compares_there c es q i p r number place is there same k' q' i' p' r' number' is_event is' =
-    subst (λ (x : ℕ). (flight_of (left c es).now (Caller x)).op ≡ op.CasPtr q' i' p' r' → ComparesValues c es x q' i' p' number')
+    subst (λ (x : ℕ). (flight_of (left c es).now (Caller x)).op ≡ op.CasPtr q' i' p' r'
+    → ComparesValues c es x q' i' p' number')
     (ap (λ (e : Event). caller_number e.seat) is_event)
     (λ (here : (flight_of (left c es).now (Caller 0)).op ≡ op.CasPtr q' i' p' r').
     let both : op.CasPtr q i p r ≡ op.CasPtr q' i' p' r' = sym is ∙ here in
-    λ (place' : ℕ) (there' : target_of (never_behind c es) (register_at (never_behind c es) 0 q') i' ≡ WordOf number' place').
+    λ (place' : ℕ) (there' : target_of (never_behind c es) (register_at (never_behind c es) 0 q') i'
+    ≡ WordOf number' place').
     let moved : WordOf number place ≡ WordOf number' place' =
-    sym there ∙ ap (λ (o : Op). target_of (never_behind c es) (register_at (never_behind c es) 0 (q_of o)) (i_of o)) both ∙ there' in
+    sym there ∙ ap (λ (o : Op). target_of (never_behind c es) (register_at (never_behind c es) 0 (q_of o)) (i_of o))
+    both ∙ there' in
     subst (λ (x : ℕ). Compares c es 0 x number' place') (ap p_of both)
     (subst (λ (x : ℕ). Compares c es 0 p x place') (ap number_in moved)
     (subst (λ (x : ℕ). Compares c es 0 p number x) (ap place_in moved) same)))
@@ -95,4 +101,5 @@ pub exchanges_compare : ExchangesCompareValues pointer_page exchanged
 unfolding by c0 exchanged AtEach Also
 exchanges_compare before behind k q i p r number is at =
     at_each is_cas (λ (es : List Event) (e : Event). ExchangeCompares pointer_page es e) [] exchanged
-    (first_exchange, (second_exchange, tt)) before (record { seat = Caller k; step = step.Cas }) behind is refl k q i p r number refl at
+    (first_exchange, (second_exchange, tt)) before (record { seat = Caller k; step = step.Cas }) behind is refl k q i p
+    r number refl at

@@ -1,5 +1,5 @@
--- What others leave to a seat, in small cases: to a caller before its `probe`, while the host takes the turn, and to the
--- host in its turn, while a caller tries to enter and a marker visits. An event of its own may leave less.
+-- What others leave to a seat, in small cases: to a caller before its `probe`, while the host takes the turn, and to
+-- the host in its turn, while a caller tries to enter and a marker visits. An event of its own may leave less.
 use Rattle.std.proofs.Common.{List, [], ◌∷◌, ◌++◌, None, refl, ap}
 use Rattle.std.proofs.lemmas.Bool.{false≢true, eqb-false, ltb-true}
 use Rattle.mk_never.specs.declared.operations.Op.TheVariants as op
@@ -35,7 +35,12 @@ probe_is_the_same = record { word = refl; of_the_table = ltb-true 0 1 refl; acce
 
 pub own_is_left : OwnIsLeft small (seat.Caller 0) (left small before_probe) (left small (before_probe ++ turn_taken))
 unfolding left_from all_below pointed_cell three_objects
-own_is_left = record { flight = refl; marker = refl; registers = λ k r is lt. refl; holding = λ holds. absurd (false≢true holds.1) }
+own_is_left = record {
+  flight = refl;
+  marker = refl;
+  registers = λ k r is lt. refl;
+  holding = λ holds. absurd (false≢true holds.1);
+}
 
 pub call_is_left : CallIsLeft (left small before_probe) (left small (before_probe ++ turn_taken)) 0
 unfolding left_from all_below pointed_cell three_objects
@@ -71,7 +76,12 @@ counts_are_left = record { ends = refl; fulls = refl }
 
 host_is_left : OwnIsLeft small seat.Host (left small begun_in_stop) (left small (begun_in_stop ++ others_try))
 unfolding left_from all_below pointed_cell begun_in_stop three_objects
-host_is_left = record { flight = refl; marker = refl; registers = λ k r is lt. absurd cc; holding = λ holds. (holds, refl) }
+host_is_left = record {
+  flight = refl;
+  marker = refl;
+  registers = λ k r is lt. absurd cc;
+  holding = λ holds. (holds, refl);
+}
 
 pub all_is_left : IsLeft small seat.Host begun_in_stop (begun_in_stop ++ others_try)
 unfolding left_from all_below pointed_cell begun_in_stop three_objects
@@ -85,6 +95,7 @@ all_is_left = record {
 }
 
 -- its own `begin` changes the phase
-pub own_begin_leaves_less : TurnIsLeft (left small begun_in_stop) (left small (begun_in_stop ++ by_host (step.Begin ∷ []))) → ⊥
+pub own_begin_leaves_less : TurnIsLeft (left small begun_in_stop)
+    (left small (begun_in_stop ++ by_host (step.Begin ∷ []))) → ⊥
 unfolding left_from all_below pointed_cell begun_in_stop three_objects
 own_begin_leaves_less left = eqb-false 1 0 refl (ap (λ (x : Steady). x.phase) left.steady)

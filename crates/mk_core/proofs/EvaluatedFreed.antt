@@ -1,5 +1,6 @@
 -- What headers and freed bits tell behind a small history: the one freed bit is that of the third object.
-use Rattle.std.proofs.Common.{◌≡◌, ℕ, zero, suc, ◌+◌, ◌*◌, ◌<◌, Bool, true, false, [], ◌∷◌, Some, refl, sym, ◌∙◌, ap, ap₂, subst, inl, inr, arith}
+use Rattle.std.proofs.Common.{◌≡◌, ℕ, zero, suc, ◌+◌, ◌*◌, ◌<◌, Bool, true, false, [], ◌∷◌, Some, refl, sym, ◌∙◌, ap}
+use Rattle.std.proofs.Common.{ap₂, subst, inl, inr, arith}
 use Rattle.std.specs.Prelude.{◌==◌}
 use Rattle.std.proofs.lemmas.Bool.{false≢true, cases_eq, eqb-true, eqb-false, ltb-true}
 use Rattle.std.proofs.lemmas.Nat.Bits.{bit_at-zero, bit_at-pow_other}
@@ -40,7 +41,8 @@ headers zero = refl
 headers (suc p) = refl
 
 only_third : (page index : ℕ)
-    → is_freed (left small three_objects).now.words (record { page = page; index = index }) ≡ true → (page ≡ 0) × (index ≡ 2)
+    → is_freed (left small three_objects).now.words (record { page = page; index = index }) ≡ true
+    → (page ≡ 0) × (index ≡ 2)
 unfolding left_from all_below pointed_cell three_objects
 only_third zero index h = elim (cases_eq index 2) [
   | inl e ↦ (refl, e)
@@ -59,7 +61,8 @@ freed_number (suc (suc zero)) h = refl
 freed_number (suc (suc (suc n))) h = absurd (false≢true h)
 
 cell_of_third : (page index : ℕ) → index < cells_under (header_in (left small three_objects).now.words page)
-    → stands_in (left small three_objects).now.words (record { page = page; index = index }) (placed_at (left small three_objects).allocations 2) ≡ true
+    → stands_in (left small three_objects).now.words (record { page = page; index = index })
+    (placed_at (left small three_objects).allocations 2) ≡ true
     → is_freed (left small three_objects).now.words (record { page = page; index = index }) ≡ true
 unfolding left_from all_below pointed_cell three_objects
 cell_of_third zero index lt h =
@@ -68,7 +71,8 @@ cell_of_third zero index lt h =
     ap (λ i. has_bit 4 i) is
 cell_of_third (suc page) index lt h = absurd (omega arith)
 
-no_later : (p distance : ℕ) (mapped : Bool) → header_in (left small three_objects).now.words p ≡ Some (Later distance mapped) → ⊥
+no_later : (p distance : ℕ) (mapped : Bool)
+    → header_in (left small three_objects).now.words p ≡ Some (Later distance mapped) → ⊥
 unfolding left_from all_below pointed_cell three_objects
 no_later zero distance mapped h = cc
 no_later (suc p) distance mapped h = cc
@@ -84,16 +88,21 @@ words_tell_what_stands =
       headers = headers;
       later = λ settled p distance mapped h. absurd (no_later p distance mapped h);
       freed = λ settled cell h.
-          subst (λ x. (a : IsTaken w x) × ((placed_at w.allocations a.number).freed ≡ true)) (sym (cell_is cell (only_third cell.page cell.index h)))
+          subst (λ x. (a : IsTaken w x) × ((placed_at w.allocations a.number).freed ≡ true))
+          (sym (cell_is cell (only_third cell.page cell.index h)))
           (third_is_taken, third_was_freed);
       quarantined = λ cell a h.
           cell_of_third cell.page cell.index a.in_range
-          (subst (λ i. stands_in w.now.words cell (placed_at w.allocations i) ≡ true) (freed_number a.number h) a.stands);
+          (subst (λ i. stands_in w.now.words cell (placed_at w.allocations i) ≡ true) (freed_number a.number h)
+          a.stands);
     }
 
 -- what no history leaves: a freed bit where nothing stands
 abbrev pub bare : World
-bare = record { now = record (first_moment small) { words = record (zero_words_of 1) { freed = 4 ∷ [] } }; allocations = [] }
+bare = record {
+  now = record (first_moment small) { words = record (zero_words_of 1) { freed = 4 ∷ [] } };
+  allocations = [];
+}
 
 nothing_is_taken : (cell : Cell) → IsTaken bare cell → ⊥
 nothing_is_taken cell a = false≢true a.stands

@@ -1,6 +1,7 @@
--- What guards the words of black objects while a caller writes beside a marker: a marked target, a dirty page, and a call
--- that owes the dirty mark. And a moment that no history leaves, where nothing does.
-use Rattle.std.proofs.Common.{◌≡◌, ℕ, ◌<◌, ◌+◌, ◌*◌, ◌/◌, zero, suc, true, false, [], ◌∷◌, ◌++◌, replicate, slice_index, refl, inl, arith}
+-- What guards the words of black objects while a caller writes beside a marker: a marked target, a dirty page, and a
+-- call that owes the dirty mark. And a moment that no history leaves, where nothing does.
+use Rattle.std.proofs.Common.{◌≡◌, ℕ, ◌<◌, ◌+◌, ◌*◌, ◌/◌, zero, suc, true, false, [], ◌∷◌, ◌++◌, replicate, slice_index}
+use Rattle.std.proofs.Common.{refl, inl, arith}
 use Rattle.std.proofs.lemmas.Bool.{false≢true, ltb-true}
 use Rattle.mk_geom.specs.Addresses.{address_of}
 use Rattle.mk_core.specs.Bounded.{all_below}
@@ -41,7 +42,8 @@ writing_is_guarded marks (suc p) k i cell black scanned word = absurd (omega ari
 
 -- behind the `dirty`
 
-pub dirtied_points_badly : word_points_well small.pages (left small (written_beside ++ page_dirtied)).now.words 0 ≡ false
+pub dirtied_points_badly : word_points_well small.pages (left small (written_beside ++ page_dirtied)).now.words 0
+    ≡ false
 unfolding left_from all_below pointed_cell written_beside three_objects
 dirtied_points_badly = refl
 
@@ -59,7 +61,8 @@ guarded_by_mark = PointsWell refl
 every_word_points_well : (n : ℕ) → word_points_well small.pages (left small marked_beside).now.words n ≡ true
 unfolding left_from all_below pointed_cell marked_beside written_beside three_objects
 every_word_points_well n =
-    list_all-at (points_well small.pages (left small marked_beside).now.words) (left small marked_beside).now.words.heap 0 refl refl n
+    list_all-at (points_well small.pages (left small marked_beside).now.words) (left small marked_beside).now.words.heap
+    0 refl refl n
 
 pub marking_is_guarded : MarkingIsGuarded small (left small marked_beside).now
 marking_is_guarded wanted p k i cell black scanned word = PointsWell (every_word_points_well _)

@@ -1,5 +1,6 @@
 -- Each of the schedules is a history.
-use Rattle.std.proofs.Common.{◌≡◌, ℕ, ◌+◌, ◌<◌, ◌≤◌, le_refl, arith, Bool, true, false, ◌==◌, if◌then◌else◌, eqb-true, refl}
+use Rattle.std.proofs.Common.{◌≡◌, ℕ, ◌+◌, ◌<◌, ◌≤◌, le_refl, arith, Bool, true, false, ◌==◌, if◌then◌else◌, eqb-true}
+use Rattle.std.proofs.Common.{refl}
 use Rattle.std.proofs.Common.{List, [], ◌∷◌, ◌++◌, length, replicate, drop, Option, Some, None}
 use Rattle.std.proofs.lemmas.List.{length-replicate}
 use Rattle.std.proofs.lemmas.List.Elements.{All-nil, All-cons, All-replicate}
@@ -10,20 +11,24 @@ use Rattle.mk_core.specs.declared.config.Config.{Config}
 use Rattle.mk_core.specs.declared.events.Event.{Event}
 use Rattle.mk_core.specs.Config.{IsBetween, IsWithinLimits, IsAmong, IsTypeAmong}
 use Rattle.mk_core.specs.Enabled.{failing}
-use Rattle.mk_core.specs.History.{left_from, calls_from, World, first_world, world_behind, AreEnabledFrom, AreEnabled, IsHistory, CallsAreAdmitted}
+use Rattle.mk_core.specs.History.{left_from, calls_from, World, first_world, world_behind, AreEnabledFrom, AreEnabled}
+use Rattle.mk_core.specs.History.{IsHistory, CallsAreAdmitted}
 use Rattle.mk_core.specs.Bounded.{all_below}
 use Rattle.mk_core.specs.Cells.{pointed_cell}
 use Rattle.mk_core.specs.StopConditions.{may_turn_black}
-use Rattle.mk_core.proofs.Schedules.{by, c0, m0, host, fault, first_fault, one_page, pointer_page, freed_after_begin, blackened_before_the_move}
+use Rattle.mk_core.proofs.Schedules.{by, c0, m0, host, fault, first_fault, one_page, pointer_page, freed_after_begin}
+use Rattle.mk_core.proofs.Schedules.{blackened_before_the_move}
 use Rattle.mk_core.proofs.Schedules.{no_fault_freed, no_fault_blackened}
-use Rattle.mk_core.proofs.MoreSchedules.{two_pages, full_then_reused, a_quarter_and_all, granted_while_marking, exchanged, before_the_sweep, sweeping_mark}
+use Rattle.mk_core.proofs.MoreSchedules.{two_pages, full_then_reused, a_quarter_and_all, granted_while_marking}
+use Rattle.mk_core.proofs.MoreSchedules.{exchanged, before_the_sweep, sweeping_mark}
 use Rattle.mk_core.proofs.MoreSchedules.{no_fault_full, no_fault_quarter, no_fault_marking, no_fault_swept}
 use Rattle.mk_core.proofs.EventsAt.{◌and◌}
 use Rattle.mk_core.proofs.HistoryParts.{earlier_part_is_history}
 
 -- Where no fault is found, each event is enabled.
 
-none_of_both : (b : Bool) (at : ℕ × ℕ) (rest : Option (ℕ × ℕ)) → (if b then rest else Some at) ≡ None → (b ≡ true) × (rest ≡ None)
+none_of_both : (b : Bool) (at : ℕ × ℕ) (rest : Option (ℕ × ℕ)) → (if b then rest else Some at) ≡ None
+    → (b ≡ true) × (rest ≡ None)
 none_of_both true at rest h = (refl, h)
 none_of_both false at rest h = let no : ⊥ = cc in absurd no
 
@@ -31,7 +36,8 @@ enabled_from : (c : Config) (n : ℕ) (w : World) (es : List Event) → fault c 
 unfolding fault AreEnabledFrom
 enabled_from c n w [] h = tt
 enabled_from c n w (e ∷ es) h =
-    let both = none_of_both (failing c w.now e == 0) (n, failing c w.now e) (fault c (n + 1) (world_behind c w e) es) h in
+    let both = none_of_both (failing c w.now e == 0) (n, failing c w.now e) (fault c (n + 1) (world_behind c w e) es) h
+    in
     (eqb-true (failing c w.now e) 0 both.0, enabled_from c (n + 1) (world_behind c w e) es both.1)
 
 pub enabled : (c : Config) (es : List Event) → first_fault c es ≡ None → AreEnabled c es
@@ -40,9 +46,17 @@ enabled c es h = enabled_from c 0 (first_world c) es h
 
 -- Heaps of a few pages, all of them resident, are within limits where their types are.
 
-pub small_limits : (pages callers : ℕ) (types : List (List Kind)) → IsBetween 1 3 pages → IsBetween 1 2 callers → length types ≤ 2
+pub small_limits : (pages callers : ℕ) (types : List (List Kind)) → IsBetween 1 3 pages → IsBetween 1 2 callers
+    → length types ≤ 2
     → All (IsTypeAmong types) types
-    → IsWithinLimits (record { pages = pages; resident = pages; callers = callers; markers = 0; types = types; globals = [] })
+    → IsWithinLimits (record {
+      pages = pages;
+      resident = pages;
+      callers = callers;
+      markers = 0;
+      types = types;
+      globals = [];
+    })
 small_limits pages callers types few_pages few_callers few_types among =
     record {
       pages = (few_pages.0, omega (arith, few_pages.1));
@@ -58,7 +72,8 @@ small_limits pages callers types few_pages few_callers few_types among =
 pub numbers : (types : List (List Kind)) (words : ℕ) → IsBetween 1 4096 words → IsTypeAmong types (replicate words Num)
 numbers types words within = (rw (length-replicate words Num) within, All-replicate (IsAmong types) words Num tt)
 
-pub one_type : (types : List (List Kind)) (kinds : List Kind) → IsTypeAmong types kinds → All (IsTypeAmong types) (kinds ∷ [])
+pub one_type : (types : List (List Kind)) (kinds : List Kind) → IsTypeAmong types kinds
+    → All (IsTypeAmong types) (kinds ∷ [])
 one_type types kinds h = All-cons (IsTypeAmong types) kinds [] h (All-nil (IsTypeAmong types))
 
 one_page_limits : IsWithinLimits one_page
@@ -108,20 +123,46 @@ freed_is_history =
     }
 
 blackened_is_admitted : CallsAreAdmitted pointer_page blackened_before_the_move
-unfolding by c0 m0 host all_below pointed_cell may_turn_black pointer_page blackened_before_the_move left_from calls_from
+unfolding by c0 m0 host all_below pointed_cell may_turn_black pointer_page blackened_before_the_move left_from
+    calls_from
 blackened_is_admitted =
     record { of_a_caller = omega arith; in_range = (omega arith, omega arith); access = tt; store = tt }
     and record { of_a_caller = omega arith; in_range = (omega arith, omega arith); access = tt; store = tt }
     and record { of_a_caller = omega arith; in_range = (omega arith, omega arith); access = tt; store = tt }
-    and record { of_a_caller = omega arith; in_range = (omega arith, omega arith); access = (omega arith, refl); store = (omega arith, (refl, refl)) }
+    and record {
+      of_a_caller = omega arith;
+      in_range = (omega arith, omega arith);
+      access = (omega arith, refl);
+      store = (omega arith, (refl, refl));
+    }
     and record { of_a_caller = omega arith; in_range = omega arith; access = (omega arith, refl); store = tt }
     and record { of_a_caller = omega arith; in_range = omega arith; access = tt; store = refl }
     and record { of_a_caller = omega arith; in_range = omega arith; access = tt; store = tt }
-    and record { of_a_caller = omega arith; in_range = (omega arith, omega arith); access = (omega arith, refl); store = tt }
-    and record { of_a_caller = omega arith; in_range = (omega arith, omega arith); access = (omega arith, refl); store = (omega arith, (refl, refl)) }
-    and record { of_a_caller = omega arith; in_range = (omega arith, omega arith); access = (omega arith, refl); store = (omega arith, tt) }
+    and record {
+      of_a_caller = omega arith;
+      in_range = (omega arith, omega arith);
+      access = (omega arith, refl);
+      store = tt;
+    }
+    and record {
+      of_a_caller = omega arith;
+      in_range = (omega arith, omega arith);
+      access = (omega arith, refl);
+      store = (omega arith, (refl, refl));
+    }
+    and record {
+      of_a_caller = omega arith;
+      in_range = (omega arith, omega arith);
+      access = (omega arith, refl);
+      store = (omega arith, tt);
+    }
     and record { of_a_caller = omega arith; in_range = omega arith; access = tt; store = tt }
-    and record { of_a_caller = omega arith; in_range = (omega arith, omega arith); access = (omega arith, refl); store = tt }
+    and record {
+      of_a_caller = omega arith;
+      in_range = (omega arith, omega arith);
+      access = (omega arith, refl);
+      store = tt;
+    }
     and record { of_a_caller = omega arith; in_range = omega arith; access = (omega arith, refl); store = tt } and tt
 
 pub blackened_is_history : IsHistory pointer_page blackened_before_the_move
@@ -144,7 +185,11 @@ full_is_admitted =
 
 pub full_is_history : IsHistory one_page full_then_reused
 full_is_history =
-    record { within_limits = one_page_limits; enabled = enabled one_page full_then_reused no_fault_full; admitted = full_is_admitted }
+    record {
+      within_limits = one_page_limits;
+      enabled = enabled one_page full_then_reused no_fault_full;
+      admitted = full_is_admitted;
+    }
 
 quarter_is_admitted : CallsAreAdmitted two_pages a_quarter_and_all
 unfolding by c0 all_below pointed_cell two_pages a_quarter_and_all left_from calls_from
@@ -156,7 +201,11 @@ quarter_is_admitted =
 
 pub quarter_is_history : IsHistory two_pages a_quarter_and_all
 quarter_is_history =
-    record { within_limits = two_pages_limits; enabled = enabled two_pages a_quarter_and_all no_fault_quarter; admitted = quarter_is_admitted }
+    record {
+      within_limits = two_pages_limits;
+      enabled = enabled two_pages a_quarter_and_all no_fault_quarter;
+      admitted = quarter_is_admitted;
+    }
 
 marking_is_admitted : CallsAreAdmitted two_pages granted_while_marking
 unfolding by c0 all_below pointed_cell two_pages granted_while_marking left_from calls_from
@@ -168,15 +217,29 @@ marking_is_admitted =
 
 pub marking_is_history : IsHistory two_pages granted_while_marking
 marking_is_history =
-    record { within_limits = two_pages_limits; enabled = enabled two_pages granted_while_marking no_fault_marking; admitted = marking_is_admitted }
+    record {
+      within_limits = two_pages_limits;
+      enabled = enabled two_pages granted_while_marking no_fault_marking;
+      admitted = marking_is_admitted;
+    }
 
 swept_is_admitted : CallsAreAdmitted pointer_page (before_the_sweep ++ sweeping_mark ∷ [])
 unfolding by c0 host all_below pointed_cell pointer_page exchanged before_the_sweep sweeping_mark left_from calls_from
 swept_is_admitted =
     record { of_a_caller = omega arith; in_range = (omega arith, omega arith); access = tt; store = tt }
     and record { of_a_caller = omega arith; in_range = (omega arith, omega arith); access = tt; store = tt }
-    and record { of_a_caller = omega arith; in_range = (omega arith, omega arith, omega arith); access = (omega arith, refl); store = (omega arith, (tt, (refl, refl))) }
-    and record { of_a_caller = omega arith; in_range = (omega arith, omega arith, omega arith); access = (omega arith, refl); store = (omega arith, (tt, (refl, refl))) } and tt
+    and record {
+      of_a_caller = omega arith;
+      in_range = (omega arith, omega arith, omega arith);
+      access = (omega arith, refl);
+      store = (omega arith, (tt, (refl, refl)));
+    }
+    and record {
+      of_a_caller = omega arith;
+      in_range = (omega arith, omega arith, omega arith);
+      access = (omega arith, refl);
+      store = (omega arith, (tt, (refl, refl)));
+    } and tt
 
 pub swept_is_history : IsHistory pointer_page (before_the_sweep ++ sweeping_mark ∷ [])
 swept_is_history =
@@ -189,4 +252,5 @@ swept_is_history =
 -- so is its earlier part
 pub exchanged_is_history : IsHistory pointer_page exchanged
 unfolding before_the_sweep exchanged by c0
-exchanged_is_history = earlier_part_is_history pointer_page exchanged (drop 27 (before_the_sweep ++ sweeping_mark ∷ [])) swept_is_history
+exchanged_is_history = earlier_part_is_history pointer_page exchanged (drop 27 (before_the_sweep ++ sweeping_mark ∷ []))
+    swept_is_history

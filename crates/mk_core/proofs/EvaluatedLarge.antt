@@ -9,7 +9,8 @@ use Rattle.mk_core.specs.declared.events.Event.{Event}
 use Rattle.mk_core.specs.Bounded.{all_below}
 use Rattle.mk_core.specs.Cells.{pointed_cell}
 use Rattle.mk_core.specs.Config.{IsWithinLimits}
-use Rattle.mk_core.specs.Allocations.{unreleased_storage, held_words, fresh_words_of, place_among_allocations, FitsAmongAllocations}
+use Rattle.mk_core.specs.Allocations.{unreleased_storage, held_words, fresh_words_of, place_among_allocations}
+use Rattle.mk_core.specs.Allocations.{FitsAmongAllocations}
 use Rattle.mk_core.specs.Decided.{answered}
 use Rattle.mk_core.specs.History.{left_from, left, calls_from, calls, CallsAreAdmitted, IsHistory, RefinesNever}
 use Rattle.mk_core.specs.Cycles.{is_give}
@@ -45,7 +46,8 @@ large_is_history =
       admitted = large_is_admitted;
     }
 
--- A New, a write and a Free are done. The read is refused as one of an unmapped object, and the second Free as one too many.
+-- A New, a write and a Free are done. The read is refused as one of an unmapped object, and the second Free as one too
+-- many.
 pub answers_large : answered (calls three_pages large_freed)
     ≡ answer.Done ∷ answer.Done ∷ answer.Done ∷ answer.Fault ∷ answer.Double ∷ answer.Done ∷ answer.Done ∷ []
 unfolding by c0 all_below pointed_cell three_pages large_freed calls_from
@@ -73,7 +75,8 @@ pub place_on_the_last : place_among_allocations three_pages 64 true (left three_
 unfolding by c0 all_below pointed_cell three_pages large_freed left_from unreleased_storage
 place_on_the_last = refl
 
-pub fits_nowhere_before : FitsAmongAllocations three_pages 65 true (left three_pages (take 41 large_freed)).allocations → ⊥
+pub fits_nowhere_before : FitsAmongAllocations three_pages 65 true (left three_pages (take 41 large_freed)).allocations
+    → ⊥
 unfolding by c0 all_below pointed_cell three_pages large_freed left_from unreleased_storage
 fits_nowhere_before h = false≢true h
 
@@ -83,7 +86,8 @@ fits_behind = refl
 
 -- So the second object stands where the first one stood. The headers that the cycle frees serve nothing.
 pub large_grant : StandsAtItsPlace three_pages (take 53 large_freed) c0
-unfolding by c0 all_below pointed_cell three_pages large_freed left_from unreleased_storage events_from event_number turn_number NoneServesFrom
+unfolding by c0 all_below pointed_cell three_pages large_freed left_from unreleased_storage events_from event_number
+    turn_number NoneServesFrom
 large_grant =
     record {
       turn = turn_number three_pages c0 34 (Some (op.New 1 0 false)) (take 53 large_freed) refl refl refl;
@@ -92,7 +96,8 @@ large_grant =
         event = event_number 50 large_freed;
         behind = events_from 51 2 large_freed;
         is = refl;
-        none_before = refl and refl and refl and refl and refl and refl and refl and refl and refl and refl and refl and refl
+        none_before = refl and refl and refl and refl and refl and refl and refl and refl and refl and refl and refl and
+            refl
             and refl and refl and refl and tt;
         serves = refl;
       };

@@ -1,4 +1,5 @@
--- Closed marks along two small cycles: open behind a `begin` and beside a caller that writes, and closed before a `close`.
+-- Closed marks along two small cycles: open behind a `begin` and beside a caller that writes, and closed before a
+-- `close`.
 use Rattle.std.proofs.Common.{[], ◌∷◌, ◌++◌, refl}
 use Rattle.std.proofs.lemmas.Bool.{false≢true, leb-true, ltb-true}
 use Rattle.mk_core.specs.declared.events.Step.TheVariants as step
@@ -8,7 +9,8 @@ use Rattle.mk_core.specs.ClosedMarks.{MarksAreClosed}
 use Rattle.mk_core.specs.History.{left_from, left}
 use Rattle.mk_core.proofs.ListTests.{numbered_all}
 use Rattle.mk_core.proofs.MarkTests.{marks_closed_by_test}
-use Rattle.mk_core.proofs.SmallCycles.{by_host, small, three_objects, begun_in_stop, marked_in_stop, written_beside, marked_beside}
+use Rattle.mk_core.proofs.SmallCycles.{by_host, small, three_objects, begun_in_stop, marked_in_stop, written_beside}
+use Rattle.mk_core.proofs.SmallCycles.{marked_beside}
 
 -- closed marks
 
@@ -18,7 +20,8 @@ open_behind_begin closed = false≢true (closed.registers 0)
 
 pub closed_in_stop : MarksAreClosed small (left small (begun_in_stop ++ by_host (step.Begin ∷ []) ++ marked_in_stop))
 unfolding left_from all_below pointed_cell numbered_all begun_in_stop three_objects marked_in_stop
-closed_in_stop = marks_closed_by_test small (left small (begun_in_stop ++ by_host (step.Begin ∷ []) ++ marked_in_stop)) refl
+closed_in_stop = marks_closed_by_test small (left small (begun_in_stop ++ by_host (step.Begin ∷ []) ++ marked_in_stop))
+    refl
 
 pub closed_beside : MarksAreClosed small (left small marked_beside)
 unfolding left_from all_below pointed_cell numbered_all marked_beside written_beside three_objects

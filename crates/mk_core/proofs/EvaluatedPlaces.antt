@@ -16,7 +16,8 @@ use Rattle.mk_core.proofs.EventsAt.{events_from, event_number, at_number, turn_n
 use Rattle.mk_core.proofs.Schedules.{by, c0, host, one_page, freed_after_begin}
 use Rattle.mk_core.proofs.MoreSchedules.{two_pages, full_then_reused, granted_while_marking}
 
--- One cell of 32 words is taken, and the other is free. An object of 2 words needs a page of its own size, which isn't there.
+-- One cell of 32 words is taken, and the other is free. An object of 2 words needs a page of its own size, which isn't
+-- there.
 pub place_beside : place_among_allocations one_page 32 true (left one_page freed_after_begin).allocations
     ≡ Some (record { page = 0; index = 1; carve = false })
 unfolding by c0 host all_below pointed_cell one_page freed_after_begin left_from unreleased_storage
@@ -34,10 +35,11 @@ abbrev pub is_grant : Step → Bool
 is_grant step.Grant = true
 is_grant _ = false
 
--- The first object carves the page, and the second takes the cell beside it. The third is served only behind the cycle in
--- its turn: the `used` and the `head` of the cycle serve nothing. So it stands where the first one stood.
+-- The first object carves the page, and the second takes the cell beside it. The third is served only behind the cycle
+-- in its turn: the `used` and the `head` of the cycle serve nothing. So it stands where the first one stood.
 pub first_grant : StandsAtItsPlace one_page (take 3 freed_after_begin) c0
-unfolding by c0 host all_below pointed_cell one_page freed_after_begin left_from unreleased_storage events_from event_number at_number turn_number NoneServesFrom
+unfolding by c0 host all_below pointed_cell one_page freed_after_begin left_from unreleased_storage events_from
+    event_number at_number turn_number NoneServesFrom
 first_grant =
     record {
       turn = turn_number one_page c0 0 (Some (op.New 0 0 false)) (take 3 freed_after_begin) refl refl refl;
@@ -55,18 +57,27 @@ first_grant =
     }
 
 pub second_grant : StandsAtItsPlace one_page (take 8 freed_after_begin) c0
-unfolding by c0 host all_below pointed_cell one_page freed_after_begin left_from unreleased_storage events_from event_number at_number turn_number NoneServesFrom
+unfolding by c0 host all_below pointed_cell one_page freed_after_begin left_from unreleased_storage events_from
+    event_number at_number turn_number NoneServesFrom
 second_grant =
     record {
       turn = turn_number one_page c0 6 (Some (op.New 1 0 false)) (take 8 freed_after_begin) refl refl refl;
-      first = record { before = []; event = event_number 7 freed_after_begin; behind = []; is = refl; none_before = tt; serves = refl };
+      first = record {
+        before = [];
+        event = event_number 7 freed_after_begin;
+        behind = [];
+        is = refl;
+        none_before = tt;
+        serves = refl;
+      };
       place = record { page = 0; index = 1; carve = false };
       fits = refl;
       base = refl;
     }
 
 pub third_grant : StandsAtItsPlace one_page (take 53 freed_after_begin) c0
-unfolding by c0 host all_below pointed_cell one_page freed_after_begin left_from unreleased_storage events_from event_number at_number turn_number NoneServesFrom
+unfolding by c0 host all_below pointed_cell one_page freed_after_begin left_from unreleased_storage events_from
+    event_number at_number turn_number NoneServesFrom
 third_grant =
     record {
       turn = turn_number one_page c0 39 (Some (op.New 2 0 false)) (take 53 freed_after_begin) refl refl refl;
@@ -91,7 +102,8 @@ grants_stand before e behind is grant =
 
 -- Where the phase is marking, the mark on the page's ten cells is what serves the object first.
 pub grant_while_marking : StandsAtItsPlace two_pages (take 16 granted_while_marking) c0
-unfolding by c0 all_below pointed_cell two_pages granted_while_marking left_from unreleased_storage events_from event_number turn_number NoneServesFrom
+unfolding by c0 all_below pointed_cell two_pages granted_while_marking left_from unreleased_storage events_from
+    event_number turn_number NoneServesFrom
 grant_while_marking =
     record {
       turn = turn_number two_pages c0 12 (Some (op.New 1 1 false)) (take 16 granted_while_marking) refl refl refl;
@@ -110,7 +122,8 @@ grant_while_marking =
 
 -- The refused New begins and ends a cycle in its turn. Both cells are still taken behind it, so it doesn't fit.
 pub full : IsFull one_page (take 31 full_then_reused) c0
-unfolding by c0 all_below pointed_cell may_turn_black one_page full_then_reused left_from unreleased_storage events_from event_number at_number turn_number
+unfolding by c0 all_below pointed_cell may_turn_black one_page full_then_reused left_from unreleased_storage events_from
+    event_number at_number turn_number
 full =
     record {
       turn = turn_number one_page c0 16 (Some (op.New 2 0 false)) (take 31 full_then_reused) refl refl refl;
@@ -118,9 +131,15 @@ full =
         releasing = record {
           marking = record {
             begin = at_number is_begin 2 (events_from 17 14 full_then_reused) refl refl;
-            close = record { at = at_number is_close 7 (events_from 20 11 full_then_reused) refl refl; none_before = refl };
+            close = record {
+              at = at_number is_close 7 (events_from 20 11 full_then_reused) refl refl;
+              none_before = refl;
+            };
           };
-          release = record { at = at_number is_release 0 (events_from 28 3 full_then_reused) refl refl; none_before = refl };
+          release = record {
+            at = at_number is_release 0 (events_from 28 3 full_then_reused) refl refl;
+            none_before = refl;
+          };
         };
         end = record { at = at_number is_end 0 (events_from 29 2 full_then_reused) refl refl; none_before = refl };
       };

@@ -1,5 +1,6 @@
 -- What is reached behind a small history: by a register, by a word of another object, and not at all.
-use Rattle.std.proofs.Common.{◌≡◌, ℕ, zero, suc, Bool, true, false, not, ◌&&◌, ◌||◌, [], ◌∷◌, replicate, refl, sym, ◌∙◌, ap, subst}
+use Rattle.std.proofs.Common.{◌≡◌, ℕ, zero, suc, Bool, true, false, not, ◌&&◌, ◌||◌, [], ◌∷◌, replicate, refl, sym, ◌∙◌}
+use Rattle.std.proofs.Common.{ap, subst}
 use Rattle.std.specs.List.{list_all}
 use Rattle.std.proofs.lemmas.Bool.{and_parts, false≢true}
 use Rattle.mk_never.specs.declared.values.Value.{Value}
@@ -25,7 +26,8 @@ words_lead_into S from a = not (S from && not (is_unmapped a)) || list_all (lead
 
 abbrev pub is_closed_under_pointers : NeverState → (ℕ → Bool) → Bool
 is_closed_under_pointers n S =
-    list_all (leads_into S) n.registers && list_all (leads_into S) n.globals && numbered_all (words_lead_into S) n.allocations
+    list_all (leads_into S) n.registers && list_all (leads_into S) n.globals
+    && numbered_all (words_lead_into S) n.allocations
 
 pub led_into : (S : ℕ → Bool) (v : Value) (number : ℕ) → leads_into S v ≡ true → LeadsTo v number → S number ≡ true
 led_into S Null number h leads = absurd leads
@@ -48,12 +50,14 @@ closed_by_test n S h =
     let outer = and_parts (list_all (leads_into S) n.registers && list_all (leads_into S) n.globals) _ h in
     let roots = and_parts (list_all (leads_into S) n.registers) (list_all (leads_into S) n.globals) outer.0 in
     record {
-      registers = λ r number leads. led_into S _ number (list_all-at (leads_into S) n.registers Null roots.0 refl r) leads;
+      registers = λ r number leads. led_into S _ number (list_all-at (leads_into S) n.registers Null roots.0 refl r)
+          leads;
       globals = λ g number leads. led_into S _ number (list_all-at (leads_into S) n.globals Null roots.1 refl g) leads;
       words = λ from place number inside leads.
           let each = numbered_all-at (words_lead_into S) n.allocations no_allocation outer.1 (of_none S) from in
           let all = implied (S from && not (is_unmapped (allocation_at n from))) _ each (both_are _ _ inside leads.0) in
-          led_into S (word_at n from place) number (list_all-at (leads_into S) (allocation_at n from).words Null all refl place) leads.1;
+          led_into S (word_at n from place) number
+          (list_all-at (leads_into S) (allocation_at n from).words Null all refl place) leads.1;
     }
 
 -- behind a pointer that was written to the first object, and the second register cleared
@@ -62,7 +66,11 @@ abbrev pub first_and_second : NeverState
 first_and_second = record {
   types = small.types;
   allocations =
-      record { ty = 0; words = Ptr 1 0 0 ∷ Num 0 ∷ []; freed = false } ∷ record { ty = 0; words = Null ∷ Num 0 ∷ []; freed = false }
+      record { ty = 0; words = Ptr 1 0 0 ∷ Num 0 ∷ []; freed = false } ∷ record {
+        ty = 0;
+        words = Null ∷ Num 0 ∷ [];
+        freed = false;
+      }
       ∷ record { ty = 0; words = Null ∷ Num 0 ∷ []; freed = true } ∷ [];
   registers = Ptr 0 0 0 ∷ replicate 7 Null;
   globals = replicate 64 Null;
@@ -86,7 +94,8 @@ below_two (suc (suc number)) = false
 third_is_outside : IsReached first_and_second 2 → ⊥
 unfolding numbered_all
 third_is_outside reached =
-    false≢true (reached_is_in first_and_second (λ number. below_two number ≡ true) (closed_by_test first_and_second below_two refl) 2 reached)
+    false≢true (reached_is_in first_and_second (λ number. below_two number ≡ true)
+    (closed_by_test first_and_second below_two refl) 2 reached)
 
 pub third_is_not_reached : IsReached (never_behind small begun_in_stop) 2 → ⊥
 third_is_not_reached reached = third_is_outside (subst (λ n. IsReached n 2) never_is reached)

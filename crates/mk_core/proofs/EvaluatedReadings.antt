@@ -1,6 +1,7 @@
 -- What turn, gates and phase tell along two small cycles: in a call, in a New, in a stop behind its `close`, and with a
 -- marker in.
-use Rattle.std.proofs.Common.{◌≡◌, ◌↔◌, ℕ, zero, suc, ◌+◌, ◌<◌, ◌≤◌, true, false, not, List, [], ◌∷◌, ◌++◌, slice_index, Some, refl, sym, ◌∙◌, arith}
+use Rattle.std.proofs.Common.{◌≡◌, ◌↔◌, ℕ, zero, suc, ◌+◌, ◌<◌, ◌≤◌, true, false, not, List, [], ◌∷◌, ◌++◌, slice_index}
+use Rattle.std.proofs.Common.{Some, refl, sym, ◌∙◌, arith}
 use Rattle.std.proofs.lemmas.Bool.{false≢true, eqb-false, not-true, leb-true, ltb-true}
 use Rattle.mk_never.specs.declared.operations.Op.TheVariants as op
 use Rattle.mk_core.specs.declared.events.Seat.{Seat}
@@ -15,9 +16,11 @@ use Rattle.mk_core.specs.StopConditions.{is_attending, none_attends}
 use Rattle.mk_core.specs.Moments.{Moment, first_moment, flight_of, outside}
 use Rattle.mk_core.specs.History.{left_from, left}
 use Rattle.mk_core.specs.HeldGates.{is_gate_held_from}
-use Rattle.mk_core.specs.Readings.{is_in_turn, Holds, NoneAttends, TurnTells, GateTells, PhaseTells, WordsTellWhoHoldsWhat}
+use Rattle.mk_core.specs.Readings.{is_in_turn, Holds, NoneAttends, TurnTells, GateTells, PhaseTells}
+use Rattle.mk_core.specs.Readings.{WordsTellWhoHoldsWhat}
 use Rattle.mk_core.proofs.ListTests.{list_all-at}
-use Rattle.mk_core.proofs.SmallCycles.{by_caller, by_host, small, three_objects, begun_in_stop, marked_in_stop, first_marked, marker_in, written_beside}
+use Rattle.mk_core.proofs.SmallCycles.{by_caller, by_host, small, three_objects, begun_in_stop, marked_in_stop}
+use Rattle.mk_core.proofs.SmallCycles.{first_marked, marker_in, written_beside}
 
 -- with one caller
 
@@ -30,7 +33,8 @@ sole_turn m h zero lt = h
 sole_turn m h (suc k) lt = absurd (omega arith)
 
 nobody_holds : (m : Moment) → CallerTells m → m.words.turn ≡ 0 → (s : Seat) → Holds small m s → ⊥
-nobody_holds m h free (seat.Caller k) holds = let taken : m.words.turn ≡ 1 + k = (sole_turn m h k holds.0).1 holds.1 in omega arith
+nobody_holds m h free (seat.Caller k) holds = let taken : m.words.turn ≡ 1 + k =
+    (sole_turn m h k holds.0).1 holds.1 in omega arith
 nobody_holds m h free (seat.Marker k) holds = holds
 nobody_holds m h free seat.Host holds = eqb-false 0 2 refl (sym free ∙ holds)
 
@@ -42,20 +46,26 @@ somebody_holds m (suc (suc zero)) is h le none = absurd (none seat.Host is)
 somebody_holds m (suc (suc (suc n))) is h le none = absurd (omega arith)
 
 turn_tells : (m : Moment) → m.words.turn ≤ 2 → CallerTells m → TurnTells small m
-turn_tells m le h = record { least = le; caller = sole_turn m h; nobody = (nobody_holds m h, somebody_holds m m.words.turn refl h le) }
+turn_tells m le h = record {
+  least = le;
+  caller = sole_turn m h;
+  nobody = (nobody_holds m h, somebody_holds m m.words.turn refl h le);
+}
 
 sole_gate : (es : List Event) → GateTells small es 0 → (k : ℕ) → k < 1 → GateTells small es k
 sole_gate es h zero lt = h
 sole_gate es h (suc k) lt = absurd (omega arith)
 
 none_attends_at : (m : Moment) → none_attends m.seats.markers ≡ true → NoneAttends m
-none_attends_at m h k = not-true _ (list_all-at (λ (x : Marker). not (is_attending x.presence)) m.seats.markers outside h refl k)
+none_attends_at m h k =
+    not-true _ (list_all-at (λ (x : Marker). not (is_attending x.presence)) m.seats.markers outside h refl k)
 
 -- A caller is in a call, and the host holds the turn.
 
 turn_in_call : TurnTells small (left small written_beside).now
 unfolding left_from all_below pointed_cell written_beside three_objects
-turn_in_call = turn_tells (left small written_beside).now (leb-true 2 2 refl) (λ e. absurd (eqb-false 2 1 refl e), λ h. absurd (false≢true h))
+turn_in_call = turn_tells (left small written_beside).now (leb-true 2 2 refl)
+    (λ e. absurd (eqb-false 2 1 refl e), λ h. absurd (false≢true h))
 
 gate_in_call : GateTells small written_beside 0
 unfolding left_from is_gate_held_from all_below pointed_cell written_beside three_objects
@@ -80,7 +90,11 @@ phase_in_call =
     }
 
 pub words_tell_in_call : WordsTellWhoHoldsWhat small written_beside
-words_tell_in_call = record { turn = turn_in_call; gates = sole_gate written_beside gate_in_call; phase = phase_in_call }
+words_tell_in_call = record {
+  turn = turn_in_call;
+  gates = sole_gate written_beside gate_in_call;
+  phase = phase_in_call;
+}
 
 -- The caller is in a New.
 
@@ -105,16 +119,19 @@ gate_in_new =
 
 pub turn_is_free : TurnTells small (left small three_objects).now
 unfolding left_from all_below pointed_cell three_objects
-turn_is_free = turn_tells (left small three_objects).now (leb-true 0 2 refl) (λ e. absurd (eqb-false 0 1 refl e), λ h. absurd (false≢true h))
+turn_is_free = turn_tells (left small three_objects).now (leb-true 0 2 refl)
+    (λ e. absurd (eqb-false 0 1 refl e), λ h. absurd (false≢true h))
 
 -- The caller is stopped, and the marks are closed.
 
 abbrev pub closed_in_stop : List Event
-closed_in_stop = begun_in_stop ++ record { seat = seat.Host; step = step.Begin } ∷ (marked_in_stop ++ by_host (step.Close ∷ []))
+closed_in_stop = begun_in_stop ++ record { seat = seat.Host; step = step.Begin }
+    ∷ (marked_in_stop ++ by_host (step.Close ∷ []))
 
 turn_in_stop : TurnTells small (left small closed_in_stop).now
 unfolding left_from all_below pointed_cell begun_in_stop three_objects marked_in_stop
-turn_in_stop = turn_tells (left small closed_in_stop).now (leb-true 2 2 refl) (λ e. absurd (eqb-false 2 1 refl e), λ h. absurd (false≢true h))
+turn_in_stop = turn_tells (left small closed_in_stop).now (leb-true 2 2 refl)
+    (λ e. absurd (eqb-false 2 1 refl e), λ h. absurd (false≢true h))
 
 gate_in_stop : GateTells small closed_in_stop 0
 unfolding left_from is_gate_held_from all_below pointed_cell begun_in_stop three_objects marked_in_stop
@@ -144,7 +161,11 @@ phase_in_stop =
     }
 
 pub words_tell_in_stop : WordsTellWhoHoldsWhat small closed_in_stop
-words_tell_in_stop = record { turn = turn_in_stop; gates = sole_gate closed_in_stop gate_in_stop; phase = phase_in_stop }
+words_tell_in_stop = record {
+  turn = turn_in_stop;
+  gates = sole_gate closed_in_stop gate_in_stop;
+  phase = phase_in_stop;
+}
 
 -- A marker is in, and attends.
 

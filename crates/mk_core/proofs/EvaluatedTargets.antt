@@ -1,6 +1,7 @@
 -- What others leave besides, where calls are admitted, in small cases: to a caller in a call the objects that its
 -- registers point to, to the turn's holder all words outside the mapped objects, and to a marker all headers.
-use Rattle.std.proofs.Common.{◌≡◌, ℕ, zero, suc, ◌+◌, ◌*◌, true, false, List, [], ◌∷◌, ◌++◌, slice_index, refl, subst, inl}
+use Rattle.std.proofs.Common.{◌≡◌, ℕ, zero, suc, ◌+◌, ◌*◌, true, false, List, [], ◌∷◌, ◌++◌, slice_index, refl, subst}
+use Rattle.std.proofs.Common.{inl}
 use Rattle.std.proofs.lemmas.Bool.{false≢true, leb-true, ltb-true}
 use Rattle.mk_geom.specs.StorageWords.{IsWordOf}
 use Rattle.mk_never.specs.declared.values.Value.TheVariants.{Null}
@@ -15,7 +16,8 @@ use Rattle.mk_core.specs.Allocations.{placed_at, is_mapped, storage_of}
 use Rattle.mk_core.specs.History.{left_from, calls_from, left, never_behind}
 use Rattle.mk_core.specs.Growing.{AreOfOthers}
 use Rattle.mk_core.specs.Readings.{Holds}
-use Rattle.mk_core.specs.Frames.{OwnIsLeft, ScanIsLeft, IsLeft, TargetsAreLeft, HeapIsLeft, HeadersAreLeft, IsLeftByAdmitted}
+use Rattle.mk_core.specs.Frames.{OwnIsLeft, ScanIsLeft, IsLeft, TargetsAreLeft, HeapIsLeft, HeadersAreLeft}
+use Rattle.mk_core.specs.Frames.{IsLeftByAdmitted}
 use Rattle.mk_core.proofs.ListTests.{list_all-at}
 use Rattle.mk_core.proofs.EvaluatedReach.{leads_into, led_into, below_two}
 use Rattle.mk_core.proofs.EvaluatedFrames.{before_probe, turn_taken}
@@ -29,13 +31,15 @@ targets r a leads =
     led_into below_two (register_at (never_behind small before_probe) 0 r) a
     (list_all-at (leads_into below_two) (never_behind small before_probe).registers Null refl refl (8 * 0 + r)) leads
 
-unreleased : (a : ℕ) → below_two a ≡ true → (placed_at (left small (before_probe ++ turn_taken)).allocations a).released ≡ false
+unreleased : (a : ℕ) → below_two a ≡ true
+    → (placed_at (left small (before_probe ++ turn_taken)).allocations a).released ≡ false
 unfolding left_from all_below pointed_cell three_objects
 unreleased zero h = refl
 unreleased (suc zero) h = refl
 unreleased (suc (suc a)) h = absurd (false≢true h)
 
-mapped : (a : ℕ) → below_two a ≡ true → is_mapped small (placed_at (left small (before_probe ++ turn_taken)).allocations a) ≡ true
+mapped : (a : ℕ) → below_two a ≡ true
+    → is_mapped small (placed_at (left small (before_probe ++ turn_taken)).allocations a) ≡ true
 unfolding left_from all_below pointed_cell three_objects
 mapped zero h = refl
 mapped (suc zero) h = refl
@@ -49,7 +53,8 @@ targets_are_left = record {
 }
 
 values_are_left : (k r : ℕ) → seat.Caller 0 ≡ seat.Caller k
-    → register_at (never_behind small (before_probe ++ turn_taken)) k r ≡ register_at (never_behind small before_probe) k r
+    → register_at (never_behind small (before_probe ++ turn_taken)) k r
+    ≡ register_at (never_behind small before_probe) k r
 unfolding left_from calls_from all_below pointed_cell three_objects
 values_are_left k r is = refl
 
@@ -63,7 +68,8 @@ no_turn holds = false≢true holds.1
 pub all_is_left_to_caller : IsLeftByAdmitted small (seat.Caller 0) before_probe (before_probe ++ turn_taken)
 all_is_left_to_caller = record {
   registers = λ k r is lt. values_are_left k r is;
-  in_call = λ k is in_call. subst (λ i. TargetsAreLeft small before_probe (before_probe ++ turn_taken) i) (same_caller k is) targets_are_left;
+  in_call = λ k is in_call. subst (λ i. TargetsAreLeft small before_probe (before_probe ++ turn_taken) i)
+      (same_caller k is) targets_are_left;
   turn = λ holds. absurd (no_turn holds);
   held = λ holds k r lt two. absurd (no_turn holds);
   stop = λ all. absurd (no_turn all.0);
@@ -75,7 +81,8 @@ all_is_left_to_caller = record {
 outside : (n : ℕ)
     → ((i : ℕ) → is_mapped small (placed_at (left small first_marked).allocations i) ≡ true
     → IsWordOf (storage_of small (placed_at (left small first_marked).allocations i)) n → ⊥)
-    → slice_index (left small (first_marked ++ pointer_written)).now.words.heap n ≡ slice_index (left small first_marked).now.words.heap n
+    → slice_index (left small (first_marked ++ pointer_written)).now.words.heap n
+    ≡ slice_index (left small first_marked).now.words.heap n
 unfolding left_from all_below pointed_cell three_objects
 outside zero none = absurd (none 0 refl (leb-true 0 0 refl, ltb-true 0 2 refl))
 outside (suc n) none = refl
@@ -95,7 +102,12 @@ writers_are_others = (refl, (refl, (refl, (refl, (refl, tt)))))
 
 marker_is_left : OwnIsLeft small (seat.Marker 0) (left small attending) (left small (attending ++ pointer_written))
 unfolding left_from all_below pointed_cell three_objects
-marker_is_left = record { flight = refl; marker = refl; registers = λ k r is lt. absurd cc; holding = λ holds. absurd holds }
+marker_is_left = record {
+  flight = refl;
+  marker = refl;
+  registers = λ k r is lt. absurd cc;
+  holding = λ holds. absurd holds;
+}
 
 scan_is_left : ScanIsLeft (left small attending) (left small (attending ++ pointer_written))
 unfolding left_from all_below pointed_cell three_objects

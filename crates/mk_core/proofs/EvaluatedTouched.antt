@@ -1,4 +1,5 @@
--- What is touched in a small cycle: by a register, by a word of another object, and not at all, which is in the snapshot.
+-- What is touched in a small cycle: by a register, by a word of another object, and not at all, which is in the
+-- snapshot.
 use Rattle.std.proofs.Common.{◌≡◌, true, false, [], ◌∷◌, ◌++◌, refl, sym, append-nil}
 use Rattle.std.specs.List.{list_any}
 use Rattle.std.proofs.lemmas.Bool.{false≢true, leb-true, ltb-true}
@@ -15,7 +16,8 @@ use Rattle.mk_core.proofs.Touched.{touched_is_least}
 use Rattle.mk_core.proofs.ListTests.{numbered_all, all_fronts}
 use Rattle.mk_core.proofs.TouchedTests.{closed_along_by_test}
 use Rattle.mk_core.proofs.EvaluatedReach.{below_two}
-use Rattle.mk_core.proofs.SmallCycles.{by_host, small, three_objects, begun_in_stop, marked_in_stop, third_released, stopped_cycle}
+use Rattle.mk_core.proofs.SmallCycles.{by_host, small, three_objects, begun_in_stop, marked_in_stop, third_released}
+use Rattle.mk_core.proofs.SmallCycles.{stopped_cycle}
 
 pub none_closes : list_any (λ (e : Event). is_close e.step) marked_in_stop ≡ false
 unfolding marked_in_stop
@@ -34,7 +36,8 @@ marking = record {
     at = record {
       before = marked_in_stop;
       event = record { seat = seat.Host; step = step.Close };
-      behind = by_host (step.Release ∷ step.Used 0 3 ∷ step.Quar 0 0 ∷ step.Tally tally.Held 4 ∷ step.End ∷ step.Open 0 ∷ step.Give ∷ []);
+      behind = by_host (step.Release ∷ step.Used 0 3 ∷ step.Quar 0 0 ∷ step.Tally tally.Held 4 ∷ step.End ∷ step.Open 0
+          ∷ step.Give ∷ []);
       is = refl;
       of_kind = refl;
     };
@@ -43,7 +46,12 @@ marking = record {
 }
 
 behind_begin : LeadsToMoment marking (through marking.begin)
-behind_begin = record { done = []; to_come = marked_in_stop; of_the_cycle = refl; is = sym (append-nil (through marking.begin)) }
+behind_begin = record {
+  done = [];
+  to_come = marked_in_stop;
+  of_the_cycle = refl;
+  is = sym (append-nil (through marking.begin));
+}
 
 pub third_is_in_snapshot : IsInSnapshot small marking 2
 unfolding left_from all_below pointed_cell begun_in_stop three_objects
@@ -52,12 +60,14 @@ third_is_in_snapshot = refl
 pub first_is_touched : IsTouched small marking 0
 unfolding left_from calls_from all_below pointed_cell begun_in_stop three_objects
 first_is_touched =
-    by_register (through marking.begin) 0 0 behind_begin (refl, (leb-true 65536 65536 refl, (leb-true 0 0 refl, ltb-true 0 2 refl)))
+    by_register (through marking.begin) 0 0 behind_begin
+    (refl, (leb-true 65536 65536 refl, (leb-true 0 0 refl, ltb-true 0 2 refl)))
 
 pub second_is_touched : IsTouched small marking 1
 unfolding left_from calls_from all_below pointed_cell begun_in_stop three_objects
 second_is_touched =
-    by_word (through marking.begin) 0 0 1 behind_begin first_is_touched (refl, refl, (leb-true 0 0 refl, ltb-true 0 2 refl))
+    by_word (through marking.begin) 0 0 1 behind_begin first_is_touched
+    (refl, refl, (leb-true 0 0 refl, ltb-true 0 2 refl))
     (refl, (leb-true 65536 65552 refl, (leb-true 2 2 refl, ltb-true 2 4 refl)))
 
 two_are_closed_along : IsClosedAlong small marking (λ b. below_two b ≡ true)
@@ -65,4 +75,5 @@ unfolding left_from calls_from all_below pointed_cell numbered_all all_fronts be
 two_are_closed_along = closed_along_by_test small stopped_cycle marking below_two refl
 
 pub third_is_untouched : IsTouched small marking 2 → ⊥
-third_is_untouched touched = false≢true (touched_is_least small stopped_cycle marking below_two two_are_closed_along 2 touched)
+third_is_untouched touched =
+    false≢true (touched_is_least small stopped_cycle marking below_two two_are_closed_along 2 touched)

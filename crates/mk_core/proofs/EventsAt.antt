@@ -1,5 +1,6 @@
 -- What is to be shown at each event of a kind in a list, as a product of one part for each of them.
-use Rattle.std.proofs.Common.{◌≡◌, ℕ, ◌+◌, Bool, true, false, ◌&&◌, List, [], ◌∷◌, ◌++◌, take, drop, Option, sym, subst, append-nil, append_assoc}
+use Rattle.std.proofs.Common.{◌≡◌, ℕ, ◌+◌, Bool, true, false, ◌&&◌, List, [], ◌∷◌, ◌++◌, take, drop, Option, sym, subst}
+use Rattle.std.proofs.Common.{append-nil, append_assoc}
 use Rattle.std.specs.Prelude.{⊤, slice_index_or}
 use Rattle.std.specs.List.{list_any}
 use Rattle.mk_never.specs.declared.operations.Op.{Op}
@@ -27,13 +28,15 @@ event_number n es = slice_index_or es n (record { seat = seat.Host; step = step.
 
 -- an event of a kind by its number, and a turn by that of its `take`
 
-unfoldable pub at_number : (kind : Step → Bool) (n : ℕ) (es : List Event) → es ≡ take n es ++ event_number n es ∷ drop (n + 1) es
+unfoldable pub at_number : (kind : Step → Bool) (n : ℕ) (es : List Event)
+    → es ≡ take n es ++ event_number n es ∷ drop (n + 1) es
     → kind (event_number n es).step ≡ true → At kind es
 at_number kind n es is of_kind =
     record { before = take n es; event = event_number n es; behind = drop (n + 1) es; is = is; of_kind = of_kind }
 
 unfoldable pub turn_number : (c : Config) (s : Seat) (n : ℕ) (o : Option Op) (es : List Event)
-    → es ≡ take n es ++ record { seat = s; step = step.Take o } ∷ drop (n + 1) es → (left c (take n es)).now.words.turn ≡ 0
+    → es ≡ take n es ++ record { seat = s; step = step.Take o } ∷ drop (n + 1) es
+    → (left c (take n es)).now.words.turn ≡ 0
     → list_any (λ (e : Event). is_same_seat s e.seat && is_give e.step) (drop (n + 1) es) ≡ false → TurnOf c s es
 turn_number c s n o es is took goes_on =
     record { before = take n es; op = o; behind = drop (n + 1) es; is = is; took = took; goes_on = goes_on }
@@ -59,16 +62,19 @@ also_second true A B k = k.1
 also_second false A B k = k
 
 pub at_each : (kind : Step → Bool) (P : List Event → Event → Type 0) (done es : List Event) → AtEach kind P done es
-    → (before : List Event) (e : Event) (behind : List Event) → es ≡ before ++ e ∷ behind → kind e.step ≡ true → P (done ++ before) e
+    → (before : List Event) (e : Event) (behind : List Event) → es ≡ before ++ e ∷ behind → kind e.step ≡ true
+    → P (done ++ before) e
 unfolding AtEach
 at_each kind P done [] h [] e behind is k = cc
 at_each kind P done [] h (x ∷ before) e behind is k = cc
 at_each kind P done (y ∷ es) h [] e behind is k =
     let same : y ≡ e = cc in
     rw append-nil (subst (λ (z : Event). P done z) same
-    (also_first (kind y.step) (P done y) (AtEach kind P (done ++ y ∷ []) es) (subst (λ (z : Event). kind z.step ≡ true) (sym same) k) h))
+    (also_first (kind y.step) (P done y) (AtEach kind P (done ++ y ∷ []) es)
+    (subst (λ (z : Event). kind z.step ≡ true) (sym same) k) h))
 at_each kind P done (y ∷ es) h (x ∷ before) e behind is k =
     let same : y ≡ x = cc in
     let rest : es ≡ before ++ e ∷ behind = cc in
-    let later = at_each kind P (done ++ y ∷ []) es (also_second (kind y.step) (P done y) (AtEach kind P (done ++ y ∷ []) es) h) before e behind rest k in
+    let later = at_each kind P (done ++ y ∷ []) es
+    (also_second (kind y.step) (P done y) (AtEach kind P (done ++ y ∷ []) es) h) before e behind rest k in
     subst (λ (z : Event). P (done ++ z ∷ before) e) same (rw append_assoc at later)

@@ -1,5 +1,6 @@
 -- What is granted stands at its New's place.
-use Rattle.std.proofs.Common.{◌≡◌, ℕ, ◌+◌, ◌*◌, ◌/◌, ◌<◌, ◌≤◌, Bool, true, false, [], length, sym, ap, subst, ◌∙◌, inl, inr, arith}
+use Rattle.std.proofs.Common.{◌≡◌, ℕ, ◌+◌, ◌*◌, ◌/◌, ◌<◌, ◌≤◌, Bool, true, false, [], length, sym, ap, subst, ◌∙◌, inl}
+use Rattle.std.proofs.Common.{inr, arith}
 use Rattle.std.specs.Prelude.{◌&&◌, nat_lt}
 use Rattle.std.proofs.lemmas.Bool.{cases_Bool, and_parts, ltb-true, cond-true, cond-false, eqb-true}
 use Rattle.mk_never.specs.declared.operations.Op.{Op}
@@ -17,7 +18,8 @@ use Rattle.mk_core.specs.Config.{IsWithinLimits}
 use Rattle.mk_core.specs.Words.{Words, header_at}
 use Rattle.mk_core.specs.Calls.{has_operands, has_type, q_of, p_of, r_of, d_of, g_of}
 use Rattle.mk_core.specs.Accesses.{granted_base}
-use Rattle.mk_core.specs.NewPlaces.{object_of, object_made, is_small_object, class_made, pages_made, header_made, base_made, place_stands, stands, is_undecided_new}
+use Rattle.mk_core.specs.NewPlaces.{object_of, object_made, is_small_object, class_made, pages_made, header_made}
+use Rattle.mk_core.specs.NewPlaces.{base_made, place_stands, stands, is_undecided_new}
 use Rattle.mk_core.specs.ObjectHeaders.{IsSized, cells_made, words_made}
 use Rattle.mk_core.specs.Allocations.{PlacedAllocation, type_made, granted}
 use Rattle.mk_core.specs.Moments.{Moment}
@@ -28,30 +30,40 @@ use Rattle.mk_core.proofs.StandingAllocations.{made_begins}
 use Rattle.mk_core.proofs.PlacesNow.{undecided_new}
 
 -- Its object is the one that the New makes,
-made_is : (c : Config) (o : Op) (d ty : ℕ) (full : Bool) → o ≡ op.New d ty full → object_of (kinds_of c.types (type_made o)) ≡ object_made c o
-made_is c o d ty full is = ap (λ (x : Op). object_of (kinds_of c.types (type_made x))) is ∙ sym (ap (λ (x : Op). object_made c x) is)
+made_is : (c : Config) (o : Op) (d ty : ℕ) (full : Bool) → o ≡ op.New d ty full
+    → object_of (kinds_of c.types (type_made o)) ≡ object_made c o
+made_is c o d ty full is = ap (λ (x : Op). object_of (kinds_of c.types (type_made x))) is
+    ∙ sym (ap (λ (x : Op). object_made c x) is)
 
-pub granted_object : (c : Config) (m : Moment) (f : Flight) → is_undecided_new f ≡ true → object_placed c (granted c m f) ≡ object_made c f.op
+pub granted_object : (c : Config) (m : Moment) (f : Flight) → is_undecided_new f ≡ true
+    → object_placed c (granted c m f) ≡ object_made c f.op
 granted_object c m f new = let n = undecided_new f new in made_is c f.op n.d n.ty n.full n.op
 
 -- whose type is there,
-typed_by : (c : Config) (o : Op) (d ty : ℕ) (full : Bool) → o ≡ op.New d ty full → has_operands c o ≡ true → type_made o < length c.types
+typed_by : (c : Config) (o : Op) (d ty : ℕ) (full : Bool) → o ≡ op.New d ty full → has_operands c o ≡ true
+    → type_made o < length c.types
 typed_by c o d ty full is h =
-    let typed = (and_parts (nat_lt (q_of o) 8 && nat_lt (p_of o) 8 && nat_lt (r_of o) 8 && nat_lt (d_of o) 8 && nat_lt (g_of o) 64) (has_type c o) h).1 in
+    let typed = (and_parts
+    (nat_lt (q_of o) 8 && nat_lt (p_of o) 8 && nat_lt (r_of o) 8 && nat_lt (d_of o) 8 && nat_lt (g_of o) 64)
+    (has_type c o) h).1 in
     let at : nat_lt ty (length c.types) ≡ true = ap (λ (x : Op). has_type c x) (sym is) ∙ typed in
     subst (λ (x : Op). type_made x < length c.types) (sym is) (ltb-true ty (length c.types) at)
 
-pub granted_type : (c : Config) (m : Moment) (f : Flight) → is_undecided_new f ≡ true → has_operands c f.op ≡ true → (granted c m f).ty < length c.types
+pub granted_type : (c : Config) (m : Moment) (f : Flight) → is_undecided_new f ≡ true → has_operands c f.op ≡ true
+    → (granted c m f).ty < length c.types
 granted_type c m f new h = let n = undecided_new f new in typed_by c f.op n.d n.ty n.full n.op h
 
 -- so it has 1 to 4,096 words.
-pub new_sized : (c : Config) (f : Flight) → IsWithinLimits c → is_undecided_new f ≡ true → has_operands c f.op ≡ true → IsSized (object_made c f.op)
+pub new_sized : (c : Config) (f : Flight) → IsWithinLimits c → is_undecided_new f ≡ true → has_operands c f.op ≡ true
+    → IsSized (object_made c f.op)
 new_sized c f limits new h =
     let n = undecided_new f new in
-    subst (λ (o : Object). IsSized o) (made_is c f.op n.d n.ty n.full n.op) (limits.types (type_made f.op) [] (typed_by c f.op n.d n.ty n.full n.op h)).0
+    subst (λ (o : Object). IsSized o) (made_is c f.op n.d n.ty n.full n.op)
+    (limits.types (type_made f.op) [] (typed_by c f.op n.d n.ty n.full n.op h)).0
 
 -- The words of a place end with its pages.
-pub place_ends : (o : Object) (place : Place) → IsSized o → place.index < cells_made o → base_made o place + words_made o ≤ 64 * (place.page + pages_made o)
+pub place_ends : (o : Object) (place : Place) → IsSized o → place.index < cells_made o
+    → base_made o place + words_made o ≤ 64 * (place.page + pages_made o)
 place_ends o place sized known = elim (cases_Bool (is_small_object o)) [
   | inl small ↦
       let within : place.index < cells_of (class_made o) = subst (λ n. place.index < n) (small_cells o small) known in
@@ -59,17 +71,20 @@ place_ends o place sized known = elim (cases_Bool (is_small_object o)) [
       let words = small_words o small in
       let one = small_pages o small in
       let is : base_made o place ≡ 64 * place.page + place.index * class_words_of (class_made o) =
-      ap (λ n. 64 * place.page + n) (cond-true (is_small_object o) (place.index * class_words_of (class_made o)) 0 small) in
+      ap (λ n. 64 * place.page + n)
+      (cond-true (is_small_object o) (place.index * class_words_of (class_made o)) 0 small) in
       omega arith
   | inr large ↦
       let words = large_words o large in
       let is : base_made o place ≡ 64 * place.page + 0 =
-      ap (λ n. 64 * place.page + n) (cond-false (is_small_object o) (place.index * class_words_of (class_made o)) 0 large) in
+      ap (λ n. 64 * place.page + n)
+      (cond-false (is_small_object o) (place.index * class_words_of (class_made o)) 0 large) in
       omega arith
 ]
 
 -- The object of a place, as an allocation of its type with its base, stands there,
-pub placed_stands : (c : Config) (a : PlacedAllocation) (place : Place) → IsWithinLimits c → a.ty < length c.types → a.released ≡ false
+pub placed_stands : (c : Config) (a : PlacedAllocation) (place : Place) → IsWithinLimits c → a.ty < length c.types
+    → a.released ≡ false
     → a.base ≡ base_made (object_placed c a) place → place.index < cells_made (object_placed c a)
     → place.page + pages_made (object_placed c a) ≤ c.pages → StandsOnHeap c a
 placed_stands c a place limits typed unreleased base known within =
@@ -86,17 +101,21 @@ placed_stands c a place limits typed unreleased base known within =
     }
 
 -- and has its headers, where these stand.
-pub placed_headers : (c : Config) (w : Words) (a : PlacedAllocation) (place : Place) → IsWithinLimits c → a.ty < length c.types
+pub placed_headers : (c : Config) (w : Words) (a : PlacedAllocation) (place : Place) → IsWithinLimits c
+    → a.ty < length c.types
     → a.base ≡ base_made (object_placed c a) place → place.index < cells_made (object_placed c a)
     → place_stands w (object_placed c a) place ≡ true → HasItsHeaders c w a
 placed_headers c w a place limits typed base known h distance near =
     let sized : IsSized (object_placed c a) = (limits.types a.ty [] typed).0 in
-    let page : a.base / 64 ≡ place.page = ap (λ n. n / 64) base ∙ (made_begins (object_placed c a) place sized known).2 in
+    let page : a.base / 64 ≡ place.page = ap (λ n. n / 64) base
+    ∙ (made_begins (object_placed c a) place sized known).2 in
     let at : header_at w (place.page + distance) ≡ header_made (object_placed c a) distance =
     eqb-true (header_at w (place.page + distance)) (header_made (object_placed c a) distance)
-    (all_below-at (pages_made (object_placed c a)) distance (stands w place.page (header_made (object_placed c a))) h near) in
+    (all_below-at (pages_made (object_placed c a)) distance (stands w place.page (header_made (object_placed c a))) h
+    near) in
     inl (ap (λ p. header_at w (p + distance)) page ∙ at)
 
 -- A grant's base is that of the place whose cell is taken.
-pub granted_base_is : (c : Config) (f : Flight) (placing : Placing) (place : Place) → placing ≡ Used place → granted_base c f placing ≡ base_made (object_made c f.op) place
+pub granted_base_is : (c : Config) (f : Flight) (placing : Placing) (place : Place) → placing ≡ Used place
+    → granted_base c f placing ≡ base_made (object_made c f.op) place
 granted_base_is c f placing place is = ap (λ (x : Placing). granted_base c f x) is

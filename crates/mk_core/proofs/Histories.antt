@@ -6,7 +6,8 @@ use Rattle.mk_core.specs.Enabled.{IsEnabled}
 use Rattle.mk_core.specs.Decided.{Decided}
 use Rattle.mk_core.specs.History.{World, world_behind, left_from, AreEnabledFrom, call_decided, calls_from}
 
-pub left_append : (c : Config) (w : World) (xs ys : List Event) → left_from c w (xs ++ ys) ≡ left_from c (left_from c w xs) ys
+pub left_append : (c : Config) (w : World) (xs ys : List Event)
+    → left_from c w (xs ++ ys) ≡ left_from c (left_from c w xs) ys
 unfolding left_from
 left_append c w [] ys = refl
 left_append c w (x ∷ xs) ys = left_append c (world_behind c w x) xs ys
@@ -21,9 +22,11 @@ pub enabled_parts : (c : Config) (w : World) (xs ys : List Event)
     → AreEnabledFrom c w (xs ++ ys) → AreEnabledFrom c w xs × AreEnabledFrom c (left_from c w xs) ys
 unfolding left_from AreEnabledFrom
 enabled_parts c w [] ys h = (tt, h)
-enabled_parts c w (x ∷ xs) ys h = let parts = enabled_parts c (world_behind c w x) xs ys h.1 in ((h.0, parts.0), parts.1)
+enabled_parts c w (x ∷ xs) ys h = let parts =
+    enabled_parts c (world_behind c w x) xs ys h.1 in ((h.0, parts.0), parts.1)
 
-pub calls_append : (c : Config) (w : World) (xs ys : List Event) → calls_from c w (xs ++ ys) ≡ calls_from c w xs ++ calls_from c (left_from c w xs) ys
+pub calls_append : (c : Config) (w : World) (xs ys : List Event)
+    → calls_from c w (xs ++ ys) ≡ calls_from c w xs ++ calls_from c (left_from c w xs) ys
 unfolding left_from calls_from
 calls_append c w [] ys = refl
 calls_append c w (x ∷ xs) ys =
@@ -32,19 +35,23 @@ calls_append c w (x ∷ xs) ys =
 
 -- with one event more
 
-pub left_more : (c : Config) (w : World) (es : List Event) (e : Event) → left_from c w (es ++ e ∷ []) ≡ world_behind c (left_from c w es) e
+pub left_more : (c : Config) (w : World) (es : List Event) (e : Event)
+    → left_from c w (es ++ e ∷ []) ≡ world_behind c (left_from c w es) e
 unfolding left_from
 left_more c w es e = left_append c w es (e ∷ [])
 
-pub enabled_more : (c : Config) (w : World) (es : List Event) (e : Event) → AreEnabledFrom c w es → IsEnabled c (left_from c w es).now e → AreEnabledFrom c w (es ++ e ∷ [])
+pub enabled_more : (c : Config) (w : World) (es : List Event) (e : Event) → AreEnabledFrom c w es
+    → IsEnabled c (left_from c w es).now e → AreEnabledFrom c w (es ++ e ∷ [])
 unfolding AreEnabledFrom
 enabled_more c w es e h x = enabled_append c w es (e ∷ []) h (x, tt)
 
 -- the last event was enabled behind the others
-pub last_enabled : (c : Config) (w : World) (es : List Event) (e : Event) → AreEnabledFrom c w (es ++ e ∷ []) → IsEnabled c (left_from c w es).now e
+pub last_enabled : (c : Config) (w : World) (es : List Event) (e : Event) → AreEnabledFrom c w (es ++ e ∷ [])
+    → IsEnabled c (left_from c w es).now e
 unfolding AreEnabledFrom
 last_enabled c w es e h = (enabled_parts c w es (e ∷ []) h).1.0
 
-pub calls_more : (c : Config) (w : World) (es : List Event) (e : Event) → calls_from c w (es ++ e ∷ []) ≡ calls_from c w es ++ call_decided c (left_from c w es).now e
+pub calls_more : (c : Config) (w : World) (es : List Event) (e : Event)
+    → calls_from c w (es ++ e ∷ []) ≡ calls_from c w es ++ call_decided c (left_from c w es).now e
 unfolding calls_from
 calls_more c w es e = calls_append c w es (e ∷ []) ∙ ap (λ (zs : List Decided). calls_from c w es ++ zs) (append-nil _)

@@ -8,7 +8,8 @@ use Rattle.mk_core.specs.declared.config.Config.{Config}
 use Rattle.mk_core.specs.declared.events.Event.{Event}
 use Rattle.mk_core.specs.Decided.{Decided, asked}
 use Rattle.mk_core.specs.History.{first_world, left, calls_from, calls, never_first}
-use Rattle.mk_core.specs.HistoryLaws.{LeftInParts, EnabledInParts, CallsInParts, NeverInParts, NeverRepliesInParts, CallsAreAdmittedInParts, EarlierPartIsHistory}
+use Rattle.mk_core.specs.HistoryLaws.{LeftInParts, EnabledInParts, CallsInParts, NeverInParts, NeverRepliesInParts}
+use Rattle.mk_core.specs.HistoryLaws.{CallsAreAdmittedInParts, EarlierPartIsHistory}
 use Rattle.mk_core.proofs.Histories.{left_append, enabled_append, enabled_parts, calls_append}
 
 pub left_in_parts : (c : Config) (es more : List Event) → LeftInParts c es more
@@ -21,8 +22,10 @@ enabled_in_parts c es more =
 pub calls_in_parts : (c : Config) (es more : List Event) → CallsInParts c es more
 calls_in_parts c es more = calls_append c (first_world c) es more
 
-asked_in_parts : (c : Config) (es more : List Event) → asked (calls c (es ++ more)) ≡ asked (calls c es) ++ asked (calls_from c (left c es) more)
-asked_in_parts c es more = ap (λ (xs : List Decided). asked xs) (calls_in_parts c es more) ∙ map-append _ (calls c es) (calls_from c (left c es) more)
+asked_in_parts : (c : Config) (es more : List Event)
+    → asked (calls c (es ++ more)) ≡ asked (calls c es) ++ asked (calls_from c (left c es) more)
+asked_in_parts c es more = ap (λ (xs : List Decided). asked xs) (calls_in_parts c es more)
+    ∙ map-append _ (calls c es) (calls_from c (left c es) more)
 
 pub never_in_parts : (c : Config) (es more : List Event) → NeverInParts c es more
 never_in_parts c es more =
@@ -36,11 +39,17 @@ replies_in_parts c es more =
 
 pub admitted_in_parts : (c : Config) (es more : List Event) → CallsAreAdmittedInParts c es more
 admitted_in_parts c es more =
-    let parts = admitted_append c.globals (never_first c) (asked (calls c es)) (asked (calls_from c (left c es) more)) in (
+    let parts = admitted_append c.globals (never_first c) (asked (calls c es)) (asked (calls_from c (left c es) more))
+    in (
       λ h. parts.0 (subst (λ (xs : List Call). AreAdmitted c.globals (never_first c) xs) (asked_in_parts c es more) h),
-      λ h. subst (λ (xs : List Call). AreAdmitted c.globals (never_first c) xs) (sym (asked_in_parts c es more)) (parts.1 h),
+      λ h. subst (λ (xs : List Call). AreAdmitted c.globals (never_first c) xs) (sym (asked_in_parts c es more))
+          (parts.1 h),
     )
 
 pub earlier_part_is_history : (c : Config) (es more : List Event) → EarlierPartIsHistory c es more
 earlier_part_is_history c es more h =
-    record { within_limits = h.within_limits; enabled = ((enabled_in_parts c es more).0 h.enabled).0; admitted = ((admitted_in_parts c es more).0 h.admitted).0 }
+    record {
+      within_limits = h.within_limits;
+      enabled = ((enabled_in_parts c es more).0 h.enabled).0;
+      admitted = ((admitted_in_parts c es more).0 h.admitted).0;
+    }

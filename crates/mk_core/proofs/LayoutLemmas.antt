@@ -6,7 +6,9 @@ use Rattle.mk_core.specs.declared.events.Word.{Word}
 use Rattle.mk_core.specs.declared.events.Word.TheVariants as word
 use Rattle.mk_core.specs.declared.accesses.TableWord.{TableWord}
 use Rattle.mk_core.specs.declared.accesses.TableWord.TheVariants.{Turn, Named}
-use Rattle.mk_core.specs.Layout.{index_of_named, index_of, count_of_words, NamesWord, IsOfTable, LineGroup, OfPhase, OfTurn, OfTallies, OfGlobals, OfPages, OfGate, OfRegisters, line_group_of_named, line_group, LineGroupsAreApart}
+use Rattle.mk_core.specs.Layout.{index_of_named, index_of, count_of_words, NamesWord, IsOfTable, LineGroup, OfPhase}
+use Rattle.mk_core.specs.Layout.{OfTurn, OfTallies, OfGlobals, OfPages, OfGate, OfRegisters, line_group_of_named}
+use Rattle.mk_core.specs.Layout.{line_group, LineGroupsAreApart}
 
 same_register : (c r d s : ℕ) → r < 8 → s < 8 → 304 + 16 * c + r ≡ 304 + 16 * d + s → word.Reg c r ≡ word.Reg d s
 same_register c r d s lr ls e =
@@ -14,7 +16,8 @@ same_register c r d s lr ls e =
     let same_place : r ≡ s = omega arith in
     ap (λ n. word.Reg n r) same_caller ∙ ap (λ n. word.Reg d n) same_place
 
-named_apart : (pages : ℕ) (x y : Word) → NamesWord pages x → NamesWord pages y → index_of_named pages x ≡ index_of_named pages y → x ≡ y
+named_apart : (pages : ℕ) (x y : Word) → NamesWord pages x → NamesWord pages y
+    → index_of_named pages x ≡ index_of_named pages y → x ≡ y
 named_apart pages word.Phase word.Phase hx hy e = refl
 named_apart pages word.Held word.Held hx hy e = refl
 named_apart pages word.Fresh word.Fresh hx hy e = refl
@@ -39,7 +42,8 @@ not_turn : (pages : ℕ) (x : Word) → NamesWord pages x → index_of_named pag
 not_turn pages (word.Reg c r) h e = omega arith
 not_turn pages x h e = omega arith
 
-pub names_apart : (pages : ℕ) (x y : TableWord) → IsOfTable pages x → IsOfTable pages y → index_of pages x ≡ index_of pages y → x ≡ y
+pub names_apart : (pages : ℕ) (x y : TableWord) → IsOfTable pages x → IsOfTable pages y
+    → index_of pages x ≡ index_of pages y → x ≡ y
 names_apart pages Turn Turn hx hy e = refl
 names_apart pages Turn (Named y) hx hy e = absurd (not_turn pages y hy (sym e))
 names_apart pages (Named x) Turn hx hy e = absurd (not_turn pages x hx e)
@@ -94,13 +98,29 @@ record StandsIn (group place : ℕ) : Type 0 where
   globals : group ≡ 35 → place < 624
   last : 35 < group → group ≡ 40
 
-named_stands_in : (pages : ℕ) (x : Word) → NamesWord pages x → StandsIn (rank (line_group_of_named x)) (index_of_named pages x)
+named_stands_in : (pages : ℕ) (x : Word) → NamesWord pages x
+    → StandsIn (rank (line_group_of_named x)) (index_of_named pages x)
 named_stands_in pages (word.Reg c r) h =
-    let lc = h.0 in let lr = h.1 in record { first = omega arith; few = λ l. omega arith; globals = λ l. omega arith; last = λ l. omega arith }
-named_stands_in pages x h = record { first = omega arith; few = λ l. omega arith; globals = λ l. omega arith; last = λ l. omega arith }
+    let lc = h.0 in let lr = h.1 in record {
+      first = omega arith;
+      few = λ l. omega arith;
+      globals = λ l. omega arith;
+      last = λ l. omega arith;
+    }
+named_stands_in pages x h = record {
+  first = omega arith;
+  few = λ l. omega arith;
+  globals = λ l. omega arith;
+  last = λ l. omega arith;
+}
 
 stands_in : (pages : ℕ) (x : TableWord) → IsOfTable pages x → StandsIn (rank (line_group x)) (index_of pages x)
-stands_in pages Turn h = record { first = omega arith; few = λ l. omega arith; globals = λ l. omega arith; last = λ l. omega arith }
+stands_in pages Turn h = record {
+  first = omega arith;
+  few = λ l. omega arith;
+  globals = λ l. omega arith;
+  last = λ l. omega arith;
+}
 stands_in pages (Named x) h = named_stands_in pages x h
 
 later_group : (g h i j : ℕ) → StandsIn g i → StandsIn h j → g < h → i + 8 ≤ j
@@ -113,8 +133,10 @@ later_group g h i j sg sh lt =
 
 pub groups_apart : LineGroupsAreApart
 groups_apart pages x y hx hy ne =
-    elim (cases_order (rank (line_group x)) (rank (line_group y))) as (λ _. (index_of pages x + 8 ≤ index_of pages y) ⊎ (index_of pages y + 8 ≤ index_of pages x)) [
-      | inl same ↦ absurd (ne (same_rank (line_group x) (line_group y) (is_group pages x hx) (is_group pages y hy) same))
+    elim (cases_order (rank (line_group x)) (rank (line_group y))) as (λ _. (index_of pages x + 8 ≤ index_of pages y)
+    ⊎ (index_of pages y + 8 ≤ index_of pages x)) [
+      | inl same ↦ absurd (ne
+          (same_rank (line_group x) (line_group y) (is_group pages x hx) (is_group pages y hy) same))
       | inr (inl less) ↦ inl (later_group _ _ _ _ (stands_in pages x hx) (stands_in pages y hy) less)
       | inr (inr more) ↦ inr (later_group _ _ _ _ (stands_in pages y hy) (stands_in pages x hx) more)
     ]

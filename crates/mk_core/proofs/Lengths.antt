@@ -32,34 +32,178 @@ zero_lengths count =
 
 named_lengths : (count : ℕ) (w : Words) (x : Word) (v : ℕ) → AreOfPages count w → AreOfPages count (with_named w x v)
 named_lengths count w (word.Gate j) v h =
-    record { gates = length-set w.gates j v ∙ h.gates; registers = h.registers; globals = h.globals; pages = h.pages; freed = h.freed; snapshot = h.snapshot; marks = h.marks; blacks = h.blacks; dirty = h.dirty; heap = h.heap }
+    record {
+      gates = length-set w.gates j v
+          ∙ h.gates;
+      registers = h.registers;
+      globals = h.globals;
+      pages = h.pages;
+      freed = h.freed;
+      snapshot = h.snapshot;
+      marks = h.marks;
+      blacks = h.blacks;
+      dirty = h.dirty;
+      heap = h.heap;
+    }
 named_lengths count w (word.Reg c r) v h =
-    record { gates = h.gates; registers = length-set w.registers (8 * c + r) v ∙ h.registers; globals = h.globals; pages = h.pages; freed = h.freed; snapshot = h.snapshot; marks = h.marks; blacks = h.blacks; dirty = h.dirty; heap = h.heap }
+    record {
+      gates = h.gates;
+      registers = length-set w.registers (8 * c + r) v
+          ∙ h.registers;
+      globals = h.globals;
+      pages = h.pages;
+      freed = h.freed;
+      snapshot = h.snapshot;
+      marks = h.marks;
+      blacks = h.blacks;
+      dirty = h.dirty;
+      heap = h.heap;
+    }
 named_lengths count w (word.Global g) v h =
-    record { gates = h.gates; registers = h.registers; globals = length-set w.globals g v ∙ h.globals; pages = h.pages; freed = h.freed; snapshot = h.snapshot; marks = h.marks; blacks = h.blacks; dirty = h.dirty; heap = h.heap }
+    record {
+      gates = h.gates;
+      registers = h.registers;
+      globals = length-set w.globals g v
+          ∙ h.globals;
+      pages = h.pages;
+      freed = h.freed;
+      snapshot = h.snapshot;
+      marks = h.marks;
+      blacks = h.blacks;
+      dirty = h.dirty;
+      heap = h.heap;
+    }
 named_lengths count w (word.Head p) v h =
-    record { gates = h.gates; registers = h.registers; globals = h.globals; pages = length-set w.pages p _ ∙ h.pages; freed = h.freed; snapshot = h.snapshot; marks = h.marks; blacks = h.blacks; dirty = h.dirty; heap = h.heap }
+    record {
+      gates = h.gates;
+      registers = h.registers;
+      globals = h.globals;
+      pages = length-set w.pages p _
+          ∙ h.pages;
+      freed = h.freed;
+      snapshot = h.snapshot;
+      marks = h.marks;
+      blacks = h.blacks;
+      dirty = h.dirty;
+      heap = h.heap;
+    }
 named_lengths count w (word.Used p) v h =
-    record { gates = h.gates; registers = h.registers; globals = h.globals; pages = length-set w.pages p _ ∙ h.pages; freed = h.freed; snapshot = h.snapshot; marks = h.marks; blacks = h.blacks; dirty = h.dirty; heap = h.heap }
+    record {
+      gates = h.gates;
+      registers = h.registers;
+      globals = h.globals;
+      pages = length-set w.pages p _
+          ∙ h.pages;
+      freed = h.freed;
+      snapshot = h.snapshot;
+      marks = h.marks;
+      blacks = h.blacks;
+      dirty = h.dirty;
+      heap = h.heap;
+    }
 named_lengths count w (word.Quar p) v h =
-    record { gates = h.gates; registers = h.registers; globals = h.globals; pages = h.pages; freed = length-set w.freed p _ ∙ h.freed; snapshot = length-set w.snapshot p _ ∙ h.snapshot; marks = h.marks; blacks = h.blacks; dirty = h.dirty; heap = h.heap }
+    record {
+      gates = h.gates;
+      registers = h.registers;
+      globals = h.globals;
+      pages = h.pages;
+      freed = length-set w.freed p _ ∙ h.freed;
+      snapshot = length-set w.snapshot p _
+          ∙ h.snapshot;
+      marks = h.marks;
+      blacks = h.blacks;
+      dirty = h.dirty;
+      heap = h.heap;
+    }
 named_lengths count w (word.Mark p) v h =
-    record { gates = h.gates; registers = h.registers; globals = h.globals; pages = h.pages; freed = h.freed; snapshot = h.snapshot; marks = length-set w.marks p v ∙ h.marks; blacks = h.blacks; dirty = h.dirty; heap = h.heap }
+    record {
+      gates = h.gates;
+      registers = h.registers;
+      globals = h.globals;
+      pages = h.pages;
+      freed = h.freed;
+      snapshot = h.snapshot;
+      marks = length-set w.marks p v
+          ∙ h.marks;
+      blacks = h.blacks;
+      dirty = h.dirty;
+      heap = h.heap;
+    }
 named_lengths count w (word.Black p) v h =
-    record { gates = h.gates; registers = h.registers; globals = h.globals; pages = h.pages; freed = h.freed; snapshot = h.snapshot; marks = h.marks; blacks = length-set w.blacks p v ∙ h.blacks; dirty = h.dirty; heap = h.heap }
+    record {
+      gates = h.gates;
+      registers = h.registers;
+      globals = h.globals;
+      pages = h.pages;
+      freed = h.freed;
+      snapshot = h.snapshot;
+      marks = h.marks;
+      blacks = length-set w.blacks p v
+          ∙ h.blacks;
+      dirty = h.dirty;
+      heap = h.heap;
+    }
 named_lengths count w (word.Dirty p) v h =
-    record { gates = h.gates; registers = h.registers; globals = h.globals; pages = h.pages; freed = h.freed; snapshot = h.snapshot; marks = h.marks; blacks = h.blacks; dirty = length-set w.dirty p v ∙ h.dirty; heap = h.heap }
+    record {
+      gates = h.gates;
+      registers = h.registers;
+      globals = h.globals;
+      pages = h.pages;
+      freed = h.freed;
+      snapshot = h.snapshot;
+      marks = h.marks;
+      blacks = h.blacks;
+      dirty = length-set w.dirty p v
+          ∙ h.dirty;
+      heap = h.heap;
+    }
 named_lengths count w (word.Heap n) v h =
-    record { gates = h.gates; registers = h.registers; globals = h.globals; pages = h.pages; freed = h.freed; snapshot = h.snapshot; marks = h.marks; blacks = h.blacks; dirty = h.dirty; heap = length-set w.heap n v ∙ h.heap }
+    record {
+      gates = h.gates;
+      registers = h.registers;
+      globals = h.globals;
+      pages = h.pages;
+      freed = h.freed;
+      snapshot = h.snapshot;
+      marks = h.marks;
+      blacks = h.blacks;
+      dirty = h.dirty;
+      heap = length-set w.heap n v
+          ∙ h.heap;
+    }
 named_lengths count w _ v h =
-    record { gates = h.gates; registers = h.registers; globals = h.globals; pages = h.pages; freed = h.freed; snapshot = h.snapshot; marks = h.marks; blacks = h.blacks; dirty = h.dirty; heap = h.heap }
+    record {
+      gates = h.gates;
+      registers = h.registers;
+      globals = h.globals;
+      pages = h.pages;
+      freed = h.freed;
+      snapshot = h.snapshot;
+      marks = h.marks;
+      blacks = h.blacks;
+      dirty = h.dirty;
+      heap = h.heap;
+    }
 
-word_lengths : (count : ℕ) (w : Words) (x : TableWord) (v : ℕ) → AreOfPages count w → AreOfPages count (with_word_in w x v)
+word_lengths : (count : ℕ) (w : Words) (x : TableWord) (v : ℕ) → AreOfPages count w
+    → AreOfPages count (with_word_in w x v)
 word_lengths count w Turn v h =
-    record { gates = h.gates; registers = h.registers; globals = h.globals; pages = h.pages; freed = h.freed; snapshot = h.snapshot; marks = h.marks; blacks = h.blacks; dirty = h.dirty; heap = h.heap }
+    record {
+      gates = h.gates;
+      registers = h.registers;
+      globals = h.globals;
+      pages = h.pages;
+      freed = h.freed;
+      snapshot = h.snapshot;
+      marks = h.marks;
+      blacks = h.blacks;
+      dirty = h.dirty;
+      heap = h.heap;
+    }
 word_lengths count w (Named x) v h = named_lengths count w x v h
 
-pub accessed_lengths : (count : ℕ) (w : Words) (x : TableWord) (a : Access) → AreOfPages count w → AreOfPages count (accessed w x a)
+pub accessed_lengths : (count : ℕ) (w : Words) (x : TableWord) (a : Access) → AreOfPages count w
+    → AreOfPages count (accessed w x a)
 accessed_lengths count w x Load h = h
 accessed_lengths count w x (Store v) h = word_lengths count w x v h
 accessed_lengths count w x (Exchange old new) h = word_lengths count w x (becomes (Exchange old new) (word_in w x)) h
@@ -67,10 +211,13 @@ accessed_lengths count w x (Or bits) h = word_lengths count w x (becomes (Or bit
 accessed_lengths count w x (Add n) h = word_lengths count w x (becomes (Add n) (word_in w x)) h
 accessed_lengths count w x (Sub n) h = word_lengths count w x (becomes (Sub n) (word_in w x)) h
 
-left_lengths : (c : Config) (w : World) (es : List Event) → AreOfPages c.pages w.now.words → AreOfPages c.pages (left_from c w es).now.words
+left_lengths : (c : Config) (w : World) (es : List Event) → AreOfPages c.pages w.now.words
+    → AreOfPages c.pages (left_from c w es).now.words
 unfolding left_from
 left_lengths c w [] h = h
-left_lengths c w (e ∷ es) h = left_lengths c (world_behind c w e) es (accessed_lengths c.pages w.now.words (reached c w.now e) (access c w.now e) h)
+left_lengths c w (e ∷ es) h =
+    left_lengths c (world_behind c w e) es
+    (accessed_lengths c.pages w.now.words (reached c w.now e) (access c w.now e) h)
 
 pub histories_keep_lengths : (c : Config) (es : List Event) → AreOfPages c.pages (left c es).now.words
 histories_keep_lengths c es = left_lengths c (first_world c) es (zero_lengths c.pages)

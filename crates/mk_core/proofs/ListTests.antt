@@ -1,5 +1,6 @@
 -- Tests of lists that compute: what they say of each element, at every index, and of each front of a list.
-use Rattle.std.proofs.Common.{◌≡◌, ℕ, zero, suc, Bool, true, false, not, ◌&&◌, ◌||◌, List, [], ◌∷◌, ◌++◌, slice_index_or, sym, ◌∙◌, ap}
+use Rattle.std.proofs.Common.{◌≡◌, ℕ, zero, suc, Bool, true, false, not, ◌&&◌, ◌||◌, List, [], ◌∷◌, ◌++◌}
+use Rattle.std.proofs.Common.{slice_index_or, sym, ◌∙◌, ap}
 use Rattle.std.specs.List.{list_all}
 use Rattle.std.proofs.lemmas.Bool.{and_parts, false≢true}
 
@@ -13,7 +14,8 @@ pub list_all-at : {A : Type 0} (test : A → Bool) (xs : List A) (d : A) → lis
     → (i : ℕ) → test (slice_index_or xs i d) ≡ true
 list_all-at test [] d h behind i = behind
 list_all-at test (x ∷ xs) d h behind zero = (and_parts (test x) (list_all test xs) h).0
-list_all-at test (x ∷ xs) d h behind (suc i) = list_all-at test xs d (and_parts (test x) (list_all test xs) h).1 behind i
+list_all-at test (x ∷ xs) d h behind (suc i) =
+    list_all-at test xs d (and_parts (test x) (list_all test xs) h).1 behind i
 
 -- The test holds of each element, with its number.
 unfoldable pub numbered_all : {A : Type 0} → (ℕ → A → Bool) → List A → Bool
@@ -27,7 +29,8 @@ unfolding numbered_all
 numbered_all-at test [] d h behind i = behind i
 numbered_all-at test (x ∷ xs) d h behind zero = (and_parts (test 0 x) (numbered_all (λ i y. test (suc i) y) xs) h).0
 numbered_all-at test (x ∷ xs) d h behind (suc i) =
-    numbered_all-at (λ i y. test (suc i) y) xs d (and_parts (test 0 x) (numbered_all (λ i y. test (suc i) y) xs) h).1 (λ j. behind (suc j)) i
+    numbered_all-at (λ i y. test (suc i) y) xs d (and_parts (test 0 x) (numbered_all (λ i y. test (suc i) y) xs) h).1
+    (λ j. behind (suc j)) i
 
 -- The test holds of each front of the list, from none of it to all.
 unfoldable pub all_fronts : {A : Type 0} → (List A → Bool) → List A → Bool
@@ -44,4 +47,5 @@ all_fronts-at test (x ∷ xs) (y ∷ front) rest h is =
     let same : x ≡ y = cc in
     let others : xs ≡ front ++ rest = cc in
     ap (λ z. test (z ∷ front)) (sym same)
-    ∙ all_fronts-at (λ ys. test (x ∷ ys)) xs front rest (and_parts (test []) (all_fronts (λ ys. test (x ∷ ys)) xs) h).1 others
+    ∙ all_fronts-at (λ ys. test (x ∷ ys)) xs front rest (and_parts (test []) (all_fronts (λ ys. test (x ∷ ys)) xs) h).1
+    others

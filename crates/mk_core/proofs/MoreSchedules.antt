@@ -93,7 +93,8 @@ no_fault_exchanged = refl
 
 -- In the stop the host looks at the pointer word of an object that has no mark, and marks by it.
 unfoldable pub before_the_sweep : List Event
-before_the_sweep = exchanged ++ by host (step.Take None ∷ step.Hold 0 ∷ step.Begin ∷ step.Want ∷ step.Look (word.Heap 0) ∷ [])
+before_the_sweep = exchanged
+    ++ by host (step.Take None ∷ step.Hold 0 ∷ step.Begin ∷ step.Want ∷ step.Look (word.Heap 0) ∷ [])
 
 unfoldable pub sweeping_mark : Event
 sweeping_mark = record { seat = host; step = step.Mark 0 2 }

@@ -1,5 +1,6 @@
 -- What the header of each page of an object shows.
-use Rattle.std.proofs.Common.{◌≡◌, ◌≢◌, ℕ, zero, suc, ◌+◌, ◌<◌, ◌≤◌, Bool, true, false, refl, sym, ◌∙◌, ap, subst, inl, inr, arith}
+use Rattle.std.proofs.Common.{◌≡◌, ◌≢◌, ℕ, zero, suc, ◌+◌, ◌<◌, ◌≤◌, Bool, true, false, refl, sym, ◌∙◌, ap, subst, inl}
+use Rattle.std.proofs.Common.{inr, arith}
 use Rattle.std.specs.Prelude.{◌&&◌, ◌||◌, Option, Some}
 use Rattle.std.proofs.lemmas.Bool.{cases_Bool, cases_eq, true≢false, cond-true, cond-false}
 use Rattle.mk_geom.specs.declared.headers.Header.{Header}
@@ -12,41 +13,58 @@ use Rattle.mk_core.specs.declared.seats.Object.{Object}
 use Rattle.mk_geom.specs.Addresses.{head_page_under}
 use Rattle.mk_core.specs.Cells.{cells_under, words_under, heads_run, is_unmapped_header, has_no_pointers}
 use Rattle.mk_core.specs.NewPlaces.{is_small_object, class_made, pages_made, header_made, unmapped_header}
-use Rattle.mk_core.specs.ObjectHeaders.{IsSized, cells_made, words_made, ShowsPart, OfBlock, OfLeafBlock, OfRun, OfLeafRun, OfLater, IsHeaderOf, FirstPartsHaveCells}
-use Rattle.mk_core.proofs.Sizes.{small_cells, large_cells, small_pages, large_pages, small_words, large_words, class_known, large_count}
+use Rattle.mk_core.specs.ObjectHeaders.{IsSized, cells_made, words_made, ShowsPart, OfBlock, OfLeafBlock, OfRun}
+use Rattle.mk_core.specs.ObjectHeaders.{OfLeafRun, OfLater, IsHeaderOf, FirstPartsHaveCells}
+use Rattle.mk_core.proofs.Sizes.{small_cells, large_cells, small_pages, large_pages, small_words, large_words}
+use Rattle.mk_core.proofs.Sizes.{class_known, large_count}
 
-pub small_header : (o : Object) (distance : ℕ) → is_small_object o ≡ true → header_made o distance ≡ word_of (block_header (class_made o) o.leaf)
+pub small_header : (o : Object) (distance : ℕ) → is_small_object o ≡ true
+    → header_made o distance ≡ word_of (block_header (class_made o) o.leaf)
 small_header o distance small =
-    cond-true (is_small_object o) (word_of (block_header (class_made o) o.leaf)) (word_of (run_header (run_pages_of o.words) true o.leaf distance)) small
+    cond-true (is_small_object o) (word_of (block_header (class_made o) o.leaf))
+    (word_of (run_header (run_pages_of o.words) true o.leaf distance)) small
 
-pub large_header : (o : Object) (distance : ℕ) → is_small_object o ≡ false → header_made o distance ≡ word_of (run_header (pages_made o) true o.leaf distance)
+pub large_header : (o : Object) (distance : ℕ) → is_small_object o ≡ false
+    → header_made o distance ≡ word_of (run_header (pages_made o) true o.leaf distance)
 large_header o distance large =
-    cond-false (is_small_object o) (word_of (block_header (class_made o) o.leaf)) (word_of (run_header (run_pages_of o.words) true o.leaf distance)) large
+    cond-false (is_small_object o) (word_of (block_header (class_made o) o.leaf))
+    (word_of (run_header (run_pages_of o.words) true o.leaf distance)) large
     ∙ ap (λ n. word_of (run_header n true o.leaf distance)) (sym (large_pages o large))
 
-block_part : (o : Object) (distance : ℕ) (leaf : Bool) → o.leaf ≡ leaf → class_made o < 8 → distance ≡ 0 → is_small_object o ≡ true
+block_part : (o : Object) (distance : ℕ) (leaf : Bool) → o.leaf ≡ leaf → class_made o < 8 → distance ≡ 0
+    → is_small_object o ≡ true
     → ShowsPart o distance (header_of (word_of (block_header (class_made o) leaf)))
 block_part o distance true is known first small =
-    subst (λ (x : Option Header). ShowsPart o distance x) (sym (header_of-word_of (LeafBlock (class_made o)) known)) (OfLeafBlock first small is)
+    subst (λ (x : Option Header). ShowsPart o distance x) (sym (header_of-word_of (LeafBlock (class_made o)) known))
+    (OfLeafBlock first small is)
 block_part o distance false is known first small =
-    subst (λ (x : Option Header). ShowsPart o distance x) (sym (header_of-word_of (Block (class_made o)) known)) (OfBlock first small is)
+    subst (λ (x : Option Header). ShowsPart o distance x) (sym (header_of-word_of (Block (class_made o)) known))
+    (OfBlock first small is)
 
-run_part : (o : Object) (distance : ℕ) (mapped leaf : Bool) → (mapped && o.leaf) ≡ (mapped && leaf) → (1 ≤ pages_made o) × (pages_made o ≤ 64)
-    → distance < pages_made o → is_small_object o ≡ false → ShowsPart o distance (header_of (word_of (run_header (pages_made o) mapped leaf distance)))
+run_part : (o : Object) (distance : ℕ) (mapped leaf : Bool) → (mapped && o.leaf) ≡ (mapped && leaf)
+    → (1 ≤ pages_made o) × (pages_made o ≤ 64)
+    → distance < pages_made o → is_small_object o ≡ false
+    → ShowsPart o distance (header_of (word_of (run_header (pages_made o) mapped leaf distance)))
 run_part o zero true true is range lt large =
-    subst (λ (x : Option Header). ShowsPart o 0 x) (sym (header_of-word_of (LeafRun (pages_made o)) range)) (OfLeafRun refl large is)
+    subst (λ (x : Option Header). ShowsPart o 0 x) (sym (header_of-word_of (LeafRun (pages_made o)) range))
+    (OfLeafRun refl large is)
 run_part o zero true false is range lt large =
-    subst (λ (x : Option Header). ShowsPart o 0 x) (sym (header_of-word_of (Run (pages_made o) true) range)) (OfRun true refl large is)
+    subst (λ (x : Option Header). ShowsPart o 0 x) (sym (header_of-word_of (Run (pages_made o) true) range))
+    (OfRun true refl large is)
 run_part o zero false true is range lt large =
-    subst (λ (x : Option Header). ShowsPart o 0 x) (sym (header_of-word_of (Run (pages_made o) false) range)) (OfRun false refl large refl)
+    subst (λ (x : Option Header). ShowsPart o 0 x) (sym (header_of-word_of (Run (pages_made o) false) range))
+    (OfRun false refl large refl)
 run_part o zero false false is range lt large =
-    subst (λ (x : Option Header). ShowsPart o 0 x) (sym (header_of-word_of (Run (pages_made o) false) range)) (OfRun false refl large refl)
+    subst (λ (x : Option Header). ShowsPart o 0 x) (sym (header_of-word_of (Run (pages_made o) false) range))
+    (OfRun false refl large refl)
 run_part o (suc d) mapped leaf is range lt large =
     let most = range.1 in
-    subst (λ (x : Option Header). ShowsPart o (suc d) x) (sym (header_of-word_of (Later (suc d) mapped) (omega arith, omega arith))) (OfLater mapped (omega arith) large)
+    subst (λ (x : Option Header). ShowsPart o (suc d) x)
+    (sym (header_of-word_of (Later (suc d) mapped) (omega arith, omega arith))) (OfLater mapped (omega arith) large)
 
 -- The header that is made shows its part,
-pub made_shows : (o : Object) (distance : ℕ) → IsSized o → distance < pages_made o → ShowsPart o distance (header_of (header_made o distance))
+pub made_shows : (o : Object) (distance : ℕ) → IsSized o → distance < pages_made o
+    → ShowsPart o distance (header_of (header_made o distance))
 made_shows o distance sized lt = elim (cases_Bool (is_small_object o)) [
   | inl small ↦
       let one = small_pages o small in
@@ -62,13 +80,16 @@ pub unmapped_shows : (o : Object) (distance : ℕ) → IsSized o → distance < 
     → ShowsPart o distance (header_of (unmapped_header (pages_made o) distance))
 unmapped_shows o distance sized lt large = run_part o distance false false refl (large_count o sized large) lt large
 
-pub header_shows : (o : Object) (distance header : ℕ) → IsSized o → distance < pages_made o → IsHeaderOf o distance header → ShowsPart o distance (header_of header)
-header_shows o distance header sized lt (inl made) = subst (λ h. ShowsPart o distance (header_of h)) (sym made) (made_shows o distance sized lt)
+pub header_shows : (o : Object) (distance header : ℕ) → IsSized o → distance < pages_made o
+    → IsHeaderOf o distance header → ShowsPart o distance (header_of header)
+header_shows o distance header sized lt (inl made) =
+    subst (λ h. ShowsPart o distance (header_of h)) (sym made) (made_shows o distance sized lt)
 header_shows o distance header sized lt (inr unmapped) =
     subst (λ h. ShowsPart o distance (header_of h)) (sym unmapped.1) (unmapped_shows o distance sized lt unmapped.0)
 
 -- What shows a part names its head,
-pub part_head : (o : Object) (distance page : ℕ) (x : Option Header) → ShowsPart o distance x → head_page_under x (page + distance) ≡ page
+pub part_head : (o : Object) (distance page : ℕ) (x : Option Header) → ShowsPart o distance x
+    → head_page_under x (page + distance) ≡ page
 part_head o distance page x (OfBlock first small leaf) = omega arith
 part_head o distance page x (OfLeafBlock first small leaf) = omega arith
 part_head o distance page x (OfRun mapped first large leaf) = omega arith
@@ -115,14 +136,17 @@ later_part o distance x (OfRun mapped first large leaf) some = absurd (omega ari
 later_part o distance x (OfLeafRun first large leaf) some = absurd (omega arith)
 later_part o distance x (OfLater mapped far large) some = (mapped, refl, large)
 
-pub later_cells : (o : Object) (distance : ℕ) (x : Option Header) → ShowsPart o distance x → 1 ≤ distance → cells_under x ≡ 0
+pub later_cells : (o : Object) (distance : ℕ) (x : Option Header) → ShowsPart o distance x → 1 ≤ distance
+    → cells_under x ≡ 0
 later_cells o distance x part some = let is = later_part o distance x part some in ap (λ y. cells_under y) is.1
 
-pub later_words : (o : Object) (distance : ℕ) (x : Option Header) → ShowsPart o distance x → 1 ≤ distance → words_under x ≡ 0
+pub later_words : (o : Object) (distance : ℕ) (x : Option Header) → ShowsPart o distance x → 1 ≤ distance
+    → words_under x ≡ 0
 later_words o distance x part some = let is = later_part o distance x part some in ap (λ y. words_under y) is.1
 
 -- A later page's header is one of a large object's.
-pub shown_later : (o : Object) (distance d : ℕ) (mapped : Bool) (x : Option Header) → ShowsPart o distance x → x ≡ Some (Later d mapped)
+pub shown_later : (o : Object) (distance d : ℕ) (mapped : Bool) (x : Option Header) → ShowsPart o distance x
+    → x ≡ Some (Later d mapped)
     → (d ≡ distance) × (1 ≤ distance) × (is_small_object o ≡ false)
 shown_later o distance d mapped x (OfBlock first small leaf) is = cc
 shown_later o distance d mapped x (OfLeafBlock first small leaf) is = cc
@@ -138,7 +162,8 @@ part_heads_run o x (OfRun mapped first large' leaf) large = refl
 part_heads_run o x (OfLeafRun first large' leaf) large = refl
 part_heads_run o x (OfLater mapped some large') large = absurd (omega arith)
 
-pub small_heads_none : (o : Object) (distance : ℕ) (x : Option Header) → ShowsPart o distance x → is_small_object o ≡ true
+pub small_heads_none : (o : Object) (distance : ℕ) (x : Option Header) → ShowsPart o distance x
+    → is_small_object o ≡ true
     → (heads_run x ≡ false) × (is_unmapped_header x ≡ false)
 small_heads_none o distance x (OfBlock first small leaf) is = (refl, refl)
 small_heads_none o distance x (OfLeafBlock first small leaf) is = (refl, refl)
@@ -147,7 +172,8 @@ small_heads_none o distance x (OfLeafRun first large leaf) is = absurd (true≢f
 small_heads_none o distance x (OfLater mapped some large) is = absurd (true≢false (sym is ∙ large))
 
 -- The object's cell is scanned where the object has a pointer and is mapped.
-pub part_has_no_pointers : (o : Object) (x : Option Header) → ShowsPart o 0 x → has_no_pointers x ≡ (o.leaf || is_unmapped_header x)
+pub part_has_no_pointers : (o : Object) (x : Option Header) → ShowsPart o 0 x
+    → has_no_pointers x ≡ (o.leaf || is_unmapped_header x)
 part_has_no_pointers o x (OfBlock first small leaf) = ap (λ b. b || false) (sym leaf)
 part_has_no_pointers o x (OfLeafBlock first small leaf) = ap (λ b. b || false) (sym leaf)
 part_has_no_pointers o x (OfRun true first large leaf) = ap (λ b. b || false) (sym leaf)
@@ -163,44 +189,58 @@ pub first_part : FirstPartsHaveCells
 first_part o x part = (part_cells o x part, part_words o x part, part_has_no_pointers o x part)
 
 -- Two headers of one page of an object have the same cells and words.
-pub same_cells : (o : Object) (distance : ℕ) (x y : Option Header) → ShowsPart o distance x → ShowsPart o distance y → cells_under x ≡ cells_under y
+pub same_cells : (o : Object) (distance : ℕ) (x y : Option Header) → ShowsPart o distance x → ShowsPart o distance y
+    → cells_under x ≡ cells_under y
 same_cells o distance x y px py = elim (cases_eq distance 0) [
   | inl first ↦
-      part_cells o x (subst (λ d. ShowsPart o d x) first px) ∙ sym (part_cells o y (subst (λ d. ShowsPart o d y) first py))
+      part_cells o x (subst (λ d. ShowsPart o d x) first px)
+      ∙ sym (part_cells o y (subst (λ d. ShowsPart o d y) first py))
   | inr ne ↦ later_cells o distance x px (omega arith) ∙ sym (later_cells o distance y py (omega arith))
 ]
 
-pub same_words : (o : Object) (distance : ℕ) (x y : Option Header) → ShowsPart o distance x → ShowsPart o distance y → words_under x ≡ words_under y
+pub same_words : (o : Object) (distance : ℕ) (x y : Option Header) → ShowsPart o distance x → ShowsPart o distance y
+    → words_under x ≡ words_under y
 same_words o distance x y px py = elim (cases_eq distance 0) [
   | inl first ↦
-      part_words o x (subst (λ d. ShowsPart o d x) first px) ∙ sym (part_words o y (subst (λ d. ShowsPart o d y) first py))
+      part_words o x (subst (λ d. ShowsPart o d x) first px)
+      ∙ sym (part_words o y (subst (λ d. ShowsPart o d y) first py))
   | inr ne ↦ later_words o distance x px (omega arith) ∙ sym (later_words o distance y py (omega arith))
 ]
 
 -- Which headers are unmapped.
-block_mapped : (class : ℕ) (leaf : Bool) → class < 8 → is_unmapped_header (header_of (word_of (block_header class leaf))) ≡ false
-block_mapped class true known = ap (λ (x : Option Header). is_unmapped_header x) (header_of-word_of (LeafBlock class) known)
-block_mapped class false known = ap (λ (x : Option Header). is_unmapped_header x) (header_of-word_of (Block class) known)
+block_mapped : (class : ℕ) (leaf : Bool) → class < 8
+    → is_unmapped_header (header_of (word_of (block_header class leaf))) ≡ false
+block_mapped class true known =
+    ap (λ (x : Option Header). is_unmapped_header x) (header_of-word_of (LeafBlock class) known)
+block_mapped class false known =
+    ap (λ (x : Option Header). is_unmapped_header x) (header_of-word_of (Block class) known)
 
 run_mapped : (count distance : ℕ) (leaf : Bool) → (1 ≤ count) × (count ≤ 64) → distance < count
     → is_unmapped_header (header_of (word_of (run_header count true leaf distance))) ≡ false
-run_mapped count zero true range lt = ap (λ (x : Option Header). is_unmapped_header x) (header_of-word_of (LeafRun count) range)
-run_mapped count zero false range lt = ap (λ (x : Option Header). is_unmapped_header x) (header_of-word_of (Run count true) range)
+run_mapped count zero true range lt =
+    ap (λ (x : Option Header). is_unmapped_header x) (header_of-word_of (LeafRun count) range)
+run_mapped count zero false range lt =
+    ap (λ (x : Option Header). is_unmapped_header x) (header_of-word_of (Run count true) range)
 run_mapped count (suc d) leaf range lt =
     let most = range.1 in
     ap (λ (x : Option Header). is_unmapped_header x) (header_of-word_of (Later (suc d) true) (omega arith, omega arith))
 
-pub made_is_mapped : (o : Object) (distance : ℕ) → IsSized o → distance < pages_made o → is_unmapped_header (header_of (header_made o distance)) ≡ false
+pub made_is_mapped : (o : Object) (distance : ℕ) → IsSized o → distance < pages_made o
+    → is_unmapped_header (header_of (header_made o distance)) ≡ false
 made_is_mapped o distance sized lt = elim (cases_Bool (is_small_object o)) [
   | inl small ↦
-      ap (λ h. is_unmapped_header (header_of h)) (small_header o distance small) ∙ block_mapped (class_made o) o.leaf (class_known o sized small).0
+      ap (λ h. is_unmapped_header (header_of h)) (small_header o distance small)
+      ∙ block_mapped (class_made o) o.leaf (class_known o sized small).0
   | inr large ↦
-      ap (λ h. is_unmapped_header (header_of h)) (large_header o distance large) ∙ run_mapped (pages_made o) distance o.leaf (large_count o sized large) lt
+      ap (λ h. is_unmapped_header (header_of h)) (large_header o distance large)
+      ∙ run_mapped (pages_made o) distance o.leaf (large_count o sized large) lt
 ]
 
 pub unmapped_is_unmapped : (count distance : ℕ) → (1 ≤ count) × (count ≤ 64) → distance < count
     → is_unmapped_header (header_of (unmapped_header count distance)) ≡ true
-unmapped_is_unmapped count zero range lt = ap (λ (x : Option Header). is_unmapped_header x) (header_of-word_of (Run count false) range)
+unmapped_is_unmapped count zero range lt =
+    ap (λ (x : Option Header). is_unmapped_header x) (header_of-word_of (Run count false) range)
 unmapped_is_unmapped count (suc d) range lt =
     let most = range.1 in
-    ap (λ (x : Option Header). is_unmapped_header x) (header_of-word_of (Later (suc d) false) (omega arith, omega arith))
+    ap (λ (x : Option Header). is_unmapped_header x)
+    (header_of-word_of (Later (suc d) false) (omega arith, omega arith))

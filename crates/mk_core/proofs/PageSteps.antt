@@ -1,5 +1,6 @@
 -- What the steps that change a page's header, used and quarantine words find and store.
-use Rattle.std.proofs.Common.{◌≡◌, ℕ, ◌-◌, ◌/◌, ◌%◌, ◌^◌, ◌<◌, Bool, true, false, refl, sym, ◌∙◌, ap, inl, inr, bit_and, ◌⊎◌}
+use Rattle.std.proofs.Common.{◌≡◌, ℕ, ◌-◌, ◌/◌, ◌%◌, ◌^◌, ◌<◌, Bool, true, false, refl, sym, ◌∙◌, ap, inl, inr, bit_and}
+use Rattle.std.proofs.Common.{◌⊎◌}
 use Rattle.std.specs.Prelude.{◌&&◌, ◌||◌, not, ◌==◌, Option, Some, None, slice_index, if◌then◌else◌}
 use Rattle.std.proofs.lemmas.Bool.{cases_Bool, and_parts, eqb-true, not-true, true≢false}
 use Rattle.mk_core.specs.declared.config.Config.{Config}
@@ -9,7 +10,8 @@ use Rattle.mk_core.specs.Words.{Words, used_at, quarantine_word}
 use Rattle.mk_core.specs.Bits.{has_bit, without}
 use Rattle.mk_core.specs.Cells.{head_page, left_unmarked, are_left_unmarked, words_are_zero, first_word, cell_words}
 use Rattle.mk_core.specs.NewPlaces.{object_made, unmapped_header, target}
-use Rattle.mk_core.specs.TurnConditions.{place_now, carves, unmaps, empties, may_head, takes_cell, is_used_once, are_wiped, gives_back, may_use, frees, takes_snapshot, drops, may_quarantine}
+use Rattle.mk_core.specs.TurnConditions.{place_now, carves, unmaps, empties, may_head, takes_cell, is_used_once}
+use Rattle.mk_core.specs.TurnConditions.{are_wiped, gives_back, may_use, frees, takes_snapshot, drops, may_quarantine}
 use Rattle.mk_core.specs.Moments.{Moment, is_phase}
 use Rattle.mk_core.proofs.AllBelow.{all_below-at}
 use Rattle.mk_core.proofs.BitsWithout.{has_bit_without}
@@ -28,9 +30,11 @@ pub record Unmaps (w : Words) (freed : Option RunPages) (page value : ℕ) : Typ
   pub there : freed ≡ Some run
   pub next : IsNextHeader w run.page run.count (unmapped_header run.count) page value
 
-pub unmaps_is : (w : Words) (freed : Option RunPages) (page value : ℕ) → unmaps w freed page value ≡ true → Unmaps w freed page value
+pub unmaps_is : (w : Words) (freed : Option RunPages) (page value : ℕ) → unmaps w freed page value ≡ true
+    → Unmaps w freed page value
 unmaps_is w None page value h = cc
-unmaps_is w (Some run) page value h = record { run = run; there = refl; next = next_header w run.page run.count (unmapped_header run.count) page value h }
+unmaps_is w (Some run) page value h =
+    record { run = run; there = refl; next = next_header w run.page run.count (unmapped_header run.count) page value h }
 
 pub record Empties (w : Words) (page value : ℕ) : Type 0 where
   pub is : value ≡ 0
@@ -56,21 +60,27 @@ empties_is w page value h =
 
 -- A `head` that may come carves a page, unmaps one, or empties one.
 pub data HeadStep (c : Config) (m : Moment) (f : Flight) (page value : ℕ) : Type 0 where
-  ItCarves : is_phase m.words 4 ≡ false → Carves m.words (object_made c f.op) (place_now c m f) page value → HeadStep c m f page value
+  ItCarves : is_phase m.words 4 ≡ false → Carves m.words (object_made c f.op) (place_now c m f) page value
+      → HeadStep c m f page value
   ItUnmaps : is_phase m.words 4 ≡ false → Unmaps m.words m.seats.holding.freed page value → HeadStep c m f page value
   ItEmpties : is_phase m.words 4 ≡ true → Empties m.words page value → HeadStep c m f page value
 
-pub head_step : (c : Config) (m : Moment) (f : Flight) (page value : ℕ) → may_head c m f page value ≡ true → HeadStep c m f page value
+pub head_step : (c : Config) (m : Moment) (f : Flight) (page value : ℕ) → may_head c m f page value ≡ true
+    → HeadStep c m f page value
 head_step c m f page value h = by (is_phase m.words 4) refl h
   where
     by : (four : Bool) → is_phase m.words 4 ≡ four
-        → (if four then empties m.words page value else carves m.words (object_made c f.op) (place_now c m f) page value || unmaps m.words m.seats.holding.freed page value) ≡ true
+        → (if four then empties m.words page value
+        else carves m.words (object_made c f.op) (place_now c m f) page value
+        || unmaps m.words m.seats.holding.freed page value) ≡ true
         → HeadStep c m f page value
     by true is h = ItEmpties is (empties_is m.words page value h)
-    by false is h = elim (either_holds (carves m.words (object_made c f.op) (place_now c m f) page value) (unmaps m.words m.seats.holding.freed page value) h) [
-      | inl x ↦ ItCarves is (carves_is m.words (object_made c f.op) (place_now c m f) page value x)
-      | inr x ↦ ItUnmaps is (unmaps_is m.words m.seats.holding.freed page value x)
-    ]
+    by false is h = elim
+        (either_holds (carves m.words (object_made c f.op) (place_now c m f) page value)
+        (unmaps m.words m.seats.holding.freed page value) h) [
+          | inl x ↦ ItCarves is (carves_is m.words (object_made c f.op) (place_now c m f) page value x)
+          | inr x ↦ ItUnmaps is (unmaps_is m.words m.seats.holding.freed page value x)
+        ]
 
 -- Used words.
 
@@ -87,11 +97,15 @@ left_bits w page bits k h bit =
 
 -- cells whose words are 0
 pub wiped_cell : (w : Words) (page bits k : ℕ) → are_wiped w page bits ≡ true → k < 32 → has_bit bits k ≡ true
-    → words_are_zero w (first_word w (record { page = page; index = k })) (cell_words w (record { page = page; index = k })) ≡ true
+    → words_are_zero w (first_word w (record { page = page; index = k }))
+    (cell_words w (record { page = page; index = k })) ≡ true
 wiped_cell w page bits k h lt bit =
-    let zero_words = words_are_zero w (first_word w (record { page = page; index = k })) (cell_words w (record { page = page; index = k })) in
+    let zero_words = words_are_zero w (first_word w (record { page = page; index = k }))
+    (cell_words w (record { page = page; index = k })) in
     ap (λ b. not b || zero_words) (sym bit)
-    ∙ all_below-at 32 k (λ i. not (has_bit bits i) || words_are_zero w (first_word w (record { page = page; index = i })) (cell_words w (record { page = page; index = i }))) h lt
+    ∙ all_below-at 32 k (λ i. not (has_bit bits i)
+    || words_are_zero w (first_word w (record { page = page; index = i }))
+    (cell_words w (record { page = page; index = i }))) h lt
 
 pub record GivesBack (w : Words) (page value : ℕ) : Type 0 where
   pub fewer : bit_and value (used_at w page) ≡ value
@@ -112,27 +126,33 @@ gives_back_is w page value h =
       fewer = sub;
       left = b.1;
       wiped = a.1;
-      gone = λ k bit out. left_bits w page (used_at w page - value) k b.1 (rest_bits value (used_at w page) k sub bit out);
+      gone = λ k bit out. left_bits w page (used_at w page - value) k b.1
+          (rest_bits value (used_at w page) k sub bit out);
     }
 
 -- A `used` that may come takes the cell of a place, once, or gives cells back.
 pub data UsedStep (c : Config) (m : Moment) (f : Flight) (page value : ℕ) : Type 0 where
-  ItTakes : is_phase m.words 4 ≡ false → is_used_once m.seats.holding.placing ≡ false → TakesCell m.words (object_made c f.op) (place_now c m f) page value
+  ItTakes : is_phase m.words 4 ≡ false → is_used_once m.seats.holding.placing ≡ false
+      → TakesCell m.words (object_made c f.op) (place_now c m f) page value
       → UsedStep c m f page value
   ItGivesBack : is_phase m.words 4 ≡ true → GivesBack m.words page value → UsedStep c m f page value
 
-pub used_step : (c : Config) (m : Moment) (f : Flight) (page value : ℕ) → may_use c m f page value ≡ true → UsedStep c m f page value
+pub used_step : (c : Config) (m : Moment) (f : Flight) (page value : ℕ) → may_use c m f page value ≡ true
+    → UsedStep c m f page value
 used_step c m f page value h = by (is_phase m.words 4) refl h
   where
     by : (four : Bool) → is_phase m.words 4 ≡ four
         → (if four
         then gives_back m.words page value
-        else not (is_used_once m.seats.holding.placing) && takes_cell m.words (object_made c f.op) (place_now c m f) page value) ≡ true
+        else not (is_used_once m.seats.holding.placing) && takes_cell m.words (object_made c f.op)
+        (place_now c m f) page value) ≡ true
         → UsedStep c m f page value
     by true is h = ItGivesBack is (gives_back_is m.words page value h)
     by false is h =
-        let a = and_parts (not (is_used_once m.seats.holding.placing)) (takes_cell m.words (object_made c f.op) (place_now c m f) page value) h in
-        ItTakes is (not-true (is_used_once m.seats.holding.placing) a.0) (takes_is m.words (object_made c f.op) (place_now c m f) page value a.1)
+        let a = and_parts (not (is_used_once m.seats.holding.placing))
+        (takes_cell m.words (object_made c f.op) (place_now c m f) page value) h in
+        ItTakes is (not-true (is_used_once m.seats.holding.placing) a.0)
+        (takes_is m.words (object_made c f.op) (place_now c m f) page value a.1)
 
 -- Quarantine words.
 
@@ -142,8 +162,12 @@ pub record TakesSnapshot (w : Words) (page value : ℕ) : Type 0 where
 
 pub takes_snapshot_is : (w : Words) (page value : ℕ) → takes_snapshot w page value ≡ true → TakesSnapshot w page value
 takes_snapshot_is w page value h =
-    let a = and_parts (is_phase w 0) (value == quarantine_word (slice_index w.freed page) (slice_index w.freed page)) h in
-    record { phase = a.0; is = eqb-true value (quarantine_word (slice_index w.freed page) (slice_index w.freed page)) a.1 }
+    let a = and_parts (is_phase w 0) (value == quarantine_word (slice_index w.freed page) (slice_index w.freed page)) h
+    in
+    record {
+      phase = a.0;
+      is = eqb-true value (quarantine_word (slice_index w.freed page) (slice_index w.freed page)) a.1;
+    }
 
 pub record Drops (w : Words) (page freed snapshot : ℕ) : Type 0 where
   pub fewer : bit_and snapshot (slice_index w.snapshot page) ≡ snapshot
@@ -163,16 +187,20 @@ drops_is w page freed snapshot h =
     let a = and_parts (fewer && left && unused) (freed == without (slice_index w.freed page) rest) h in
     let b = and_parts (fewer && left) unused a.0 in
     let d = and_parts fewer left b.0 in
-    let sub : bit_and snapshot (slice_index w.snapshot page) ≡ snapshot = eqb-true (bit_and snapshot (slice_index w.snapshot page)) snapshot d.0 in
-    let none : bit_and (used_at w page) (slice_index w.snapshot page - snapshot) ≡ 0 = eqb-true (bit_and (used_at w page) rest) 0 b.1 in
+    let sub : bit_and snapshot (slice_index w.snapshot page) ≡ snapshot =
+    eqb-true (bit_and snapshot (slice_index w.snapshot page)) snapshot d.0 in
+    let none : bit_and (used_at w page) (slice_index w.snapshot page - snapshot) ≡ 0 =
+    eqb-true (bit_and (used_at w page) rest) 0 b.1 in
     record {
       fewer = sub;
       left = d.1;
       unused = none;
       is = eqb-true freed (without (slice_index w.freed page) rest) a.1;
       gone = λ k bit out.
-          let goes = rest_bits snapshot (slice_index w.snapshot page) k sub bit out in
-          ((left_bits w page (slice_index w.snapshot page - snapshot) k d.1 goes).1, apart (used_at w page) (slice_index w.snapshot page - snapshot) k none goes);
+          let goes = rest_bits snapshot (slice_index w.snapshot page) k sub bit out in (
+            (left_bits w page (slice_index w.snapshot page - snapshot) k d.1 goes).1,
+            apart (used_at w page) (slice_index w.snapshot page - snapshot) k none goes,
+          );
     }
   where
     apart : (n m k : ℕ) → bit_and n m ≡ 0 → has_bit m k ≡ true → has_bit n k ≡ false
@@ -183,18 +211,23 @@ drops_is w page freed snapshot h =
 
 -- A `quar` that may come frees the target of a Free, takes a snapshot, or drops cells.
 pub data QuarantineStep (c : Config) (m : Moment) (f : Flight) (page value : ℕ) : Type 0 where
-  ItFrees : is_phase m.words 4 ≡ false → frees m.words (target c.pages m.words f) page value ≡ true → QuarantineStep c m f page value
+  ItFrees : is_phase m.words 4 ≡ false → frees m.words (target c.pages m.words f) page value ≡ true
+      → QuarantineStep c m f page value
   ItTakesSnapshot : TakesSnapshot m.words page value → QuarantineStep c m f page value
-  ItDrops : is_phase m.words 4 ≡ true → Drops m.words page (value % 2 ^ 32) (value / 2 ^ 32) → QuarantineStep c m f page value
+  ItDrops : is_phase m.words 4 ≡ true → Drops m.words page (value % 2 ^ 32) (value / 2 ^ 32)
+      → QuarantineStep c m f page value
 
-pub quarantine_step : (c : Config) (m : Moment) (f : Flight) (page value : ℕ) → may_quarantine c m f page value ≡ true → QuarantineStep c m f page value
+pub quarantine_step : (c : Config) (m : Moment) (f : Flight) (page value : ℕ) → may_quarantine c m f page value ≡ true
+    → QuarantineStep c m f page value
 quarantine_step c m f page value h = by (is_phase m.words 4) refl h
   where
     by : (four : Bool) → is_phase m.words 4 ≡ four
-        → (if four then drops m.words page (value % 2 ^ 32) (value / 2 ^ 32) else frees m.words (target c.pages m.words f) page value || takes_snapshot m.words page value) ≡ true
+        → (if four then drops m.words page (value % 2 ^ 32) (value / 2 ^ 32)
+        else frees m.words (target c.pages m.words f) page value || takes_snapshot m.words page value) ≡ true
         → QuarantineStep c m f page value
     by true is h = ItDrops is (drops_is m.words page (value % 2 ^ 32) (value / 2 ^ 32) h)
-    by false is h = elim (either_holds (frees m.words (target c.pages m.words f) page value) (takes_snapshot m.words page value) h) [
-      | inl x ↦ ItFrees is x
-      | inr x ↦ ItTakesSnapshot (takes_snapshot_is m.words page value x)
-    ]
+    by false is h = elim
+        (either_holds (frees m.words (target c.pages m.words f) page value) (takes_snapshot m.words page value) h) [
+          | inl x ↦ ItFrees is x
+          | inr x ↦ ItTakesSnapshot (takes_snapshot_is m.words page value x)
+        ]

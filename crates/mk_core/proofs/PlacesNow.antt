@@ -16,13 +16,15 @@ use Rattle.mk_core.specs.declared.seats.Placing.{Placing}
 use Rattle.mk_core.specs.declared.seats.Placing.TheVariants.{Unplaced, Chosen, Used, Granted}
 use Rattle.mk_core.specs.Words.{Words, quarantine_word}
 use Rattle.mk_core.specs.Cells.{pointed_cell, is_freed}
-use Rattle.mk_core.specs.NewPlaces.{place_on_pages, place_in, object_made, is_new_at, is_free_at, is_undecided_new, is_undecided_free, target}
+use Rattle.mk_core.specs.NewPlaces.{place_on_pages, place_in, object_made, is_new_at, is_free_at, is_undecided_new}
+use Rattle.mk_core.specs.NewPlaces.{is_undecided_free, target}
 use Rattle.mk_core.specs.TurnConditions.{place_now, frees, cell_freed}
 use Rattle.mk_core.specs.Moments.{Moment, is_phase}
 use Rattle.mk_core.specs.Effects.{chosen, taken}
 
 -- what stands under a test, where something does
-some_under : {A : Type 0} (b : Bool) (o : Option A) (x : A) → (if b then o else None) ≡ Some x → (b ≡ true) × (o ≡ Some x)
+some_under : {A : Type 0} (b : Bool) (o : Option A) (x : A) → (if b then o else None) ≡ Some x
+    → (b ≡ true) × (o ≡ Some x)
 some_under true o x h = (refl, h)
 some_under false o x h = cc
 
@@ -76,10 +78,16 @@ pub record PlacedNow (c : Config) (m : Moment) (f : Flight) (place : Place) : Ty
   pub at : place_in c.resident m.words.pages (object_made c f.op) m.seats.holding.placing ≡ Some place
   pub placed : IsPlaced c.resident m.words.pages (object_made c f.op) place m.seats.holding.placing
 
-pub placed_now : (c : Config) (m : Moment) (f : Flight) (place : Place) → place_now c m f ≡ Some place → PlacedNow c m f place
+pub placed_now : (c : Config) (m : Moment) (f : Flight) (place : Place) → place_now c m f ≡ Some place
+    → PlacedNow c m f place
 placed_now c m f place h =
-    let parts = some_under (is_undecided_new f) (place_in c.resident m.words.pages (object_made c f.op) m.seats.holding.placing) place h in
-    record { new = parts.0; at = parts.1; placed = placed_in c.resident m.words.pages (object_made c f.op) m.seats.holding.placing place parts.1 }
+    let parts = some_under (is_undecided_new f)
+    (place_in c.resident m.words.pages (object_made c f.op) m.seats.holding.placing) place h in
+    record {
+      new = parts.0;
+      at = parts.1;
+      placed = placed_in c.resident m.words.pages (object_made c f.op) m.seats.holding.placing place parts.1;
+    }
 
 -- what a step makes of a placing
 pub chosen_is : (placing : Placing) (o : Option Place) (place : Place) → chosen placing o ≡ Chosen place
@@ -90,7 +98,8 @@ chosen_is (Chosen x) o place h = inr h
 chosen_is (Used x) o place h = cc
 chosen_is Granted o place h = cc
 
-pub chosen_used : (placing : Placing) (o : Option Place) (place : Place) → chosen placing o ≡ Used place → placing ≡ Used place
+pub chosen_used : (placing : Placing) (o : Option Place) (place : Place) → chosen placing o ≡ Used place
+    → placing ≡ Used place
 chosen_used Unplaced (Some x) place h = cc
 chosen_used Unplaced None place h = cc
 chosen_used (Chosen x) o place h = cc
@@ -102,7 +111,8 @@ pub taken_is : (placing : Placing) (o : Option Place) (place : Place) → taken 
 taken_is placing (Some x) place h = inl cc
 taken_is placing None place h = inr (refl, h)
 
-pub taken_chosen : (placing : Placing) (o : Option Place) (place : Place) → taken placing o ≡ Chosen place → (o ≡ None) × (placing ≡ Chosen place)
+pub taken_chosen : (placing : Placing) (o : Option Place) (place : Place) → taken placing o ≡ Chosen place
+    → (o ≡ None) × (placing ≡ Chosen place)
 taken_chosen placing (Some x) place h = cc
 taken_chosen placing None place h = (refl, h)
 
@@ -111,7 +121,8 @@ pub record IsTarget (pages : ℕ) (w : Words) (f : Flight) (cell : Cell) : Type 
   pub free : is_undecided_free f ≡ true
   pub pointed : pointed_cell pages w.pages f.p ≡ Some cell
 
-pub target_is : (pages : ℕ) (w : Words) (f : Flight) (cell : Cell) → target pages w f ≡ Some cell → IsTarget pages w f cell
+pub target_is : (pages : ℕ) (w : Words) (f : Flight) (cell : Cell) → target pages w f ≡ Some cell
+    → IsTarget pages w f cell
 target_is pages w f cell h =
     let parts = some_under (is_undecided_free f) (pointed_cell pages w.pages f.p) cell h in
     record { free = parts.0; pointed = parts.1 }
@@ -126,7 +137,8 @@ pub record FreesCell (pages : ℕ) (w : Words) (f : Flight) (p v : ℕ) (cell : 
   pub unfreed : is_freed w cell ≡ false
   pub value : v ≡ quarantine_word (slice_index w.freed p + 2 ^ cell.index) (slice_index w.snapshot p)
 
-pub freed_cell : (pages : ℕ) (w : Words) (f : Flight) (p v : ℕ) (cell : Cell) → cell_freed pages w f p v ≡ Some cell → FreesCell pages w f p v cell
+pub freed_cell : (pages : ℕ) (w : Words) (f : Flight) (p v : ℕ) (cell : Cell) → cell_freed pages w f p v ≡ Some cell
+    → FreesCell pages w f p v cell
 freed_cell pages w f p v cell h =
     let under = some_under (not (is_phase w 4) && frees w (target pages w f) p v) (target pages w f) cell h in
     let tests = and_parts (not (is_phase w 4)) (frees w (target pages w f) p v) under.0 in

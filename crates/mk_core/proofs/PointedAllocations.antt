@@ -23,20 +23,25 @@ use Rattle.mk_core.specs.History.{World}
 use Rattle.mk_core.specs.Readings.{IsTaken}
 use Rattle.mk_core.specs.StandingAllocations.{object_placed, StandsOnHeap, HasItsHeaders}
 use Rattle.mk_core.proofs.Sizes.{words_within}
-use Rattle.mk_core.proofs.StandingAllocations.{typed_size, standing_has_storage, headers_show_storage, pointers_hit, cells_begin}
+use Rattle.mk_core.proofs.StandingAllocations.{typed_size, standing_has_storage, headers_show_storage, pointers_hit}
+use Rattle.mk_core.proofs.StandingAllocations.{cells_begin}
 use Rattle.mk_core.proofs.CellsOfAllocations.{stands_in_no_other}
 
 -- a word of a block is in the cell that it points into
-block_index : (class page word : ℕ) (cell : Cell) → cell_of_block class page word ≡ Some cell → word / class_words_of class ≡ cell.index
+block_index : (class page word : ℕ) (cell : Cell) → cell_of_block class page word ≡ Some cell
+    → word / class_words_of class ≡ cell.index
 block_index class page word cell is = by (nat_lt word (cells_of class * class_words_of class)) is
   where
-    by : (b : Bool) → (if b then Some (record { page = page; index = word / class_words_of class }) else None) ≡ Some cell
+    by : (b : Bool) → (if b then Some (record { page = page; index = word / class_words_of class }) else None)
+        ≡ Some cell
         → word / class_words_of class ≡ cell.index
-    by true is = let here : record { page = page; index = word / class_words_of class } ≡ cell = cc in ap (λ (k : Cell). k.index) here
+    by true is = let here : record { page = page; index = word / class_words_of class } ≡ cell =
+        cc in ap (λ (k : Cell). k.index) here
     by false is = cc
 
 -- What points into the cell of a storage, from a page that shows it, points into the storage.
-pub cell_points_into : (pages header u : ℕ) (s : Storage) → IsStorage pages s → stands_on (page_at_address u) s ≡ true → ShowsStorage s (page_at_address u) header
+pub cell_points_into : (pages header u : ℕ) (s : Storage) → IsStorage pages s → stands_on (page_at_address u) s ≡ true
+    → ShowsStorage s (page_at_address u) header
     → cell_at pages header u ≡ Some (cell_of_storage s) → PointsInto u s
 cell_points_into pages header u s is stands shows found = elim (cases_Bool (is_small s)) [
   | inl small ↦
@@ -62,45 +67,59 @@ cell_points_into pages header u s is stands shows found = elim (cases_Bool (is_s
 ]
 
 -- So a value on the pages of an allocation points into its storage where it points into its cell.
-pub pointers_come_back : (c : Config) (w : Words) (a : PlacedAllocation) → IsWithinLimits c → StandsOnHeap c a → HasItsHeaders c w a
-    → (u : ℕ) → stands_on (page_at_address u) (storage_of c a) ≡ true → pointed_cell c.pages w.pages u ≡ Some (cell_of_storage (storage_of c a))
+pub pointers_come_back : (c : Config) (w : Words) (a : PlacedAllocation) → IsWithinLimits c → StandsOnHeap c a
+    → HasItsHeaders c w a
+    → (u : ℕ) → stands_on (page_at_address u) (storage_of c a) ≡ true
+    → pointed_cell c.pages w.pages u ≡ Some (cell_of_storage (storage_of c a))
     → PointsInto u (storage_of c a)
 unfolding pointed_cell
 pointers_come_back c w a limits st has u stands found =
-    cell_points_into c.pages (header_at w (page_at_address u)) u (storage_of c a) (standing_has_storage c a limits st) stands
+    cell_points_into c.pages (header_at w (page_at_address u)) u (storage_of c a) (standing_has_storage c a limits st)
+    stands
     (headers_show_storage c w a limits st has (page_at_address u) stands) found
 
 -- The addresses of its words point into its cell,
-pub word_points : (c : Config) (w : Words) (a : PlacedAllocation) → IsWithinLimits c → StandsOnHeap c a → HasItsHeaders c w a
-    → (n : ℕ) → IsWordOf (storage_of c a) n → pointed_cell c.pages w.pages (address_of n) ≡ Some (cell_of_storage (storage_of c a))
-word_points c w a limits st has n is = pointers_hit c w a limits st has (address_of n) ((address_points_into n (storage_of c a)).1 is)
+pub word_points : (c : Config) (w : Words) (a : PlacedAllocation) → IsWithinLimits c → StandsOnHeap c a
+    → HasItsHeaders c w a
+    → (n : ℕ) → IsWordOf (storage_of c a) n
+    → pointed_cell c.pages w.pages (address_of n) ≡ Some (cell_of_storage (storage_of c a))
+word_points c w a limits st has n is =
+    pointers_hit c w a limits st has (address_of n) ((address_points_into n (storage_of c a)).1 is)
 
 -- that of its base too.
-pub base_points : (c : Config) (w : Words) (a : PlacedAllocation) → IsWithinLimits c → StandsOnHeap c a → HasItsHeaders c w a
+pub base_points : (c : Config) (w : Words) (a : PlacedAllocation) → IsWithinLimits c → StandsOnHeap c a
+    → HasItsHeaders c w a
     → pointed_cell c.pages w.pages (address_of a.base) ≡ Some (cell_of_storage (storage_of c a))
 base_points c w a limits st has =
     let some = (words_within (object_placed c a) (typed_size c a limits st.typed)).0 in
     word_points c w a limits st has a.base (omega arith, omega arith)
 
 -- A release releases it exactly where its cell is left unmarked.
-pub released_where_left : (c : Config) (w : Words) (a : PlacedAllocation) → IsWithinLimits c → StandsOnHeap c a → HasItsHeaders c w a
+pub released_where_left : (c : Config) (w : Words) (a : PlacedAllocation) → IsWithinLimits c → StandsOnHeap c a
+    → HasItsHeaders c w a
     → (with_released c w a).released ≡ is_left_unmarked w (cell_of_storage (storage_of c a))
 released_where_left c w a limits st has =
     ap (λ b. b || is_some_and (is_left_unmarked w) (pointed_cell c.pages w.pages (address_of a.base))) st.unreleased
     ∙ ap (λ (x : Option Cell). is_some_and (is_left_unmarked w) x) (base_points c w a limits st has)
 
 -- It is marked where its cell is, and what points into it points well there.
-pub marked_where_its_cell_is : (c : Config) (w : Words) (a : PlacedAllocation) → IsWithinLimits c → StandsOnHeap c a → HasItsHeaders c w a
+pub marked_where_its_cell_is : (c : Config) (w : Words) (a : PlacedAllocation) → IsWithinLimits c → StandsOnHeap c a
+    → HasItsHeaders c w a
     → is_marked_allocation c w a ≡ is_marked w (cell_of_storage (storage_of c a))
-marked_where_its_cell_is c w a limits st has = ap (λ (x : Option Cell). is_some_and (is_marked w) x) (base_points c w a limits st has)
+marked_where_its_cell_is c w a limits st has =
+    ap (λ (x : Option Cell). is_some_and (is_marked w) x) (base_points c w a limits st has)
 
-pub points_well_where_marked : (c : Config) (w : Words) (a : PlacedAllocation) → IsWithinLimits c → StandsOnHeap c a → HasItsHeaders c w a
+pub points_well_where_marked : (c : Config) (w : Words) (a : PlacedAllocation) → IsWithinLimits c → StandsOnHeap c a
+    → HasItsHeaders c w a
     → (u : ℕ) → PointsInto u (storage_of c a) → points_well c.pages w u ≡ is_marked w (cell_of_storage (storage_of c a))
-points_well_where_marked c w a limits st has u into = ap (λ (x : Option Cell). is_none_or (is_marked w) x) (pointers_hit c w a limits st has u into)
+points_well_where_marked c w a limits st has u into =
+    ap (λ (x : Option Cell). is_none_or (is_marked w) x) (pointers_hit c w a limits st has u into)
 
 -- The words of its cell are its own.
-pub cell_word_is_its_own : (c : Config) (w : Words) (a : PlacedAllocation) → IsWithinLimits c → StandsOnHeap c a → HasItsHeaders c w a
-    → (i : ℕ) → i < cell_words w (cell_of_storage (storage_of c a)) → IsWordOf (storage_of c a) (first_word w (cell_of_storage (storage_of c a)) + i)
+pub cell_word_is_its_own : (c : Config) (w : Words) (a : PlacedAllocation) → IsWithinLimits c → StandsOnHeap c a
+    → HasItsHeaders c w a
+    → (i : ℕ) → i < cell_words w (cell_of_storage (storage_of c a))
+    → IsWordOf (storage_of c a) (first_word w (cell_of_storage (storage_of c a)) + i)
 cell_word_is_its_own c w a limits st has i lt =
     let cells = cells_begin c w a limits st has in
     let first = cells.0 in
@@ -108,7 +127,10 @@ cell_word_is_its_own c w a limits st has i lt =
     (omega arith, omega arith)
 
 -- A cell that is taken is that of the allocation that stands in it.
-pub taken_cell_is : (c : Config) (w : World) (cell : Cell) (taken : IsTaken w cell) → IsSized (object_placed c (placed_at w.allocations taken.number))
+pub taken_cell_is : (c : Config) (w : World) (cell : Cell) (taken : IsTaken w cell)
+    → IsSized (object_placed c (placed_at w.allocations taken.number))
     → HasItsHeaders c w.now.words (placed_at w.allocations taken.number)
-    → ((placed_at w.allocations taken.number).released ≡ false) × (cell_of_storage (storage_of c (placed_at w.allocations taken.number)) ≡ cell)
-taken_cell_is c w cell taken sized has = stands_in_no_other c w.now.words (placed_at w.allocations taken.number) cell sized has taken.in_range taken.stands
+    → ((placed_at w.allocations taken.number).released ≡ false)
+    × (cell_of_storage (storage_of c (placed_at w.allocations taken.number)) ≡ cell)
+taken_cell_is c w cell taken sized has =
+    stands_in_no_other c w.now.words (placed_at w.allocations taken.number) cell sized has taken.in_range taken.stands

@@ -1,12 +1,14 @@
 -- Where the cell lies into which a value points.
-use Rattle.std.proofs.Common.{◌≡◌, ◌⊎◌, ℕ, ◌*◌, ◌/◌, ◌<◌, ◌≤◌, Bool, true, false, refl, sym, ◌∙◌, ap, subst, inl, inr, arith, option_and_then}
+use Rattle.std.proofs.Common.{◌≡◌, ◌⊎◌, ℕ, ◌*◌, ◌/◌, ◌<◌, ◌≤◌, Bool, true, false, refl, sym, ◌∙◌, ap, subst, inl, inr}
+use Rattle.std.proofs.Common.{arith, option_and_then}
 use Rattle.std.specs.Prelude.{Option, Some, None, nat_le, nat_lt, if◌then◌else◌}
 use Rattle.std.proofs.Math.Nat.{div-le_self, div-lt_iff_lt-mul}
 use Rattle.std.proofs.lemmas.Bool.{cases_eq, ltb-true}
 use Rattle.mk_geom.specs.declared.addresses.Cell.{Cell}
 use Rattle.mk_geom.specs.declared.headers.Header.{Header}
 use Rattle.mk_geom.specs.declared.headers.Header.TheVariants.{Free, Block, Run, Later, LeafBlock, LeafRun}
-use Rattle.mk_geom.specs.Addresses.{is_heap_address, page_at_address, word_at_address, cell_of_block, head_page_under, run_of_page, cell_under, cell_at}
+use Rattle.mk_geom.specs.Addresses.{is_heap_address, page_at_address, word_at_address, cell_of_block, head_page_under}
+use Rattle.mk_geom.specs.Addresses.{run_of_page, cell_under, cell_at}
 use Rattle.mk_geom.specs.Classes.{class_words_of, cells_of}
 use Rattle.mk_geom.specs.Headers.{header_of}
 use Rattle.mk_geom.proofs.CellsOnPages.{is_address}
@@ -20,12 +22,14 @@ pub record LiesUnder (h : Header) (page : ℕ) (cell : Cell) : Type 0 where
   pub small : cell.index < 64
   pub known : (cells_under (Some h) ≡ 0) ⊎ (cell.index < cells_under (Some h))
 
-of_block : (class page word : ℕ) (cell : Cell) → cell_of_block class page word ≡ Some cell → (cell.page ≡ page) × (cell.index < 64) × (cell.index < cells_of class)
+of_block : (class page word : ℕ) (cell : Cell) → cell_of_block class page word ≡ Some cell
+    → (cell.page ≡ page) × (cell.index < 64) × (cell.index < cells_of class)
 of_block class page word cell is = by (nat_lt word (cells_of class * class_words_of class)) refl is
   where
     within : word < cells_of class * class_words_of class → word / class_words_of class < cells_of class
     within lt = elim (cases_eq (class_words_of class) 0) [
-      | inl none ↦ let product : cells_of class * class_words_of class ≡ cells_of class * 0 = ap (λ n. cells_of class * n) none in absurd (omega arith)
+      | inl none ↦ let product : cells_of class * class_words_of class ≡ cells_of class * 0 =
+          ap (λ n. cells_of class * n) none in absurd (omega arith)
       | inr some ↦ (div-lt_iff_lt-mul {k = class_words_of class} {x = word} {y = cells_of class} (omega arith)).1 lt
     ]
 
@@ -36,7 +40,8 @@ of_block class page word cell is = by (nat_lt word (cells_of class * class_words
         let here : record { page = page; index = word / class_words_of class } ≡ cell = cc in
         let known = within (ltb-true word (cells_of class * class_words_of class) inside) in
         let most : cells_of class ≤ 64 = div-le_self 64 (class_words_of class) in
-        subst (λ (k : Cell). (k.page ≡ page) × (k.index < 64) × (k.index < cells_of class)) here (refl, omega arith, known)
+        subst (λ (k : Cell). (k.page ≡ page) × (k.index < 64) × (k.index < cells_of class)) here
+        (refl, omega arith, known)
     by false outside is = cc
 
 -- the run of a page lies at its head page, as cell 0
@@ -44,14 +49,18 @@ abbrev IsRunOf : Header → ℕ → Cell → Type 0
 IsRunOf h page cell = (cell.page ≡ head_page_under (Some h) page) × (cell.index ≡ 0)
 
 of_run : (h : Header) (page : ℕ) (cell : Cell) → Some (run_of_page h page) ≡ Some cell → IsRunOf h page cell
-of_run h page cell is = let here : run_of_page h page ≡ cell = cc in subst (λ (k : Cell). IsRunOf h page k) here (refl, refl)
+of_run h page cell is = let here : run_of_page h page ≡ cell =
+    cc in subst (λ (k : Cell). IsRunOf h page k) here (refl, refl)
 
-of_later_page : (b : Bool) (h : Header) (page : ℕ) (cell : Cell) → (if b then Some (run_of_page h page) else None) ≡ Some cell → IsRunOf h page cell
+of_later_page : (b : Bool) (h : Header) (page : ℕ) (cell : Cell)
+    → (if b then Some (run_of_page h page) else None) ≡ Some cell → IsRunOf h page cell
 of_later_page true h page cell is = of_run h page cell is
 of_later_page false h page cell is = cc
 
-block_lies : (class page word : ℕ) (cell : Cell) → cell_of_block class page word ≡ Some cell → LiesUnder (Block class) page cell
-block_lies class page word cell is = let at = of_block class page word cell is in record { head = at.0; small = at.1; known = inr at.2 }
+block_lies : (class page word : ℕ) (cell : Cell) → cell_of_block class page word ≡ Some cell
+    → LiesUnder (Block class) page cell
+block_lies class page word cell is = let at =
+    of_block class page word cell is in record { head = at.0; small = at.1; known = inr at.2 }
 
 pub lies_under : (h : Header) (page word : ℕ) (cell : Cell) → cell_under h page word ≡ Some cell → LiesUnder h page cell
 lies_under Free page word cell is = cc
@@ -81,18 +90,22 @@ pub record PointsTo (count : ℕ) (w : Words) (value : ℕ) (cell : Cell) : Type
   pub lies : LiesUnder header (page_at_address value) cell
 
 pub found_under : (count header value : ℕ) (cell : Cell) → cell_at count header value ≡ Some cell
-    → (h : Header) × (header_of header ≡ Some h) × (cell_under h (page_at_address value) (word_at_address value) ≡ Some cell)
+    → (h : Header) × (header_of header ≡ Some h)
+    × (cell_under h (page_at_address value) (word_at_address value) ≡ Some cell)
 found_under count header value cell is = by (is_heap_address count value) (header_of header) refl is
   where
     by : (b : Bool) (o : Option Header) → header_of header ≡ o
-        → (if b then option_and_then (λ h. cell_under h (page_at_address value) (word_at_address value)) o else None) ≡ Some cell
-        → (h : Header) × (header_of header ≡ Some h) × (cell_under h (page_at_address value) (word_at_address value) ≡ Some cell)
+        → (if b then option_and_then (λ h. cell_under h (page_at_address value) (word_at_address value)) o else None)
+        ≡ Some cell
+        → (h : Header) × (header_of header ≡ Some h)
+        × (cell_under h (page_at_address value) (word_at_address value) ≡ Some cell)
     by true (Some h) at is = (h, at, is)
     by true None at is = cc
     by false o at is = cc
 
 -- The cell of a value, by any header word, lies on a page of the heap.
-pub cell_within : (count header value : ℕ) (cell : Cell) → cell_at count header value ≡ Some cell → (cell.page < count) × (cell.index < 64)
+pub cell_within : (count header value : ℕ) (cell : Cell) → cell_at count header value ≡ Some cell
+    → (cell.page < count) × (cell.index < 64)
 cell_within count header value cell is =
     let within = (is_address count header value cell is).1 in
     let under = found_under count header value cell is in
@@ -109,7 +122,8 @@ cell_within count header value cell is =
     not_behind (LeafRun pages) page = omega arith
     not_behind (Later distance mapped) page = omega arith
 
-pub points_to : (count : ℕ) (w : Words) (value : ℕ) (cell : Cell) → pointed_cell count w.pages value ≡ Some cell → PointsTo count w value cell
+pub points_to : (count : ℕ) (w : Words) (value : ℕ) (cell : Cell) → pointed_cell count w.pages value ≡ Some cell
+    → PointsTo count w value cell
 unfolding pointed_cell
 points_to count w value cell is =
     let address = is_address count (header_at w (page_at_address value)) value cell is in
@@ -122,11 +136,13 @@ points_to count w value cell is =
       lies = lies_under under.0 (page_at_address value) (word_at_address value) cell under.2;
     }
 
-pub pointed_head : (count : ℕ) (w : Words) (value : ℕ) (cell : Cell) → pointed_cell count w.pages value ≡ Some cell → cell.page ≡ head_page w (page_at_address value)
+pub pointed_head : (count : ℕ) (w : Words) (value : ℕ) (cell : Cell) → pointed_cell count w.pages value ≡ Some cell
+    → cell.page ≡ head_page w (page_at_address value)
 pointed_head count w value cell is =
     let to = points_to count w value cell is in
     to.lies.head ∙ ap (λ (x : Option Header). head_page_under x (page_at_address value)) (sym to.shown)
 
-pub pointed_within : (count : ℕ) (w : Words) (value : ℕ) (cell : Cell) → pointed_cell count w.pages value ≡ Some cell → (cell.page < count) × (cell.index < 64)
+pub pointed_within : (count : ℕ) (w : Words) (value : ℕ) (cell : Cell) → pointed_cell count w.pages value ≡ Some cell
+    → (cell.page < count) × (cell.index < 64)
 unfolding pointed_cell
 pointed_within count w value cell is = cell_within count (header_at w (page_at_address value)) value cell is

@@ -74,7 +74,14 @@ unfolding by c0 host all_below pointed_cell one_page freed_after_begin left_from
 answers_freed = refl
 
 unfoldable pub pointer_page : Config
-pointer_page = record { pages = 1; resident = 1; callers = 1; markers = 0; types = (To 0 0 ∷ Num ∷ []) ∷ []; globals = [] }
+pointer_page = record {
+  pages = 1;
+  resident = 1;
+  callers = 1;
+  markers = 0;
+  types = (To 0 0 ∷ Num ∷ []) ∷ [];
+  globals = [];
+}
 
 -- A marker blackens an object, and then a pointer to a freed object moves into it. The dirty page is scanned again.
 unfoldable pub blackened_before_the_move : List Event

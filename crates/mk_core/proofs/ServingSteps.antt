@@ -11,7 +11,8 @@ use Rattle.mk_core.specs.declared.seats.Flight.{Flight}
 use Rattle.mk_core.specs.Words.{Words, header_at, used_at}
 use Rattle.mk_core.specs.Bits.{has_bit}
 use Rattle.mk_core.specs.Bounded.{all_below}
-use Rattle.mk_core.specs.NewPlaces.{object_made, pages_made, header_made, bits_made, stands, is_next_header, place_stands}
+use Rattle.mk_core.specs.NewPlaces.{object_made, pages_made, header_made, bits_made, stands, is_next_header}
+use Rattle.mk_core.specs.NewPlaces.{place_stands}
 use Rattle.mk_core.specs.TurnConditions.{place_now, carves, takes_cell, is_marked_first}
 use Rattle.mk_core.specs.StopConditions.{marks_place}
 use Rattle.mk_core.specs.Placement.{serves}
@@ -26,7 +27,8 @@ pub record IsNextHeader (w : Words) (first count : ℕ) (wanted : ℕ → ℕ) (
   pub before : (e : ℕ) → e < page - first → header_at w (first + e) ≡ wanted e
   pub is : value ≡ wanted (page - first)
 
-pub next_header : (w : Words) (first count : ℕ) (wanted : ℕ → ℕ) (page value : ℕ) → is_next_header w first count wanted page value ≡ true
+pub next_header : (w : Words) (first count : ℕ) (wanted : ℕ → ℕ) (page value : ℕ)
+    → is_next_header w first count wanted page value ≡ true
     → IsNextHeader w first count wanted page value
 next_header w first count wanted page value h =
     let low = nat_le first page in
@@ -40,8 +42,10 @@ next_header w first count wanted page value h =
     record {
       from = leb-true first page e.0;
       near = ltb-true (page - first) count e.1;
-      not_yet = eqb-false (header_at w page) (wanted (page - first)) (not-true (header_at w page == wanted (page - first)) d.1);
-      before = λ k lt. eqb-true (header_at w (first + k)) (wanted k) (all_below-at (page - first) k (stands w first wanted) b.1 lt);
+      not_yet = eqb-false (header_at w page) (wanted (page - first))
+          (not-true (header_at w page == wanted (page - first)) d.1);
+      before = λ k lt. eqb-true (header_at w (first + k)) (wanted k)
+          (all_below-at (page - first) k (stands w first wanted) b.1 lt);
       is = eqb-true value (wanted (page - first)) a.1;
     }
 
@@ -52,7 +56,8 @@ pub record IsCellTaken (w : Words) (o : Object) (place : Place) (page value : �
   pub unused : has_bit (used_at w page) place.index ≡ false
   pub is : value ≡ used_at w page + 2 ^ place.index
 
-pub cell_taken : (w : Words) (o : Object) (place : Place) (page value : ℕ) → takes_cell w o (Some place) page value ≡ true → IsCellTaken w o place page value
+pub cell_taken : (w : Words) (o : Object) (place : Place) (page value : ℕ)
+    → takes_cell w o (Some place) page value ≡ true → IsCellTaken w o place page value
 cell_taken w o place page value h =
     let here = page == place.page in
     let stand = place_stands w o place in
@@ -62,7 +67,8 @@ cell_taken w o place page value h =
     let d = and_parts here stand b.0 in
     record {
       at = eqb-true page place.page d.0;
-      headers = λ k lt. eqb-true (header_at w (place.page + k)) (header_made o k) (all_below-at (pages_made o) k (stands w place.page (header_made o)) d.1 lt);
+      headers = λ k lt. eqb-true (header_at w (place.page + k)) (header_made o k)
+          (all_below-at (pages_made o) k (stands w place.page (header_made o)) d.1 lt);
       unused = not-true (has_bit (used_at w page) place.index) b.1;
       is = eqb-true value (used_at w page + 2 ^ place.index) a.1;
     }
@@ -74,14 +80,20 @@ pub record IsPlaceMarked (w : Words) (o : Object) (place : Place) (page value : 
   pub free : header_at w page ≡ 0
   pub is : value ≡ bits_made o
 
-pub place_marked : (w : Words) (o : Object) (place : Place) (page value : ℕ) → marks_place w o (Some place) page value ≡ true → IsPlaceMarked w o place page value
+pub place_marked : (w : Words) (o : Object) (place : Place) (page value : ℕ)
+    → marks_place w o (Some place) page value ≡ true → IsPlaceMarked w o place page value
 place_marked w o place page value h =
     let here = page == place.page in
     let free = header_at w page == 0 in
     let a = and_parts (is_phase w 1 && here && free) (value == bits_made o) h in
     let b = and_parts (is_phase w 1 && here) free a.0 in
     let d = and_parts (is_phase w 1) here b.0 in
-    record { phase = d.0; at = eqb-true page place.page d.1; free = eqb-true (header_at w page) 0 b.1; is = eqb-true value (bits_made o) a.1 }
+    record {
+      phase = d.0;
+      at = eqb-true page place.page d.1;
+      free = eqb-true (header_at w page) 0 b.1;
+      is = eqb-true value (bits_made o) a.1;
+    }
 
 -- Each of these has a place.
 pub record Carves (w : Words) (o : Object) (found : Option Place) (page value : ℕ) : Type 0 where
@@ -90,42 +102,60 @@ pub record Carves (w : Words) (o : Object) (found : Option Place) (page value : 
   pub next : IsNextHeader w place.page (pages_made o) (header_made o) page value
   pub marked : is_marked_first w o place ≡ true
 
-pub carves_is : (w : Words) (o : Object) (found : Option Place) (page value : ℕ) → carves w o found page value ≡ true → Carves w o found page value
+pub carves_is : (w : Words) (o : Object) (found : Option Place) (page value : ℕ) → carves w o found page value ≡ true
+    → Carves w o found page value
 carves_is w o None page value h = cc
 carves_is w o (Some place) page value h =
-    let a = and_parts (is_next_header w place.page (pages_made o) (header_made o) page value) (is_marked_first w o place) h in
-    record { place = place; there = refl; next = next_header w place.page (pages_made o) (header_made o) page value a.0; marked = a.1 }
+    let a = and_parts (is_next_header w place.page (pages_made o) (header_made o) page value)
+    (is_marked_first w o place) h in
+    record {
+      place = place;
+      there = refl;
+      next = next_header w place.page (pages_made o) (header_made o) page value a.0;
+      marked = a.1;
+    }
 
 pub record TakesCell (w : Words) (o : Object) (found : Option Place) (page value : ℕ) : Type 0 where
   pub place : Place
   pub there : found ≡ Some place
   pub taken : IsCellTaken w o place page value
 
-pub takes_is : (w : Words) (o : Object) (found : Option Place) (page value : ℕ) → takes_cell w o found page value ≡ true → TakesCell w o found page value
+pub takes_is : (w : Words) (o : Object) (found : Option Place) (page value : ℕ) → takes_cell w o found page value ≡ true
+    → TakesCell w o found page value
 takes_is w o None page value h = cc
-takes_is w o (Some place) page value h = record { place = place; there = refl; taken = cell_taken w o place page value h }
+takes_is w o (Some place) page value h =
+    record { place = place; there = refl; taken = cell_taken w o place page value h }
 
 pub record MarksPlace (w : Words) (o : Object) (found : Option Place) (page value : ℕ) : Type 0 where
   pub place : Place
   pub there : found ≡ Some place
   pub marked : IsPlaceMarked w o place page value
 
-pub marks_is : (w : Words) (o : Object) (found : Option Place) (page value : ℕ) → marks_place w o found page value ≡ true → MarksPlace w o found page value
+pub marks_is : (w : Words) (o : Object) (found : Option Place) (page value : ℕ)
+    → marks_place w o found page value ≡ true → MarksPlace w o found page value
 marks_is w o None page value h = cc
-marks_is w o (Some place) page value h = record { place = place; there = refl; marked = place_marked w o place page value h }
+marks_is w o (Some place) page value h =
+    record { place = place; there = refl; marked = place_marked w o place page value h }
 
 -- A step that serves a New is one of these.
 pub data ServesBy (c : Config) (m : Moment) (f : Flight) : Step → Type 0 where
-  ByHeader : (page value : ℕ) → is_phase m.words 4 ≡ false → Carves m.words (object_made c f.op) (place_now c m f) page value → ServesBy c m f (step.Head page value)
-  ByCell : (page value : ℕ) → is_phase m.words 4 ≡ false → TakesCell m.words (object_made c f.op) (place_now c m f) page value → ServesBy c m f (step.Used page value)
-  ByMark : (page value : ℕ) → MarksPlace m.words (object_made c f.op) (place_now c m f) page value → ServesBy c m f (step.Mark page value)
+  ByHeader : (page value : ℕ) → is_phase m.words 4 ≡ false
+      → Carves m.words (object_made c f.op) (place_now c m f) page value → ServesBy c m f (step.Head page value)
+  ByCell : (page value : ℕ) → is_phase m.words 4 ≡ false
+      → TakesCell m.words (object_made c f.op) (place_now c m f) page value → ServesBy c m f (step.Used page value)
+  ByMark : (page value : ℕ) → MarksPlace m.words (object_made c f.op) (place_now c m f) page value
+      → ServesBy c m f (step.Mark page value)
 
 pub serves_by : (c : Config) (m : Moment) (f : Flight) (s : Step) → serves c m f s ≡ true → ServesBy c m f s
 serves_by c m f (step.Head page value) h =
     let a = and_parts (not (is_phase m.words 4)) (carves m.words (object_made c f.op) (place_now c m f) page value) h in
-    ByHeader page value (not-true (is_phase m.words 4) a.0) (carves_is m.words (object_made c f.op) (place_now c m f) page value a.1)
+    ByHeader page value (not-true (is_phase m.words 4) a.0)
+    (carves_is m.words (object_made c f.op) (place_now c m f) page value a.1)
 serves_by c m f (step.Used page value) h =
-    let a = and_parts (not (is_phase m.words 4)) (takes_cell m.words (object_made c f.op) (place_now c m f) page value) h in
-    ByCell page value (not-true (is_phase m.words 4) a.0) (takes_is m.words (object_made c f.op) (place_now c m f) page value a.1)
-serves_by c m f (step.Mark page value) h = ByMark page value (marks_is m.words (object_made c f.op) (place_now c m f) page value h)
+    let a = and_parts (not (is_phase m.words 4)) (takes_cell m.words (object_made c f.op) (place_now c m f) page value)
+    h in
+    ByCell page value (not-true (is_phase m.words 4) a.0)
+    (takes_is m.words (object_made c f.op) (place_now c m f) page value a.1)
+serves_by c m f (step.Mark page value) h =
+    ByMark page value (marks_is m.words (object_made c f.op) (place_now c m f) page value h)
 serves_by c m f _ h = cc

@@ -1,8 +1,10 @@
 -- Small and large objects: their classes, cells, pages and words.
-use Rattle.std.proofs.Common.{◌≡◌, ℕ, ◌+◌, ◌*◌, ◌<◌, ◌≤◌, Bool, true, false, List, [], ◌∷◌, length, sym, ◌∙◌, ap, subst, inl, inr, arith, cond, lt-ltb, le-ltb}
+use Rattle.std.proofs.Common.{◌≡◌, ℕ, ◌+◌, ◌*◌, ◌<◌, ◌≤◌, Bool, true, false, List, [], ◌∷◌, length, sym, ◌∙◌, ap, subst}
+use Rattle.std.proofs.Common.{inl, inr, arith, cond, lt-ltb, le-ltb}
 use Rattle.std.specs.Prelude.{Option, Some, None, not, nat_le, nat_lt, unwrap_or, ◌==◌, ◌||◌, if◌then◌else◌}
 use Rattle.std.specs.List.{list_any, position_or_len, position}
-use Rattle.std.proofs.lemmas.Bool.{cases_Bool, le-leb, lt-leb, leb-true, ne_eqb, or_left, or_right, cond-true, cond-false}
+use Rattle.std.proofs.lemmas.Bool.{cases_Bool, le-leb, lt-leb, leb-true, ne_eqb, or_left, or_right, cond-true}
+use Rattle.std.proofs.lemmas.Bool.{cond-false}
 use Rattle.std.proofs.lemmas.Bool.Decides.{leb_tells}
 use Rattle.mk_geom.specs.Classes.{class_sizes, class_words_of, cells_of, class_for, run_pages_of}
 use Rattle.mk_geom.proofs.ClassTable.{class_for-some, class_words_within, some_cells}
@@ -54,7 +56,8 @@ pub class_for_small : (n : ℕ) → 1 ≤ n → n ≤ 32 → class_for n ≡ Som
 class_for_small n some most =
     let zero : (n == 0) ≡ false = ne_eqb n 0 (λ e. absurd (omega arith)) in
     let any : list_any (λ size. nat_le n size) class_sizes ≡ true = last n (le-leb n 32 most) in
-    let there = lt-ltb (position_or_len (λ size. nat_le n size) class_sizes) (length class_sizes) (first_passes (λ size. nat_le n size) class_sizes any) in
+    let there = lt-ltb (position_or_len (λ size. nat_le n size) class_sizes) (length class_sizes)
+    (first_passes (λ size. nat_le n size) class_sizes any) in
     let is : class_for n ≡ Some (position_or_len (λ size. nat_le n size) class_sizes) =
     ap (λ b. if b then None else position (λ size. nat_le n size) class_sizes) zero
     ∙ ap (λ b. cond b (Some (position_or_len (λ size. nat_le n size) class_sizes)) None) there in
@@ -63,11 +66,14 @@ class_for_small n some most =
     last : (n : ℕ) → nat_le n 32 ≡ true → list_any (λ size. nat_le n size) class_sizes ≡ true
     last n h =
         or_right (nat_le n 2) _ (or_right (nat_le n 4) _ (or_right (nat_le n 6) _ (or_right (nat_le n 8) _
-        (or_right (nat_le n 12) _ (or_right (nat_le n 16) _ (or_right (nat_le n 24) _ (or_left (nat_le n 32) false h)))))))
+        (or_right (nat_le n 12) _
+        (or_right (nat_le n 16) _ (or_right (nat_le n 24) _ (or_left (nat_le n 32) false h)))))))
 
 -- the class of a small object is one of the eight, and its cells hold the object
-pub class_known : (o : Object) → IsSized o → is_small_object o ≡ true → (class_made o < 8) × (o.words ≤ class_words_of (class_made o))
-class_known o sized small = class_for-some o.words (class_made o) (class_for_small o.words sized.0 (leb-true o.words 32 small))
+pub class_known : (o : Object) → IsSized o → is_small_object o ≡ true
+    → (class_made o < 8) × (o.words ≤ class_words_of (class_made o))
+class_known o sized small =
+    class_for-some o.words (class_made o) (class_for_small o.words sized.0 (leb-true o.words 32 small))
 
 -- a large one has a run of 1 to 64 pages
 pub large_count : (o : Object) → IsSized o → is_small_object o ≡ false → (1 ≤ pages_made o) × (pages_made o ≤ 64)
@@ -99,7 +105,8 @@ small_words_within o sized small =
     let range = class_words_within (class_made o) (class_known o sized small).0 in
     (omega arith, omega arith)
 
-pub large_words_within : (o : Object) → IsSized o → is_small_object o ≡ false → (64 ≤ words_made o) × (words_made o ≤ 4096)
+pub large_words_within : (o : Object) → IsSized o → is_small_object o ≡ false
+    → (64 ≤ words_made o) × (words_made o ≤ 4096)
 large_words_within o sized large =
     let e = large_words o large in
     let count = large_count o sized large in

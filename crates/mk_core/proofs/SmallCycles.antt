@@ -1,5 +1,5 @@
--- Two lists of a small heap along a cycle, as checked examples of the definitions: in one the caller is stopped from before the
--- `begin` on, and in the other it writes beside a marker.
+-- Two lists of a small heap along a cycle, as checked examples of the definitions: in one the caller is stopped from
+-- before the `begin` on, and in the other it writes beside a marker.
 use Rattle.std.proofs.Common.{◌≡◌, Bool, true, false, ◌&&◌, List, [], ◌∷◌, ◌++◌, map, Some, None, refl}
 use Rattle.std.specs.Prelude.{◌==◌}
 use Rattle.mk_never.specs.declared.types.Kind.TheVariants.{Num, To}
@@ -37,9 +37,12 @@ small = record { pages = 1; resident = 1; callers = 1; markers = 1; types = (To 
 -- Three objects, of which register 0 holds the first and register 1 the second. The third is freed.
 unfoldable pub three_objects : List Event
 three_objects =
-    by_caller (step.Take (Some (op.New 0 0 false)) ∷ step.Head 0 1 ∷ step.Used 0 1 ∷ step.Grant ∷ step.Tally tally.Held 2 ∷ step.Give ∷ [])
-    ++ by_caller (step.Take (Some (op.New 1 0 false)) ∷ step.Used 0 3 ∷ step.Grant ∷ step.Tally tally.Held 4 ∷ step.Give ∷ [])
-    ++ by_caller (step.Take (Some (op.New 2 0 false)) ∷ step.Used 0 7 ∷ step.Grant ∷ step.Tally tally.Held 6 ∷ step.Give ∷ [])
+    by_caller (step.Take (Some (op.New 0 0 false)) ∷ step.Head 0 1 ∷ step.Used 0 1 ∷ step.Grant
+    ∷ step.Tally tally.Held 2 ∷ step.Give ∷ [])
+    ++ by_caller (step.Take (Some (op.New 1 0 false)) ∷ step.Used 0 3 ∷ step.Grant ∷ step.Tally tally.Held 4 ∷ step.Give
+    ∷ [])
+    ++ by_caller (step.Take (Some (op.New 2 0 false)) ∷ step.Used 0 7 ∷ step.Grant ∷ step.Tally tally.Held 6 ∷ step.Give
+    ∷ [])
     ++ by_caller (step.Take (Some (op.Free 2)) ∷ step.Reg ∷ step.Quar 0 4 ∷ step.Tally tally.Fresh 2 ∷ step.Give ∷ [])
     ++ by_caller (step.Enter (op.Clear 2) ∷ step.Reg ∷ step.Leave ∷ [])
 
@@ -56,7 +59,8 @@ second_cleared = by_caller (step.Enter (op.Clear 1) ∷ step.Reg ∷ step.Leave 
 -- what releases the third, from the `close` on
 abbrev pub third_released : List Event
 third_released =
-    by_host (step.Close ∷ step.Release ∷ step.Used 0 3 ∷ step.Quar 0 0 ∷ step.Tally tally.Held 4 ∷ step.End ∷ step.Open 0 ∷ step.Give ∷ [])
+    by_host (step.Close ∷ step.Release ∷ step.Used 0 3 ∷ step.Quar 0 0 ∷ step.Tally tally.Held 4 ∷ step.End
+    ∷ step.Open 0 ∷ step.Give ∷ [])
 
 -- The caller is stopped, and the snapshot is taken: a `begin` may come next.
 unfoldable pub begun_in_stop : List Event
@@ -66,7 +70,8 @@ begun_in_stop =
 
 unfoldable pub marked_in_stop : List Event
 marked_in_stop =
-    by_host (step.Want ∷ step.Look (word.Reg 0 0) ∷ step.Mark 0 1 ∷ step.Look (word.Heap 0) ∷ step.Mark 0 2 ∷ step.Black 0 1 ∷ step.Black 0 2 ∷ [])
+    by_host (step.Want ∷ step.Look (word.Reg 0 0) ∷ step.Mark 0 1 ∷ step.Look (word.Heap 0) ∷ step.Mark 0 2
+    ∷ step.Black 0 1 ∷ step.Black 0 2 ∷ [])
 
 abbrev pub stopped_cycle : List Event
 stopped_cycle = begun_in_stop ++ record { seat = seat.Host; step = step.Begin } ∷ (marked_in_stop ++ third_released)
@@ -80,7 +85,8 @@ first_marked =
 
 -- A marker blackens it.
 abbrev pub marker_in : List Event
-marker_in = by_marker (step.Attend ∷ step.Mlook (word.Head 0) ∷ step.Claim 0 0 ∷ step.Mload ∷ step.Mload ∷ step.Mblack ∷ [])
+marker_in = by_marker (step.Attend ∷ step.Mlook (word.Head 0) ∷ step.Claim 0 0 ∷ step.Mload ∷ step.Mload ∷ step.Mblack
+    ∷ [])
 
 -- The stop then scans the dirty page again.
 abbrev pub scanned_again : List Event

@@ -14,9 +14,11 @@ use Rattle.mk_core.specs.Bounded.{all_below}
 use Rattle.mk_core.specs.Cells.{pointed_cell}
 use Rattle.mk_core.specs.Enabled.{failing}
 use Rattle.mk_core.specs.Decided.{asked}
-use Rattle.mk_core.specs.History.{World, first_world, world_behind, left_from, calls_from, AreEnabledFrom, calls, never_first, IsHistory}
+use Rattle.mk_core.specs.History.{World, first_world, world_behind, left_from, calls_from, AreEnabledFrom, calls}
+use Rattle.mk_core.specs.History.{never_first, IsHistory}
 use Rattle.mk_core.proofs.SmallCycles.{small, all_enabled, stopped_are_enabled, beside_are_enabled}
-use Rattle.mk_core.proofs.SmallCycles.{three_objects, begun_in_stop, marked_in_stop, written_beside, marked_beside, third_released, stopped_cycle}
+use Rattle.mk_core.proofs.SmallCycles.{three_objects, begun_in_stop, marked_in_stop, written_beside, marked_beside}
+use Rattle.mk_core.proofs.SmallCycles.{third_released, stopped_cycle}
 
 pub enabled_by_test : (c : Config) (w : World) (es : List Event) → all_enabled c w es ≡ true → AreEnabledFrom c w es
 unfolding AreEnabledFrom all_enabled
@@ -39,7 +41,8 @@ small_is_within_limits = record {
   type_count = leb-true 1 64 refl;
   global_count = leb-true 0 64 refl;
   types =
-      All-cons (IsTypeAmong small.types) (To 0 0 ∷ Num ∷ []) [] ((leb-true 1 2 refl, leb-true 2 4096 refl), kinds_are_among)
+      All-cons (IsTypeAmong small.types) (To 0 0 ∷ Num ∷ []) []
+      ((leb-true 1 2 refl, leb-true 2 4096 refl), kinds_are_among)
       (All-nil (IsTypeAmong small.types));
   globals = All-nil (λ (ty : ℕ). ty < 1);
 }
@@ -47,17 +50,34 @@ small_is_within_limits = record {
 -- the calls of both
 abbrev pub small_calls : List Call
 small_calls =
-    record { caller = 0; op = op.New 0 0 false } ∷ record { caller = 0; op = op.New 1 0 false } ∷ record { caller = 0; op = op.New 2 0 false }
-    ∷ record { caller = 0; op = op.Free 2 } ∷ record { caller = 0; op = op.Clear 2 } ∷ record { caller = 0; op = op.SetPtr 0 0 1 }
+    record { caller = 0; op = op.New 0 0 false } ∷ record { caller = 0; op = op.New 1 0 false }
+    ∷ record { caller = 0; op = op.New 2 0 false }
+    ∷ record { caller = 0; op = op.Free 2 } ∷ record { caller = 0; op = op.Clear 2 }
+    ∷ record { caller = 0; op = op.SetPtr 0 0 1 }
     ∷ record { caller = 0; op = op.Clear 1 } ∷ []
 
 small_calls_are_admitted : AreAdmitted [] (never_first small) small_calls
 small_calls_are_admitted = (
-  record { of_a_caller = ltb-true 7 8 refl; in_range = (ltb-true 0 8 refl, ltb-true 0 1 refl); access = tt; store = tt },
+  record {
+    of_a_caller = ltb-true 7 8 refl;
+    in_range = (ltb-true 0 8 refl, ltb-true 0 1 refl);
+    access = tt;
+    store = tt;
+  },
   (
-    record { of_a_caller = ltb-true 7 8 refl; in_range = (ltb-true 1 8 refl, ltb-true 0 1 refl); access = tt; store = tt },
+    record {
+      of_a_caller = ltb-true 7 8 refl;
+      in_range = (ltb-true 1 8 refl, ltb-true 0 1 refl);
+      access = tt;
+      store = tt;
+    },
     (
-      record { of_a_caller = ltb-true 7 8 refl; in_range = (ltb-true 2 8 refl, ltb-true 0 1 refl); access = tt; store = tt },
+      record {
+        of_a_caller = ltb-true 7 8 refl;
+        in_range = (ltb-true 2 8 refl, ltb-true 0 1 refl);
+        access = tt;
+        store = tt;
+      },
       (
         record { of_a_caller = ltb-true 7 8 refl; in_range = ltb-true 2 8 refl; access = tt; store = refl },
         (

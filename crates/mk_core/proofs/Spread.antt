@@ -1,14 +1,19 @@
 -- Groups of words with gaps between them: their length, the word r of group i, and a change of it.
-use Rattle.std.proofs.Common.{◌≡◌, ℕ, zero, suc, ◌+◌, ◌*◌, ◌<◌, List, ◌++◌, length, take, drop, slice_index, slice_set, refl, sym, ◌∙◌, ap, arith}
-use Rattle.std.proofs.lemmas.List.{get_or_append_left, get_or-append-add, get_or-take, get_or-drop, set-append_left, set-append_right, take-set-le, drop-set-lt, drop-set-add, length-append, length-drop, length-take-le, length-replicate}
+use Rattle.std.proofs.Common.{◌≡◌, ℕ, zero, suc, ◌+◌, ◌*◌, ◌<◌, List, ◌++◌, length, take, drop, slice_index, slice_set}
+use Rattle.std.proofs.Common.{refl, sym, ◌∙◌, ap, arith}
+use Rattle.std.proofs.lemmas.List.{get_or_append_left, get_or-append-add, get_or-take, get_or-drop, set-append_left}
+use Rattle.std.proofs.lemmas.List.{set-append_right, take-set-le, drop-set-lt, drop-set-add, length-append, length-drop}
+use Rattle.std.proofs.lemmas.List.{length-take-le, length-replicate}
 use Rattle.std.proofs.Math.Seq.{take-set-lt}
 use Rattle.mk_core.specs.Layout.{gap, spread}
 
 -- a change behind the first words
 pub set_later : (xs ys : List ℕ) (n v : ℕ) → slice_set (xs ++ ys) (length xs + n) v ≡ xs ++ slice_set ys n v
-set_later xs ys n v = set-append_right xs ys (length xs) (length xs + n) v refl (omega arith) ∙ ap (λ k. xs ++ slice_set ys k v) (omega arith)
+set_later xs ys n v = set-append_right xs ys (length xs) (length xs + n) v refl (omega arith)
+    ∙ ap (λ k. xs ++ slice_set ys k v) (omega arith)
 
-pub length_spread : (n size between : ℕ) (xs : List ℕ) → length xs ≡ n * size → length (spread n size between xs) ≡ n * (size + between)
+pub length_spread : (n size between : ℕ) (xs : List ℕ) → length xs ≡ n * size
+    → length (spread n size between xs) ≡ n * (size + between)
 unfolding spread
 length_spread zero size between xs e = omega arith
 length_spread (suc n) size between xs e =
@@ -32,13 +37,15 @@ spread_at (suc n) size between xs (suc i) r e li lr =
     let left : length (drop size xs) ≡ n * size = omega (arith, length-drop size xs) in
     let k = (size + between) * i + r in
     ap (λ m. slice_index (spread (suc n) size between xs) m) (omega arith)
-    ∙ get_or-append-add (take size xs) (gap between ++ spread n size between (drop size xs)) (length (gap between) + k) 0
+    ∙ get_or-append-add (take size xs) (gap between ++ spread n size between (drop size xs)) (length (gap between) + k)
+    0
     ∙ get_or-append-add (gap between) (spread n size between (drop size xs)) k 0
     ∙ spread_at n size between (drop size xs) i r left (omega arith) lr
     ∙ get_or-drop size xs (size * i + r) 0 ∙ ap (λ m. slice_index xs m) (omega arith)
 
 pub spread_set : (n size between : ℕ) (xs : List ℕ) (i r v : ℕ) → length xs ≡ n * size → i < n → r < size
-    → slice_set (spread n size between xs) ((size + between) * i + r) v ≡ spread n size between (slice_set xs (size * i + r) v)
+    → slice_set (spread n size between xs) ((size + between) * i + r) v
+    ≡ spread n size between (slice_set xs (size * i + r) v)
 unfolding spread
 spread_set zero size between xs i r v e li lr = absurd (omega arith)
 spread_set (suc n) size between xs zero r v e li lr =
@@ -58,14 +65,20 @@ spread_set (suc n) size between xs (suc i) r v e li lr =
     ap (λ m. slice_set (spread (suc n) size between xs) m v) (omega arith)
     ∙ set_later (take size xs) (gap between ++ spread n size between (drop size xs)) (length (gap between) + k) v
     ∙ ap (λ ys. take size xs ++ ys) (set_later (gap between) (spread n size between (drop size xs)) k v)
-    ∙ ap (λ ys. take size xs ++ (gap between ++ ys)) (spread_set n size between (drop size xs) i r v left (omega arith) lr)
+    ∙ ap (λ ys. take size xs ++ (gap between ++ ys))
+    (spread_set n size between (drop size xs) i r v left (omega arith) lr)
     ∙ ap (λ ys. take size xs ++ (gap between ++ spread n size between ys)) (sym (drop-set-add size xs place v))
-    ∙ ap (λ ys. ys ++ (gap between ++ spread n size between (drop size (slice_set xs (size + place) v)))) (sym (take-set-le size xs (size + place) v (omega arith)))
+    ∙ ap (λ ys. ys ++ (gap between ++ spread n size between (drop size (slice_set xs (size + place) v))))
+    (sym (take-set-le size xs (size + place) v (omega arith)))
     ∙ ap (λ m. spread (suc n) size between (slice_set xs m v)) (omega arith)
 
-pub gates_at : (xs : List ℕ) (j : ℕ) → length xs ≡ 16 → j < 16 → slice_index (spread 16 1 15 xs) (16 * j) ≡ slice_index xs j
-gates_at xs j e lt = ap (λ k. slice_index (spread 16 1 15 xs) k) (omega arith) ∙ spread_at 16 1 15 xs j 0 e lt (omega arith) ∙ ap (λ k. slice_index xs k) (omega arith)
+pub gates_at : (xs : List ℕ) (j : ℕ) → length xs ≡ 16 → j < 16
+    → slice_index (spread 16 1 15 xs) (16 * j) ≡ slice_index xs j
+gates_at xs j e lt = ap (λ k. slice_index (spread 16 1 15 xs) k) (omega arith)
+    ∙ spread_at 16 1 15 xs j 0 e lt (omega arith) ∙ ap (λ k. slice_index xs k) (omega arith)
 
-pub gates_set : (xs : List ℕ) (j v : ℕ) → length xs ≡ 16 → j < 16 → spread 16 1 15 (slice_set xs j v) ≡ slice_set (spread 16 1 15 xs) (16 * j) v
+pub gates_set : (xs : List ℕ) (j v : ℕ) → length xs ≡ 16 → j < 16
+    → spread 16 1 15 (slice_set xs j v) ≡ slice_set (spread 16 1 15 xs) (16 * j) v
 gates_set xs j v e lt =
-    ap (λ k. spread 16 1 15 (slice_set xs k v)) (omega arith) ∙ sym (spread_set 16 1 15 xs j 0 v e lt (omega arith)) ∙ ap (λ k. slice_set (spread 16 1 15 xs) k v) (omega arith)
+    ap (λ k. spread 16 1 15 (slice_set xs k v)) (omega arith) ∙ sym (spread_set 16 1 15 xs j 0 v e lt (omega arith))
+    ∙ ap (λ k. slice_set (spread 16 1 15 xs) k v) (omega arith)

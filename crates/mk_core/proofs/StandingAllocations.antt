@@ -1,5 +1,6 @@
 -- The storage and the cell of an allocation that stands on the heap.
-use Rattle.std.proofs.Common.{◌≡◌, ℕ, ◌+◌, ◌-◌, ◌*◌, ◌/◌, ◌%◌, ◌<◌, ◌≤◌, Bool, true, false, [], length, refl, sym, ◌∙◌, ap, subst, inl, inr, arith, ◌⊎◌, zero, suc}
+use Rattle.std.proofs.Common.{◌≡◌, ℕ, ◌+◌, ◌-◌, ◌*◌, ◌/◌, ◌%◌, ◌<◌, ◌≤◌, Bool, true, false, [], length, refl, sym, ◌∙◌}
+use Rattle.std.proofs.Common.{ap, subst, inl, inr, arith, ◌⊎◌, zero, suc}
 use Rattle.std.specs.Prelude.{◌&&◌, not}
 use Rattle.std.proofs.lemmas.Bool.{cases_Bool, true≢false, cond-true, cond-false}
 use Rattle.std.proofs.Math.Bool.{and-false}
@@ -13,7 +14,8 @@ use Rattle.mk_geom.specs.Storages.{stands_on, run_header, IsCell, IsRun, IsStora
 use Rattle.mk_geom.specs.StorageWords.{cell_of_storage, ShowsStorage}
 use Rattle.mk_geom.proofs.ClassTable.{cell_ends, class_words_within}
 use Rattle.mk_geom.proofs.Standing.{stands_parts}
-use Rattle.mk_geom.proofs.PointedCells.{cell_from_first, small_cell_of, large_cell_of, cell_first, stands_at_address, shows_cell, shows_run, points_into_cell}
+use Rattle.mk_geom.proofs.PointedCells.{cell_from_first, small_cell_of, large_cell_of, cell_first, stands_at_address}
+use Rattle.mk_geom.proofs.PointedCells.{shows_cell, shows_run, points_into_cell}
 use Rattle.mk_core.specs.declared.config.Config.{Config}
 use Rattle.mk_core.specs.declared.seats.Object.{Object}
 use Rattle.mk_core.specs.Config.{IsWithinLimits}
@@ -22,12 +24,16 @@ use Rattle.mk_core.specs.Cells.{pointed_cell, header_in, cells_under, words_unde
 use Rattle.mk_core.specs.NewPlaces.{is_small_object, class_made, pages_made, unmapped_header, base_made}
 use Rattle.mk_core.specs.ObjectHeaders.{IsSized, cells_made, words_made, ShowsPart, IsHeaderOf}
 use Rattle.mk_core.specs.Allocations.{PlacedAllocation, is_mapped, storage_words, storage_of}
-use Rattle.mk_core.specs.StandingAllocations.{object_placed, BeginsAtCell, HasItsHeaders, StorageHoldsObjects, StandingHasStorage, HeadersShowStorage, PointersHitAllocations, CellsBeginAtBases}
-use Rattle.mk_core.proofs.Sizes.{large_is_not_small, small_cells, large_cells, small_pages, small_words, large_words, class_known, large_count, words_are_small, words_within, words_hold, pages_some}
+use Rattle.mk_core.specs.StandingAllocations.{object_placed, BeginsAtCell, HasItsHeaders, StorageHoldsObjects}
+use Rattle.mk_core.specs.StandingAllocations.{StandingHasStorage, HeadersShowStorage, PointersHitAllocations}
+use Rattle.mk_core.specs.StandingAllocations.{CellsBeginAtBases}
+use Rattle.mk_core.proofs.Sizes.{large_is_not_small, small_cells, large_cells, small_pages, small_words, large_words}
+use Rattle.mk_core.proofs.Sizes.{class_known, large_count, words_are_small, words_within, words_hold, pages_some}
 use Rattle.mk_core.proofs.ObjectHeaders.{small_header, large_header, header_shows, part_cells, part_words}
 
 -- a type that there is has 1 to 4,096 words
-pub typed_size : (c : Config) (a : PlacedAllocation) → IsWithinLimits c → a.ty < length c.types → IsSized (object_placed c a)
+pub typed_size : (c : Config) (a : PlacedAllocation) → IsWithinLimits c → a.ty < length c.types
+    → IsSized (object_placed c a)
 typed_size c a limits typed = (limits.types a.ty [] typed).0
 
 pub storage_holds : StorageHoldsObjects
@@ -36,13 +42,16 @@ storage_holds c a limits typed =
     (words_hold (object_placed c a) sized, words_within (object_placed c a) sized)
 
 -- A small object's cell ends within its page,
-pub cell_ends_within : (o : Object) (base : ℕ) → IsSized o → is_small_object o ≡ true → (b : BeginsAtCell o base) → b.index * words_made o + words_made o ≤ 64
+pub cell_ends_within : (o : Object) (base : ℕ) → IsSized o → is_small_object o ≡ true → (b : BeginsAtCell o base)
+    → b.index * words_made o + words_made o ≤ 64
 cell_ends_within o base sized small b =
     let known : b.index < cells_of (class_made o) = subst (λ n. b.index < n) (small_cells o small) b.known in
-    subst (λ n. b.index * n + n ≤ 64) (sym (small_words o small)) (cell_ends b.index (class_words_of (class_made o)) known)
+    subst (λ n. b.index * n + n ≤ 64) (sym (small_words o small))
+    (cell_ends b.index (class_words_of (class_made o)) known)
 
 -- and a large object begins at its page.
-pub run_begins : (o : Object) (base : ℕ) → is_small_object o ≡ false → (b : BeginsAtCell o base) → (b.index ≡ 0) × (base % 64 ≡ 0)
+pub run_begins : (o : Object) (base : ℕ) → is_small_object o ≡ false → (b : BeginsAtCell o base)
+    → (b.index ≡ 0) × (base % 64 ≡ 0)
 run_begins o base large b =
     let one = large_cells o large in
     let known = b.known in
@@ -60,27 +69,32 @@ made_begins o place sized known = elim (cases_Bool (is_small_object o)) [
       let ends = cell_ends place.index (class_words_of (class_made o)) within in
       let some = (class_words_within (class_made o) (class_known o sized small).0).0 in
       let is : base_made o place ≡ 64 * place.page + place.index * class_words_of (class_made o) =
-      ap (λ n. 64 * place.page + n) (cond-true (is_small_object o) (place.index * class_words_of (class_made o)) 0 small) in
-      let product : place.index * words_made o ≡ place.index * class_words_of (class_made o) = ap (λ n. place.index * n) words in
+      ap (λ n. 64 * place.page + n)
+      (cond-true (is_small_object o) (place.index * class_words_of (class_made o)) 0 small) in
+      let product : place.index * words_made o ≡ place.index * class_words_of (class_made o) =
+      ap (λ n. place.index * n) words in
       (record { index = place.index; known = known; first = omega arith }, refl, omega arith)
   | inr large ↦
       let one = large_cells o large in
       let zero : place.index ≡ 0 = omega arith in
       let is : base_made o place ≡ 64 * place.page + 0 =
-      ap (λ n. 64 * place.page + n) (cond-false (is_small_object o) (place.index * class_words_of (class_made o)) 0 large) in
+      ap (λ n. 64 * place.page + n)
+      (cond-false (is_small_object o) (place.index * class_words_of (class_made o)) 0 large) in
       let product : place.index * words_made o ≡ 0 * words_made o = ap (λ n. n * words_made o) zero in
       (record { index = place.index; known = known; first = omega arith }, refl, omega arith)
 ]
 
 -- the cell of its storage
-pub placed_cell : (c : Config) (a : PlacedAllocation) → IsSized (object_placed c a) → (b : BeginsAtCell (object_placed c a) a.base)
+pub placed_cell : (c : Config) (a : PlacedAllocation) → IsSized (object_placed c a)
+    → (b : BeginsAtCell (object_placed c a) a.base)
     → cell_of_storage (storage_of c a) ≡ record { page = a.base / 64; index = b.index }
 placed_cell c a sized b = elim (cases_Bool (is_small_object (object_placed c a))) [
   | inl small ↦
       let first = b.first in
       let ends = cell_ends_within (object_placed c a) a.base sized small b in
       let some = (words_within (object_placed c a) sized).0 in
-      cell_from_first (storage_of c a) (a.base / 64) b.index (words_are_small (object_placed c a) sized ∙ small) some ends (omega arith)
+      cell_from_first (storage_of c a) (a.base / 64) b.index (words_are_small (object_placed c a) sized
+      ∙ small) some ends (omega arith)
   | inr large ↦
       let zero = (run_begins (object_placed c a) a.base large b).0 in
       large_cell_of (storage_of c a) (words_are_small (object_placed c a) sized ∙ large)
@@ -88,18 +102,22 @@ placed_cell c a sized b = elim (cases_Bool (is_small_object (object_placed c a))
 ]
 
 -- by the class of the object
-pub class_cell : (c : Config) (a : PlacedAllocation) → IsSized (object_placed c a) → is_small_object (object_placed c a) ≡ true
-    → cell_of_storage (storage_of c a) ≡ record { page = a.base / 64; index = a.base % 64 / class_words_of (class_made (object_placed c a)) }
+pub class_cell : (c : Config) (a : PlacedAllocation) → IsSized (object_placed c a)
+    → is_small_object (object_placed c a) ≡ true
+    → cell_of_storage (storage_of c a)
+    ≡ record { page = a.base / 64; index = a.base % 64 / class_words_of (class_made (object_placed c a)) }
 class_cell c a sized small =
     small_cell_of (storage_of c a) (words_are_small (object_placed c a) sized ∙ small)
     ∙ ap (λ (n : ℕ). record { page = a.base / 64; index = a.base % 64 / n }) (small_words (object_placed c a) small)
 
-pub run_cell : (c : Config) (a : PlacedAllocation) → IsSized (object_placed c a) → is_small_object (object_placed c a) ≡ false
+pub run_cell : (c : Config) (a : PlacedAllocation) → IsSized (object_placed c a)
+    → is_small_object (object_placed c a) ≡ false
     → cell_of_storage (storage_of c a) ≡ record { page = a.base / 64; index = 0 }
 run_cell c a sized large = large_cell_of (storage_of c a) (words_are_small (object_placed c a) sized ∙ large)
 
 -- An unreleased small allocation is mapped.
-small_is_mapped : (c : Config) (a : PlacedAllocation) → a.released ≡ false → is_small_object (object_placed c a) ≡ true → is_mapped c a ≡ true
+small_is_mapped : (c : Config) (a : PlacedAllocation) → a.released ≡ false → is_small_object (object_placed c a) ≡ true
+    → is_mapped c a ≡ true
 small_is_mapped c a unreleased small =
     let large : is_large (kinds_of c.types a.ty) ≡ false = large_is_not_small (kinds_of c.types a.ty) ∙ ap not small in
     ap (λ b. not b && not (a.freed && is_large (kinds_of c.types a.ty))) unreleased
@@ -133,18 +151,21 @@ standing_has_storage c a limits st = by (cases_Bool (is_small_object (object_pla
           first = (run_begins (object_placed c a) a.base large st.begins).1;
         }
 
-    by : (is_small_object (object_placed c a) ≡ true) ⊎ (is_small_object (object_placed c a) ≡ false) → IsStorage c.pages (storage_of c a)
+    by : (is_small_object (object_placed c a) ≡ true) ⊎ (is_small_object (object_placed c a) ≡ false)
+        → IsStorage c.pages (storage_of c a)
     by (inl small) = (inl (cell small), st.within)
     by (inr large) = (inr (run large), st.within)
 
 -- the header of a run's page, once it is unmapped, leaf or not
-unmapped_run : (count distance : ℕ) (leaf : Bool) → unmapped_header count distance ≡ word_of (run_header count false leaf distance)
+unmapped_run : (count distance : ℕ) (leaf : Bool)
+    → unmapped_header count distance ≡ word_of (run_header count false leaf distance)
 unmapped_run count zero true = refl
 unmapped_run count zero false = refl
 unmapped_run count (suc distance) leaf = refl
 
 pub header_shows_storage : (c : Config) (a : PlacedAllocation) (distance header : ℕ) → IsSized (object_placed c a)
-    → BeginsAtCell (object_placed c a) a.base → distance < pages_made (object_placed c a) → IsHeaderOf (object_placed c a) distance header
+    → BeginsAtCell (object_placed c a) a.base → distance < pages_made (object_placed c a)
+    → IsHeaderOf (object_placed c a) distance header
     → ShowsStorage (storage_of c a) (a.base / 64 + distance) header
 header_shows_storage c a distance header sized b near has = by (cases_Bool (is_small_object (object_placed c a))) has
   where
@@ -156,19 +177,24 @@ header_shows_storage c a distance header sized b near has = by (cases_Bool (is_s
         shows_run (storage_of c a) header (a.base / 64) (pages_made (object_placed c a)) distance mapped (omega arith)
         (large_words (object_placed c a) large) (large_count (object_placed c a) sized large).0 is
 
-    by : (is_small_object (object_placed c a) ≡ true) ⊎ (is_small_object (object_placed c a) ≡ false) → IsHeaderOf (object_placed c a) distance header
+    by : (is_small_object (object_placed c a) ≡ true) ⊎ (is_small_object (object_placed c a) ≡ false)
+        → IsHeaderOf (object_placed c a) distance header
         → ShowsStorage (storage_of c a) (a.base / 64 + distance) header
     by (inl small) (inl made) =
-        shows_cell (storage_of c a) (a.base / 64 + distance) header (class_made (object_placed c a)) (class_known (object_placed c a) sized small).0
+        shows_cell (storage_of c a) (a.base / 64 + distance) header (class_made (object_placed c a))
+        (class_known (object_placed c a) sized small).0
         (small_words (object_placed c a) small) (made ∙ small_header (object_placed c a) distance small)
     by (inl small) (inr unmapped) = absurd (true≢false (sym small ∙ unmapped.0))
     by (inr large) (inl made) = large_shows true large (made ∙ large_header (object_placed c a) distance large)
     by (inr large) (inr unmapped) =
-        large_shows false large (unmapped.1 ∙ unmapped_run (pages_made (object_placed c a)) distance (object_placed c a).leaf)
+        large_shows false large (unmapped.1
+        ∙ unmapped_run (pages_made (object_placed c a)) distance (object_placed c a).leaf)
 
 -- how far behind its first a page of its storage is
-page_near : (c : Config) (a : PlacedAllocation) (page : ℕ) → IsSized (object_placed c a) → BeginsAtCell (object_placed c a) a.base
-    → stands_on page (storage_of c a) ≡ true → (a.base / 64 ≤ page) × (page - a.base / 64 < pages_made (object_placed c a))
+page_near : (c : Config) (a : PlacedAllocation) (page : ℕ) → IsSized (object_placed c a)
+    → BeginsAtCell (object_placed c a) a.base
+    → stands_on page (storage_of c a) ≡ true
+    → (a.base / 64 ≤ page) × (page - a.base / 64 < pages_made (object_placed c a))
 page_near c a page sized b stands =
     let parts = stands_parts page (storage_of c a) stands in
     let words = words_within (object_placed c a) sized in
@@ -191,7 +217,8 @@ headers_show_storage c w a limits st has page stands =
     let from = near.0 in
     let there : a.base / 64 + (page - a.base / 64) ≡ page = omega arith in
     subst (λ p. ShowsStorage (storage_of c a) p (header_at w p)) there
-    (header_shows_storage c a (page - a.base / 64) (header_at w (a.base / 64 + (page - a.base / 64))) sized st.begins near.1 (has (page - a.base / 64) near.1))
+    (header_shows_storage c a (page - a.base / 64) (header_at w (a.base / 64 + (page - a.base / 64))) sized st.begins
+    near.1 (has (page - a.base / 64) near.1))
 
 pub pointers_hit : PointersHitAllocations
 unfolding pointed_cell
@@ -200,24 +227,32 @@ pointers_hit c w a limits st has u into =
     (headers_show_storage c w a limits st has (page_at_address u) (stands_at_address u (storage_of c a) into)) into
 
 -- its first page shows the object
-pub first_page_shows : (c : Config) (w : Words) (a : PlacedAllocation) → IsSized (object_placed c a) → HasItsHeaders c w a
+pub first_page_shows : (c : Config) (w : Words) (a : PlacedAllocation) → IsSized (object_placed c a)
+    → HasItsHeaders c w a
     → ShowsPart (object_placed c a) 0 (header_in w (a.base / 64))
 first_page_shows c w a sized has =
     let here : a.base / 64 + 0 ≡ a.base / 64 = omega arith in
     subst (λ p. ShowsPart (object_placed c a) 0 (header_in w p)) here
-    (header_shows (object_placed c a) 0 (header_at w (a.base / 64 + 0)) sized (pages_some (object_placed c a) sized) (has 0 (pages_some (object_placed c a) sized)))
+    (header_shows (object_placed c a) 0 (header_at w (a.base / 64 + 0)) sized (pages_some (object_placed c a) sized)
+    (has 0 (pages_some (object_placed c a) sized)))
 
 pub cells_begin : CellsBeginAtBases
 cells_begin c w a limits st has =
     let sized = typed_size c a limits st.typed in
-    let words : words_under (header_in w (a.base / 64)) ≡ storage_words c a = part_words (object_placed c a) _ (first_page_shows c w a sized has) in
-    (ap (λ n. 64 * (a.base / 64) + (cell_of_storage (storage_of c a)).index * n) words ∙ cell_first c.pages (storage_of c a) (standing_has_storage c a limits st), words)
+    let words : words_under (header_in w (a.base / 64)) ≡ storage_words c a =
+    part_words (object_placed c a) _ (first_page_shows c w a sized has) in (
+      ap (λ n. 64 * (a.base / 64) + (cell_of_storage (storage_of c a)).index * n) words
+          ∙ cell_first c.pages (storage_of c a) (standing_has_storage c a limits st),
+      words,
+    )
 
 -- The index of its cell is one of its page's cells.
-pub cell_is_known : (c : Config) (w : Words) (a : PlacedAllocation) → IsSized (object_placed c a) → BeginsAtCell (object_placed c a) a.base → HasItsHeaders c w a
+pub cell_is_known : (c : Config) (w : Words) (a : PlacedAllocation) → IsSized (object_placed c a)
+    → BeginsAtCell (object_placed c a) a.base → HasItsHeaders c w a
     → (cell_of_storage (storage_of c a)).index < cells_under (header_in w (a.base / 64))
 cell_is_known c w a sized b has =
-    let is : (cell_of_storage (storage_of c a)).index ≡ b.index = ap (λ (k : Cell). k.index) (placed_cell c a sized b) in
+    let is : (cell_of_storage (storage_of c a)).index ≡ b.index =
+    ap (λ (k : Cell). k.index) (placed_cell c a sized b) in
     let cells = part_cells (object_placed c a) _ (first_page_shows c w a sized has) in
     let known = b.known in
     omega arith

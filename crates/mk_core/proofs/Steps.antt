@@ -1,5 +1,6 @@
 -- What a step says of the histories for which the core stood.
-use Rattle.std.proofs.Common.{◌≡◌, ◌↔◌, ◌≤◌, List, [], ◌∷◌, ◌++◌, Option, Result, Ok, Err, MatchResult, IsOk, IfOk, OnOk, refl, sym, ◌∙◌, ap, subst, arith}
+use Rattle.std.proofs.Common.{◌≡◌, ◌↔◌, ◌≤◌, List, [], ◌∷◌, ◌++◌, Option, Result, Ok, Err, MatchResult, IsOk, IfOk}
+use Rattle.std.proofs.Common.{OnOk, refl, sym, ◌∙◌, ap, subst, arith}
 use Rattle.mk_never.specs.declared.never_heap.NoMemory.{NoMemory}
 use Rattle.mk_core.specs.declared.config.Config.{Config}
 use Rattle.mk_core.specs.declared.events.Answer.{Answer}
@@ -15,30 +16,44 @@ use Rattle.mk_core.specs.Standing.{CoreState, CoreStandsFor}
 use Rattle.mk_core.proofs.Histories.{left_more, enabled_more, last_enabled, calls_more}
 
 abbrev Tells : CoreState → Event → Result (Option Answer) NotEnabled → Type 0
-Tells core e r = MatchResult r (λ _. IsEnabled core.config core.now e) (λ x. (failing core.config core.now e ≡ x.condition) × (1 ≤ x.condition))
+Tells core e r = MatchResult r (λ _. IsEnabled core.config core.now e)
+    (λ x. (failing core.config core.now e ≡ x.condition) × (1 ≤ x.condition))
 
-pub exact_of : (core : CoreState) (es : List Event) (e : Event) (r : Result (Option Answer) NotEnabled) → CoreStandsFor core es → Tells core e r
+pub exact_of : (core : CoreState) (es : List Event) (e : Event) (r : Result (Option Answer) NotEnabled)
+    → CoreStandsFor core es → Tells core e r
     → (IsOk r ↔ AreEnabled core.config (es ++ e ∷ []))
-exact_of core es e (Ok a) st t =
-    (λ _. enabled_more core.config (first_world core.config) es e st.enabled (subst (λ (m : Moment). failing core.config m e ≡ 0) st.now t), λ _. refl)
-exact_of core es e (Err x) st t =
-    (λ bad. cc, λ en. let z : failing core.config core.now e ≡ 0 = ap (λ (m : Moment). failing core.config m e) st.now ∙ last_enabled core.config (first_world core.config) es e en in absurd (omega arith))
+exact_of core es e (Ok a) st t = (
+  λ _. enabled_more core.config (first_world core.config) es e st.enabled
+      (subst (λ (m : Moment). failing core.config m e ≡ 0) st.now t),
+  λ _. refl,
+)
+exact_of core es e (Err x) st t = (
+  λ bad. cc,
+  λ en. let z : failing core.config core.now e ≡ 0 = ap (λ (m : Moment). failing core.config m e) st.now
+      ∙ last_enabled core.config (first_world core.config) es e en in absurd (omega arith),
+)
 
-pub answer_of : (core : CoreState) (es : List Event) (e : Event) (r : Result (Option Answer) NotEnabled) → CoreStandsFor core es → IfOk r (λ a. a ≡ answer_decided core.config core.now e)
-    → IfOk r (λ a. calls core.config (es ++ e ∷ []) ≡ calls core.config es ++ entry_of (caller_number e.seat) (flight_of (left core.config es).now e.seat).op a)
+pub answer_of : (core : CoreState) (es : List Event) (e : Event) (r : Result (Option Answer) NotEnabled)
+    → CoreStandsFor core es → IfOk r (λ a. a ≡ answer_decided core.config core.now e)
+    → IfOk r (λ a. calls core.config (es ++ e ∷ [])
+    ≡ calls core.config es ++ entry_of (caller_number e.seat) (flight_of (left core.config es).now e.seat).op a)
 answer_of core es e (Ok a) st h =
     calls_more core.config (first_world core.config) es e
-    ∙ ap (λ (b : Option Answer). calls core.config es ++ entry_of (caller_number e.seat) (flight_of (left core.config es).now e.seat).op b) (sym (h ∙ ap (λ (m : Moment). answer_decided core.config m e) st.now))
+    ∙ ap (λ (b : Option Answer). calls core.config es
+    ++ entry_of (caller_number e.seat) (flight_of (left core.config es).now e.seat).op b)
+    (sym (h ∙ ap (λ (m : Moment). answer_decided core.config m e) st.now))
 answer_of core es e (Err x) st h = tt
 
-pub stands_of : (core new : CoreState) (es : List Event) (e : Event) (r : Result (Option Answer) NotEnabled) → CoreStandsFor core es → Tells core e r
+pub stands_of : (core new : CoreState) (es : List Event) (e : Event) (r : Result (Option Answer) NotEnabled)
+    → CoreStandsFor core es → Tells core e r
     → OnOk r (new ≡ record { config = core.config; now = moment_behind core.config core.now e })
     → OnOk r (CoreStandsFor new (es ++ e ∷ []))
 stands_of core new es e (Ok a) st t h =
     subst (λ (x : CoreState). CoreStandsFor x (es ++ e ∷ [])) (sym h)
     (record {
       enabled = (exact_of core es e (Ok a) st t).0 refl;
-      now = ap (λ (m : Moment). moment_behind core.config m e) st.now ∙ sym (ap (λ (w : World). w.now) (left_more core.config (first_world core.config) es e));
+      now = ap (λ (m : Moment). moment_behind core.config m e) st.now
+          ∙ sym (ap (λ (w : World). w.now) (left_more core.config (first_world core.config) es e));
     })
 stands_of core new es e (Err x) st t h = tt
 
@@ -46,6 +61,7 @@ stands_at_start : (core : CoreState) → core.now ≡ first_moment core.config �
 unfolding left_from AreEnabledFrom
 stands_at_start core e = record { enabled = tt; now = e }
 
-pub stands_if_ok : (k : Config) (r : Result CoreState NoMemory) → IfOk r (λ core. (core.config ≡ k) × (core.now ≡ first_moment k)) → IfOk r (λ core. CoreStandsFor core [])
+pub stands_if_ok : (k : Config) (r : Result CoreState NoMemory)
+    → IfOk r (λ core. (core.config ≡ k) × (core.now ≡ first_moment k)) → IfOk r (λ core. CoreStandsFor core [])
 stands_if_ok k (Ok core) h = stands_at_start core (h.1 ∙ ap (λ c. first_moment c) (sym h.0))
 stands_if_ok k (Err e) h = tt

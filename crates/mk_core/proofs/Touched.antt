@@ -3,12 +3,14 @@ use Rattle.std.proofs.Common.{◌≡◌, ℕ, Bool, true, List}
 use Rattle.mk_core.specs.declared.config.Config.{Config}
 use Rattle.mk_core.specs.declared.events.Event.{Event}
 use Rattle.mk_core.specs.Cycles.{Marking}
-use Rattle.mk_core.specs.Touched.{IsTouched, by_register, by_global, by_word, IsClosedAlong, TouchedIsClosed, TouchedIsLeast}
+use Rattle.mk_core.specs.Touched.{IsTouched, by_register, by_global, by_word, IsClosedAlong, TouchedIsClosed}
+use Rattle.mk_core.specs.Touched.{TouchedIsLeast}
 
 pub touched_is_closed : (c : Config) (es : List Event) (k : Marking es) → TouchedIsClosed c k
 touched_is_closed c es k = record { registers = by_register; globals = by_global; words = by_word }
 
-pub touched_is_in : (c : Config) (es : List Event) (k : Marking es) (S : ℕ → Type 0) → IsClosedAlong c k S → (b : ℕ) → IsTouched c k b → S b
+pub touched_is_in : (c : Config) (es : List Event) (k : Marking es) (S : ℕ → Type 0) → IsClosedAlong c k S → (b : ℕ)
+    → IsTouched c k b → S b
 touched_is_in c es k S closed _ (by_register front i b at points) = closed.registers front i b at points
 touched_is_in c es k S closed _ (by_global front g b at points) = closed.globals front g b at points
 touched_is_in c es k S closed _ (by_word front a n b at touched inside points) =

@@ -1,5 +1,6 @@
 -- The unreleased storage: in parts, behind changes, and which allocation has a storage of it.
-use Rattle.std.proofs.Common.{◌≡◌, ℕ, zero, suc, true, false, List, [], ◌∷◌, ◌++◌, map, refl, sym, ◌∙◌, ap, subst, inl, inr, arith}
+use Rattle.std.proofs.Common.{◌≡◌, ℕ, zero, suc, true, false, List, [], ◌∷◌, ◌++◌, map, refl, sym, ◌∙◌, ap, subst, inl}
+use Rattle.std.proofs.Common.{inr, arith}
 use Rattle.std.specs.Prelude.{Contains}
 use Rattle.std.proofs.lemmas.Bool.{cases_Bool, true≢false, cond-true, cond-false}
 use Rattle.mk_geom.specs.Storages.{Storage}
@@ -11,12 +12,14 @@ use Rattle.mk_core.specs.StandingAllocations.{HasStorage, UnreleasedStorageIsOfA
 pub unreleased_front : (c : Config) (a : PlacedAllocation) (xs : List PlacedAllocation) → a.released ≡ false
     → unreleased_storage c (a ∷ xs) ≡ storage_of c a ∷ unreleased_storage c xs
 unfolding unreleased_storage
-unreleased_front c a xs unreleased = cond-false a.released (unreleased_storage c xs) (storage_of c a ∷ unreleased_storage c xs) unreleased
+unreleased_front c a xs unreleased =
+    cond-false a.released (unreleased_storage c xs) (storage_of c a ∷ unreleased_storage c xs) unreleased
 
 pub released_front : (c : Config) (a : PlacedAllocation) (xs : List PlacedAllocation) → a.released ≡ true
     → unreleased_storage c (a ∷ xs) ≡ unreleased_storage c xs
 unfolding unreleased_storage
-released_front c a xs released = cond-true a.released (unreleased_storage c xs) (storage_of c a ∷ unreleased_storage c xs) released
+released_front c a xs released =
+    cond-true a.released (unreleased_storage c xs) (storage_of c a ∷ unreleased_storage c xs) released
 
 none_unreleased : (c : Config) → unreleased_storage c [] ≡ []
 unfolding unreleased_storage
@@ -29,7 +32,8 @@ unreleased_in_parts c (a ∷ xs) ys = elim (cases_Bool a.released) [
       released_front c a (xs ++ ys) released ∙ unreleased_in_parts c xs ys
       ∙ ap (λ (ss : List Storage). ss ++ unreleased_storage c ys) (sym (released_front c a xs released))
   | inr unreleased ↦
-      unreleased_front c a (xs ++ ys) unreleased ∙ ap (λ (ss : List Storage). storage_of c a ∷ ss) (unreleased_in_parts c xs ys)
+      unreleased_front c a (xs ++ ys) unreleased
+      ∙ ap (λ (ss : List Storage). storage_of c a ∷ ss) (unreleased_in_parts c xs ys)
       ∙ ap (λ (ss : List Storage). ss ++ unreleased_storage c ys) (sym (unreleased_front c a xs unreleased))
 ]
 
@@ -38,19 +42,24 @@ pub unreleased_more : (c : Config) (xs : List PlacedAllocation) (a : PlacedAlloc
     → unreleased_storage c (xs ++ a ∷ []) ≡ unreleased_storage c xs ++ storage_of c a ∷ []
 unreleased_more c xs a unreleased =
     unreleased_in_parts c xs (a ∷ [])
-    ∙ ap (λ (ss : List Storage). unreleased_storage c xs ++ ss) (unreleased_front c a [] unreleased ∙ ap (λ (ss : List Storage). storage_of c a ∷ ss) (none_unreleased c))
+    ∙ ap (λ (ss : List Storage). unreleased_storage c xs ++ ss) (unreleased_front c a [] unreleased
+    ∙ ap (λ (ss : List Storage). storage_of c a ∷ ss) (none_unreleased c))
 
 -- A change of each allocation that releases none and leaves each storage leaves all.
-pub unreleased_kept : (c : Config) (f : PlacedAllocation → PlacedAllocation) → ((a : PlacedAllocation) → (f a).released ≡ a.released)
+pub unreleased_kept : (c : Config) (f : PlacedAllocation → PlacedAllocation)
+    → ((a : PlacedAllocation) → (f a).released ≡ a.released)
     → ((a : PlacedAllocation) → a.released ≡ false → storage_of c (f a) ≡ storage_of c a)
     → (xs : List PlacedAllocation) → unreleased_storage c (map f xs) ≡ unreleased_storage c xs
 unreleased_kept c f same storage [] = refl
 unreleased_kept c f same storage (a ∷ xs) = elim (cases_Bool a.released) [
   | inl released ↦
-      released_front c (f a) (map f xs) (same a ∙ released) ∙ unreleased_kept c f same storage xs ∙ sym (released_front c a xs released)
+      released_front c (f a) (map f xs) (same a ∙ released) ∙ unreleased_kept c f same storage xs
+      ∙ sym (released_front c a xs released)
   | inr unreleased ↦
-      unreleased_front c (f a) (map f xs) (same a ∙ unreleased) ∙ ap (λ (s : Storage). s ∷ unreleased_storage c (map f xs)) (storage a unreleased)
-      ∙ ap (λ (ss : List Storage). storage_of c a ∷ ss) (unreleased_kept c f same storage xs) ∙ sym (unreleased_front c a xs unreleased)
+      unreleased_front c (f a) (map f xs) (same a ∙ unreleased)
+      ∙ ap (λ (s : Storage). s ∷ unreleased_storage c (map f xs)) (storage a unreleased)
+      ∙ ap (λ (ss : List Storage). storage_of c a ∷ ss) (unreleased_kept c f same storage xs)
+      ∙ sym (unreleased_front c a xs unreleased)
 ]
 
 -- Which allocation has it.
@@ -63,23 +72,31 @@ pub has_its_storage : (c : Config) (xs : List PlacedAllocation) (i : ℕ) → (p
     → Contains (unreleased_storage c xs) (storage_of c (placed_at xs i))
 has_its_storage c [] i unreleased = absurd (true≢false unreleased)
 has_its_storage c (a ∷ xs) zero unreleased =
-    subst (λ (ss : List Storage). Contains ss (storage_of c a)) (sym (unreleased_front c a xs unreleased)) (0, omega arith, refl)
+    subst (λ (ss : List Storage). Contains ss (storage_of c a)) (sym (unreleased_front c a xs unreleased))
+    (0, omega arith, refl)
 has_its_storage c (a ∷ xs) (suc i) unreleased = elim (cases_Bool a.released) [
   | inl released ↦
-      subst (λ (ss : List Storage). Contains ss (storage_of c (placed_at xs i))) (sym (released_front c a xs released)) (has_its_storage c xs i unreleased)
+      subst (λ (ss : List Storage). Contains ss (storage_of c (placed_at xs i))) (sym (released_front c a xs released))
+      (has_its_storage c xs i unreleased)
   | inr here ↦
       subst (λ (ss : List Storage). Contains ss (storage_of c (placed_at xs i))) (sym (unreleased_front c a xs here))
-      (contains_more (unreleased_storage c xs) (storage_of c a) (storage_of c (placed_at xs i)) (has_its_storage c xs i unreleased))
+      (contains_more (unreleased_storage c xs) (storage_of c a) (storage_of c (placed_at xs i))
+      (has_its_storage c xs i unreleased))
 ]
 
-has_more : (c : Config) (a : PlacedAllocation) (xs : List PlacedAllocation) (s : Storage) → HasStorage c xs s → HasStorage c (a ∷ xs) s
+has_more : (c : Config) (a : PlacedAllocation) (xs : List PlacedAllocation) (s : Storage) → HasStorage c xs s
+    → HasStorage c (a ∷ xs) s
 has_more c a xs s h = record { number = suc h.number; unreleased = h.unreleased; storage = h.storage }
 
-pub storage_is_of : (c : Config) (xs : List PlacedAllocation) (s : Storage) → Contains (unreleased_storage c xs) s → HasStorage c xs s
-storage_is_of c [] s h = let none = subst (λ (ss : List Storage). Contains ss s) (none_unreleased c) h in absurd (omega (arith, none.1))
+pub storage_is_of : (c : Config) (xs : List PlacedAllocation) (s : Storage) → Contains (unreleased_storage c xs) s
+    → HasStorage c xs s
+storage_is_of c [] s h = let none = subst (λ (ss : List Storage). Contains ss s) (none_unreleased c) h in absurd
+    (omega (arith, none.1))
 storage_is_of c (a ∷ xs) s h = elim (cases_Bool a.released) [
-  | inl released ↦ has_more c a xs s (storage_is_of c xs s (subst (λ (ss : List Storage). Contains ss s) (released_front c a xs released) h))
-  | inr unreleased ↦ by unreleased (λ k. has_more c a xs s (storage_is_of c xs s k)) (subst (λ (ss : List Storage). Contains ss s) (unreleased_front c a xs unreleased) h)
+  | inl released ↦ has_more c a xs s
+      (storage_is_of c xs s (subst (λ (ss : List Storage). Contains ss s) (released_front c a xs released) h))
+  | inr unreleased ↦ by unreleased (λ k. has_more c a xs s (storage_is_of c xs s k))
+      (subst (λ (ss : List Storage). Contains ss s) (unreleased_front c a xs unreleased) h)
 ]
   where
     by : a.released ≡ false → (Contains (unreleased_storage c xs) s → HasStorage c (a ∷ xs) s)
@@ -88,5 +105,8 @@ storage_is_of c (a ∷ xs) s h = elim (cases_Bool a.released) [
     by unreleased rest (suc k, within, at) = rest (k, omega arith, at)
 
 pub unreleased_is_of_allocations : UnreleasedStorageIsOfAllocations
-unreleased_is_of_allocations c xs s =
-    (storage_is_of c xs s, λ h. subst (λ (x : Storage). Contains (unreleased_storage c xs) x) (sym h.storage) (has_its_storage c xs h.number h.unreleased))
+unreleased_is_of_allocations c xs s = (
+  storage_is_of c xs s,
+  λ h. subst (λ (x : Storage). Contains (unreleased_storage c xs) x) (sym h.storage)
+      (has_its_storage c xs h.number h.unreleased),
+)

@@ -11,7 +11,8 @@ use Rattle.mk_core.proofs.AllBelowParts.{all_below-add, all_below_part_not_is, a
 
 -- a page of the run, among its words
 page_within : (w : Words) (head page : ℕ)
-    → all_below 64 (λ i. slice_index w.heap (64 * head + (64 * page + i)) == 0) ≡ words_are_zero w (64 * (head + page)) 64
+    → all_below 64 (λ i. slice_index w.heap (64 * head + (64 * page + i)) == 0)
+    ≡ words_are_zero w (64 * (head + page)) 64
 page_within w head page =
     all_below_same 64 _ _ (λ i. ap (λ n. slice_index w.heap n == 0) (regroup i))
   where
@@ -31,14 +32,19 @@ run_wiped_more_is w head page before here =
 
 -- where a page isn't, the run isn't
 pub run_wiped_not_is : (w : Words) (head page count : ℕ)
-    → page < count → words_are_zero w (64 * (head + page)) 64 ≡ false → words_are_zero w (64 * head) (64 * count) ≡ false
+    → page < count → words_are_zero w (64 * (head + page)) 64 ≡ false
+    → words_are_zero w (64 * head) (64 * count) ≡ false
 run_wiped_not_is w head page count lt here =
-    all_below_part_not_is (64 * count) (64 * page) 64 (λ i. slice_index w.heap (64 * head + i) == 0) (omega arith) (page_within w head page ∙ here)
+    all_below_part_not_is (64 * count) (64 * page) 64 (λ i. slice_index w.heap (64 * head + i) == 0) (omega arith)
+    (page_within w head page ∙ here)
 
 -- where one cell of these isn't wiped, they aren't
 pub cells_wiped_not_is : (w : Words) (page bits k : ℕ)
     → k < 32 → has_bit bits k ≡ true
-    → words_are_zero w (first_word w (record { page = page; index = k })) (cell_words w (record { page = page; index = k })) ≡ false
+    → words_are_zero w (first_word w (record { page = page; index = k }))
+    (cell_words w (record { page = page; index = k })) ≡ false
     → are_wiped w page bits ≡ false
 cells_wiped_not_is w page bits k lt bit zero =
-    all_below_not_is 32 k _ lt (ap (λ b. not b || words_are_zero w (first_word w (record { page = page; index = k })) (cell_words w (record { page = page; index = k }))) bit ∙ zero)
+    all_below_not_is 32 k _ lt
+    (ap (λ b. not b || words_are_zero w (first_word w (record { page = page; index = k }))
+    (cell_words w (record { page = page; index = k }))) bit ∙ zero)

@@ -1,5 +1,6 @@
 -- Words that get a bit, or lose some.
-use Rattle.std.proofs.Common.{◌≡◌, ◌≢◌, ◌⊎◌, ℕ, ◌+◌, ◌-◌, ◌*◌, ◌%◌, ◌^◌, ◌<◌, ◌≤◌, min, max, true, false, List, length, sym, ◌∙◌, ap, subst, inl, inr, arith, bit_and}
+use Rattle.std.proofs.Common.{◌≡◌, ◌≢◌, ◌⊎◌, ℕ, ◌+◌, ◌-◌, ◌*◌, ◌%◌, ◌^◌, ◌<◌, ◌≤◌, min, max, true, false, List, length}
+use Rattle.std.proofs.Common.{sym, ◌∙◌, ap, subst, inl, inr, arith, bit_and}
 use Rattle.std.specs.Prelude.{bit_or, bit_xor, ◌==◌, slice_index, slice_set}
 use Rattle.std.specs.Int.{bit_at}
 use Rattle.std.proofs.lemmas.Bool.{cases_Bool, cases_eq, cases_lt, eqb-true, eqb-false, eq-eqb, ne_eqb, true≢false}
@@ -7,7 +8,8 @@ use Rattle.std.proofs.Math.Nat.{mul-mod_left}
 use Rattle.std.proofs.Math.Pow.{pow_mono}
 use Rattle.std.proofs.lemmas.List.{get_or-set_same, get_or-set_other, set_past}
 use Rattle.std.proofs.lemmas.Nat.{or_disjoint, and_le_l, pow-add}
-use Rattle.std.proofs.lemmas.Nat.Bits.{and_pow, bit_at_or, bit_at_and, bit_at_xor, bit_at-pow_same, bit_at-pow_other, bit_at-lt, bit_at-zero, same_from_bits}
+use Rattle.std.proofs.lemmas.Nat.Bits.{and_pow, bit_at_or, bit_at_and, bit_at_xor, bit_at-pow_same, bit_at-pow_other}
+use Rattle.std.proofs.lemmas.Nat.Bits.{bit_at-lt, bit_at-zero, same_from_bits}
 use Rattle.mk_core.specs.Bits.{has_bit, bit_for, without}
 
 pub bit_is_one : (n k : ℕ) → has_bit n k ≡ true → bit_at n k ≡ 1
@@ -52,7 +54,8 @@ added_other n k i unset ne =
 -- The bits of one word are all of another's.
 pub fewer_bits : (n m k : ℕ) → bit_and n m ≡ n → has_bit n k ≡ true → has_bit m k ≡ true
 fewer_bits n m k sub h =
-    has_from m k (by (bit_at n k) (bit_at m k) (bit_at-lt m k) (bit_is_one n k h) (sym (bit_at_and n m k) ∙ ap (λ x. bit_at x k) sub))
+    has_from m k (by (bit_at n k) (bit_at m k) (bit_at-lt m k) (bit_is_one n k h) (sym (bit_at_and n m k)
+    ∙ ap (λ x. bit_at x k) sub))
   where
     by : (a b : ℕ) → b < 2 → a ≡ 1 → min a b ≡ a → b ≡ 1
     by a b lt one e = omega arith
@@ -62,7 +65,8 @@ without_none n m z = let le = and_le_l n m in omega arith
 
 pub no_common : (n m k : ℕ) → bit_and n m ≡ 0 → has_bit n k ≡ true → has_bit m k ≡ false
 no_common n m k z h =
-    ne_eqb (bit_at m k) 1 (λ e. by (bit_at n k) (bit_at m k) (bit_is_one n k h) e (sym (bit_at_and n m k) ∙ ap (λ x. bit_at x k) z ∙ bit_at-zero k))
+    ne_eqb (bit_at m k) 1 (λ e. by (bit_at n k) (bit_at m k) (bit_is_one n k h) e (sym (bit_at_and n m k)
+    ∙ ap (λ x. bit_at x k) z ∙ bit_at-zero k))
   where
     by : (a b : ℕ) → a ≡ 1 → b ≡ 1 → min a b ≡ 0 → ⊥
     by a b one e z = omega arith
@@ -88,16 +92,19 @@ rest_is n m sub = let sum : n + bit_xor m n ≡ m = sym (or_disjoint n (bit_xor 
     disjoint : bit_and n (bit_xor m n) ≡ 0
     disjoint =
         same_from_bits (bit_and n (bit_xor m n)) 0
-        (λ i. bit_at_and n (bit_xor m n) i ∙ ap (λ b. min (bit_at n i) b) (bit_at_xor m n i) ∙ none_at (bit_at n i) (bit_at m i) (bit_at-lt m i) (bits i) ∙ sym (bit_at-zero i))
+        (λ i. bit_at_and n (bit_xor m n) i ∙ ap (λ b. min (bit_at n i) b) (bit_at_xor m n i)
+        ∙ none_at (bit_at n i) (bit_at m i) (bit_at-lt m i) (bits i) ∙ sym (bit_at-zero i))
 
     whole : bit_or n (bit_xor m n) ≡ m
     whole =
         same_from_bits (bit_or n (bit_xor m n)) m
-        (λ i. bit_at_or n (bit_xor m n) i ∙ ap (λ b. max (bit_at n i) b) (bit_at_xor m n i) ∙ all_at (bit_at n i) (bit_at m i) (bit_at-lt m i) (bits i))
+        (λ i. bit_at_or n (bit_xor m n) i ∙ ap (λ b. max (bit_at n i) b) (bit_at_xor m n i)
+        ∙ all_at (bit_at n i) (bit_at m i) (bit_at-lt m i) (bits i))
 
 pub rest_bits : (n m k : ℕ) → bit_and n m ≡ n → has_bit m k ≡ true → has_bit n k ≡ false → has_bit (m - n) k ≡ true
 rest_bits n m k sub h out =
-    has_from (m - n) k (ap (λ x. bit_at x k) (rest_is n m sub) ∙ bit_at_xor m n k ∙ by (bit_at m k) (bit_at n k) (bit_is_one m k h) (bit_is_none n k out))
+    has_from (m - n) k (ap (λ x. bit_at x k) (rest_is n m sub) ∙ bit_at_xor m n k
+    ∙ by (bit_at m k) (bit_at n k) (bit_is_one m k h) (bit_is_none n k out))
   where
     by : (a b : ℕ) → a ≡ 1 → b ≡ 0 → (a + b) % 2 ≡ 1
     by a b one z = omega arith
@@ -131,20 +138,23 @@ bit_of_cell k i is = elim (cases_lt k 64) [
 pub has_bit_or : (n m i : ℕ) → has_bit (bit_or n m) i ≡ true → (has_bit n i ≡ true) ⊎ (has_bit m i ≡ true)
 has_bit_or n m i is = elim (cases_Bool (has_bit n i)) [
   | inl h ↦ inl h
-  | inr out ↦ inr (has_from m i (by (bit_at n i) (bit_at m i) (bit_is_none n i out) (sym (bit_at_or n m i) ∙ bit_is_one (bit_or n m) i is)))
+  | inr out ↦ inr (has_from m i (by (bit_at n i) (bit_at m i) (bit_is_none n i out) (sym (bit_at_or n m i)
+      ∙ bit_is_one (bit_or n m) i is)))
 ]
   where
     by : (a b : ℕ) → a ≡ 0 → max a b ≡ 1 → b ≡ 1
     by a b z e = omega arith
 
 pub has_bit_or_left : (n m i : ℕ) → has_bit n i ≡ true → has_bit (bit_or n m) i ≡ true
-has_bit_or_left n m i h = has_from (bit_or n m) i (bit_at_or n m i ∙ by (bit_at n i) (bit_at m i) (bit_at-lt m i) (bit_is_one n i h))
+has_bit_or_left n m i h = has_from (bit_or n m) i (bit_at_or n m i
+    ∙ by (bit_at n i) (bit_at m i) (bit_at-lt m i) (bit_is_one n i h))
   where
     by : (a b : ℕ) → b < 2 → a ≡ 1 → max a b ≡ 1
     by a b lt one = omega arith
 
 pub has_bit_or_right : (n m i : ℕ) → has_bit m i ≡ true → has_bit (bit_or n m) i ≡ true
-has_bit_or_right n m i h = has_from (bit_or n m) i (bit_at_or n m i ∙ by (bit_at n i) (bit_at m i) (bit_at-lt n i) (bit_is_one m i h))
+has_bit_or_right n m i h = has_from (bit_or n m) i (bit_at_or n m i
+    ∙ by (bit_at n i) (bit_at m i) (bit_at-lt n i) (bit_is_one m i h))
   where
     by : (a b : ℕ) → a < 2 → b ≡ 1 → max a b ≡ 1
     by a b lt one = omega arith
@@ -153,14 +163,17 @@ pub bit_for_has : (k : ℕ) → k < 64 → has_bit (bit_for k) k ≡ true
 bit_for_has k lt = has_from (bit_for k) k (ap (λ n. bit_at n k) (bit_for_small k lt) ∙ bit_at-pow_same k)
 
 -- Bits that are added to one of some words: each bit behind that was there, or is one of them.
-pub more_bits : (xs : List ℕ) (q b p i : ℕ) → has_bit (slice_index (slice_set xs q (bit_or (slice_index xs q) b)) p) i ≡ true
+pub more_bits : (xs : List ℕ) (q b p i : ℕ)
+    → has_bit (slice_index (slice_set xs q (bit_or (slice_index xs q) b)) p) i ≡ true
     → (has_bit (slice_index xs p) i ≡ true) ⊎ ((p ≡ q) × (has_bit b i ≡ true))
 more_bits xs q b p i is = elim (cases_eq p q) [
   | inr ne ↦ inl (subst (λ n. has_bit n i ≡ true) (get_or-set_other xs q p (bit_or (slice_index xs q) b) 0 ne) is)
   | inl e ↦ elim (cases_lt q (length xs)) [
-    | inr past ↦ inl (subst (λ (ys : List ℕ). has_bit (slice_index ys p) i ≡ true) (set_past xs q (bit_or (slice_index xs q) b) past) is)
+    | inr past ↦ inl (subst (λ (ys : List ℕ). has_bit (slice_index ys p) i ≡ true)
+        (set_past xs q (bit_or (slice_index xs q) b) past) is)
     | inl lt ↦
-        let same = ap (λ j. slice_index (slice_set xs q (bit_or (slice_index xs q) b)) j) e ∙ get_or-set_same xs q (bit_or (slice_index xs q) b) 0 lt in
+        let same = ap (λ j. slice_index (slice_set xs q (bit_or (slice_index xs q) b)) j) e
+        ∙ get_or-set_same xs q (bit_or (slice_index xs q) b) 0 lt in
         elim (has_bit_or (slice_index xs q) b i (subst (λ n. has_bit n i ≡ true) same is)) [
           | inl old ↦ inl (subst (λ j. has_bit (slice_index xs j) i ≡ true) (sym e) old)
           | inr new ↦ inr (e, new)
@@ -169,17 +182,23 @@ more_bits xs q b p i is = elim (cases_eq p q) [
 ]
 
 -- Those that were there stay, and those that are added are there.
-pub bits_stay : (xs : List ℕ) (q b p i : ℕ) → has_bit (slice_index xs p) i ≡ true → has_bit (slice_index (slice_set xs q (bit_or (slice_index xs q) b)) p) i ≡ true
+pub bits_stay : (xs : List ℕ) (q b p i : ℕ) → has_bit (slice_index xs p) i ≡ true
+    → has_bit (slice_index (slice_set xs q (bit_or (slice_index xs q) b)) p) i ≡ true
 bits_stay xs q b p i is = elim (cases_eq p q) [
   | inr ne ↦ subst (λ n. has_bit n i ≡ true) (sym (get_or-set_other xs q p (bit_or (slice_index xs q) b) 0 ne)) is
   | inl e ↦ elim (cases_lt q (length xs)) [
-    | inr past ↦ subst (λ (ys : List ℕ). has_bit (slice_index ys p) i ≡ true) (sym (set_past xs q (bit_or (slice_index xs q) b) past)) is
+    | inr past ↦ subst (λ (ys : List ℕ). has_bit (slice_index ys p) i ≡ true)
+        (sym (set_past xs q (bit_or (slice_index xs q) b) past)) is
     | inl lt ↦
-        let same = ap (λ j. slice_index (slice_set xs q (bit_or (slice_index xs q) b)) j) e ∙ get_or-set_same xs q (bit_or (slice_index xs q) b) 0 lt in
-        subst (λ n. has_bit n i ≡ true) (sym same) (has_bit_or_left (slice_index xs q) b i (subst (λ j. has_bit (slice_index xs j) i ≡ true) e is))
+        let same = ap (λ j. slice_index (slice_set xs q (bit_or (slice_index xs q) b)) j) e
+        ∙ get_or-set_same xs q (bit_or (slice_index xs q) b) 0 lt in
+        subst (λ n. has_bit n i ≡ true) (sym same)
+        (has_bit_or_left (slice_index xs q) b i (subst (λ j. has_bit (slice_index xs j) i ≡ true) e is))
   ]
 ]
 
-pub bits_added : (xs : List ℕ) (q b i : ℕ) → q < length xs → has_bit b i ≡ true → has_bit (slice_index (slice_set xs q (bit_or (slice_index xs q) b)) q) i ≡ true
+pub bits_added : (xs : List ℕ) (q b i : ℕ) → q < length xs → has_bit b i ≡ true
+    → has_bit (slice_index (slice_set xs q (bit_or (slice_index xs q) b)) q) i ≡ true
 bits_added xs q b i lt is =
-    subst (λ n. has_bit n i ≡ true) (sym (get_or-set_same xs q (bit_or (slice_index xs q) b) 0 lt)) (has_bit_or_right (slice_index xs q) b i is)
+    subst (λ n. has_bit n i ≡ true) (sym (get_or-set_same xs q (bit_or (slice_index xs q) b) 0 lt))
+    (has_bit_or_right (slice_index xs q) b i is)

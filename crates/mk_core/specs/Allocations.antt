@@ -1,5 +1,6 @@
 -- The allocations of a history, in the order of their grants: an allocation's number is its place.
-use Rattle.std.specs.Prelude.{ℕ, Bool, true, false, ◌&&◌, ◌||◌, not, ◌==◌, List, [], ◌∷◌, ◌++◌, map, filter, sum_by, slice_index_or, Option, if◌then◌else◌}
+use Rattle.std.specs.Prelude.{ℕ, Bool, true, false, ◌&&◌, ◌||◌, not, ◌==◌, List, [], ◌∷◌, ◌++◌, map, filter, sum_by}
+use Rattle.std.specs.Prelude.{slice_index_or, Option, if◌then◌else◌}
 use Rattle.mk_never.specs.declared.operations.Op.{Op}
 use Rattle.mk_never.specs.declared.operations.Op.TheVariants as op
 use Rattle.mk_never.specs.Types.{kinds_of, is_large}
@@ -45,7 +46,13 @@ type_made _ = 0
 
 abbrev pub granted : Config → Moment → Flight → PlacedAllocation
 granted c m f =
-    record { base = granted_base c f m.seats.holding.placing; ty = type_made f.op; freed = false; fresh = false; released = false }
+    record {
+      base = granted_base c f m.seats.holding.placing;
+      ty = type_made f.op;
+      freed = false;
+      fresh = false;
+      released = false;
+    }
 
 -- the unreleased allocation of a cell
 abbrev pub stands_in : Words → Cell → PlacedAllocation → Bool
@@ -58,7 +65,10 @@ freed_where_it_stands w cell a =
 -- A `release` releases the allocations whose cells are left unmarked.
 abbrev pub with_released : Config → Words → PlacedAllocation → PlacedAllocation
 with_released c w a =
-    record a { released = a.released || is_some_and (is_left_unmarked w) (pointed_cell c.pages w.pages (address_of a.base)) }
+    record a {
+      released = a.released
+          || is_some_and (is_left_unmarked w) (pointed_cell c.pages w.pages (address_of a.base));
+    }
 
 abbrev pub no_longer_fresh : PlacedAllocation → PlacedAllocation
 no_longer_fresh a = record a { fresh = false }
@@ -84,7 +94,12 @@ storage_words c a = words_made (object_of (kinds_of c.types a.ty))
 
 abbrev pub storage_of : Config → PlacedAllocation → Storage
 storage_of c a =
-    record { first = a.base; words = storage_words c a; mapped = is_mapped c a; leaf = (object_of (kinds_of c.types a.ty)).leaf }
+    record {
+      first = a.base;
+      words = storage_words c a;
+      mapped = is_mapped c a;
+      leaf = (object_of (kinds_of c.types a.ty)).leaf;
+    }
 
 -- the cell at its first word; a large one's is cell 0 of its head page
 abbrev pub cell_of_allocation : Config → PlacedAllocation → Cell

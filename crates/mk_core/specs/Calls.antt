@@ -1,5 +1,6 @@
 -- The calls of callers: the operands and the steps of each operation, and what a step makes of the call in flight.
-use Rattle.std.specs.Prelude.{ℕ, ◌+◌, ◌*◌, ◌/◌, ◌%◌, ◌^◌, Bool, true, false, ◌&&◌, nat_lt, ◌==◌, List, [], ◌∷◌, length, Option, Some, None, if◌then◌else◌}
+use Rattle.std.specs.Prelude.{ℕ, ◌+◌, ◌*◌, ◌/◌, ◌%◌, ◌^◌, Bool, true, false, ◌&&◌, nat_lt, ◌==◌, List, [], ◌∷◌, length}
+use Rattle.std.specs.Prelude.{Option, Some, None, if◌then◌else◌}
 use Rattle.mk_never.specs.declared.operations.Op.{Op}
 use Rattle.mk_never.specs.declared.operations.Op.TheVariants as op
 use Rattle.mk_geom.specs.Addresses.{heap_word_at}
@@ -7,7 +8,8 @@ use Rattle.mk_core.specs.declared.config.Config.{Config}
 use Rattle.mk_core.specs.declared.events.Answer.{Answer}
 use Rattle.mk_core.specs.declared.events.Answer.TheVariants as answer
 use Rattle.mk_core.specs.declared.seats.Stage.{Stage}
-use Rattle.mk_core.specs.declared.seats.Stage.TheVariants.{Idle, LoadQ, LoadP, LoadR, Probe, Read, Write, Cas, Getg, Setg, Store, Put, Dirty, Leave, Turn, Give}
+use Rattle.mk_core.specs.declared.seats.Stage.TheVariants.{Idle, LoadQ, LoadP, LoadR, Probe, Read, Write, Cas, Getg}
+use Rattle.mk_core.specs.declared.seats.Stage.TheVariants.{Setg, Store, Put, Dirty, Leave, Turn, Give}
 use Rattle.mk_core.specs.declared.seats.Flight.{Flight}
 use Rattle.mk_core.specs.declared.seats.Progress.{Progress}
 
@@ -67,7 +69,8 @@ has_type c _ = true
 -- the registers, the global and the type of an operation are there
 abbrev pub has_operands : Config → Op → Bool
 has_operands c o =
-    nat_lt (q_of o) 8 && nat_lt (p_of o) 8 && nat_lt (r_of o) 8 && nat_lt (d_of o) 8 && nat_lt (g_of o) 64 && has_type c o
+    nat_lt (q_of o) 8 && nat_lt (p_of o) 8 && nat_lt (r_of o) 8 && nat_lt (d_of o) 8 && nat_lt (g_of o) 64
+    && has_type c o
 
 -- a call of the operation begins with `take`, and else with `enter`
 abbrev pub is_under_turn : Op → Bool
@@ -170,7 +173,8 @@ one_if false = 0
 abbrev pub progress_q : Flight → Op → ℕ → Progress
 progress_q f (op.Move d q) found = onward (record f { q = found }) None
 progress_q f (op.Same p q) found = onward (record f { q = found }) (Some (answer.Num (one_if (f.p == found))))
-progress_q f _ found = if found == 0 then refused (record f { q = found }) answer.Null else onward (record f { q = found }) None
+progress_q f _ found = if found == 0 then refused (record f { q = found }) answer.Null
+    else onward (record f { q = found }) None
 
 -- `reg` that loads p
 abbrev pub progress_p : Flight → Op → ℕ → Progress

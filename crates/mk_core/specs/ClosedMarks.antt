@@ -1,4 +1,5 @@
--- Closed marks, and what guards them while callers write: the mostly parallel marking of Boehm, Demers and Shenker (1991).
+-- Closed marks, and what guards them while callers write: the mostly parallel marking of Boehm, Demers and Shenker
+-- (1991).
 use Rattle.std.specs.Prelude.{◌≡◌, ◌⊎◌, ℕ, ◌+◌, ◌*◌, ◌/◌, ◌<◌, Bool, true, false, ◌&&◌, not, slice_index}
 use Rattle.mk_geom.specs.Addresses.{address_of}
 use Rattle.mk_geom.specs.StorageWords.{IsWordOf}
@@ -9,7 +10,8 @@ use Rattle.mk_core.specs.Bits.{has_bit}
 use Rattle.mk_core.specs.Bounded.{is_some_and}
 use Rattle.mk_core.specs.Words.{Words}
 use Rattle.mk_core.specs.Calls.{page_met}
-use Rattle.mk_core.specs.Cells.{header_in, cells_under, words_under, has_no_pointers, pointed_cell, is_marked, points_well, word_points_well}
+use Rattle.mk_core.specs.Cells.{header_in, cells_under, words_under, has_no_pointers, pointed_cell, is_marked}
+use Rattle.mk_core.specs.Cells.{points_well, word_points_well}
 use Rattle.mk_core.specs.Moments.{Moment, flight_of, is_phase}
 use Rattle.mk_core.specs.Allocations.{PlacedAllocation, placed_at, is_mapped, storage_of}
 use Rattle.mk_core.specs.History.{World}
@@ -22,13 +24,14 @@ is_marked_allocation c w a = is_some_and (is_marked w) (pointed_cell c.pages w.p
 abbrev pub is_scanned_allocation : Config → PlacedAllocation → Bool
 is_scanned_allocation c a = is_mapped c a && not (storage_of c a).leaf
 
--- Every word in a register, a global or the storage of a marked mapped allocation that isn't leaf points into nothing or
--- into a marked cell.
+-- Every word in a register, a global or the storage of a marked mapped allocation that isn't leaf points into nothing
+-- or into a marked cell.
 pub record MarksAreClosed (c : Config) (w : World) : Type 0 where
   pub registers : (i : ℕ) → points_well c.pages w.now.words (slice_index w.now.words.registers i) ≡ true
   pub globals : (g : ℕ) → points_well c.pages w.now.words (slice_index w.now.words.globals g) ≡ true
   pub words : (i n : ℕ) → is_scanned_allocation c (placed_at w.allocations i) ≡ true
-      → is_marked_allocation c w.now.words (placed_at w.allocations i) ≡ true → IsWordOf (storage_of c (placed_at w.allocations i)) n
+      → is_marked_allocation c w.now.words (placed_at w.allocations i) ≡ true
+      → IsWordOf (storage_of c (placed_at w.allocations i)) n
       → word_points_well c.pages w.now.words n ≡ true
 
 -- A caller has written to the page, or exchanged, and has still to mark it dirty.

@@ -1,5 +1,6 @@
 -- What the tallies count, and when a free is due.
-use Rattle.std.specs.Prelude.{◌≡◌, ℕ, ◌-◌, ◌*◌, ◌^◌, ◌<◌, Bool, true, false, min, List, [], ◌∷◌, ◌++◌, count_by, is_some}
+use Rattle.std.specs.Prelude.{◌≡◌, ℕ, ◌-◌, ◌*◌, ◌^◌, ◌<◌, Bool, true, false, min, List, [], ◌∷◌, ◌++◌, count_by}
+use Rattle.std.specs.Prelude.{is_some}
 use Rattle.mk_core.specs.declared.config.Config.{Config}
 use Rattle.mk_core.specs.declared.events.Answer.{Answer}
 use Rattle.mk_core.specs.declared.events.Answer.TheVariants as answer
@@ -58,4 +59,5 @@ decides_freed c m f _ = false
 -- A free is due where more than a quarter of the held words is fresh behind the event that decides it.
 pub record IsDue (c : Config) (es : List Event) (e : Event) : Type 0 where
   pub decides : decides_freed c (left c es).now (flight_of (left c es).now e.seat) e.step ≡ true
-  pub quarter : held_words c (left c (es ++ e ∷ [])).allocations < 4 * fresh_words_of c (left c (es ++ e ∷ [])).allocations
+  pub quarter : held_words c (left c (es ++ e ∷ [])).allocations < 4 * fresh_words_of c
+      (left c (es ++ e ∷ [])).allocations

@@ -123,7 +123,8 @@ sweeps c m f _ = false
 
 unfoldable pub NoneSweepsFrom : Config → World → List Event → Type 0
 NoneSweepsFrom c w [] = ⊤
-NoneSweepsFrom c w (e ∷ es) = (sweeps c w.now (flight_of w.now e.seat) e.step ≡ false) × NoneSweepsFrom c (world_behind c w e) es
+NoneSweepsFrom c w (e ∷ es) = (sweeps c w.now (flight_of w.now e.seat) e.step ≡ false)
+    × NoneSweepsFrom c (world_behind c w e) es
 
 -- The cycle has no sweeping mark.
 abbrev pub NoneSweeps : Config → {es : List Event} → Marking es → Type 0

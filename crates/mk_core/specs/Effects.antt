@@ -1,5 +1,6 @@
 -- What each event does: to the word that it reaches, and to what its seat is in the middle of.
-use Rattle.std.specs.Prelude.{ℕ, ◌+◌, ◌-◌, ◌*◌, ◌%◌, ◌^◌, Bool, false, ◌&&◌, not, min, ◌==◌, List, slice_set, Option, Some, None, is_none, option_map, option_and_then, unwrap_or, if◌then◌else◌}
+use Rattle.std.specs.Prelude.{ℕ, ◌+◌, ◌-◌, ◌*◌, ◌%◌, ◌^◌, Bool, false, ◌&&◌, not, min, ◌==◌, List, slice_set, Option}
+use Rattle.std.specs.Prelude.{Some, None, is_none, option_map, option_and_then, unwrap_or, if◌then◌else◌}
 use Rattle.mk_never.specs.declared.operations.Op.{Op}
 use Rattle.mk_geom.specs.declared.addresses.Cell.{Cell}
 use Rattle.mk_geom.specs.declared.pages.Place.{Place}
@@ -34,9 +35,11 @@ use Rattle.mk_core.specs.declared.seats.Marker.{Marker}
 use Rattle.mk_geom.specs.Addresses.{address_of}
 use Rattle.mk_core.specs.Words.{Words, accessed}
 use Rattle.mk_core.specs.Bits.{has_bit}
-use Rattle.mk_core.specs.Calls.{at_rest, begun, onward, still, refused, progress_reg, progress_read, progress_cas, progress_getg}
+use Rattle.mk_core.specs.Calls.{at_rest, begun, onward, still, refused, progress_reg, progress_read, progress_cas}
+use Rattle.mk_core.specs.Calls.{progress_getg}
 use Rattle.mk_core.specs.Bounded.{is_some_and}
-use Rattle.mk_core.specs.Cells.{header_in, run_headed, heads_run, has_no_pointers, is_unmapped_header, pointed_cell, is_used, is_freed, is_marked, words_under}
+use Rattle.mk_core.specs.Cells.{header_in, run_headed, heads_run, has_no_pointers, is_unmapped_header, pointed_cell}
+use Rattle.mk_core.specs.Cells.{is_used, is_freed, is_marked, words_under}
 use Rattle.mk_core.specs.NewPlaces.{object_made, target}
 use Rattle.mk_core.specs.TurnConditions.{place_now, cell_freed}
 use Rattle.mk_core.specs.StopConditions.{marks_place}
@@ -114,7 +117,8 @@ abbrev pub hand_given : Config → Moment → Seat → Word → ℕ → Option H
 hand_given c m s (word.Reg j r) value = Some (record { value = value; source = Root })
 hand_given c m s (word.Global g) value = Some (record { value = value; source = Root })
 hand_given c m s (word.Heap n) value =
-    option_and_then (λ (cell : Cell). hand_of_cell m.words (is_in_stop c.callers m.words s) m.seats.holding.placing cell value)
+    option_and_then (λ (cell : Cell). hand_of_cell m.words (is_in_stop c.callers m.words s) m.seats.holding.placing cell
+    value)
     (pointed_cell c.pages m.words.pages (address_of n))
 hand_given c m s _ value = None
 
@@ -185,7 +189,8 @@ scan_begun page index header =
     }
 
 abbrev pub scan_claimed : ℕ → ℕ → ℕ → Option SeenHeader → Option Scan
-scan_claimed page index marks (Some seen) = if has_bit marks index then Some (scan_begun page index seen.header) else None
+scan_claimed page index marks (Some seen) = if has_bit marks index then Some (scan_begun page index seen.header)
+    else None
 scan_claimed page index marks None = None
 
 abbrev pub scan_onward : Option Scan → Option Scan
@@ -207,11 +212,13 @@ marker_behind c found _ x = x
 -- the storage of a small object that is freed; a run is no longer mapped
 abbrev pub words_freed : Words → Option Cell → ℕ
 words_freed w cell =
-    unwrap_or (option_map (λ (x : Cell). if heads_run (header_in w x.page) then 0 else words_under (header_in w x.page)) cell) 0
+    unwrap_or (option_map (λ (x : Cell). if heads_run (header_in w x.page) then 0 else words_under (header_in w x.page))
+    cell) 0
 
 -- The count of fresh words stands still at 2^64 - 1.
 abbrev pub fresh_behind : Config → Moment → Flight → Step → ℕ
-fresh_behind c m f (step.Quar p v) = min (m.fresh_words + words_freed m.words (cell_freed c.pages m.words f p v)) (2 ^ 64 - 1)
+fresh_behind c m f (step.Quar p v) = min (m.fresh_words + words_freed m.words (cell_freed c.pages m.words f p v))
+    (2 ^ 64 - 1)
 fresh_behind c m f step.Begin = 0
 fresh_behind c m f _ = m.fresh_words
 

@@ -37,7 +37,8 @@ holder_may c m f step.Grant = is_used_once m.seats.holding.placing
 holder_may c m f (step.Open j) = is_run_gone m.words m.seats.holding.freed
 holder_may c m f (step.Mark p v) = may_mark c m f p v
 holder_may c m f (step.Wipe n) = may_wipe c m n
-holder_may c m f step.Full = is_full c.resident m.words.pages (object_made c f.op) m.seats.holding.placing m.seats.holding.cycle
+holder_may c m f step.Full =
+    is_full c.resident m.words.pages (object_made c f.op) m.seats.holding.placing m.seats.holding.cycle
 holder_may c m f step.Begin = may_begin c.pages m.words
 holder_may c m f step.Close = may_close c m
 holder_may c m f step.End = may_end c.pages m.words
@@ -66,7 +67,8 @@ abbrev pub failing : Config → Moment → Event → ℕ
 failing c m e =
     if seat_exists c e.seat
     then
-    (if is_open_to e.seat (group_of e.step) then (if is_in_order c m e.seat e.step then failing_in_order c m e else 3) else 2)
+    (if is_open_to e.seat (group_of e.step) then (if is_in_order c m e.seat e.step then failing_in_order c m e else 3)
+    else 2)
     else 1
 
 abbrev pub IsEnabled : Config → Moment → Event → Type 0

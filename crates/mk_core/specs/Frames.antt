@@ -56,7 +56,8 @@ pub record OwnIsLeft (c : Config) (s : Seat) (w v : World) : Type 0 where
 pub record CallIsLeft (w v : World) (k : ℕ) : Type 0 where
   pub gate : slice_index v.now.words.gates k ≡ 1
   pub mapped :
-      (p : ℕ) → is_unmapped_header (header_in w.now.words p) ≡ false → is_unmapped_header (header_in v.now.words p) ≡ false
+      (p : ℕ) → is_unmapped_header (header_in w.now.words p) ≡ false
+      → is_unmapped_header (header_in v.now.words p) ≡ false
 
 -- what none but the turn's holder changes
 pub record Steady : Type 0 where
@@ -115,9 +116,11 @@ pub record TurnIsLeft (w v : World) : Type 0 where
   pub steady : steady_of v ≡ steady_of w
   pub held_gates : (j : ℕ) → slice_index w.now.words.gates j ≡ 2 → slice_index v.now.words.gates j ≡ 2
   pub other_gates : (j : ℕ) → slice_index w.now.words.gates j ≢ 2 → slice_index v.now.words.gates j ≢ 2
-  pub held_callers : (j : ℕ) → slice_index w.now.words.gates j ≡ 2 → flight_of v.now (Caller j) ≡ flight_of w.now (Caller j)
+  pub held_callers : (j : ℕ) → slice_index w.now.words.gates j ≡ 2
+      → flight_of v.now (Caller j) ≡ flight_of w.now (Caller j)
   pub held_registers :
-      (j r : ℕ) → r < 8 → slice_index w.now.words.gates j ≡ 2 → register_word v.now.words j r ≡ register_word w.now.words j r
+      (j r : ℕ) → r < 8 → slice_index w.now.words.gates j ≡ 2
+      → register_word v.now.words j r ≡ register_word w.now.words j r
   pub marks_grow : OnlyGrow w.now.words.marks v.now.words.marks
   pub blacks_grow : OnlyGrow w.now.words.blacks v.now.words.blacks
   pub unmarked : phase_of w.now.words ≢ 1 → phase_of w.now.words ≢ 2
@@ -148,34 +151,42 @@ pub record IsLeft (c : Config) (s : Seat) (es fs : List Event) : Type 0 where
 
 abbrev pub OthersLeave : Type 0
 OthersLeave =
-    (c : Config) (es more : List Event) (s : Seat) → IsWithinLimits c → AreEnabled c (es ++ more) → AreOfOthers (s ∷ []) more
+    (c : Config) (es more : List Event) (s : Seat) → IsWithinLimits c → AreEnabled c (es ++ more)
+    → AreOfOthers (s ∷ []) more
     → IsLeft c s es (es ++ more)
 
--- What needs admitted calls besides. The allocations to which a caller's registers lead stay unreleased, and mapped where
--- they are, while it is in a call.
+-- What needs admitted calls besides. The allocations to which a caller's registers lead stay unreleased, and mapped
+-- where they are, while it is in a call.
 pub record TargetsAreLeft (c : Config) (es fs : List Event) (k : ℕ) : Type 0 where
-  pub unreleased : (r a : ℕ) → r < 8 → LeadsTo (register_at (never_behind c es) k r) a → (placed_at (left c fs).allocations a).released ≡ false
+  pub unreleased : (r a : ℕ) → r < 8 → LeadsTo (register_at (never_behind c es) k r) a
+      → (placed_at (left c fs).allocations a).released ≡ false
   pub mapped : (r a : ℕ) → r < 8 → LeadsTo (register_at (never_behind c es) k r) a
-      → is_mapped c (placed_at (left c es).allocations a) ≡ true → is_mapped c (placed_at (left c fs).allocations a) ≡ true
+      → is_mapped c (placed_at (left c es).allocations a) ≡ true
+      → is_mapped c (placed_at (left c fs).allocations a) ≡ true
 
--- The turn's holder finds the heap words that lie in no mapped allocation as they were, and what points well still does.
+-- The turn's holder finds the heap words that lie in no mapped allocation as they were, and what points well still
+-- does.
 pub record HeapIsLeft (c : Config) (w v : World) : Type 0 where
   pub outside : (n : ℕ)
-      → ((i : ℕ) → is_mapped c (placed_at w.allocations i) ≡ true → IsWordOf (storage_of c (placed_at w.allocations i)) n → ⊥)
+      → ((i : ℕ) → is_mapped c (placed_at w.allocations i) ≡ true
+      → IsWordOf (storage_of c (placed_at w.allocations i)) n → ⊥)
       → slice_index v.now.words.heap n ≡ slice_index w.now.words.heap n
   pub well : (phase_of w.now.words ≡ 1) ⊎ (phase_of w.now.words ≡ 2) → (u : ℕ)
       → points_well c.pages w.now.words u ≡ true → points_well c.pages v.now.words u ≡ true
 
--- A marker that attends finds no page freed, each header that shows a cell still shows it, and what points well still does.
+-- A marker that attends finds no page freed, each header that shows a cell still shows it, and what points well still
+-- does.
 pub record HeadersAreLeft (c : Config) (w v : World) : Type 0 where
   pub some : (p : ℕ) → header_at w.now.words p ≢ 0 → header_at v.now.words p ≢ 0
-  pub cells : (p u : ℕ) (cell : Cell) → cell_at c.pages (header_at w.now.words p) u ≡ Some cell → cell_at c.pages (header_at v.now.words p) u ≡ Some cell
+  pub cells : (p u : ℕ) (cell : Cell) → cell_at c.pages (header_at w.now.words p) u ≡ Some cell
+      → cell_at c.pages (header_at v.now.words p) u ≡ Some cell
   pub well : (u : ℕ) → points_well c.pages w.now.words u ≡ true → points_well c.pages v.now.words u ≡ true
 
 -- Every caller keeps the values of its registers, whatever it is in the middle of; and the turn's holder finds those of
 -- a caller whose gate is held as they were.
 pub record IsLeftByAdmitted (c : Config) (s : Seat) (es fs : List Event) : Type 0 where
-  pub registers : (k r : ℕ) → s ≡ Caller k → r < 8 → register_at (never_behind c fs) k r ≡ register_at (never_behind c es) k r
+  pub registers : (k r : ℕ) → s ≡ Caller k → r < 8
+      → register_at (never_behind c fs) k r ≡ register_at (never_behind c es) k r
   pub in_call : (k : ℕ) → s ≡ Caller k → IsInCall (left c es).now s → TargetsAreLeft c es fs k
   pub turn : Holds c (left c es).now s → HeapIsLeft c (left c es) (left c fs)
   pub held : Holds c (left c es).now s → (k r : ℕ) → r < 8 → slice_index (left c es).now.words.gates k ≡ 2

@@ -17,7 +17,8 @@ changes_gate i w v = not (slice_index v.now.words.gates i == slice_index w.now.w
 unfoldable pub is_gate_held_from : Config → ℕ → World → Bool → List Event → Bool
 is_gate_held_from c i w held [] = held
 is_gate_held_from c i w held (e ∷ es) =
-    is_gate_held_from c i (world_behind c w e) (if changes_gate i w (world_behind c w e) then is_hold_of i e.step else held) es
+    is_gate_held_from c i (world_behind c w e) (if changes_gate i w (world_behind c w e) then is_hold_of i e.step
+    else held) es
 
 -- The gate of caller i is held where the last event that changed it is `hold i`.
 abbrev pub is_gate_held : Config → ℕ → List Event → Bool

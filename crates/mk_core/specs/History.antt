@@ -84,4 +84,5 @@ bases_of xs = map (λ (a : PlacedAllocation). a.base) xs
 -- The answers are the images of the replies of the heap that never reuses storage.
 abbrev pub RefinesNever : Config → List Event → Type 0
 RefinesNever c es =
-    answered (calls c es) ≡ answers_of (bases_of (left c es).allocations) (replies_of (never_first c) (asked (calls c es)))
+    answered (calls c es)
+    ≡ answers_of (bases_of (left c es).allocations) (replies_of (never_first c) (asked (calls c es)))

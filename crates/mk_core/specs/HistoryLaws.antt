@@ -9,7 +9,8 @@ use Rattle.mk_core.specs.declared.events.Event.{Event}
 use Rattle.mk_core.specs.Bits.{has_bit, without}
 use Rattle.mk_core.specs.NewPlaces.{object_of, is_small_object}
 use Rattle.mk_core.specs.Decided.{asked}
-use Rattle.mk_core.specs.History.{left_from, left, AreEnabledFrom, AreEnabled, calls_from, calls, never_first, never_behind, CallsAreAdmitted, IsHistory}
+use Rattle.mk_core.specs.History.{left_from, left, AreEnabledFrom, AreEnabled, calls_from, calls, never_first}
+use Rattle.mk_core.specs.History.{never_behind, CallsAreAdmitted, IsHistory}
 
 -- What a list leaves is what its later part leaves behind its earlier one.
 abbrev pub LeftInParts : Config → List Event → List Event → Type 0
@@ -22,16 +23,19 @@ abbrev pub CallsInParts : Config → List Event → List Event → Type 0
 CallsInParts c es more = calls c (es ++ more) ≡ calls c es ++ calls_from c (left c es) more
 
 abbrev pub NeverInParts : Config → List Event → List Event → Type 0
-NeverInParts c es more = never_behind c (es ++ more) ≡ after_calls (never_behind c es) (asked (calls_from c (left c es) more))
+NeverInParts c es more = never_behind c (es ++ more)
+    ≡ after_calls (never_behind c es) (asked (calls_from c (left c es) more))
 
 abbrev pub NeverRepliesInParts : Config → List Event → List Event → Type 0
 NeverRepliesInParts c es more =
     replies_of (never_first c) (asked (calls c (es ++ more)))
-    ≡ replies_of (never_first c) (asked (calls c es)) ++ replies_of (never_behind c es) (asked (calls_from c (left c es) more))
+    ≡ replies_of (never_first c) (asked (calls c es))
+    ++ replies_of (never_behind c es) (asked (calls_from c (left c es) more))
 
 abbrev pub CallsAreAdmittedInParts : Config → List Event → List Event → Type 0
 CallsAreAdmittedInParts c es more =
-    CallsAreAdmitted c (es ++ more) ↔ (CallsAreAdmitted c es × AreAdmitted c.globals (never_behind c es) (asked (calls_from c (left c es) more)))
+    CallsAreAdmitted c (es ++ more)
+    ↔ (CallsAreAdmitted c es × AreAdmitted c.globals (never_behind c es) (asked (calls_from c (left c es) more)))
 
 -- The earlier part of a history is one.
 abbrev pub EarlierPartIsHistory : Config → List Event → List Event → Type 0

@@ -4,9 +4,11 @@ use Rattle.mk_geom.specs.Addresses.{address_of}
 use Rattle.mk_never.specs.declared.values.Value.{Value}
 use Rattle.mk_never.specs.declared.values.Value.TheVariants.{Null, Num, Ptr}
 use Rattle.mk_never.specs.declared.operations.Reply.{Reply}
-use Rattle.mk_never.specs.declared.operations.Reply.TheVariants.{Done, Num as Number, Val, Full, Fault, Null as WasNull, Double}
+use Rattle.mk_never.specs.declared.operations.Reply.TheVariants.{Done, Num as Number, Val, Full, Fault, Null as WasNull}
+use Rattle.mk_never.specs.declared.operations.Reply.TheVariants.{Double}
 use Rattle.mk_core.specs.declared.events.Answer.{Answer}
-use Rattle.mk_core.specs.declared.events.Answer.TheVariants.{Done as IsDone, Num as IsNumber, Word, Full as IsFull, Fault as IsFault, Null as IsNull, Double as IsDouble}
+use Rattle.mk_core.specs.declared.events.Answer.TheVariants.{Done as IsDone, Num as IsNumber, Word, Full as IsFull}
+use Rattle.mk_core.specs.declared.events.Answer.TheVariants.{Fault as IsFault, Null as IsNull, Double as IsDouble}
 
 -- a value as a word, where allocation a stands from heap word (slice_index bases a) on
 abbrev pub image_of : List ℕ → Value → ℕ

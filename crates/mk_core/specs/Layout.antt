@@ -1,8 +1,9 @@
 -- The words of the shared table in their order, from index 0: the phase at 0, the turn at 16, the five tallies from 32,
 -- a gate at each sixteenth word from 48, each caller's eight registers at each sixteenth word from 304, the 64 globals
--- from 560. From 640 on the headers, used, quarantine, mark, black and dirty words, one a page, and the heap, 64 a page.
--- The words between are never used, and 0: threads that store to words of one cache line slow one another.
-use Rattle.std.specs.Prelude.{◌≡◌, ◌≢◌, ℕ, zero, suc, ◌+◌, ◌*◌, ◌<◌, ◌≤◌, ◌⊎◌, List, [], ◌∷◌, ◌++◌, length, map, take, drop, replicate, slice_index, slice_set, ⊤}
+-- from 560. From 640 on the headers, used, quarantine, mark, black and dirty words, one a page, and the heap, 64 a
+-- page. The words between are never used, and 0: threads that store to words of one cache line slow one another.
+use Rattle.std.specs.Prelude.{◌≡◌, ◌≢◌, ℕ, zero, suc, ◌+◌, ◌*◌, ◌<◌, ◌≤◌, ◌⊎◌, List, [], ◌∷◌, ◌++◌, length, map, take}
+use Rattle.std.specs.Prelude.{drop, replicate, slice_index, slice_set, ⊤}
 use Rattle.mk_geom.specs.declared.pages.Page.{Page}
 use Rattle.mk_core.specs.declared.events.Word.{Word}
 use Rattle.mk_core.specs.declared.events.Word.TheVariants as word
@@ -66,7 +67,8 @@ IsOfTable pages (Named name) = NamesWord pages name
 abbrev pub quarantine_words : List ℕ → List ℕ → List ℕ
 quarantine_words [] snapshots = []
 quarantine_words (freed ∷ freeds) [] = []
-quarantine_words (freed ∷ freeds) (snapshot ∷ snapshots) = quarantine_word freed snapshot ∷ quarantine_words freeds snapshots
+quarantine_words (freed ∷ freeds) (snapshot ∷ snapshots) = quarantine_word freed snapshot
+    ∷ quarantine_words freeds snapshots
 
 -- so many words that are never used
 abbrev pub gap : ℕ → List ℕ
@@ -145,7 +147,8 @@ FirstWordsAreZero = (pages : ℕ) → in_order (zero_words_of pages) ≡ replica
 abbrev pub AccessesStandAtTheirIndexes : Type 0
 AccessesStandAtTheirIndexes =
     (pages : ℕ) (w : Words) (x : TableWord) (a : Access) → AreOfPages pages w → IsOfTable pages x
-    → in_order (accessed w x a) ≡ slice_set (in_order w) (index_of pages x) (becomes a (slice_index (in_order w) (index_of pages x)))
+    → in_order (accessed w x a)
+    ≡ slice_set (in_order w) (index_of pages x) (becomes a (slice_index (in_order w) (index_of pages x)))
 
 -- Words that may share a cache line. From the headers on all may.
 pub data LineGroup : Type 0 where

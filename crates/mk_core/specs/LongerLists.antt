@@ -15,9 +15,11 @@ pub record IsStillTheSame (c : Config) (es fs : List Event) (e : Event) : Type 0
   pub word : reached c (left c fs).now e ≡ reached c (left c es).now e
   pub of_the_table : IsOfTable c.pages (reached c (left c es).now e)
   pub access : access c (left c fs).now e ≡ access c (left c es).now e
-  pub decides : e.step ≡ step.Probe → is_some (answer_decided c (left c fs).now e) ≡ is_some (answer_decided c (left c es).now e)
+  pub decides : e.step ≡ step.Probe
+      → is_some (answer_decided c (left c fs).now e) ≡ is_some (answer_decided c (left c es).now e)
 
--- An event that makes a history of the shorter list makes one of the longer one, whose further events are of other seats.
+-- An event that makes a history of the shorter list makes one of the longer one, whose further events are of other
+-- seats.
 pub record IsStillAHistory (c : Config) (es more : List Event) (e : Event) : Type 0 where
   pub history : IsHistory c (es ++ more ++ e ∷ [])
   pub same : IsStillTheSame c es (es ++ more) e
@@ -25,5 +27,6 @@ pub record IsStillAHistory (c : Config) (es more : List Event) (e : Event) : Typ
 
 abbrev pub LongerListsGoOn : Type 0
 LongerListsGoOn =
-    (c : Config) (es more : List Event) (e : Event) → IsHistory c (es ++ e ∷ []) → IsHistory c (es ++ more) → AreOfOthers (e.seat ∷ []) more
+    (c : Config) (es more : List Event) (e : Event) → IsHistory c (es ++ e ∷ []) → IsHistory c (es ++ more)
+    → AreOfOthers (e.seat ∷ []) more
     → IsStillAHistory c es more e

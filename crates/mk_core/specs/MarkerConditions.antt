@@ -1,5 +1,6 @@
 -- Condition 7 for the markers' kinds and `over`, and the cells that a marker has seen.
-use Rattle.std.specs.Prelude.{ℕ, Bool, true, false, ◌&&◌, not, nat_lt, ◌==◌, Option, Some, None, is_some, is_none, if◌then◌else◌}
+use Rattle.std.specs.Prelude.{ℕ, Bool, true, false, ◌&&◌, not, nat_lt, ◌==◌, Option, Some, None, is_some, is_none}
+use Rattle.std.specs.Prelude.{if◌then◌else◌}
 use Rattle.mk_geom.specs.declared.addresses.Cell.{Cell}
 use Rattle.mk_geom.specs.Headers.{header_of}
 use Rattle.mk_geom.specs.Addresses.{cell_at, page_at_address}
@@ -35,7 +36,8 @@ has_seen_cell (Some seen) page k = (seen.page == page) && nat_lt k (cells_under 
 
 -- the cell into which the open hand points by the header that was seen of its page
 abbrev pub cell_seen : Config → Option SeenHeader → Option ℕ → Option Cell
-cell_seen c (Some seen) (Some value) = if seen.page == page_at_address value then cell_at c.pages seen.header value else None
+cell_seen c (Some seen) (Some value) = if seen.page == page_at_address value then cell_at c.pages seen.header value
+    else None
 cell_seen c _ _ = None
 
 abbrev pub has_next_word : Option Scan → Bool

@@ -57,11 +57,13 @@ pub record StandsAtItsPlace (c : Config) (es : List Event) (s : Seat) : Type 0 w
   pub first : FirstServed c turn
   pub place : Place
   pub fits : place_for c (before_served turn first) (object_at c es s) ≡ Some place
-  pub base : granted_base c (flight_of (left c es).now s) (left c es).now.seats.holding.placing ≡ base_made (object_at c es s) place
+  pub base : granted_base c (flight_of (left c es).now s) (left c es).now.seats.holding.placing
+      ≡ base_made (object_at c es s) place
 
 abbrev pub GrantsStandAtTheirPlaces : Config → List Event → Type 0
 GrantsStandAtTheirPlaces c es =
-    (before : List Event) (e : Event) (behind : List Event) → es ≡ before ++ e ∷ behind → e.step ≡ step.Grant → StandsAtItsPlace c before e.seat
+    (before : List Event) (e : Event) (behind : List Event) → es ≡ before ++ e ∷ behind → e.step ≡ step.Grant
+    → StandsAtItsPlace c before e.seat
 
 -- A Full stands only where nothing fits, behind a cycle that was begun and ended in its call.
 pub record IsFull (c : Config) (es : List Event) (s : Seat) : Type 0 where
@@ -71,4 +73,5 @@ pub record IsFull (c : Config) (es : List Event) (s : Seat) : Type 0 where
 
 abbrev pub FullsFitNowhere : Config → List Event → Type 0
 FullsFitNowhere c es =
-    (before : List Event) (e : Event) (behind : List Event) → es ≡ before ++ e ∷ behind → e.step ≡ step.Full → IsFull c before e.seat
+    (before : List Event) (e : Event) (behind : List Event) → es ≡ before ++ e ∷ behind → e.step ≡ step.Full
+    → IsFull c before e.seat

@@ -1,5 +1,6 @@
 -- What a look at a word of the table tells: the reading laws.
-use Rattle.std.specs.Prelude.{◌≡◌, ◌≢◌, ◌↔◌, ℕ, ◌+◌, ◌-◌, ◌/◌, ◌<◌, ◌≤◌, Bool, true, false, not, ◌&&◌, ◌||◌, List, slice_index, Some, count_by}
+use Rattle.std.specs.Prelude.{◌≡◌, ◌≢◌, ◌↔◌, ℕ, ◌+◌, ◌-◌, ◌/◌, ◌<◌, ◌≤◌, Bool, true, false, not, ◌&&◌, ◌||◌, List}
+use Rattle.std.specs.Prelude.{slice_index, Some, count_by}
 use Rattle.mk_geom.specs.declared.headers.Header.TheVariants.{Later}
 use Rattle.mk_geom.specs.Headers.{IsHeaderWord}
 use Rattle.mk_geom.specs.declared.addresses.Cell.{Cell}
@@ -58,9 +59,11 @@ pub record TurnTells (c : Config) (m : Moment) : Type 0 where
 -- a gate word
 pub record GateTells (c : Config) (es : List Event) (k : ℕ) : Type 0 where
   pub least : slice_index (left c es).now.words.gates k ≤ 2
-  pub in_call : (slice_index (left c es).now.words.gates k ≡ 1) ↔ (is_in_call (flight_of (left c es).now (Caller k)) ≡ true)
+  pub in_call : (slice_index (left c es).now.words.gates k ≡ 1)
+      ↔ (is_in_call (flight_of (left c es).now (Caller k)) ≡ true)
   pub held : (slice_index (left c es).now.words.gates k ≡ 2) ↔ (is_gate_held c k es ≡ true)
-  pub by_another : slice_index (left c es).now.words.gates k ≡ 2 → ((left c es).now.words.turn ≢ 0) × ((left c es).now.words.turn ≢ 1 + k)
+  pub by_another : slice_index (left c es).now.words.gates k ≡ 2
+      → ((left c es).now.words.turn ≢ 0) × ((left c es).now.words.turn ≢ 1 + k)
 
 -- the phase word
 pub record PhaseTells (c : Config) (m : Moment) : Type 0 where
@@ -87,23 +90,28 @@ pub record IsTaken (w : World) (cell : Cell) : Type 0 where
 -- releasing a later page has its head, and a freed bit is that of an allocation that is freed, and each such has one.
 pub record WordsTellWhatStands (w : World) : Type 0 where
   pub headers : (p : ℕ) → IsHeaderWord (header_at w.now.words p)
-  pub later : phase_of w.now.words ≢ 4 → (p distance : ℕ) (mapped : Bool) → header_in w.now.words p ≡ Some (Later distance mapped)
-      → (run : RunPages) × (run_headed (header_in w.now.words (p - distance)) (p - distance) ≡ Some run) × (distance < run.count) × (distance ≤ p)
+  pub later : phase_of w.now.words ≢ 4 → (p distance : ℕ) (mapped : Bool)
+      → header_in w.now.words p ≡ Some (Later distance mapped)
+      → (run : RunPages) × (run_headed (header_in w.now.words (p - distance)) (p - distance) ≡ Some run)
+      × (distance < run.count) × (distance ≤ p)
   pub freed : phase_of w.now.words ≢ 4 → (cell : Cell) → is_freed w.now.words cell ≡ true
       → (a : IsTaken w cell) × ((placed_at w.allocations a.number).freed ≡ true)
-  pub quarantined : (cell : Cell) (a : IsTaken w cell) → (placed_at w.allocations a.number).freed ≡ true → is_freed w.now.words cell ≡ true
+  pub quarantined : (cell : Cell) (a : IsTaken w cell) → (placed_at w.allocations a.number).freed ≡ true
+      → is_freed w.now.words cell ≡ true
 
 -- What the snapshot halves of the quarantine words tell from a `begin` on, up to the next `release`: the snapshot.
 pub record SnapshotTells (c : Config) {es : List Event} (begin : At is_begin es) : Type 0 where
   pub has : (i : ℕ) → is_quarantined (placed_at (left c begin.before).allocations i) ≡ true
-      → is_in_snapshot (left c es).now.words (cell_of_allocation c (placed_at (left c begin.before).allocations i)) ≡ true
+      → is_in_snapshot (left c es).now.words (cell_of_allocation c (placed_at (left c begin.before).allocations i))
+      ≡ true
   pub is : (cell : Cell) → is_in_snapshot (left c es).now.words cell ≡ true
       → (i : ℕ) × (is_quarantined (placed_at (left c begin.before).allocations i) ≡ true)
       × (cell_of_allocation c (placed_at (left c begin.before).allocations i) ≡ cell)
 
 abbrev pub SnapshotsTell : Config → List Event → Type 0
 SnapshotsTell c es =
-    (begin : At is_begin es) → list_any (λ (e : Event). is_begin e.step || is_release e.step) begin.behind ≡ false → SnapshotTells c begin
+    (begin : At is_begin es) → list_any (λ (e : Event). is_begin e.step || is_release e.step) begin.behind ≡ false
+    → SnapshotTells c begin
 
 -- What the tallies tell where nobody holds the turn: the counts.
 abbrev pub TalliesTell : Config → List Event → Type 0

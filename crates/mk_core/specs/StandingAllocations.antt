@@ -1,5 +1,6 @@
 -- Allocations that stand on the heap, the headers of their pages, and what lookups find there.
-use Rattle.std.specs.Prelude.{◌≡◌, ◌↔◌, ℕ, ◌+◌, ◌*◌, ◌/◌, ◌%◌, ◌<◌, ◌≤◌, true, false, List, ◌++◌, length, Contains, Some}
+use Rattle.std.specs.Prelude.{◌≡◌, ◌↔◌, ℕ, ◌+◌, ◌*◌, ◌/◌, ◌%◌, ◌<◌, ◌≤◌, true, false, List, ◌++◌, length, Contains}
+use Rattle.std.specs.Prelude.{Some}
 use Rattle.mk_never.specs.Types.{kinds_of}
 use Rattle.mk_geom.specs.Storages.{Storage, stands_on, IsStorage}
 use Rattle.mk_geom.specs.StorageWords.{PointsInto, cell_of_storage, ShowsStorage}
@@ -43,7 +44,8 @@ StorageHoldsObjects =
 
 -- What stands on the heap has a storage there,
 abbrev pub StandingHasStorage : Type 0
-StandingHasStorage = (c : Config) (a : PlacedAllocation) → IsWithinLimits c → StandsOnHeap c a → IsStorage c.pages (storage_of c a)
+StandingHasStorage = (c : Config) (a : PlacedAllocation) → IsWithinLimits c → StandsOnHeap c a
+    → IsStorage c.pages (storage_of c a)
 
 -- which the headers of its pages show.
 abbrev pub HeadersShowStorage : Type 0
@@ -65,7 +67,8 @@ abbrev pub CellsBeginAtBases : Type 0
 CellsBeginAtBases =
     (c : Config) (w : Words) (a : PlacedAllocation)
     → IsWithinLimits c → StandsOnHeap c a → HasItsHeaders c w a
-    → (first_word w (cell_of_storage (storage_of c a)) ≡ a.base) × (cell_words w (cell_of_storage (storage_of c a)) ≡ storage_words c a)
+    → (first_word w (cell_of_storage (storage_of c a)) ≡ a.base)
+    × (cell_words w (cell_of_storage (storage_of c a)) ≡ storage_words c a)
 
 -- the number of an unreleased allocation that has this storage
 pub record HasStorage (c : Config) (xs : List PlacedAllocation) (s : Storage) : Type 0 where

@@ -1,5 +1,6 @@
 -- Condition 7 for the kinds of the turn's holder that mark, begin, close and end a cycle.
-use Rattle.std.specs.Prelude.{ℕ, ◌^◌, Bool, true, false, ◌&&◌, ◌||◌, not, nat_lt, ◌==◌, List, Option, slice_index, bit_and}
+use Rattle.std.specs.Prelude.{ℕ, ◌^◌, Bool, true, false, ◌&&◌, ◌||◌, not, nat_lt, ◌==◌, List, Option, slice_index}
+use Rattle.std.specs.Prelude.{bit_and}
 use Rattle.std.specs.List.{list_all}
 use Rattle.mk_geom.specs.declared.addresses.Cell.{Cell}
 use Rattle.mk_geom.specs.declared.pages.Place.{Place}
@@ -12,7 +13,8 @@ use Rattle.mk_core.specs.declared.seats.Presence.TheVariants.{Attending}
 use Rattle.mk_core.specs.Words.{Words, header_at, used_at}
 use Rattle.mk_core.specs.Bits.{without}
 use Rattle.mk_core.specs.Bounded.{all_below, is_some_and}
-use Rattle.mk_core.specs.Cells.{header_in, head_page, cells_under, cell_bits, has_no_pointers, pointed_cell, is_marked, points_well, words_point_well, none_is_left_unmarked}
+use Rattle.mk_core.specs.Cells.{header_in, head_page, cells_under, cell_bits, has_no_pointers, pointed_cell, is_marked}
+use Rattle.mk_core.specs.Cells.{points_well, words_point_well, none_is_left_unmarked}
 use Rattle.mk_core.specs.declared.seats.Object.{Object}
 use Rattle.mk_core.specs.NewPlaces.{object_made, bits_made}
 use Rattle.mk_core.specs.TurnConditions.{place_now}
@@ -42,7 +44,8 @@ marks_place w o place page value =
 
 abbrev pub may_mark : Config → Moment → Flight → ℕ → ℕ → Bool
 may_mark c m f page value =
-    marks_by_hand c.pages m.words m.seats.holding.hand page value || marks_place m.words (object_made c f.op) (place_now c m f) page value
+    marks_by_hand c.pages m.words m.seats.holding.hand page value || marks_place m.words (object_made c f.op)
+    (place_now c m f) page value
 
 -- `begin`: no mark is left, the snapshot is taken, and no object is fresh
 abbrev pub has_clean_page : Words → ℕ → Bool
@@ -55,13 +58,15 @@ may_begin pages w = all_below pages (has_clean_page w) && (w.fresh == 0)
 -- `close`: no marker attends, every marked cell is black, no page is dirty, and the roots point well
 abbrev pub has_closed_page : Words → ℕ → Bool
 has_closed_page w p =
-    (without (bit_and (slice_index w.marks p) (cell_bits w p)) (slice_index w.blacks p) == 0) && (slice_index w.dirty p == 0)
+    (without (bit_and (slice_index w.marks p) (cell_bits w p)) (slice_index w.blacks p) == 0)
+    && (slice_index w.dirty p == 0)
 
 abbrev pub roots_point_well : ℕ → Words → Bool
 roots_point_well pages w = list_all (points_well pages w) w.registers && list_all (points_well pages w) w.globals
 
 abbrev pub may_close : Config → Moment → Bool
-may_close c m = none_attends m.seats.markers && all_below c.pages (has_closed_page m.words) && roots_point_well c.pages m.words
+may_close c m = none_attends m.seats.markers && all_below c.pages (has_closed_page m.words)
+    && roots_point_well c.pages m.words
 
 -- `end`: no released cell is left, and each page with a header has a used cell, a run's at its head
 abbrev pub has_settled_page : Words → ℕ → Bool

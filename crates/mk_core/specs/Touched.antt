@@ -31,7 +31,8 @@ IsWordOfAllocation c w n a =
 
 abbrev pub RegisterPointsInto : Config → List Event → ℕ → ℕ → Type 0
 RegisterPointsInto c front i b =
-    PointsIntoAllocation c (left c front) (image_of (bases_of (left c front).allocations) (slice_index_or (never_behind c front).registers i Null)) b
+    PointsIntoAllocation c (left c front)
+    (image_of (bases_of (left c front).allocations) (slice_index_or (never_behind c front).registers i Null)) b
 
 abbrev pub GlobalPointsInto : Config → List Event → ℕ → ℕ → Type 0
 GlobalPointsInto c front g b = PointsIntoAllocation c (left c front) (slice_index (left c front).now.words.globals g) b
@@ -39,8 +40,8 @@ GlobalPointsInto c front g b = PointsIntoAllocation c (left c front) (slice_inde
 abbrev pub WordPointsInto : Config → List Event → ℕ → ℕ → Type 0
 WordPointsInto c front n b = PointsIntoAllocation c (left c front) (slice_index (left c front).now.words.heap n) b
 
--- The least set of allocations into which, at some moment of the cycle, a register of the never-reusing heap points, or a
--- global, or a word of an allocation of the set, whether that was touched before or later.
+-- The least set of allocations into which, at some moment of the cycle, a register of the never-reusing heap points, or
+-- a global, or a word of an allocation of the set, whether that was touched before or later.
 pub data IsTouched (c : Config) {es : List Event} (k : Marking es) : ℕ → Type 0 where
   by_register : (front : List Event) (i b : ℕ) → LeadsToMoment k front
       → RegisterPointsInto c front i b

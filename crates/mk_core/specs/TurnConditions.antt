@@ -1,5 +1,6 @@
 -- Condition 7 for the kinds of the turn's holder that change objects: each kind's own condition.
-use Rattle.std.specs.Prelude.{ℕ, ◌+◌, ◌-◌, ◌/◌, ◌%◌, ◌^◌, Bool, true, false, ◌&&◌, ◌||◌, not, ◌==◌, List, Option, None, if◌then◌else◌, slice_index, bit_and, is_none}
+use Rattle.std.specs.Prelude.{ℕ, ◌+◌, ◌-◌, ◌/◌, ◌%◌, ◌^◌, Bool, true, false, ◌&&◌, ◌||◌, not, ◌==◌, List, Option, None}
+use Rattle.std.specs.Prelude.{if◌then◌else◌, slice_index, bit_and, is_none}
 use Rattle.mk_core.specs.declared.seats.Object.{Object}
 use Rattle.mk_geom.specs.declared.addresses.Cell.{Cell}
 use Rattle.mk_geom.specs.declared.pages.Page.{Page}
@@ -19,8 +20,11 @@ use Rattle.mk_geom.specs.Addresses.{address_of}
 use Rattle.mk_core.specs.Words.{Words, used_at, quarantine_word}
 use Rattle.mk_core.specs.Bits.{has_bit, without}
 use Rattle.mk_core.specs.Bounded.{all_below, is_some_and}
-use Rattle.mk_core.specs.Cells.{head_page, pointed_cell, is_freed, are_left_unmarked, is_released, words_are_zero, first_word, cell_words, is_in_run}
-use Rattle.mk_core.specs.NewPlaces.{object_made, place_on_pages, place_in, pages_made, header_made, bits_made, is_next_header, place_stands, unmapped_header, is_run_unmapped, is_run_gone, is_undecided_new, target}
+use Rattle.mk_core.specs.Cells.{head_page, pointed_cell, is_freed, are_left_unmarked, is_released, words_are_zero}
+use Rattle.mk_core.specs.Cells.{first_word, cell_words, is_in_run}
+use Rattle.mk_core.specs.NewPlaces.{object_made, place_on_pages, place_in, pages_made, header_made, bits_made}
+use Rattle.mk_core.specs.NewPlaces.{is_next_header, place_stands, unmapped_header, is_run_unmapped, is_run_gone}
+use Rattle.mk_core.specs.NewPlaces.{is_undecided_new, target}
 use Rattle.mk_core.specs.Moments.{Moment, is_phase}
 
 -- the place of an undecided New
@@ -55,7 +59,8 @@ abbrev pub may_head : Config → Moment → Flight → ℕ → ℕ → Bool
 may_head c m f page value =
     if is_phase m.words 4
     then empties m.words page value
-    else carves m.words (object_made c f.op) (place_now c m f) page value || unmaps m.words m.seats.holding.freed page value
+    else carves m.words (object_made c f.op) (place_now c m f) page value
+    || unmaps m.words m.seats.holding.freed page value
 
 -- `used` (a): the cell of the place is taken, once, behind all its headers
 abbrev pub takes_cell : Words → Object → Option Place → ℕ → ℕ → Bool
@@ -72,7 +77,8 @@ is_used_once _ = false
 -- the words of each of these cells of a page are 0
 abbrev pub are_wiped : Words → ℕ → ℕ → Bool
 are_wiped w page bits =
-    all_below 32 (λ k. not (has_bit bits k) || words_are_zero w (first_word w (record { page = page; index = k })) (cell_words w (record { page = page; index = k })))
+    all_below 32 (λ k. not (has_bit bits k) || words_are_zero w (first_word w (record { page = page; index = k }))
+    (cell_words w (record { page = page; index = k })))
 
 -- `used` (b): released cells whose words are 0 are given back
 abbrev pub gives_back : Words → ℕ → ℕ → Bool
@@ -84,7 +90,8 @@ abbrev pub may_use : Config → Moment → Flight → ℕ → ℕ → Bool
 may_use c m f page value =
     if is_phase m.words 4
     then gives_back m.words page value
-    else not (is_used_once m.seats.holding.placing) && takes_cell m.words (object_made c f.op) (place_now c m f) page value
+    else not (is_used_once m.seats.holding.placing) && takes_cell m.words (object_made c f.op)
+    (place_now c m f) page value
 
 -- `quar` (a): the freed bit of the target, which wasn't set
 abbrev pub frees : Words → Option Cell → ℕ → ℕ → Bool
@@ -144,4 +151,5 @@ is_in_gone_run w freed n = is_some_and (λ (run : RunPages). is_in_run run n && 
 -- `wipe`
 abbrev pub may_wipe : Config → Moment → ℕ → Bool
 may_wipe c m n =
-    is_some_and (is_released m.words) (pointed_cell c.pages m.words.pages (address_of n)) || is_in_gone_run m.words m.seats.holding.freed n
+    is_some_and (is_released m.words) (pointed_cell c.pages m.words.pages (address_of n))
+    || is_in_gone_run m.words m.seats.holding.freed n

@@ -1,5 +1,6 @@
 -- The words of the shared table: their contents, by region, and what each name names.
-use Rattle.std.specs.Prelude.{ℕ, ◌+◌, ◌-◌, ◌*◌, ◌/◌, ◌%◌, ◌^◌, ◌==◌, List, replicate, slice_index, slice_index_or, slice_set, bit_or}
+use Rattle.std.specs.Prelude.{ℕ, ◌+◌, ◌-◌, ◌*◌, ◌/◌, ◌%◌, ◌^◌, ◌==◌, List, replicate, slice_index, slice_index_or}
+use Rattle.std.specs.Prelude.{slice_set, bit_or}
 use prog.Atomic.{either}
 use Rattle.mk_geom.specs.declared.pages.Page.{Page}
 use Rattle.mk_geom.specs.Storages.{free_page}
@@ -96,9 +97,12 @@ with_named w word.Phase value = record w { phase = value }
 with_named w (word.Gate caller) value = record w { gates = slice_set w.gates caller value }
 with_named w (word.Reg caller r) value = record w { registers = slice_set w.registers (8 * caller + r) value }
 with_named w (word.Global g) value = record w { globals = slice_set w.globals g value }
-with_named w (word.Head p) value = record w { pages = slice_set w.pages p (record { header = value; used = used_at w p }) }
-with_named w (word.Used p) value = record w { pages = slice_set w.pages p (record { header = header_at w p; used = value }) }
-with_named w (word.Quar p) value = record w { freed = slice_set w.freed p (value % 2 ^ 32); snapshot = slice_set w.snapshot p (value / 2 ^ 32) }
+with_named w (word.Head p) value =
+    record w { pages = slice_set w.pages p (record { header = value; used = used_at w p }) }
+with_named w (word.Used p) value =
+    record w { pages = slice_set w.pages p (record { header = header_at w p; used = value }) }
+with_named w (word.Quar p) value =
+    record w { freed = slice_set w.freed p (value % 2 ^ 32); snapshot = slice_set w.snapshot p (value / 2 ^ 32) }
 with_named w (word.Mark p) value = record w { marks = slice_set w.marks p value }
 with_named w (word.Black p) value = record w { blacks = slice_set w.blacks p value }
 with_named w (word.Dirty p) value = record w { dirty = slice_set w.dirty p value }

@@ -1,7 +1,10 @@
 //! The calls of callers: the operands and the steps of each operation, and what a step makes of the call
 //! in flight.
 ghost use Rattle.std.specs.Prelude.{◌≡◌};
-ghost use Rattle.mk_core.specs.Calls.{q_of, p_of, r_of, d_of, g_of, i_of, has_type, has_operands, is_under_turn, steps_of, first_of, stage_behind, stage_refused, begun, word_met, page_met, value_for, value_written, onward, still, refused, progress_q, progress_p, progress_reg, progress_read, progress_cas, progress_getg};
+ghost use Rattle.mk_core.specs.Calls.{q_of, p_of, r_of, d_of, g_of, i_of, has_type, has_operands, is_under_turn};
+ghost use Rattle.mk_core.specs.Calls.{steps_of, first_of, stage_behind, stage_refused, begun, word_met, page_met};
+ghost use Rattle.mk_core.specs.Calls.{value_for, value_written, onward, still, refused, progress_q, progress_p};
+ghost use Rattle.mk_core.specs.Calls.{progress_reg, progress_read, progress_cas, progress_getg};
 
 use crate::geometry::{HEAP_START, PAGE_WORDS, WORD_BYTES};
 use crate::seats::Progress;

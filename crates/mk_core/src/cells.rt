@@ -5,7 +5,12 @@ ghost use Rattle.mk_geom.specs.Headers.{header_of};
 ghost use Rattle.mk_geom.specs.Addresses.{address_of};
 ghost use Rattle.mk_core.specs.Bits.{has_bit, without};
 ghost use Rattle.mk_core.specs.Bounded.{all_below};
-ghost use Rattle.mk_core.specs.Cells.{cells_under, words_under, run_headed, heads_run, is_leaf_header, is_unmapped_header, has_no_pointers, head_page, cell_bits, first_word, cell_words, pointed_cell, is_used, is_freed, is_marked, points_well, word_points_well, words_point_well, words_are_zero, left_unmarked, is_left_unmarked, are_left_unmarked, none_is_left_unmarked, is_released, is_in_run};
+ghost use Rattle.mk_core.specs.Cells.{cells_under, words_under, run_headed, heads_run, is_leaf_header};
+ghost use Rattle.mk_core.specs.Cells.{is_unmapped_header, has_no_pointers, head_page, cell_bits, first_word};
+ghost use Rattle.mk_core.specs.Cells.{cell_words, pointed_cell, is_used, is_freed, is_marked, points_well};
+ghost use Rattle.mk_core.specs.Cells.{word_points_well, words_point_well, words_are_zero, left_unmarked};
+ghost use Rattle.mk_core.specs.Cells.{is_left_unmarked, are_left_unmarked, none_is_left_unmarked, is_released};
+ghost use Rattle.mk_core.specs.Cells.{is_in_run};
 
 use crate::geometry::{HEAP_START, PAGE_WORDS, WORD_BYTES, page_at};
 use crate::table::Table;

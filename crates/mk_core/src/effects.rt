@@ -12,7 +12,11 @@ ghost use Rattle.mk_core.specs.StopConditions.{marks_place};
 ghost use Rattle.mk_core.specs.Moments.{marker_of, is_phase};
 ghost use Rattle.mk_core.specs.MarkerConditions.{has_next_word};
 ghost use Rattle.mk_core.specs.Enabled.{marker_may};
-ghost use Rattle.mk_core.specs.Effects.{decided, begins_where_free, progress_probe, sees_double, progress_look, progress_freed, progress, is_ungranted, is_mapped_cell, hand_of_cell, is_in_stop, hand_given, chosen, taken, run_of_cell, cycle_ended, holding_behind, open_hand, hand_behind_look, behind_mlook, scan_begun, scan_claimed, scan_onward, marker_behind, words_freed, fresh_behind};
+ghost use Rattle.mk_core.specs.Effects.{decided, begins_where_free, progress_probe, sees_double, progress_look};
+ghost use Rattle.mk_core.specs.Effects.{progress_freed, progress, is_ungranted, is_mapped_cell, hand_of_cell};
+ghost use Rattle.mk_core.specs.Effects.{is_in_stop, hand_given, chosen, taken, run_of_cell, cycle_ended};
+ghost use Rattle.mk_core.specs.Effects.{holding_behind, open_hand, hand_behind_look, behind_mlook, scan_begun};
+ghost use Rattle.mk_core.specs.Effects.{scan_claimed, scan_onward, marker_behind, words_freed, fresh_behind};
 
 use crate::calls::{
     begun, onward, progress_cas, progress_getg, progress_read, progress_reg, refused, still,
@@ -183,7 +187,8 @@ impl Core {
 
     /// Whether a look is at the quarantine word of an undecided `Free`'s target, which is freed already.
     fn sees_double(&self, flight: Flight, word: Word) -> bool
-        ensures { result ≡ sees_double self.now.now.words (target self.now.config.pages self.now.now.words flight) word }
+        ensures { result ≡ sees_double self.now.now.words
+            (target self.now.config.pages self.now.now.words flight) word }
     {
         match (self.target(flight), word) {
             (Some(cell), Word::Quar(page)) => page == cell.page && self.table.is_freed(cell),
@@ -203,7 +208,8 @@ impl Core {
 
     /// `quar`, which decides a `Free` where it frees its target.
     fn progress_quarantine(&self, flight: Flight, page: u64, value: u64) -> Progress
-        ensures { result ≡ progress_freed flight (cell_freed self.now.config.pages self.now.now.words flight page value) }
+        ensures { result ≡ progress_freed flight
+            (cell_freed self.now.config.pages self.now.now.words flight page value) }
     {
         match self.cell_freed(flight, page, value) {
             Some(_) => decided(flight, Answer::Done),
@@ -219,7 +225,8 @@ impl Core {
         found: u64,
         step: Step,
     ) -> Holding
-        ensures { result ≡ holding_behind self.now.config self.now.now seat flight found step self.now.now.seats.holding }
+        ensures { result ≡ holding_behind self.now.config self.now.now seat flight found step
+            self.now.now.seats.holding }
     {
         let mut holding = self.holding;
         match step {
@@ -301,7 +308,8 @@ impl Core {
 
     /// The place of the object that a `head` serves. In a cycle's release it serves none.
     fn placing_headed(&self, flight: Flight) -> Placing
-        ensures { result ≡ (if is_phase self.now.now.words 4 then self.now.now.seats.holding.placing else chosen self.now.now.seats.holding.placing (place_now self.now.config self.now.now flight)) }
+        ensures { result ≡ (if is_phase self.now.now.words 4 then self.now.now.seats.holding.placing
+            else chosen self.now.now.seats.holding.placing (place_now self.now.config self.now.now flight)) }
     {
         if self.table.phase() == 4 {
             self.holding.placing
@@ -312,7 +320,8 @@ impl Core {
 
     /// The place of the object whose cell a `used` takes. In a cycle's release it takes none.
     fn placing_used(&self, flight: Flight) -> Placing
-        ensures { result ≡ (if is_phase self.now.now.words 4 then self.now.now.seats.holding.placing else taken self.now.now.seats.holding.placing (place_now self.now.config self.now.now flight)) }
+        ensures { result ≡ (if is_phase self.now.now.words 4 then self.now.now.seats.holding.placing
+            else taken self.now.now.seats.holding.placing (place_now self.now.config self.now.now flight)) }
     {
         if self.table.phase() == 4 {
             self.holding.placing
@@ -323,7 +332,9 @@ impl Core {
 
     /// The place of the object that a `mark` may serve.
     fn placing_marked(&self, flight: Flight, page: u64, value: u64) -> Placing
-        ensures { result ≡ (if marks_place self.now.now.words (object_made self.now.config flight.op) (place_now self.now.config self.now.now flight) page value then chosen self.now.now.seats.holding.placing (place_now self.now.config self.now.now flight) else self.now.now.seats.holding.placing) }
+        ensures { result ≡ (if marks_place self.now.now.words (object_made self.now.config flight.op)
+            (place_now self.now.config self.now.now flight) page value then chosen self.now.now.seats.holding.placing
+            (place_now self.now.config self.now.now flight) else self.now.now.seats.holding.placing) }
     {
         if self.marks_place(flight, page, value) {
             chosen(self.holding.placing, self.place_now(flight))
@@ -334,7 +345,8 @@ impl Core {
 
     /// The run whose object a `quar` frees.
     fn run_freed(&self, flight: Flight, page: u64, value: u64) -> Option<RunPages>
-        ensures { result ≡ run_of_cell self.now.now.words (cell_freed self.now.config.pages self.now.now.words flight page value) }
+        ensures { result ≡ run_of_cell self.now.now.words
+            (cell_freed self.now.config.pages self.now.now.words flight page value) }
     {
         let cell = self.cell_freed(flight, page, value)?;
         run_headed(self.table.header(cell.page), cell.page)

@@ -1,5 +1,7 @@
 //! Laws of the words of the table: facts alone, with no code.
-ghost use Rattle.mk_core.specs.Layout.{NamesAreApart, IndexesAreOfTheTable, WordsStandAtTheirIndexes, ChangesStandAtTheirIndexes, RegionsKeepTheirLengths, ListHasAllWords, FirstWordsAreZero, AccessesStandAtTheirIndexes, LineGroupsAreApart};
+ghost use Rattle.mk_core.specs.Layout.{NamesAreApart, IndexesAreOfTheTable, WordsStandAtTheirIndexes};
+ghost use Rattle.mk_core.specs.Layout.{ChangesStandAtTheirIndexes, RegionsKeepTheirLengths, ListHasAllWords};
+ghost use Rattle.mk_core.specs.Layout.{FirstWordsAreZero, AccessesStandAtTheirIndexes, LineGroupsAreApart};
 
 /// Each word of the table has an index of its own. The words as one list have each at its index, and a
 /// change of a word is a change there alone.

@@ -24,7 +24,14 @@ impl Model for Core {
 
     ghost Value = { CoreState };
 
-    ghost view = { λ c. record { config = c.config; now = record { words = c.table; seats = record { flights = c.flights.items; holding = c.holding; markers = c.markers.items }; fresh_words = c.fresh_words } } };
+    ghost view = { λ c. record {
+      config = c.config;
+      now = record {
+        words = c.table;
+        seats = record { flights = c.flights.items; holding = c.holding; markers = c.markers.items };
+        fresh_words = c.fresh_words;
+      };
+    } };
 
     ghost use Rattle.mk_core.specs.Config.{IsWithinLimits};
 

@@ -5,7 +5,10 @@ ghost use Rattle.mk_geom.specs.Headers.{word_of};
 ghost use Rattle.mk_geom.specs.Storages.{block_header, run_header};
 ghost use Rattle.mk_core.specs.Bounded.{all_below};
 ghost use Rattle.mk_core.specs.Cells.{words_are_zero};
-ghost use Rattle.mk_core.specs.NewPlaces.{object_of, object_made, place_on_pages, class_made, is_small_object, pages_made, header_made, bits_made, base_made, stands, is_next_header, place_stands, unmapped_header, is_run_unmapped, is_run_gone, is_undecided_new, is_undecided_free, target};
+ghost use Rattle.mk_core.specs.NewPlaces.{object_of, object_made, place_on_pages, class_made, is_small_object};
+ghost use Rattle.mk_core.specs.NewPlaces.{pages_made, header_made, bits_made, base_made, stands, is_next_header};
+ghost use Rattle.mk_core.specs.NewPlaces.{place_stands, unmapped_header, is_run_unmapped, is_run_gone};
+ghost use Rattle.mk_core.specs.NewPlaces.{is_undecided_new, is_undecided_free, target};
 ghost use Rattle.mk_core.specs.PageHeaders.{header_wanted};
 ghost use Rattle.mk_core.specs.TurnConditions.{place_now, frees, cell_freed};
 
@@ -271,7 +274,8 @@ impl Core {
 
     /// Where the object of a `New` goes by first fit.
     pub(crate) fn first_fit(&self, op: Op) -> Option<Place>
-        ensures { result ≡ place_on_pages self.now.config.resident self.now.now.words.pages (object_made self.now.config op) }
+        ensures { result ≡ place_on_pages self.now.config.resident self.now.now.words.pages
+            (object_made self.now.config op) }
     {
         let object = self.object_made(op);
         first_fit(

@@ -3,7 +3,8 @@
 ghost use Rattle.std.specs.Prelude.{◌≡◌, ◌*◌, nat_lt};
 ghost use Rattle.mk_core.specs.Moments.{is_number_of, is_held, others_are_held, none_is_held};
 ghost use Rattle.mk_core.specs.NewPlaces.{target};
-ghost use Rattle.mk_core.specs.Ranges.{is_word, is_other_caller, is_word_met, is_in_range, is_run_cell, has_gates, has_phase};
+ghost use Rattle.mk_core.specs.Ranges.{is_word, is_other_caller, is_word_met, is_in_range, is_run_cell, has_gates};
+ghost use Rattle.mk_core.specs.Ranges.{has_phase};
 
 use crate::calls::word_met;
 use crate::cells::{heads_run, is_unmapped};

@@ -9,7 +9,8 @@ ghost use Rattle.mk_core.specs.Ranges.{is_in_range, is_word_met};
 ghost use Rattle.mk_core.specs.NewPlaces.{object_made, base_made};
 ghost use Rattle.mk_core.specs.MarkerConditions.{cell_seen};
 ghost use Rattle.mk_core.specs.Moments.{flight_of, marker_at, holder_number};
-ghost use Rattle.mk_core.specs.Accesses.{caller_number, register_met, reg_access, tally_word, granted_base, next_word, scan_page, scan_bit, seen_page, seen_bit, reached, access};
+ghost use Rattle.mk_core.specs.Accesses.{caller_number, register_met, reg_access, tally_word, granted_base, next_word};
+ghost use Rattle.mk_core.specs.Accesses.{scan_page, scan_bit, seen_page, seen_bit, reached, access};
 
 use crate::calls::{
     global_of, page_met, register_d, register_p, register_q, register_r, value_for, value_written,
@@ -158,7 +159,8 @@ impl Core {
 
     /// Its address.
     fn granted_address(&self, flight: Flight) -> u64
-        ensures { result ≡ address_of (granted_base self.now.config flight self.now.now.seats.holding.placing) % 2 ^ 64 }
+        ensures { result ≡ address_of
+            (granted_base self.now.config flight self.now.now.seats.holding.placing) % 2 ^ 64 }
     {
         let address = self
             .granted_base(flight)
@@ -169,7 +171,8 @@ impl Core {
 
     /// The word that an event reaches.
     pub(crate) fn word_reached(&self, event: Event) -> TableWord
-        requires range { IsTrue (is_in_range self.now.config event.seat (flight_of self.now.now event.seat) event.step) }
+        requires range { IsTrue
+            (is_in_range self.now.config event.seat (flight_of self.now.now event.seat) event.step) }
         ensures { result ≡ reached self.now.config self.now.now event }
     {
         let caller = caller_number(event.seat);

@@ -1,5 +1,6 @@
 //! The core's step: the first condition that fails, and what an enabled event does.
-ghost use Rattle.std.specs.Prelude.{◌≡◌, ◌≢◌, ◌↔◌, ℕ, ◌<◌, ◌≤◌, List, [], ◌∷◌, ◌++◌, IsTrue, MatchResult, IsOk, IfOk, IfErr, OnOk, OnErr, replicate};
+ghost use Rattle.std.specs.Prelude.{◌≡◌, ◌≢◌, ◌↔◌, ℕ, ◌<◌, ◌≤◌, List, [], ◌∷◌, ◌++◌, IsTrue, MatchResult, IsOk, IfOk};
+ghost use Rattle.std.specs.Prelude.{IfErr, OnOk, OnErr, replicate};
 ghost use Rattle.mk_core.specs.Config.{IsWithinLimits};
 ghost use Rattle.mk_core.specs.Calls.{at_rest};
 ghost use Rattle.mk_core.specs.Moments.{first_moment, flight_of, marker_at, outside};
@@ -129,7 +130,11 @@ impl Core {
     /// answer that the step decides.
     fn move_seat(&mut self, event: Event, found: u64) -> Option<Answer>
         requires { IsEnabled self.old.config self.old.now event }
-        ensures seats { self.new ≡ record self.old { now = record self.old.now { seats = seats_behind self.old.config self.old.now event.seat found event.step } } }
+        ensures seats { self.new
+            ≡ record self.old {
+              now = record self.old.now
+                  { seats = seats_behind self.old.config self.old.now event.seat found event.step };
+            } }
         ensures answer { result ≡ answer_by self.old.config self.old.now event.seat found event.step }
     {
         let flight = self.flight(event.seat);
@@ -157,9 +162,11 @@ impl Core {
 
     /// One event, where it is enabled.
     fn advance(&mut self, event: Event) -> Result<Option<Answer>, NotEnabled>
-        ensures enabled { MatchResult result (λ _. IsEnabled self.old.config self.old.now event) (λ r. (failing self.old.config self.old.now event ≡ r.condition) × (1 ≤ r.condition)) }
+        ensures enabled { MatchResult result (λ _. IsEnabled self.old.config self.old.now event)
+            (λ r. (failing self.old.config self.old.now event ≡ r.condition) × (1 ≤ r.condition)) }
         ensures answer { IfOk result (λ a. a ≡ answer_decided self.old.config self.old.now event) }
-        ensures behind { OnOk result (self.new ≡ record { config = self.old.config; now = moment_behind self.old.config self.old.now event }) }
+        ensures behind { OnOk result
+            (self.new ≡ record { config = self.old.config; now = moment_behind self.old.config self.old.now event }) }
         ensures unchanged { OnErr result (self.new ≡ self.old) }
     {
         let condition = self.first_failing(event);
@@ -180,10 +187,15 @@ impl Core {
     /// that the event decides, and None where it decides none. A compare and exchange that finds another
     /// value is an event too: it changes nothing, and decides nothing but in a `cas`.
     pub fn step(&mut self, event: Event) -> Result<Option<Answer>, NotEnabled>
-        ensures exact { (events : List Event) → CoreStandsFor self.old events → (IsOk result ↔ AreEnabled self.old.config (events ++ event ∷ [])) }
-        ensures answer { (events : List Event) → CoreStandsFor self.old events → IfOk result (λ a. calls self.old.config (events ++ event ∷ []) ≡ calls self.old.config events ++ entry_of (caller_number event.seat) (flight_of (left self.old.config events).now event.seat).op a) }
-        ensures stands { (events : List Event) → CoreStandsFor self.old events → OnOk result (CoreStandsFor self.new (events ++ event ∷ [])) }
-        ensures not_enabled { IfErr result (λ r. (failing self.old.config self.old.now event ≡ r.condition) × (1 ≤ r.condition)) }
+        ensures exact { (events : List Event) → CoreStandsFor self.old events
+            → (IsOk result ↔ AreEnabled self.old.config (events ++ event ∷ [])) }
+        ensures answer { (events : List Event) → CoreStandsFor self.old events
+            → IfOk result (λ a. calls self.old.config (events ++ event ∷ []) ≡ calls self.old.config events
+            ++ entry_of (caller_number event.seat) (flight_of (left self.old.config events).now event.seat).op a) }
+        ensures stands { (events : List Event) → CoreStandsFor self.old events
+            → OnOk result (CoreStandsFor self.new (events ++ event ∷ [])) }
+        ensures not_enabled { IfErr result (λ r. (failing self.old.config self.old.now event ≡ r.condition)
+            × (1 ≤ r.condition)) }
         ensures config { self.new.config ≡ self.old.config }
         ensures unchanged { OnErr result (self.new ≡ self.old) }
     {

@@ -4,7 +4,10 @@ ghost use Rattle.std.specs.Prelude.{◌≡◌, ◌<◌, not};
 ghost use Rattle.std.specs.List.{list_all};
 ghost use Rattle.mk_core.specs.Bounded.{all_below};
 ghost use Rattle.mk_core.specs.Cells.{points_well};
-ghost use Rattle.mk_core.specs.StopConditions.{is_attending, none_attends, is_bit_of, marks_by_hand, marks_place, may_mark, has_clean_page, may_begin, has_closed_page, roots_point_well, may_close, has_settled_page, may_end, may_undirty, may_unblack, may_turn_black, blackens, may_black};
+ghost use Rattle.mk_core.specs.StopConditions.{is_attending, none_attends, is_bit_of, marks_by_hand, marks_place};
+ghost use Rattle.mk_core.specs.StopConditions.{may_mark, has_clean_page, may_begin, has_closed_page, roots_point_well};
+ghost use Rattle.mk_core.specs.StopConditions.{may_close, has_settled_page, may_end, may_undirty, may_unblack};
+ghost use Rattle.mk_core.specs.StopConditions.{may_turn_black, blackens, may_black};
 ghost use Rattle.mk_core.specs.TurnConditions.{place_now};
 ghost use Rattle.mk_core.specs.NewPlaces.{object_made};
 
@@ -153,7 +156,8 @@ impl Core {
 
     /// Whether the value is the bit of the cell into which the hand points.
     fn marks_by_hand(&self, page: u64, value: u64) -> bool
-        ensures { result ≡ marks_by_hand self.now.config.pages self.now.now.words self.now.now.seats.holding.hand page value }
+        ensures { result ≡ marks_by_hand self.now.config.pages self.now.now.words self.now.now.seats.holding.hand page
+            value }
     {
         match self.holding.hand {
             Some(hand) => {
@@ -167,7 +171,8 @@ impl Core {
     /// Whether the value is the bits of the cells that the first page of the place of a `New` gets, and the
     /// page has no header yet.
     pub(crate) fn marks_place(&self, flight: Flight, page: u64, value: u64) -> bool
-        ensures { result ≡ marks_place self.now.now.words (object_made self.now.config flight.op) (place_now self.now.config self.now.now flight) page value }
+        ensures { result ≡ marks_place self.now.now.words (object_made self.now.config flight.op)
+            (place_now self.now.config self.now.now flight) page value }
     {
         let Some(place) = self.place_now(flight) else {
             return false;

@@ -2,7 +2,9 @@
 ghost use Rattle.std.specs.Prelude.{◌≡◌, ℕ, ◌+◌, ◌*◌, ◌^◌, ◌<◌, IfOk, replicate, slice_index, slice_set};
 ghost use Rattle.mk_core.specs.declared.events.Word.TheVariants as word;
 ghost use Rattle.mk_geom.specs.Storages.{free_page};
-ghost use Rattle.mk_core.specs.Words.{Words, zero_words_of, page_of, header_at, used_at, quarantine_word, register_word, named_word, word_in, with_named, with_word_in, becomes, accessed, phase_of};
+ghost use Rattle.mk_core.specs.Words.{Words, zero_words_of, page_of, header_at, used_at, quarantine_word};
+ghost use Rattle.mk_core.specs.Words.{register_word, named_word, word_in, with_named, with_word_in, becomes, accessed};
+ghost use Rattle.mk_core.specs.Words.{phase_of};
 
 use crate::{Access, TableWord, Word};
 use mk_geom::{FREE_PAGE, Page};
@@ -37,7 +39,25 @@ impl Model for Table {
 
     ghost Value = { Words };
 
-    ghost view = { λ t. record { phase = t.phase; turn = t.turn; held = t.held; fresh = t.fresh; cycles = t.cycles; released = t.released; full = t.full; gates = t.gates.items; registers = t.registers.items; globals = t.globals.items; pages = t.pages.items; freed = t.freed.items; snapshot = t.snapshot.items; marks = t.marks.items; blacks = t.blacks.items; dirty = t.dirty.items; heap = t.heap.items } };
+    ghost view = { λ t. record {
+      phase = t.phase;
+      turn = t.turn;
+      held = t.held;
+      fresh = t.fresh;
+      cycles = t.cycles;
+      released = t.released;
+      full = t.full;
+      gates = t.gates.items;
+      registers = t.registers.items;
+      globals = t.globals.items;
+      pages = t.pages.items;
+      freed = t.freed.items;
+      snapshot = t.snapshot.items;
+      marks = t.marks.items;
+      blacks = t.blacks.items;
+      dirty = t.dirty.items;
+      heap = t.heap.items;
+    } };
 }
 
 /// So many zeros.

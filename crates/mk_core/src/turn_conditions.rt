@@ -3,7 +3,10 @@ ghost use Rattle.std.specs.Prelude.{◌≡◌, ◌&&◌, ◌<◌};
 ghost use Rattle.mk_geom.specs.Addresses.{address_of};
 ghost use Rattle.mk_core.specs.Cells.{pointed_cell, first_word, cell_words, words_are_zero};
 ghost use Rattle.mk_core.specs.NewPlaces.{object_made, pages_made, header_made, is_next_header};
-ghost use Rattle.mk_core.specs.TurnConditions.{is_marked_first, carves, unmaps, empties, may_head, takes_cell, is_used_once, are_wiped, gives_back, may_use, takes_snapshot, drops, may_quarantine, is_decided, may_give, is_full, is_in_gone_run, may_wipe, place_now};
+ghost use Rattle.mk_core.specs.TurnConditions.{is_marked_first, carves, unmaps, empties, may_head, takes_cell};
+ghost use Rattle.mk_core.specs.TurnConditions.{is_used_once, are_wiped, gives_back, may_use, takes_snapshot, drops};
+ghost use Rattle.mk_core.specs.TurnConditions.{may_quarantine, is_decided, may_give, is_full, is_in_gone_run, may_wipe};
+ghost use Rattle.mk_core.specs.TurnConditions.{place_now};
 
 use crate::cells::{has_bit, without};
 use crate::placing::{PageHeaders, adds_bit, bits_made, pages_made};
@@ -36,7 +39,8 @@ impl Table {
 
     /// Whether the page is the next of the place to get its header.
     fn carves(&self, object: Object, place: Place, page: u64, value: u64) -> bool
-        ensures { result ≡ (is_next_header self.now place.page (pages_made object) (header_made object) page value && is_marked_first self.now object place) }
+        ensures { result ≡ (is_next_header self.now place.page (pages_made object) (header_made object) page value
+            && is_marked_first self.now object place) }
     {
         let wanted = PageHeaders::Made(object);
         self.is_next_header(place.page, wanted, pages_made(object), page, value)
@@ -106,7 +110,8 @@ impl Table {
 impl Core {
     /// Whether a page of the place gets its header.
     fn carves(&self, flight: Flight, page: u64, value: u64) -> bool
-        ensures { result ≡ carves self.now.now.words (object_made self.now.config flight.op) (place_now self.now.config self.now.now flight) page value }
+        ensures { result ≡ carves self.now.now.words (object_made self.now.config flight.op)
+            (place_now self.now.config self.now.now flight) page value }
     {
         match self.place_now(flight) {
             Some(place) => {
@@ -143,7 +148,8 @@ impl Core {
 
     /// Whether the cell of the place is taken, behind all its headers.
     fn takes_cell(&self, flight: Flight, page: u64, value: u64) -> bool
-        ensures { result ≡ takes_cell self.now.now.words (object_made self.now.config flight.op) (place_now self.now.config self.now.now flight) page value }
+        ensures { result ≡ takes_cell self.now.now.words (object_made self.now.config flight.op)
+            (place_now self.now.config self.now.now flight) page value }
     {
         match self.place_now(flight) {
             Some(place) => {
@@ -189,7 +195,8 @@ impl Core {
 
     /// Whether a cycle was begun and ended in this call, and nothing fits.
     pub(crate) fn is_full(&self, flight: Flight) -> bool
-        ensures { result ≡ is_full self.now.config.resident self.now.now.words.pages (object_made self.now.config flight.op) self.now.now.seats.holding.placing self.now.now.seats.holding.cycle }
+        ensures { result ≡ is_full self.now.config.resident self.now.now.words.pages
+            (object_made self.now.config flight.op) self.now.now.seats.holding.placing self.now.now.seats.holding.cycle }
     {
         match (self.holding.placing, self.holding.cycle) {
             (Placing::Unplaced, OwnCycle::Ended) => self.first_fit(flight.op).is_none(),

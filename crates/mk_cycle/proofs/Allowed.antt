@@ -28,7 +28,8 @@ use Rattle.mk_cycle.specs.TurnKeeps.{InTurn}
 use Rattle.mk_cycle.proofs.Calm.{no_target}
 use Rattle.mk_cycle.proofs.MayAct.{may_act}
 
-look_gates : (c : Config) (w : Words) (seat : Seat) (f : Flight) (x : Word) → is_register x ≡ false → has_gates c w seat f (step.Look x) ≡ true
+look_gates : (c : Config) (w : Words) (seat : Seat) (f : Flight) (x : Word) → is_register x ≡ false
+    → has_gates c w seat f (step.Look x) ≡ true
 look_gates c w seat f (word.Reg j r) h = cc
 look_gates c w seat f _ h = refl
 
@@ -67,34 +68,42 @@ module _ (p : PassState) (t : InTurn p) (free : IsFreeForCycle p) where
     pub unblack_allowed : IsEnabledTo p (step.Unblack page)
     unblack_allowed =
         may_act p (step.Unblack page) protocol t.holds free.decided refl range
-        (or_left (not (is_phase (now_of p).words 2)) (others_are_held p.table.config.callers (now_of p).words p.seat) (ap not not_two))
+        (or_left (not (is_phase (now_of p).words 2)) (others_are_held p.table.config.callers (now_of p).words p.seat)
+        (ap not not_two))
         (or_left (phase_of (now_of p).words == 0) (phase_of (now_of p).words == 2) at_zero)
         (or_left (not (is_phase (now_of p).words 2)) _ (ap not not_two))
 
     pub undirty_allowed : IsEnabledTo p (step.Undirty page)
     undirty_allowed =
         may_act p (step.Undirty page) protocol t.holds free.decided refl range
-        (or_left (not (is_phase (now_of p).words 2)) (others_are_held p.table.config.callers (now_of p).words p.seat) (ap not not_two))
+        (or_left (not (is_phase (now_of p).words 2)) (others_are_held p.table.config.callers (now_of p).words p.seat)
+        (ap not not_two))
         (or_left (phase_of (now_of p).words == 0) (phase_of (now_of p).words == 2) at_zero)
         (or_left (not (is_phase (now_of p).words 2)) _ (ap not not_two))
 
-    pub snapshot_allowed : (v : ℕ) → v ≡ quarantine_word (slice_index (now_of p).words.freed page) (slice_index (now_of p).words.freed page)
+    pub snapshot_allowed : (v : ℕ)
+        → v ≡ quarantine_word (slice_index (now_of p).words.freed page) (slice_index (now_of p).words.freed page)
         → IsEnabledTo p (step.Quar page v)
     snapshot_allowed v is =
         let w : Words = (now_of p).words in
         let f : Flight = call_of p in
         let none_freed : target p.table.config.pages w f ≡ None = no_target p.table.config.pages w f free.decided in
         may_act p (step.Quar page v) protocol t.holds free.decided refl range
-        (ap (λ (cell : Option Cell). not (is_run_cell w cell) || others_are_held p.table.config.callers w p.seat) none_freed)
-        (or_left ((phase_of w == 0) || (phase_of w == 1)) (phase_of w == 4) (or_left (phase_of w == 0) (phase_of w == 1) at_zero))
-        (ap (λ (n : ℕ). if n == 4 then drops w page (v % 2 ^ 32) (v / 2 ^ 32) else (frees w (target p.table.config.pages w f) page v || takes_snapshot w page v)) none
+        (ap (λ (cell : Option Cell). not (is_run_cell w cell) || others_are_held p.table.config.callers w p.seat)
+        none_freed)
+        (or_left ((phase_of w == 0) || (phase_of w == 1)) (phase_of w == 4)
+        (or_left (phase_of w == 0) (phase_of w == 1) at_zero))
+        (ap (λ (n : ℕ). if n == 4 then drops w page (v % 2 ^ 32) (v / 2 ^ 32)
+        else (frees w (target p.table.config.pages w f) page v || takes_snapshot w page v)) none
         ∙ or_true (frees w (target p.table.config.pages w f) page v) (takes_snapshot w page v)
         (ap (λ (b : Bool). b && (v == quarantine_word (slice_index w.freed page) (slice_index w.freed page))) at_zero
         ∙ eq-eqb v _ is))
 
 -- what `is_in_order` tells of a turn
-pub in_turn : (p : PassState) (o : Option Op) → Has p.seats p.seat → IsTurn p o → IsHistory p.table.config p.seen → InTurn p
+pub in_turn : (p : PassState) (o : Option Op) → Has p.seats p.seat → IsTurn p o → IsHistory p.table.config p.seen
+    → InTurn p
 in_turn p o own turn history = record { own = own; holds = turn.holds; history = history }
 
-pub on_table : (p : PassState) (w : WordsState) → p.table ≡ w → (page : ℕ) → page < w.config.pages → page < p.table.config.pages
+pub on_table : (p : PassState) (w : WordsState) → p.table ≡ w → (page : ℕ) → page < w.config.pages
+    → page < p.table.config.pages
 on_table p w is page lt = subst (λ (x : WordsState). page < x.config.pages) (sym is) lt

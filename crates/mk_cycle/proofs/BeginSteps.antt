@@ -1,5 +1,6 @@
 -- The `begin` of a cycle, and the calls around it.
-use Rattle.std.proofs.Common.{◌≡◌, ℕ, zero, suc, ◌+◌, ◌/◌, ◌%◌, ◌^◌, ◌<◌, ◌≤◌, Bool, true, false, List, [], ◌∷◌, length, refl, sym, ap, subst, ◌∙◌, arith}
+use Rattle.std.proofs.Common.{◌≡◌, ℕ, zero, suc, ◌+◌, ◌/◌, ◌%◌, ◌^◌, ◌<◌, ◌≤◌, Bool, true, false, List, [], ◌∷◌, length}
+use Rattle.std.proofs.Common.{refl, sym, ap, subst, ◌∙◌, arith}
 use Rattle.std.specs.Prelude.{◌&&◌, ◌==◌, map, filter, sum_by, count_by, if◌then◌else◌, slice_index}
 use Rattle.std.proofs.lemmas.Bool.{and_from, eq-eqb}
 use Rattle.std.proofs.lemmas.List.Sums.{count_by-le-length}
@@ -7,7 +8,8 @@ use Rattle.mk_core.specs.declared.config.Config.{Config}
 use Rattle.mk_core.specs.declared.events.Step.TheVariants as step
 use Rattle.mk_core.specs.declared.seats.Holding.{Holding}
 use Rattle.mk_core.specs.declared.seats.OwnCycle.TheVariants.{Begun}
-use Rattle.mk_core.specs.Allocations.{PlacedAllocation, no_longer_fresh, unreleased_storage, storage_of, storage_words, held_words, fresh_words_of, is_mapped}
+use Rattle.mk_core.specs.Allocations.{PlacedAllocation, no_longer_fresh, unreleased_storage, storage_of, storage_words}
+use Rattle.mk_core.specs.Allocations.{held_words, fresh_words_of, is_mapped}
 use Rattle.mk_geom.specs.Storages.{Storage}
 use Rattle.mk_geom.specs.StorageWords.{mapped_words}
 use Rattle.mk_core.specs.Bounded.{all_below}
@@ -45,9 +47,11 @@ clean_page p page h =
     and_from _ _ (and_from _ _ (eq-eqb _ 0 h.unmarked) (eq-eqb _ 0 h.unscanned)) (eq-eqb _ _ (sym h.snapshot))
 
 pub begin_allowed : (p : PassState) → InTurn p → IsFreeForCycle p → IsAtPhase p 0
-    → ((page : ℕ) → page < p.table.config.pages → IsClean p page) → (now_of p).words.fresh ≡ 0 → IsEnabledTo p step.Begin
+    → ((page : ℕ) → page < p.table.config.pages → IsClean p page) → (now_of p).words.fresh ≡ 0
+    → IsEnabledTo p step.Begin
 begin_allowed p t free none clean fresh =
-    may_act p step.Begin (protocol p t free) t.holds free.decided refl refl refl (eq-eqb (phase_of (now_of p).words) 0 none)
+    may_act p step.Begin (protocol p t free) t.holds free.decided refl refl refl
+    (eq-eqb (phase_of (now_of p).words) 0 none)
     (and_from (all_below p.table.config.pages (has_clean_page (now_of p).words)) ((now_of p).words.fresh == 0)
     (all_from p.table.config.pages (has_clean_page (now_of p).words) (λ page lt. clean_page p page (clean page lt)))
     (eq-eqb (now_of p).words.fresh 0 fresh))
@@ -57,7 +61,8 @@ begun_phase : (n markers : ℕ) → n % 8 ≡ 0 → n / 8 ≡ markers → marker
 begun_phase n markers none high few = omega arith
 
 -- lists that are the same, number by number
-same_list : (xs ys : List ℕ) → length xs ≡ length ys → ((k : ℕ) → k < length xs → slice_index xs k ≡ slice_index ys k) → xs ≡ ys
+same_list : (xs ys : List ℕ) → length xs ≡ length ys → ((k : ℕ) → k < length xs → slice_index xs k ≡ slice_index ys k)
+    → xs ≡ ys
 same_list [] [] e h = refl
 same_list [] (y ∷ ys) e h = absurd (omega arith)
 same_list (x ∷ xs) [] e h = absurd (omega arith)
@@ -68,7 +73,8 @@ same_list (x ∷ xs) (y ∷ ys) e h =
 
 -- What is no longer fresh is held as before.
 
-stale_storage : (c : Config) (xs : List PlacedAllocation) → unreleased_storage c (map no_longer_fresh xs) ≡ unreleased_storage c xs
+stale_storage : (c : Config) (xs : List PlacedAllocation)
+    → unreleased_storage c (map no_longer_fresh xs) ≡ unreleased_storage c xs
 unfolding unreleased_storage
 stale_storage c [] = refl
 stale_storage c (a ∷ xs) =
@@ -81,17 +87,21 @@ never_both : (b : Bool) → (b && false) ≡ false
 never_both true = refl
 never_both false = refl
 
-none_fresh : (c : Config) (xs : List PlacedAllocation) → filter (λ (a : PlacedAllocation). is_mapped c a && a.fresh) (map no_longer_fresh xs) ≡ []
+none_fresh : (c : Config) (xs : List PlacedAllocation)
+    → filter (λ (a : PlacedAllocation). is_mapped c a && a.fresh) (map no_longer_fresh xs) ≡ []
 none_fresh c [] = refl
 none_fresh c (a ∷ xs) =
-    ap (λ (b : Bool). if b then no_longer_fresh a ∷ filter (λ (x : PlacedAllocation). is_mapped c x && x.fresh) (map no_longer_fresh xs)
-    else filter (λ (x : PlacedAllocation). is_mapped c x && x.fresh) (map no_longer_fresh xs)) (never_both (is_mapped c a))
+    ap (λ (b : Bool). if b then no_longer_fresh a ∷ filter (λ (x : PlacedAllocation). is_mapped c x && x.fresh)
+    (map no_longer_fresh xs)
+    else filter (λ (x : PlacedAllocation). is_mapped c x && x.fresh) (map no_longer_fresh xs))
+    (never_both (is_mapped c a))
     ∙ none_fresh c xs
 
 pub stale_releases : (xs : List PlacedAllocation) → releases (map no_longer_fresh xs) ≡ releases xs
 stale_releases xs = count_by-map (λ (a : PlacedAllocation). a.released) no_longer_fresh xs
 
-module _ (p q : PassState) (t : InTurn p) (free : IsFreeForCycle p) (none : IsAtPhase p 0) (u : InTurn q) (a : Acts p step.Begin q) where
+module _ (p q : PassState) (t : InTurn p) (free : IsFreeForCycle p) (none : IsAtPhase p 0) (u : InTurn q)
+    (a : Acts p step.Begin q) where
   abbrev w : World
   w = world_at a.makes
 
@@ -100,15 +110,25 @@ module _ (p q : PassState) (t : InTurn p) (free : IsFreeForCycle p) (none : IsAt
       let there = (made p step.Begin q a.makes t.own u.history).protocol in
       let low : w.now.words.phase % 8 ≡ 0 = ap (λ (s : Steady). s.phase) a.turn.steady ∙ none in
       let few : count_by is_in w.now.seats.markers ≤ 8 =
-      subst (λ (n : ℕ). count_by is_in w.now.seats.markers ≤ n) there.markers (count_by-le-length is_in w.now.seats.markers) in
+      subst (λ (n : ℕ). count_by is_in w.now.seats.markers ≤ n) there.markers
+      (count_by-le-length is_in w.now.seats.markers) in
       begun_phase w.now.words.phase (count_by is_in w.now.seats.markers) low there.high few
 
   pub steady_begun : steady_of (world_of q)
-      ≡ record (steady_of (world_of p)) { phase = 1; fresh_words = 0; allocations = map no_longer_fresh (world_of p).allocations }
+      ≡ record (steady_of (world_of p)) {
+        phase = 1;
+        fresh_words = 0;
+        allocations = map no_longer_fresh (world_of p).allocations;
+      }
   steady_begun =
       ap (λ (x : World). steady_of x) a.world
-      ∙ ap (λ (n : ℕ). record (steady_of w) { phase = n; fresh_words = 0; allocations = map no_longer_fresh w.allocations }) phase_there
-      ∙ ap (λ (s : Steady). record s { phase = 1; fresh_words = 0; allocations = map no_longer_fresh s.allocations }) a.turn.steady
+      ∙ ap (λ (n : ℕ). record (steady_of w) {
+        phase = n;
+        fresh_words = 0;
+        allocations = map no_longer_fresh w.allocations;
+      }) phase_there
+      ∙ ap (λ (s : Steady). record s { phase = 1; fresh_words = 0; allocations = map no_longer_fresh s.allocations })
+      a.turn.steady
 
   pub begun_call : call_of q ≡ call_of p
   begun_call = same_call p step.Begin q a t.own t.holds u.history (λ n. refl)
@@ -146,7 +166,8 @@ snapshot_is b t clean =
     (λ k lt. (clean k (subst (λ (n : ℕ). k < n) lengths.snapshot lt)).snapshot)
 
 -- the allocations and tallies, from all that only the holder changes
-exact_from : (p q : PassState) → q ≡ record p { seen = q.seen } → steady_of (world_of q) ≡ with_cycle_begun (steady_of (world_of p))
+exact_from : (p q : PassState) → q ≡ record p { seen = q.seen }
+    → steady_of (world_of q) ≡ with_cycle_begun (steady_of (world_of p))
     → TalliesAreExact p.table.config p.seen → TalliesAreExact q.table.config q.seen
 exact_from p q is steady x =
     let c : Config = p.table.config in
@@ -165,8 +186,10 @@ exact_from p q is steady x =
           ∙ ap (λ (ys : List PlacedAllocation). in_a_word (sum_by (storage_words c) ys)) (none_fresh c xs));
     }
 
-tidy_from : (p q : PassState) → q ≡ record p { seen = q.seen } → steady_of (world_of q) ≡ with_cycle_begun (steady_of (world_of p))
-    → CountsAreLeft p.table.config p.seen q.seen → TalliesAreTidy p.table.config p.seen → TalliesAreTidy q.table.config q.seen
+tidy_from : (p q : PassState) → q ≡ record p { seen = q.seen }
+    → steady_of (world_of q) ≡ with_cycle_begun (steady_of (world_of p))
+    → CountsAreLeft p.table.config p.seen q.seen → TalliesAreTidy p.table.config p.seen
+    → TalliesAreTidy q.table.config q.seen
 tidy_from p q is steady counts x =
     let c : Config = p.table.config in
     let same : q.table.config ≡ c = same_config p q is in
@@ -174,7 +197,8 @@ tidy_from p q is steady counts x =
       cycles = ap (λ (s : Steady). s.cycles) steady ∙ x.cycles ∙ ap in_a_word (sym counts.ends);
       released =
           ap (λ (s : Steady). s.released) steady ∙ x.released
-          ∙ ap in_a_word (sym (ap (λ (s : Steady). releases s.allocations) steady ∙ stale_releases (world_of p).allocations));
+          ∙ ap in_a_word (sym (ap (λ (s : Steady). releases s.allocations) steady
+          ∙ stale_releases (world_of p).allocations));
       full =
           ap (λ (s : Steady). s.full) steady ∙ x.full ∙ ap in_a_word (sym counts.fulls)
           ∙ ap (λ (d : Config). in_a_word (fulls d q.seen)) (sym same);
@@ -195,24 +219,33 @@ pub begins_cycle : (p b d q : PassState) → Cleans p b → InTurn b → IsFreeF
 begins_cycle p b d q k t free none clean fresh a u law =
     let begun = steady_begun b d t free none u a in
     let first : b ≡ record p { seen = b.seen } = k.keeps.call.pass in
-    let second : d ≡ record p { seen = d.seen } = same_pass b step.Begin d a t.own t.holds u.history ∙ ap (λ (x : PassState). record x { seen = d.seen }) first in
-    let pass : q ≡ record p { seen = q.seen } = law.keeps.call.pass ∙ ap (λ (x : PassState). record x { seen = q.seen }) second in
+    let second : d ≡ record p { seen = d.seen } = same_pass b step.Begin d a t.own t.holds u.history
+    ∙ ap (λ (x : PassState). record x { seen = d.seen }) first in
+    let pass : q ≡ record p { seen = q.seen } = law.keeps.call.pass
+    ∙ ap (λ (x : PassState). record x { seen = q.seen }) second in
     let steady : steady_of (world_of q) ≡ with_cycle_begun (steady_of (world_of p)) =
     law.keeps.steady ∙ begun
-    ∙ ap (λ (n : ℕ). record (with_cycle_begun (steady_of (world_of b))) { fresh = n; snapshot = (now_of b).words.snapshot }) fresh
+    ∙ ap (λ (n : ℕ). record (with_cycle_begun (steady_of (world_of b))) {
+      fresh = n;
+      snapshot = (now_of b).words.snapshot;
+    }) fresh
     ∙ ap (λ (ss : List ℕ). record (with_cycle_begun (steady_of (world_of b))) { snapshot = ss }) (snapshot_is b t clean)
     ∙ ap with_cycle_begun k.keeps.steady in
     let counts : CountsAreLeft p.table.config p.seen q.seen =
     counts_then p b q (same_config p b first) k.keeps.counts
-    (counts_then b d q (same_config b d (same_pass b step.Begin d a t.own t.holds u.history)) (begun_counts b d t free none u a) law.keeps.counts) in
+    (counts_then b d q (same_config b d (same_pass b step.Begin d a t.own t.holds u.history))
+    (begun_counts b d t free none u a) law.keeps.counts) in
     record {
       makes = record { cleared = b; begun = d; before = k.does; begin = a.makes; behind = law.does };
       pass = pass;
       call = law.keeps.call.call ∙ begun_call b d t free none u a ∙ k.keeps.call.call;
-      done = law.keeps.call.done ∙ begun_done b d t free none u a ∙ ap (λ (x : Done). record x { cycle = Begun }) k.keeps.call.done;
+      done = law.keeps.call.done ∙ begun_done b d t free none u a
+          ∙ ap (λ (x : Done). record x { cycle = Begun }) k.keeps.call.done;
       steady = steady;
       counts = counts;
-      gates = gates_then p b q first k.gates (gates_then b d q (same_pass b step.Begin d a t.own t.holds u.history) (begun_gates b d t free none u a) law.gates);
+      gates = gates_then p b q first k.gates
+          (gates_then b d q (same_pass b step.Begin d a t.own t.holds u.history) (begun_gates b d t free none u a)
+          law.gates);
       gone = law.keeps.call.gone (begun_gone b d t free none u a free.gone);
       exact = exact_from p q pass steady;
       tidy = tidy_from p q pass steady counts;

@@ -1,5 +1,6 @@
 -- Bits of cells that are given back.
-use Rattle.std.proofs.Common.{◌≡◌, ◌⊎◌, ℕ, zero, suc, ◌-◌, ◌/◌, ◌%◌, ◌^◌, ◌<◌, Bool, true, false, refl, sym, ap, ◌∙◌, arith, inl, inr, min, bit_and}
+use Rattle.std.proofs.Common.{◌≡◌, ◌⊎◌, ℕ, zero, suc, ◌-◌, ◌/◌, ◌%◌, ◌^◌, ◌<◌, Bool, true, false, refl, sym, ap, ◌∙◌}
+use Rattle.std.proofs.Common.{arith, inl, inr, min, bit_and}
 use Rattle.std.specs.Prelude.{◌&&◌, not, ◌==◌}
 use Rattle.std.specs.Int.{bit_at}
 use Rattle.std.proofs.lemmas.Bool.{cases_Bool}
@@ -25,7 +26,8 @@ least_test (suc zero) (suc (suc y)) lx ly = absurd (omega arith)
 least_test (suc (suc x)) y lx ly = absurd (omega arith)
 
 pub has_bit_and : (a b k : ℕ) → has_bit (bit_and a b) k ≡ (has_bit a k && has_bit b k)
-has_bit_and a b k = ap (λ (n : ℕ). n == 1) (bit_at_and a b k) ∙ least_test (bit_at a k) (bit_at b k) (bit_at-lt a k) (bit_at-lt b k)
+has_bit_and a b k = ap (λ (n : ℕ). n == 1) (bit_at_and a b k)
+    ∙ least_test (bit_at a k) (bit_at b k) (bit_at-lt a k) (bit_at-lt b k)
 
 -- in Booleans
 

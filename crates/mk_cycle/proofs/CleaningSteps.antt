@@ -1,5 +1,6 @@
 -- Pages are cleaned step by step.
-use Rattle.std.proofs.Common.{◌≡◌, ℕ, ◌<◌, ◌%◌, ◌/◌, ◌^◌, true, false, List, [], ◌∷◌, ◌++◌, length, refl, sym, ap, subst, ◌∙◌, arith, inl, inr}
+use Rattle.std.proofs.Common.{◌≡◌, ℕ, ◌<◌, ◌%◌, ◌/◌, ◌^◌, true, false, List, [], ◌∷◌, ◌++◌, length, refl, sym, ap}
+use Rattle.std.proofs.Common.{subst, ◌∙◌, arith, inl, inr}
 use Rattle.std.specs.Prelude.{Option, None, map, slice_index, slice_set}
 use Rattle.std.proofs.lemmas.Bool.{cases_eq, cases_lt}
 use Rattle.std.proofs.lemmas.List.{get_or-set_same, get_or-set_other, set_past, set-get_or}
@@ -76,13 +77,15 @@ calm_ends step.End h = cc
 calm_ends _ h = refl
 
 -- A calm step of a turn that is free for a cycle.
-module _ (p : PassState) (s : Step) (q : PassState) (a : Acts p s q) (t : InTurn p) (history : IsHistory q.table.config q.seen)
+module _ (p : PassState) (s : Step) (q : PassState) (a : Acts p s q) (t : InTurn p)
+    (history : IsHistory q.table.config q.seen)
     (kind : is_calm s ≡ true) (free : IsFreeForCycle p) where
   still_pending : is_pending_free (flight_of (world_at a.makes).now p.seat) ≡ false
   still_pending = ap is_pending_free a.own.flight ∙ free.decided
 
   pub calm_keeps : (view : Steady → Steady)
-      → view (steady_of (world_behind p.table.config (world_at a.makes) (event_of p s))) ≡ view (steady_of (world_at a.makes))
+      → view (steady_of (world_behind p.table.config (world_at a.makes) (event_of p s)))
+      ≡ view (steady_of (world_at a.makes))
       → KeepsTurn view p q
   calm_keeps view same =
       let c : Config = p.table.config in
@@ -107,12 +110,15 @@ pub record CleansAt (w v : World) : Type 0 where
       → slice_index v.now.words.snapshot r ≡ slice_index v.now.words.freed r
 
 -- At phase 0 nobody else marks or scans.
-module _ (p : PassState) (s : Step) (q : PassState) (a : Acts p s q) (t : InTurn p) (history : IsHistory q.table.config q.seen)
+module _ (p : PassState) (s : Step) (q : PassState) (a : Acts p s q) (t : InTurn p)
+    (history : IsHistory q.table.config q.seen)
     (kind : is_calm s ≡ true) (cleans : clears s ≡ true) (free : IsFreeForCycle p) (none : IsAtPhase p 0) where
-  same_colours : ((world_at a.makes).now.words.marks ≡ (now_of p).words.marks) × ((world_at a.makes).now.words.blacks ≡ (now_of p).words.blacks)
+  same_colours : ((world_at a.makes).now.words.marks ≡ (now_of p).words.marks)
+      × ((world_at a.makes).now.words.blacks ≡ (now_of p).words.blacks)
   same_colours = a.turn.unmarked (λ e. absurd (omega arith)) (λ e. absurd (omega arith))
 
-  pub cleans_step : CleansAt (world_at a.makes) (world_behind p.table.config (world_at a.makes) (event_of p s)) → Cleans p q
+  pub cleans_step : CleansAt (world_at a.makes) (world_behind p.table.config (world_at a.makes) (event_of p s))
+      → Cleans p q
   cleans_step x =
       record {
         does = does_step clears p q s t.own a.makes cleans;
@@ -126,25 +132,42 @@ module _ (p : PassState) (s : Step) (q : PassState) (a : Acts p s q) (t : InTurn
             ∙ x.unscanned r (ap (λ (ms : List ℕ). slice_index ms r) same_colours.1 ∙ h);
         snapshot = λ r h.
             ap (λ (w : World). slice_index w.now.words.snapshot r) a.world
-            ∙ x.snapshot r (ap (λ (y : Steady). slice_index y.snapshot r) a.turn.steady ∙ h ∙ sym (ap (λ (y : Steady). slice_index y.freed r) a.turn.steady))
+            ∙ x.snapshot r (ap (λ (y : Steady). slice_index y.snapshot r) a.turn.steady ∙ h
+            ∙ sym (ap (λ (y : Steady). slice_index y.freed r) a.turn.steady))
             ∙ sym (ap (λ (w : World). slice_index w.now.words.freed r) a.world);
       }
 
 -- by kind
 
-pub look_cleans : (c : Config) (w : World) (seat : Seat) (x : Word) → CleansAt w (world_behind c w (record { seat = seat; step = step.Look x }))
+pub look_cleans : (c : Config) (w : World) (seat : Seat) (x : Word)
+    → CleansAt w (world_behind c w (record { seat = seat; step = step.Look x }))
 look_cleans c w seat x =
     record { steady = refl; gates = refl; unmarked = λ r h. h; unscanned = λ r h. h; snapshot = λ r h. h }
 
-pub clear_cleans : (c : Config) (w : World) (seat : Seat) (p : ℕ) → CleansAt w (world_behind c w (record { seat = seat; step = step.Clear p }))
+pub clear_cleans : (c : Config) (w : World) (seat : Seat) (p : ℕ)
+    → CleansAt w (world_behind c w (record { seat = seat; step = step.Clear p }))
 clear_cleans c w seat p =
-    record { steady = refl; gates = refl; unmarked = zero_stays w.now.words.marks p; unscanned = λ r h. h; snapshot = λ r h. h }
+    record {
+      steady = refl;
+      gates = refl;
+      unmarked = zero_stays w.now.words.marks p;
+      unscanned = λ r h. h;
+      snapshot = λ r h. h;
+    }
 
-pub unblack_cleans : (c : Config) (w : World) (seat : Seat) (p : ℕ) → CleansAt w (world_behind c w (record { seat = seat; step = step.Unblack p }))
+pub unblack_cleans : (c : Config) (w : World) (seat : Seat) (p : ℕ)
+    → CleansAt w (world_behind c w (record { seat = seat; step = step.Unblack p }))
 unblack_cleans c w seat p =
-    record { steady = refl; gates = refl; unmarked = λ r h. h; unscanned = zero_stays w.now.words.blacks p; snapshot = λ r h. h }
+    record {
+      steady = refl;
+      gates = refl;
+      unmarked = λ r h. h;
+      unscanned = zero_stays w.now.words.blacks p;
+      snapshot = λ r h. h;
+    }
 
-pub undirty_cleans : (c : Config) (w : World) (seat : Seat) (p : ℕ) → CleansAt w (world_behind c w (record { seat = seat; step = step.Undirty p }))
+pub undirty_cleans : (c : Config) (w : World) (seat : Seat) (p : ℕ)
+    → CleansAt w (world_behind c w (record { seat = seat; step = step.Undirty p }))
 undirty_cleans c w seat p =
     record { steady = refl; gates = refl; unmarked = λ r h. h; unscanned = λ r h. h; snapshot = λ r h. h }
 
@@ -160,7 +183,8 @@ copied : (fs ss : List ℕ) (p r : ℕ) → p < length ss → slice_index ss r �
     → slice_index (slice_set ss p (slice_index fs p)) r ≡ slice_index fs r
 copied fs ss p r lt h = elim (cases_eq r p) [
   | inr ne ↦ get_or-set_other ss p r (slice_index fs p) 0 ne ∙ h
-  | inl e ↦ ap (λ (k : ℕ). slice_index (slice_set ss p (slice_index fs p)) k) e ∙ get_or-set_same ss p (slice_index fs p) 0 lt
+  | inl e ↦ ap (λ (k : ℕ). slice_index (slice_set ss p (slice_index fs p)) k) e
+      ∙ get_or-set_same ss p (slice_index fs p) 0 lt
       ∙ ap (λ (k : ℕ). slice_index fs k) (sym e)
 ]
 
@@ -172,7 +196,8 @@ none_freed w (a ∷ xs) = ap (λ (ys : List PlacedAllocation). a ∷ ys) (none_f
 pub quar_frees_none : (c : Config) (w : World) (seat : Seat) (p v : ℕ) → is_pending_free (flight_of w.now seat) ≡ false
     → (world_behind c w (record { seat = seat; step = step.Quar p v })).allocations ≡ w.allocations
 quar_frees_none c w seat p v free =
-    ap (λ (cell : Option Cell). map (freed_where_it_stands w.now.words cell) w.allocations) (frees_none c.pages w.now.words (flight_of w.now seat) p v free)
+    ap (λ (cell : Option Cell). map (freed_where_it_stands w.now.words cell) w.allocations)
+    (frees_none c.pages w.now.words (flight_of w.now seat) p v free)
     ∙ none_freed w.now.words w.allocations
 
 pub quar_cleans : (c : Config) (w : World) (seat : Seat) (p v : ℕ) → is_pending_free (flight_of w.now seat) ≡ false
@@ -187,8 +212,12 @@ quar_cleans c w seat p v free lt small is =
     ap (λ (n : ℕ). slice_set w.now.words.freed p n) low ∙ set-get_or w.now.words.freed p 0 in
     record {
       steady =
-          ap (λ (fs : List ℕ). record (but_cleaned (steady_of w)) { freed = fs; allocations = (world_behind c w (record { seat = seat; step = step.Quar p v })).allocations }) same
-          ∙ ap (λ (xs : List PlacedAllocation). record (but_cleaned (steady_of w)) { allocations = xs }) (quar_frees_none c w seat p v free);
+          ap (λ (fs : List ℕ). record (but_cleaned (steady_of w)) {
+            freed = fs;
+            allocations = (world_behind c w (record { seat = seat; step = step.Quar p v })).allocations;
+          }) same
+          ∙ ap (λ (xs : List PlacedAllocation). record (but_cleaned (steady_of w)) { allocations = xs })
+          (quar_frees_none c w seat p v free);
       gates = refl;
       unmarked = λ r h. h;
       unscanned = λ r h. h;
@@ -212,16 +241,20 @@ cleaned_table p q w k is = ap (λ (x : PassState). x.table) k.keeps.call.pass �
 -- Each step by which they are.
 module _ (p q : PassState) (t : InTurn p) (free : IsFreeForCycle p) (none : IsAtPhase p 0) (u : InTurn q) where
   pub looked : (x : Word) → Acts p (step.Look x) q → Cleans p q
-  looked x a = cleans_step p (step.Look x) q a t u.history refl refl free none (look_cleans p.table.config (world_at a.makes) p.seat x)
+  looked x a = cleans_step p (step.Look x) q a t u.history refl refl free none
+      (look_cleans p.table.config (world_at a.makes) p.seat x)
 
   pub cleared : (page : ℕ) → Acts p (step.Clear page) q → Cleans p q
-  cleared page a = cleans_step p (step.Clear page) q a t u.history refl refl free none (clear_cleans p.table.config (world_at a.makes) p.seat page)
+  cleared page a = cleans_step p (step.Clear page) q a t u.history refl refl free none
+      (clear_cleans p.table.config (world_at a.makes) p.seat page)
 
   pub unblacked : (page : ℕ) → Acts p (step.Unblack page) q → Cleans p q
-  unblacked page a = cleans_step p (step.Unblack page) q a t u.history refl refl free none (unblack_cleans p.table.config (world_at a.makes) p.seat page)
+  unblacked page a = cleans_step p (step.Unblack page) q a t u.history refl refl free none
+      (unblack_cleans p.table.config (world_at a.makes) p.seat page)
 
   pub undirtied : (page : ℕ) → Acts p (step.Undirty page) q → Cleans p q
-  undirtied page a = cleans_step p (step.Undirty page) q a t u.history refl refl free none (undirty_cleans p.table.config (world_at a.makes) p.seat page)
+  undirtied page a = cleans_step p (step.Undirty page) q a t u.history refl refl free none
+      (undirty_cleans p.table.config (world_at a.makes) p.seat page)
 
   pub tallied : (v : ℕ) → Acts p (step.Tally tally.Fresh v) q → Cleans p q
   tallied v a =
@@ -229,50 +262,59 @@ module _ (p q : PassState) (t : InTurn p) (free : IsFreeForCycle p) (none : IsAt
       (record { steady = refl; gates = refl; unmarked = λ r h. h; unscanned = λ r h. h; snapshot = λ r h. h })
 
   module _ (page v : ℕ) (a : Acts p (step.Quar page v) q) (lt : page < p.table.config.pages)
-      (is : v ≡ quarantine_word (slice_index (now_of p).words.freed page) (slice_index (now_of p).words.freed page)) where
-    w : World
-    w = world_at a.makes
+      (is : v ≡ quarantine_word (slice_index (now_of p).words.freed page) (slice_index (now_of p).words.freed page))
+    where
+      w : World
+      w = world_at a.makes
 
-    same_freed : slice_index w.now.words.freed page ≡ slice_index (now_of p).words.freed page
-    unfolding w
-    same_freed = ap (λ (s : Steady). slice_index s.freed page) a.turn.steady
+      same_freed : slice_index w.now.words.freed page ≡ slice_index (now_of p).words.freed page
+      unfolding w
+      same_freed = ap (λ (s : Steady). slice_index s.freed page) a.turn.steady
 
-    pub snapshot_taken : Cleans p q
-    unfolding w
-    snapshot_taken =
-        let c : Config = p.table.config in
-        let es : List Event = p.seen ++ a.makes.others in
-        let known = stands c es (made p (step.Quar page v) q a.makes t.own u.history).history in
-        let long : page < length w.now.words.snapshot = subst (λ (n : ℕ). page < n) (sym known.known.lengths.snapshot) lt in
-        let small : slice_index w.now.words.freed page < 2 ^ 32 = (known.all.order.quarantined.small page).0 in
-        cleans_step p (step.Quar page v) q a t u.history refl refl free none
-        (quar_cleans c w p.seat page v (ap is_pending_free a.own.flight ∙ free.decided) long small
-        (is ∙ ap (λ (n : ℕ). quarantine_word n n) (sym same_freed)))
+      pub snapshot_taken : Cleans p q
+      unfolding w
+      snapshot_taken =
+          let c : Config = p.table.config in
+          let es : List Event = p.seen ++ a.makes.others in
+          let known = stands c es (made p (step.Quar page v) q a.makes t.own u.history).history in
+          let long : page < length w.now.words.snapshot =
+          subst (λ (n : ℕ). page < n) (sym known.known.lengths.snapshot) lt in
+          let small : slice_index w.now.words.freed page < 2 ^ 32 = (known.all.order.quarantined.small page).0 in
+          cleans_step p (step.Quar page v) q a t u.history refl refl free none
+          (quar_cleans c w p.seat page v (ap is_pending_free a.own.flight ∙ free.decided) long small
+          (is ∙ ap (λ (n : ℕ). quarantine_word n n) (sym same_freed)))
 
-    pub has_snapshot : HasSnapshot q page
-    unfolding w
-    has_snapshot =
-        let c : Config = p.table.config in
-        let es : List Event = p.seen ++ a.makes.others in
-        let known = stands c es (made p (step.Quar page v) q a.makes t.own u.history).history in
-        let long : page < length w.now.words.snapshot = subst (λ (n : ℕ). page < n) (sym known.known.lengths.snapshot) lt in
-        let long' : page < length w.now.words.freed = subst (λ (n : ℕ). page < n) (sym known.known.lengths.freed) lt in
-        let f : ℕ = slice_index (now_of p).words.freed page in
-        let small : slice_index w.now.words.freed page < 2 ^ 32 = (known.all.order.quarantined.small page).0 in
-        let little : f < 2 ^ 32 = subst (λ (n : ℕ). n < 2 ^ 32) same_freed small in
-        ap (λ (x : World). slice_index x.now.words.snapshot page) a.world
-        ∙ get_or-set_same w.now.words.snapshot page (v / 2 ^ 32) 0 long
-        ∙ ap (λ (n : ℕ). n / 2 ^ 32) is ∙ high_half f little
-        ∙ sym (ap (λ (x : World). slice_index x.now.words.freed page) a.world
-        ∙ get_or-set_same w.now.words.freed page (v % 2 ^ 32) 0 long'
-        ∙ ap (λ (n : ℕ). n % 2 ^ 32) is ∙ low_half f little)
+      pub has_snapshot : HasSnapshot q page
+      unfolding w
+      has_snapshot =
+          let c : Config = p.table.config in
+          let es : List Event = p.seen ++ a.makes.others in
+          let known = stands c es (made p (step.Quar page v) q a.makes t.own u.history).history in
+          let long : page < length w.now.words.snapshot =
+          subst (λ (n : ℕ). page < n) (sym known.known.lengths.snapshot) lt in
+          let long' : page < length w.now.words.freed =
+          subst (λ (n : ℕ). page < n) (sym known.known.lengths.freed) lt in
+          let f : ℕ = slice_index (now_of p).words.freed page in
+          let small : slice_index w.now.words.freed page < 2 ^ 32 = (known.all.order.quarantined.small page).0 in
+          let little : f < 2 ^ 32 = subst (λ (n : ℕ). n < 2 ^ 32) same_freed small in
+          ap (λ (x : World). slice_index x.now.words.snapshot page) a.world
+          ∙ get_or-set_same w.now.words.snapshot page (v / 2 ^ 32) 0 long
+          ∙ ap (λ (n : ℕ). n / 2 ^ 32) is ∙ high_half f little
+          ∙ sym (ap (λ (x : World). slice_index x.now.words.freed page) a.world
+          ∙ get_or-set_same w.now.words.freed page (v % 2 ^ 32) 0 long'
+          ∙ ap (λ (n : ℕ). n % 2 ^ 32) is ∙ low_half f little)
 
-pub then_cleans : (p q r : PassState) → IsFreeForCycle p → IsAtPhase p 0 → Cleans p q → (IsFreeForCycle q → IsAtPhase q 0 → Cleans q r) → Cleans p r
+pub then_cleans : (p q r : PassState) → IsFreeForCycle p → IsAtPhase p 0 → Cleans p q
+    → (IsFreeForCycle q → IsAtPhase q 0 → Cleans q r) → Cleans p r
 then_cleans p q r free none a b = cleans_then p q r a (b (cleaned_free p q a free) (cleaned_phase p q a none))
 
 pub clean_stays : (p q : PassState) (page : ℕ) → Cleans p q → IsClean p page → IsClean q page
 clean_stays p q page k h =
-    record { unmarked = k.unmarked page h.unmarked; unscanned = k.unscanned page h.unscanned; snapshot = k.snapshot page h.snapshot }
+    record {
+      unmarked = k.unmarked page h.unmarked;
+      unscanned = k.unscanned page h.unscanned;
+      snapshot = k.snapshot page h.snapshot;
+    }
 
 -- what a look at a quarantine word tells: its halves
 pub record Halves (p : PassState) (page n : ℕ) : Type 0 where
@@ -280,7 +322,8 @@ pub record Halves (p : PassState) (page n : ℕ) : Type 0 where
   pub snapshot : n / 2 ^ 32 ≡ slice_index (now_of p).words.snapshot page
 
 pub halves : (p : PassState) (page n : ℕ) → InTurn p
-    → n ≡ quarantine_word (slice_index (now_of p).words.freed page) (slice_index (now_of p).words.snapshot page) → Halves p page n
+    → n ≡ quarantine_word (slice_index (now_of p).words.freed page) (slice_index (now_of p).words.snapshot page)
+    → Halves p page n
 halves p page n t is =
     let known = stands p.table.config p.seen t.history in
     let small = (known.all.order.quarantined.small page).0 in

@@ -1,5 +1,6 @@
 -- The `end` of a cycle.
-use Rattle.std.proofs.Common.{◌≡◌, ℕ, ◌+◌, ◌-◌, ◌/◌, ◌%◌, ◌^◌, ◌<◌, ◌≤◌, ◌++◌, [], ◌∷◌, List, refl, ap, subst, ◌∙◌, arith}
+use Rattle.std.proofs.Common.{◌≡◌, ℕ, ◌+◌, ◌-◌, ◌/◌, ◌%◌, ◌^◌, ◌<◌, ◌≤◌, ◌++◌, [], ◌∷◌, List, refl, ap, subst, ◌∙◌}
+use Rattle.std.proofs.Common.{arith}
 use Rattle.std.specs.Prelude.{count_by, if◌then◌else◌}
 use Rattle.std.proofs.lemmas.Bool.{eq-eqb}
 use Rattle.std.proofs.lemmas.List.Sums.{count_by-le-length, sum_by-append}
@@ -46,7 +47,8 @@ module _ (p q : PassState) (t : InTurn p) (at : IsAtPhase p 4) (u : InTurn q) (a
       let there = (made p step.End q a.makes t.own u.history).protocol in
       let low : w.now.words.phase % 8 ≡ 4 = ap (λ (s : Steady). s.phase) a.turn.steady ∙ at in
       let few : count_by is_in w.now.seats.markers ≤ 8 =
-      subst (λ (n : ℕ). count_by is_in w.now.seats.markers ≤ n) there.markers (count_by-le-length is_in w.now.seats.markers) in
+      subst (λ (n : ℕ). count_by is_in w.now.seats.markers ≤ n) there.markers
+      (count_by-le-length is_in w.now.seats.markers) in
       ended_phase w.now.words.phase (count_by is_in w.now.seats.markers) low there.high few
 
   pub steady_ended : steady_of (world_of q) ≡ record (steady_of (world_of p)) { phase = 0 }
@@ -58,8 +60,10 @@ module _ (p q : PassState) (t : InTurn p) (at : IsAtPhase p 4) (u : InTurn q) (a
   pub ended_call : call_of q ≡ call_of p
   ended_call = same_call p step.End q a t.own t.holds u.history (λ n. refl)
 
-  pub ended_done : done_of (now_of q) ≡ record (done_of (now_of p)) { cycle = cycle_ended (now_of p).seats.holding.cycle }
-  ended_done = ap (λ (x : World). done_of x.now) a.world ∙ ap (λ (h : Holding). record (done_in h) { cycle = cycle_ended h.cycle }) a.holding
+  pub ended_done : done_of (now_of q)
+      ≡ record (done_of (now_of p)) { cycle = cycle_ended (now_of p).seats.holding.cycle }
+  ended_done = ap (λ (x : World). done_of x.now) a.world
+      ∙ ap (λ (h : Holding). record (done_in h) { cycle = cycle_ended h.cycle }) a.holding
 
   pub ended_gone : IsGone p → IsGone q
   ended_gone = still_gone p step.End q a t.own t.holds u.history (λ n. refl) refl
@@ -73,12 +77,14 @@ module _ (p q : PassState) (t : InTurn p) (at : IsAtPhase p 4) (u : InTurn q) (a
   pub one_more_end : ends q.seen ≡ ends p.seen + 1
   one_more_end =
       ap (λ (xs : List Event). ends xs) seen_is
-      ∙ sum_by-append (λ (x : Event). if is_end x.step then 1 else 0) (p.seen ++ a.makes.others) (event_of p step.End ∷ [])
+      ∙ sum_by-append (λ (x : Event). if is_end x.step then 1 else 0) (p.seen ++ a.makes.others)
+      (event_of p step.End ∷ [])
       ∙ ap (λ (n : ℕ). n + 1) a.counts.ends
 
   pub as_many_fulls : fulls p.table.config q.seen ≡ fulls p.table.config p.seen
   as_many_fulls =
       ap (λ (xs : List Event). fulls p.table.config xs) seen_is
       ∙ ap (λ (xs : List Decided). count_by is_full_answer (answered xs))
-      (no_more_calls p.table.config (p.seen ++ a.makes.others) (event_of p step.End) (undecided p.table.config w.now p.seat step.End (λ n. refl)))
+      (no_more_calls p.table.config (p.seen ++ a.makes.others) (event_of p step.End)
+      (undecided p.table.config w.now p.seat step.End (λ n. refl)))
       ∙ a.counts.fulls

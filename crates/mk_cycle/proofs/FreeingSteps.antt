@@ -1,5 +1,6 @@
 -- Cells are given back step by step.
-use Rattle.std.proofs.Common.{◌≡◌, ◌≢◌, ℕ, Bool, true, false, List, ◌++◌, length, refl, sym, ap, subst, ◌∙◌, arith, inl, inr}
+use Rattle.std.proofs.Common.{◌≡◌, ◌≢◌, ℕ, Bool, true, false, List, ◌++◌, length, refl, sym, ap, subst, ◌∙◌, arith, inl}
+use Rattle.std.proofs.Common.{inr}
 use Rattle.std.specs.Prelude.{slice_index, slice_set, if◌then◌else◌}
 use Rattle.std.proofs.lemmas.Bool.{cases_eq, cases_lt, eq-eqb, eqb-false, ne_eqb}
 use Rattle.std.proofs.lemmas.List.{get_or-set_same, get_or-set_other, set_past}
@@ -85,13 +86,15 @@ frees_calmly (step.Head p v) = true
 frees_calmly (step.Used p v) = true
 frees_calmly s = is_calm s
 
-frees_still : (c : Config) (m : Moment) (f : Flight) (n : ℕ) (s : Step) → frees_calmly s ≡ true → is_pending_free f ≡ false
+frees_still : (c : Config) (m : Moment) (f : Flight) (n : ℕ) (s : Step) → frees_calmly s ≡ true
+    → is_pending_free f ≡ false
     → progress c m f n s ≡ still f
 frees_still c m f n (step.Head p v) h free = refl
 frees_still c m f n (step.Used p v) h free = refl
 frees_still c m f n s h free = calm_still c m f n s h free
 
-frees_done : (c : Config) (m : Moment) (seat : Seat) (f : Flight) (n : ℕ) (s : Step) (h : Holding) → frees_calmly s ≡ true
+frees_done : (c : Config) (m : Moment) (seat : Seat) (f : Flight) (n : ℕ) (s : Step) (h : Holding)
+    → frees_calmly s ≡ true
     → is_pending_free f ≡ false → is_phase m.words 4 ≡ true → done_in (holding_behind c m seat f n s h) ≡ done_in h
 frees_done c m seat f n (step.Head p v) h kind free at =
     ap (λ (b : Bool). done_in (record h { placing = if b then h.placing else chosen h.placing (place_now c m f) })) at
@@ -115,13 +118,15 @@ pub record FreesAt (w v : World) : Type 0 where
   pub gates : (j : ℕ) → slice_index w.now.words.gates j ≢ 2 → slice_index v.now.words.gates j ≢ 2
   pub zeros : (n : ℕ) → slice_index w.now.words.heap n ≡ 0 → slice_index v.now.words.heap n ≡ 0
 
-open_stays : (p q : PassState) → ((j : ℕ) → slice_index (now_of p).words.gates j ≢ 2 → slice_index (now_of q).words.gates j ≢ 2)
+open_stays : (p q : PassState)
+    → ((j : ℕ) → slice_index (now_of p).words.gates j ≢ 2 → slice_index (now_of q).words.gates j ≢ 2)
     → (j : ℕ) → is_held (now_of p).words j ≡ false → is_held (now_of q).words j ≡ false
 open_stays p q h j e = ne_eqb _ 2 (h j (eqb-false _ 2 e))
 
 module _ (p : PassState) (s : Step) (q : PassState) (a : Acts p s q) (t : InTurn p) (u : InTurn q)
     (kind : frees_calmly s ≡ true) (gives : gives_back s ≡ true) (free : IsFreeForCycle p) (at : IsAtPhase p 4) where
-  pub frees_step : FreesAt (world_at a.makes) (world_behind p.table.config (world_at a.makes) (event_of p s)) → Frees p q
+  pub frees_step : FreesAt (world_at a.makes) (world_behind p.table.config (world_at a.makes) (event_of p s))
+      → Frees p q
   frees_step x =
       let c : Config = p.table.config in
       let w : World = world_at a.makes in
@@ -130,41 +135,51 @@ module _ (p : PassState) (s : Step) (q : PassState) (a : Acts p s q) (t : InTurn
       let d = made p s q a.makes t.own u.history in
       let pending : is_pending_free f ≡ false = ap is_pending_free a.own.flight ∙ free.decided in
       let st : (n : ℕ) → progress c m f n s ≡ still f = λ n. frees_still c m f n s kind pending in
-      let four : is_phase m.words 4 ≡ true = eq-eqb (phase_of m.words) 4 (ap (λ (y : Steady). y.phase) a.turn.steady ∙ at) in
-      let finds : HolderFinds c p.seat (world_of p) w = holder_finds c p.seat p.seen a.makes.others d.history d.others t.holds in
+      let four : is_phase m.words 4 ≡ true = eq-eqb (phase_of m.words) 4 (ap (λ (y : Steady). y.phase) a.turn.steady
+      ∙ at) in
+      let finds : HolderFinds c p.seat (world_of p) w =
+      holder_finds c p.seat p.seen a.makes.others d.history d.others t.holds in
       record {
         does = does_step gives_back p q s t.own a.makes gives;
         keeps = record {
-          call = keeps_call p s q a t.own t.holds u.history st (λ n. frees_done c m p.seat f n s m.seats.holding kind pending four) (frees_stores s kind);
+          call = keeps_call p s q a t.own t.holds u.history st
+              (λ n. frees_done c m p.seat f n s m.seats.holding kind pending four) (frees_stores s kind);
           steady = ap (λ (y : World). but_pages (steady_of y)) a.world ∙ x.steady ∙ ap but_pages a.turn.steady;
           counts = keeps_counts p s q a t.own t.holds u.history st (frees_ends s kind);
         };
-        marks = ap (λ (y : World). y.now.words.marks) a.world ∙ x.marks ∙ (a.turn.unmarked (λ e. absurd (omega arith)) (λ e. absurd (omega arith))).0;
+        marks = ap (λ (y : World). y.now.words.marks) a.world ∙ x.marks
+            ∙ (a.turn.unmarked (λ e. absurd (omega arith)) (λ e. absurd (omega arith))).0;
         gates = open_stays p q (λ j ne.
-            subst (λ (y : World). slice_index y.now.words.gates j ≢ 2) (sym a.world) (x.gates j (a.turn.other_gates j ne)));
+            subst (λ (y : World). slice_index y.now.words.gates j ≢ 2) (sym a.world)
+            (x.gates j (a.turn.other_gates j ne)));
         zeros = λ n un zero.
             ap (λ (y : World). slice_index y.now.words.heap n) a.world ∙ x.zeros n (finds.outside n un ∙ zero);
       }
 
 -- by kind
 
-pub look_gives : (c : Config) (w : World) (seat : Seat) (x : Word) → FreesAt w (world_behind c w (record { seat = seat; step = step.Look x }))
+pub look_gives : (c : Config) (w : World) (seat : Seat) (x : Word)
+    → FreesAt w (world_behind c w (record { seat = seat; step = step.Look x }))
 look_gives c w seat x = record { steady = refl; marks = refl; gates = λ j h. h; zeros = λ n h. h }
 
-pub wipe_gives : (c : Config) (w : World) (seat : Seat) (n : ℕ) → FreesAt w (world_behind c w (record { seat = seat; step = step.Wipe n }))
+pub wipe_gives : (c : Config) (w : World) (seat : Seat) (n : ℕ)
+    → FreesAt w (world_behind c w (record { seat = seat; step = step.Wipe n }))
 wipe_gives c w seat n = record { steady = refl; marks = refl; gates = λ j h. h; zeros = zero_stays w.now.words.heap n }
 
-pub used_gives : (c : Config) (w : World) (seat : Seat) (p v : ℕ) → FreesAt w (world_behind c w (record { seat = seat; step = step.Used p v }))
+pub used_gives : (c : Config) (w : World) (seat : Seat) (p v : ℕ)
+    → FreesAt w (world_behind c w (record { seat = seat; step = step.Used p v }))
 used_gives c w seat p v = record { steady = refl; marks = refl; gates = λ j h. h; zeros = λ n h. h }
 
-pub head_gives : (c : Config) (w : World) (seat : Seat) (p v : ℕ) → FreesAt w (world_behind c w (record { seat = seat; step = step.Head p v }))
+pub head_gives : (c : Config) (w : World) (seat : Seat) (p v : ℕ)
+    → FreesAt w (world_behind c w (record { seat = seat; step = step.Head p v }))
 head_gives c w seat p v = record { steady = refl; marks = refl; gates = λ j h. h; zeros = λ n h. h }
 
 pub quar_gives : (c : Config) (w : World) (seat : Seat) (p v : ℕ) → is_pending_free (flight_of w.now seat) ≡ false
     → FreesAt w (world_behind c w (record { seat = seat; step = step.Quar p v }))
 quar_gives c w seat p v free =
     record {
-      steady = ap (λ (xs : List PlacedAllocation). record (but_pages (steady_of w)) { allocations = xs }) (quar_frees_none c w seat p v free);
+      steady = ap (λ (xs : List PlacedAllocation). record (but_pages (steady_of w)) { allocations = xs })
+          (quar_frees_none c w seat p v free);
       marks = refl;
       gates = λ j h. h;
       zeros = λ n h. h;
@@ -175,17 +190,20 @@ still_open gs i j h two = elim (cases_eq j i) [
   | inr ne ↦ h (sym (get_or-set_other gs i j 0 0 ne) ∙ two)
   | inl e ↦ elim (cases_lt i (length gs)) [
     | inl near ↦
-        let zero : slice_index (slice_set gs i 0) j ≡ 0 = ap (λ (k : ℕ). slice_index (slice_set gs i 0) k) e ∙ get_or-set_same gs i 0 0 near in
+        let zero : slice_index (slice_set gs i 0) j ≡ 0 = ap (λ (k : ℕ). slice_index (slice_set gs i 0) k) e
+        ∙ get_or-set_same gs i 0 0 near in
         absurd (omega arith)
     | inr past ↦ h (sym (ap (λ (ys : List ℕ). slice_index ys j) (set_past gs i 0 past)) ∙ two)
   ]
 ]
 
-pub open_gives : (c : Config) (w : World) (seat : Seat) (j : ℕ) → FreesAt w (world_behind c w (record { seat = seat; step = step.Open j }))
+pub open_gives : (c : Config) (w : World) (seat : Seat) (j : ℕ)
+    → FreesAt w (world_behind c w (record { seat = seat; step = step.Open j }))
 open_gives c w seat j = record { steady = refl; marks = refl; gates = still_open w.now.words.gates j; zeros = λ n h. h }
 
 -- what others leave is left
-pub others_free : (p : PassState) (more : List Event) → InTurn p → AreOfOthers p.seats more → IsHistory p.table.config (p.seen ++ more)
+pub others_free : (p : PassState) (more : List Event) → InTurn p → AreOfOthers p.seats more
+    → IsHistory p.table.config (p.seen ++ more)
     → IsAtPhase p 4 → Frees p (record p { seen = p.seen ++ more })
 others_free p more t others history at =
     let c : Config = p.table.config in
@@ -200,7 +218,8 @@ others_free p more t others history at =
         more = more;
         is = refl;
         own_or_others = others_are_so p.seats p.seat more t.own others;
-        of_kinds = ap (λ (xs : List Finding). are_of gives_back xs) (none_own c p.seats p.seat (world_of p) more t.own others);
+        of_kinds = ap (λ (xs : List Finding). are_of gives_back xs)
+            (none_own c p.seats p.seat (world_of p) more t.own others);
       };
       keeps = record {
         call = record {

@@ -1,5 +1,6 @@
 -- Giving back: the used bits, and then the quarantine bits.
-use Rattle.std.proofs.Common.{◌≡◌, ℕ, ◌+◌, ◌*◌, ◌-◌, ◌/◌, ◌%◌, ◌^◌, ◌<◌, true, List, sym, ap, subst, ◌∙◌, arith, bit_and}
+use Rattle.std.proofs.Common.{◌≡◌, ℕ, ◌+◌, ◌*◌, ◌-◌, ◌/◌, ◌%◌, ◌^◌, ◌<◌, true, List, sym, ap, subst, ◌∙◌, arith}
+use Rattle.std.proofs.Common.{bit_and}
 use Rattle.std.specs.Prelude.{slice_index}
 use Rattle.std.proofs.lemmas.Bool.{and_parts}
 use Rattle.std.proofs.lemmas.Nat.{and_le_l}
@@ -13,26 +14,30 @@ use Rattle.mk_core.specs.Words.{header_at, used_at, quarantine_word}
 use Rattle.mk_words.specs.States.{PassState, now_of}
 use Rattle.mk_words.specs.TurnSteps.{Acts}
 use Rattle.mk_cycle.specs.EngineLaw.{IsFreeForCycle, IsAtPhase}
-use Rattle.mk_cycle.specs.Freeing.{FreesNone, FreesPage, GivesBack, HasFreeCells, IsQuarantineWord, IsUnmappedWord, IsZero, PageState, page_state}
+use Rattle.mk_cycle.specs.Freeing.{FreesNone, FreesPage, GivesBack, HasFreeCells, IsQuarantineWord, IsUnmappedWord}
+use Rattle.mk_cycle.specs.Freeing.{IsZero, PageState, page_state}
 use Rattle.mk_cycle.specs.TurnKeeps.{InTurn}
 use Rattle.mk_cycle.proofs.CellBits.{has_bit_and, high_part, low_part, none_in_both}
 use Rattle.mk_cycle.proofs.CleaningSteps.{Halves, halves}
 use Rattle.mk_cycle.proofs.FreeingSteps.{freed_free, freed_phase}
 use Rattle.mk_cycle.proofs.GivingSteps.{quar_frees, quar_state, used_frees, used_state}
 use Rattle.mk_cycle.proofs.KeptInParts.{same_config}
-use Rattle.mk_cycle.proofs.PageSteps.{drops_ok, gives_ok, none_is_left, page_at_once, page_then, same_header, same_left, same_used}
+use Rattle.mk_cycle.proofs.PageSteps.{drops_ok, gives_ok, none_is_left, page_at_once, page_then, same_header, same_left}
+use Rattle.mk_cycle.proofs.PageSteps.{same_used}
 
 pub cells_sized : (p : PassState) (page used gone size : ℕ) → gone ≡ left_unmarked (now_of p).words page
     → size ≡ words_under (header_in (now_of p).words page) → HasFreeCells p page
     → (k i : ℕ) → has_bit (bit_and used gone) k ≡ true → i < size → IsUnmappedWord p (64 * page + k * size + i)
 cells_sized p page used gone size is_gone is_size cells k i has lt =
-    let in_gone : has_bit gone k ≡ true = (and_parts (has_bit used k) (has_bit gone k) (sym (has_bit_and used gone k) ∙ has)).1 in
+    let in_gone : has_bit gone k ≡ true =
+    (and_parts (has_bit used k) (has_bit gone k) (sym (has_bit_and used gone k) ∙ has)).1 in
     subst (λ (n : ℕ). IsUnmappedWord p (64 * page + k * n + i)) (sym is_size)
     (cells k i (sym (ap (λ (n : ℕ). has_bit n k) is_gone) ∙ in_gone) (subst (λ (n : ℕ). i < n) is_size lt))
 
 pub gives_here : (p b : PassState) (page used gone size : ℕ) → FreesNone p b → used ≡ used_at (now_of p).words page
     → gone ≡ left_unmarked (now_of p).words page → size ≡ words_under (header_in (now_of p).words page)
-    → ((k : ℕ) → k < 32 → (i : ℕ) → has_bit (bit_and used gone) k ≡ true → i < size → IsZero b (64 * page + k * size + i))
+    → ((k : ℕ) → k < 32 → (i : ℕ) → has_bit (bit_and used gone) k ≡ true → i < size
+    → IsZero b (64 * page + k * size + i))
     → gives_back (now_of b).words page (without used gone) ≡ true
 gives_here p b page used gone size k is_used is_gone is_size zeros =
     gives_ok (now_of b).words page used gone size
@@ -41,7 +46,8 @@ gives_here p b page used gone size k is_used is_gone is_size zeros =
     (ap (λ (n : ℕ). words_under (header_of n)) (same_header p b page (k.same page)) ∙ sym is_size)
     zeros
 
-module _ (p b d q : PassState) (t : InTurn p) (k : FreesNone p b) (tb : InTurn b) (free : IsFreeForCycle p) (at : IsAtPhase p 4)
+module _ (p b d q : PassState) (t : InTurn p) (k : FreesNone p b) (tb : InTurn b) (free : IsFreeForCycle p)
+    (at : IsAtPhase p 4)
     (page used gone quarantine : ℕ) (lt : page < p.table.config.pages)
     (is_used : used ≡ used_at (now_of p).words page) (is_gone : gone ≡ left_unmarked (now_of p).words page)
     (word : IsQuarantineWord p page quarantine)
@@ -67,10 +73,13 @@ module _ (p b d q : PassState) (t : InTurn p) (k : FreesNone p b) (tb : InTurn b
   lt_d : page < d.table.config.pages
   lt_d = subst (λ (c : Config). page < c.pages) (sym (same_config b d gives.frees.keeps.call.pass)) lt_b
 
-  state_d : page_state d page ≡ record (page_state p page) { page = record { header = header_at (now_of p).words page; used = without used gone } }
+  state_d : page_state d page
+      ≡ record (page_state p page)
+      { page = record { header = header_at (now_of p).words page; used = without used gone } }
   state_d =
       used_state b d tb td free_b at_b page (without used gone) g lt_b
-      ∙ ap (λ (x : PageState). record x { page = record { header = x.page.header; used = without used gone } }) (k.same page)
+      ∙ ap (λ (x : PageState). record x { page = record { header = x.page.header; used = without used gone } })
+      (k.same page)
 
   half : Halves p page quarantine
   half = halves p page quarantine t word
@@ -89,10 +98,12 @@ module _ (p b d q : PassState) (t : InTurn p) (k : FreesNone p b) (tb : InTurn b
   dropped : ℕ
   dropped = quarantine_word (without (quarantine % 2 ^ 32) gone) (quarantine / 2 ^ 32 - gone)
 
-  pub drops_here : drops (now_of d).words page (quarantine_word (without (quarantine % 2 ^ 32) gone) (quarantine / 2 ^ 32 - gone) % 2 ^ 32)
+  pub drops_here : drops (now_of d).words page
+      (quarantine_word (without (quarantine % 2 ^ 32) gone) (quarantine / 2 ^ 32 - gone) % 2 ^ 32)
       (quarantine_word (without (quarantine % 2 ^ 32) gone) (quarantine / 2 ^ 32 - gone) / 2 ^ 32) ≡ true
   drops_here =
-      ap (λ (n : ℕ). drops (now_of d).words page n (quarantine_word (without (quarantine % 2 ^ 32) gone) (quarantine / 2 ^ 32 - gone) / 2 ^ 32))
+      ap (λ (n : ℕ). drops (now_of d).words page n
+      (quarantine_word (without (quarantine % 2 ^ 32) gone) (quarantine / 2 ^ 32 - gone) / 2 ^ 32))
       (low_part (without (quarantine % 2 ^ 32) gone) (quarantine / 2 ^ 32 - gone) freed_small)
       ∙ ap (λ (n : ℕ). drops (now_of d).words page (without (quarantine % 2 ^ 32) gone) n)
       (high_part (without (quarantine % 2 ^ 32) gone) (quarantine / 2 ^ 32 - gone) freed_small)
@@ -102,7 +113,8 @@ module _ (p b d q : PassState) (t : InTurn p) (k : FreesNone p b) (tb : InTurn b
       gone_there
       (ap (λ (x : PageState). bit_and x.page.used gone) state_d ∙ none_in_both used gone)
 
-  pub gives_all : Acts d (step.Quar page (quarantine_word (without (quarantine % 2 ^ 32) gone) (quarantine / 2 ^ 32 - gone))) q → InTurn q
+  pub gives_all : Acts d
+      (step.Quar page (quarantine_word (without (quarantine % 2 ^ 32) gone) (quarantine / 2 ^ 32 - gone))) q → InTurn q
       → GivesBack page p q
   gives_all a tq =
       let v : ℕ = quarantine_word (without (quarantine % 2 ^ 32) gone) (quarantine / 2 ^ 32 - gone) in

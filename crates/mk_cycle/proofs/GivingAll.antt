@@ -33,17 +33,20 @@ released_free p q r free = free_then p q r.call free
 pub released_table : (p q : PassState) (w : WordsState) → ReleasesUnmarked p q → p.table ≡ w → q.table ≡ w
 released_table p q w r is = ap (λ (x : PassState). x.table) r.call.pass ∙ is
 
-none_held_then : (callers : ℕ) (p q : PassState) → Frees p q → none_is_held callers (now_of p).words ≡ true → none_is_held callers (now_of q).words ≡ true
+none_held_then : (callers : ℕ) (p q : PassState) → Frees p q → none_is_held callers (now_of p).words ≡ true
+    → none_is_held callers (now_of q).words ≡ true
 none_held_then callers p q k h =
     all_from callers (λ j. not (is_held (now_of q).words j))
-    (λ j lt. ap not (k.gates j (not-true (is_held (now_of p).words j) (all_below-at callers j (λ i. not (is_held (now_of p).words i)) h lt))))
+    (λ j lt. ap not (k.gates j
+    (not-true (is_held (now_of p).words j) (all_below-at callers j (λ i. not (is_held (now_of p).words i)) h lt))))
 
 pub gives_all_back : (p h r o q : PassState) → HoldsGates p h → ReleasesUnmarked h r → FreesNone r o → Frees o q
     → none_is_held r.table.config.callers (now_of o).words ≡ true
     → ((page : ℕ) → page < p.table.config.pages → IsSettledPage q page) → GivesAllBack p q
 gives_all_back p h r o q holds releases opens frees none settled =
     let same : r.table.config ≡ p.table.config =
-    ap (λ (x : PassState). x.table.config) releases.call.pass ∙ ap (λ (x : PassState). x.table.config) holds.keeps.call.pass in
+    ap (λ (x : PassState). x.table.config) releases.call.pass
+    ∙ ap (λ (x : PassState). x.table.config) holds.keeps.call.pass in
     let all : Frees r q = frees_then r o q opens.frees frees in
     record {
       held = h;
@@ -52,13 +55,15 @@ gives_all_back p h r o q holds releases opens frees none settled =
       releases = releases;
       frees = all;
       phase = freed_phase r q all (released_phase h r releases);
-      gates = none_held_then p.table.config.callers o q frees (subst (λ (c : Config). none_is_held c.callers (now_of o).words ≡ true) same none);
+      gates = none_held_then p.table.config.callers o q frees
+          (subst (λ (c : Config). none_is_held c.callers (now_of o).words ≡ true) same none);
       settled = settled;
     }
 
 -- What is counted behind the gates' opening is what was released up to there, and still is behind the giving back.
 pub all_told : (p h r o q : PassState) (n : ℕ) (counted : Released) → HoldsGates p h → FreesNone r o → Frees o q
-    → HasReleased h r (released_below (now_of r).words n) → counted ≡ released_below (now_of o).words n → HasReleased p q counted
+    → HasReleased h r (released_below (now_of r).words n) → counted ≡ released_below (now_of o).words n
+    → HasReleased p q counted
 all_told p h r o q n counted holds opens frees told is =
     subst (λ (x : Released). HasReleased p q x) (sym (is ∙ told_alike_below r o opens n))
     (told_to p r q _ (ap (λ (s : Steady). s.allocations) ((frees_then r o q opens.frees frees).keeps.steady))

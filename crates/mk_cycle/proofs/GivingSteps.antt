@@ -1,6 +1,8 @@
 -- What the steps that give back make of a page's words.
-use Rattle.std.proofs.Common.{◌≡◌, ℕ, ◌+◌, ◌*◌, ◌-◌, ◌/◌, ◌%◌, ◌^◌, ◌<◌, Bool, true, List, ◌++◌, length, refl, sym, ap, subst, ◌∙◌, arith, inl, inr}
-use Rattle.std.specs.Prelude.{slice_index, slice_index_or, slice_set, ◌==◌, ◌&&◌, ◌||◌, not, nat_lt, nat_le, if◌then◌else◌, Option, Some, None}
+use Rattle.std.proofs.Common.{◌≡◌, ℕ, ◌+◌, ◌*◌, ◌-◌, ◌/◌, ◌%◌, ◌^◌, ◌<◌, Bool, true, List, ◌++◌, length, refl, sym, ap}
+use Rattle.std.proofs.Common.{subst, ◌∙◌, arith, inl, inr}
+use Rattle.std.specs.Prelude.{slice_index, slice_index_or, slice_set, ◌==◌, ◌&&◌, ◌||◌, not, nat_lt, nat_le}
+use Rattle.std.specs.Prelude.{if◌then◌else◌, Option, Some, None}
 use Rattle.std.proofs.lemmas.Bool.{cases_lt, eq-eqb, eqb-true, lt-ltb, ltb-true, leb-true, and_parts}
 use Rattle.std.proofs.lemmas.List.{get_or-set_same, get_or-set_other, get_or_past, set_past}
 use Rattle.mk_geom.specs.declared.addresses.Cell.{Cell}
@@ -21,7 +23,8 @@ use Rattle.mk_core.specs.History.{World}
 use Rattle.mk_core.specs.Moments.{others_are_held}
 use Rattle.mk_core.specs.NewPlaces.{target}
 use Rattle.mk_core.specs.Ranges.{is_run_cell}
-use Rattle.mk_core.specs.TurnConditions.{gives_back, drops, empties, carves, unmaps, takes_cell, frees, takes_snapshot, is_in_gone_run, is_used_once, place_now}
+use Rattle.mk_core.specs.TurnConditions.{gives_back, drops, empties, carves, unmaps, takes_cell, frees, takes_snapshot}
+use Rattle.mk_core.specs.TurnConditions.{is_in_gone_run, is_used_once, place_now}
 use Rattle.mk_core.specs.NewPlaces.{object_made, is_run_gone, is_run_unmapped}
 use Rattle.mk_core.specs.Words.{Words, header_at, used_at, page_of, phase_of}
 use Rattle.mk_frames.proofs.LastEvents.{stands}
@@ -30,37 +33,66 @@ use Rattle.mk_words.specs.Steps.{IsEnabledTo}
 use Rattle.mk_words.specs.TurnSteps.{world_at, Acts}
 use Rattle.mk_words.proofs.Made.{made}
 use Rattle.mk_cycle.specs.EngineLaw.{IsFreeForCycle, IsAtPhase, is_pending_free}
-use Rattle.mk_cycle.specs.Freeing.{IsUnmapped, IsUnmappedWord, IsZero, Frees, FreesNone, FreesPage, PageState, page_state}
+use Rattle.mk_cycle.specs.Freeing.{IsUnmapped, IsUnmappedWord, IsZero, Frees, FreesNone, FreesPage, PageState}
+use Rattle.mk_cycle.specs.Freeing.{page_state}
 use Rattle.mk_cycle.specs.TurnKeeps.{InTurn}
 use Rattle.mk_cycle.proofs.Allowed.{protocol, or_true}
 use Rattle.mk_cycle.proofs.Calm.{no_target}
-use Rattle.mk_cycle.proofs.FreeingSteps.{frees_nothing, frees_step, frees_then, head_gives, look_gives, quar_gives, still_unmapped, used_gives, wipe_gives}
+use Rattle.mk_cycle.proofs.FreeingSteps.{frees_nothing, frees_step, frees_then, head_gives, look_gives, quar_gives}
+use Rattle.mk_cycle.proofs.FreeingSteps.{still_unmapped, used_gives, wipe_gives}
 use Rattle.mk_cycle.proofs.KeptInParts.{same_config}
 use Rattle.mk_cycle.proofs.MayAct.{may_act}
 
 -- where the step is made, a page's words are as the holder knows them
 state_at : World → ℕ → PageState
-state_at w r = record { page = page_of w.now.words r; freed = slice_index w.now.words.freed r; snapshot = slice_index w.now.words.snapshot r }
+state_at w r = record {
+  page = page_of w.now.words r;
+  freed = slice_index w.now.words.freed r;
+  snapshot = slice_index w.now.words.snapshot r;
+}
 
 pub state_there : (p q : PassState) (w : World) (s t : Steady) → s ≡ t → (r : ℕ)
-    → record { page = slice_index_or s.pages r free_page; freed = slice_index s.freed r; snapshot = slice_index s.snapshot r }
-    ≡ (let x : PageState = record { page = slice_index_or t.pages r free_page; freed = slice_index t.freed r; snapshot = slice_index t.snapshot r } in x)
-state_there p q w s t e r = ap (λ (y : Steady). record { page = slice_index_or y.pages r free_page; freed = slice_index y.freed r; snapshot = slice_index y.snapshot r }) e
+    → record {
+      page = slice_index_or s.pages r free_page;
+      freed = slice_index s.freed r;
+      snapshot = slice_index s.snapshot r;
+    }
+    ≡ (let x : PageState = record {
+      page = slice_index_or t.pages r free_page;
+      freed = slice_index t.freed r;
+      snapshot = slice_index t.snapshot r;
+    } in x)
+state_there p q w s t e r =
+    ap (λ (y : Steady). record {
+      page = slice_index_or y.pages r free_page;
+      freed = slice_index y.freed r;
+      snapshot = slice_index y.snapshot r;
+    }) e
 
 module _ (p q : PassState) (t : InTurn p) (u : InTurn q) (free : IsFreeForCycle p) (at : IsAtPhase p 4) where
   pub look_frees : (x : Word) → Acts p (step.Look x) q → FreesNone p q
   look_frees x a =
       record {
-        frees = frees_step p (step.Look x) q a t u refl refl free at (look_gives p.table.config (world_at a.makes) p.seat x);
-        same = λ r. ap (λ (w : World). record { page = page_of w.now.words r; freed = slice_index w.now.words.freed r; snapshot = slice_index w.now.words.snapshot r }) a.world
+        frees = frees_step p (step.Look x) q a t u refl refl free at
+            (look_gives p.table.config (world_at a.makes) p.seat x);
+        same = λ r. ap (λ (w : World). record {
+          page = page_of w.now.words r;
+          freed = slice_index w.now.words.freed r;
+          snapshot = slice_index w.now.words.snapshot r;
+        }) a.world
             ∙ state_there p q (world_of p) _ _ a.turn.steady r;
       }
 
   pub wipe_frees : (n : ℕ) → Acts p (step.Wipe n) q → FreesNone p q
   wipe_frees n a =
       record {
-        frees = frees_step p (step.Wipe n) q a t u refl refl free at (wipe_gives p.table.config (world_at a.makes) p.seat n);
-        same = λ r. ap (λ (w : World). record { page = page_of w.now.words r; freed = slice_index w.now.words.freed r; snapshot = slice_index w.now.words.snapshot r }) a.world
+        frees = frees_step p (step.Wipe n) q a t u refl refl free at
+            (wipe_gives p.table.config (world_at a.makes) p.seat n);
+        same = λ r. ap (λ (w : World). record {
+          page = page_of w.now.words r;
+          freed = slice_index w.now.words.freed r;
+          snapshot = slice_index w.now.words.snapshot r;
+        }) a.world
             ∙ state_there p q (world_of p) _ _ a.turn.steady r;
       }
 
@@ -78,27 +110,33 @@ module _ (p : PassState) (t : InTurn p) (free : IsFreeForCycle p) (at : IsAtPhas
   f = call_of p
 
   pub wipe_allowed : (n : ℕ) → n < 64 * p.table.config.pages
-      → is_some_and (is_released (now_of p).words) (pointed_cell p.table.config.pages (now_of p).words.pages (address_of n)) ≡ true
+      → is_some_and (is_released (now_of p).words)
+      (pointed_cell p.table.config.pages (now_of p).words.pages (address_of n)) ≡ true
       → IsEnabledTo p (step.Wipe n)
   wipe_allowed n lt is =
       may_act p (step.Wipe n) (protocol p t free) t.holds free.decided refl (lt-ltb n (64 * c.pages) lt) refl refl
       (ap (λ (b : Bool). b || is_in_gone_run w (now_of p).seats.holding.freed n) is)
 
-  pub used_allowed : (page v : ℕ) → page < p.table.config.pages → gives_back (now_of p).words page v ≡ true → IsEnabledTo p (step.Used page v)
+  pub used_allowed : (page v : ℕ) → page < p.table.config.pages → gives_back (now_of p).words page v ≡ true
+      → IsEnabledTo p (step.Used page v)
   used_allowed page v lt is =
       may_act p (step.Used page v) (protocol p t free) t.holds free.decided refl (lt-ltb page c.pages lt) refl
       (four_or (phase_of w == 0) (phase_of w == 1) (phase_of w) at)
       (ap (λ (n : ℕ). if n == 4 then gives_back w page v
-      else (not (is_used_once (now_of p).seats.holding.placing) && takes_cell w (object_made c f.op) (place_now c (now_of p) f) page v)) at ∙ is)
+      else (not (is_used_once (now_of p).seats.holding.placing) && takes_cell w (object_made c f.op)
+      (place_now c (now_of p) f) page v)) at ∙ is)
 
-  pub head_allowed : (page : ℕ) → page < p.table.config.pages → empties (now_of p).words page 0 ≡ true → IsEnabledTo p (step.Head page 0)
+  pub head_allowed : (page : ℕ) → page < p.table.config.pages → empties (now_of p).words page 0 ≡ true
+      → IsEnabledTo p (step.Head page 0)
   head_allowed page lt is =
       may_act p (step.Head page 0) (protocol p t free) t.holds free.decided refl (lt-ltb page c.pages lt) refl
       (four_or (phase_of w == 0) (phase_of w == 1) (phase_of w) at)
       (ap (λ (n : ℕ). if n == 4 then empties w page 0
-      else (carves w (object_made c f.op) (place_now c (now_of p) f) page 0 || unmaps w (now_of p).seats.holding.freed page 0)) at ∙ is)
+      else (carves w (object_made c f.op) (place_now c (now_of p) f) page 0
+      || unmaps w (now_of p).seats.holding.freed page 0)) at ∙ is)
 
-  pub quar_allowed : (page v : ℕ) → page < p.table.config.pages → drops (now_of p).words page (v % 2 ^ 32) (v / 2 ^ 32) ≡ true
+  pub quar_allowed : (page v : ℕ) → page < p.table.config.pages
+      → drops (now_of p).words page (v % 2 ^ 32) (v / 2 ^ 32) ≡ true
       → IsEnabledTo p (step.Quar page v)
   quar_allowed page v lt is =
       let none : target c.pages w f ≡ None = no_target c.pages w f free.decided in
@@ -110,15 +148,18 @@ module _ (p : PassState) (t : InTurn p) (free : IsFreeForCycle p) (at : IsAtPhas
 
   -- A word of no mapped allocation that isn't 0 is of a released cell.
   pub holds_released : (n : ℕ) → IsUnmapped p n → (slice_index (now_of p).words.heap n ≡ 0 → ⊥)
-      → is_some_and (is_released (now_of p).words) (pointed_cell p.table.config.pages (now_of p).words.pages (address_of n)) ≡ true
+      → is_some_and (is_released (now_of p).words)
+      (pointed_cell p.table.config.pages (now_of p).words.pages (address_of n)) ≡ true
   holds_released n unmapped some = by ((stands c p.seen t.history).all.zeros n some)
     where
-      by : MayHold c (scene_of (world_of p)) n → is_some_and (is_released w) (pointed_cell c.pages w.pages (address_of n)) ≡ true
+      by : MayHold c (scene_of (world_of p)) n
+          → is_some_and (is_released w) (pointed_cell c.pages w.pages (address_of n)) ≡ true
       by (OfMapped m) = absurd (unmapped m)
       by (OfReleased r) = ap (λ (x : Option Cell). is_some_and (is_released w) x) r.pointed ∙ r.released
       by (OfFreedRun r) = absurd (some (gone r.run r.there r.word))
         where
-          gone : (run : RunPages) → (now_of p).seats.holding.freed ≡ Some run → is_in_run run n ≡ true → slice_index w.heap n ≡ 0
+          gone : (run : RunPages) → (now_of p).seats.holding.freed ≡ Some run → is_in_run run n ≡ true
+              → slice_index w.heap n ≡ 0
           gone run is inside =
               let parts = and_parts (nat_le run.page (n / 64)) (nat_lt (n / 64 - run.page) run.count) inside in
               let low = leb-true run.page (n / 64) parts.0 in
@@ -127,7 +168,8 @@ module _ (p : PassState) (t : InTurn p) (free : IsFreeForCycle p) (at : IsAtPhas
               (ap (λ (x : Option RunPages). is_run_gone w x) (sym is) ∙ free.gone)).1 in
               let there : 64 * run.page + (n - 64 * run.page) ≡ n = omega arith in
               ap (λ (i : ℕ). slice_index w.heap i) (sym there)
-              ∙ eqb-true _ 0 (all_below-at (64 * run.count) (n - 64 * run.page) (λ i. slice_index w.heap (64 * run.page + i) == 0) zero (omega arith))
+              ∙ eqb-true _ 0 (all_below-at (64 * run.count) (n - 64 * run.page)
+              (λ i. slice_index w.heap (64 * run.page + i) == 0) zero (omega arith))
 
 pub none_then : (p q r : PassState) → FreesNone p q → FreesNone q r → FreesNone p r
 none_then p q r a b = record { frees = frees_then p q r a.frees b.frees; same = λ i. b.same i ∙ a.same i }
@@ -156,11 +198,20 @@ wiped p q t u n a =
 -- the words of pages behind steps that store them
 
 abbrev with_pages : World → ℕ → List Page → PageState
-with_pages w r pages = record { page = slice_index_or pages r free_page; freed = slice_index w.now.words.freed r; snapshot = slice_index w.now.words.snapshot r }
+with_pages w r pages = record {
+  page = slice_index_or pages r free_page;
+  freed = slice_index w.now.words.freed r;
+  snapshot = slice_index w.now.words.snapshot r;
+}
 
 state_behind : (p q : PassState) (v : World) → world_of q ≡ v → (r : ℕ) → page_state q r ≡ state_at v r
 unfolding state_at
-state_behind p q v is r = ap (λ (x : World). record { page = page_of x.now.words r; freed = slice_index x.now.words.freed r; snapshot = slice_index x.now.words.snapshot r }) is
+state_behind p q v is r =
+    ap (λ (x : World). record {
+      page = page_of x.now.words r;
+      freed = slice_index x.now.words.freed r;
+      snapshot = slice_index x.now.words.snapshot r;
+    }) is
 
 module _ (p q : PassState) (t : InTurn p) (u : InTurn q) (free : IsFreeForCycle p) (at : IsAtPhase p 4) where
   module _ (page v : ℕ) (a : Acts p (step.Used page v) q) (lt : page < p.table.config.pages) where
@@ -172,21 +223,34 @@ module _ (p q : PassState) (t : InTurn p) (u : InTurn q) (free : IsFreeForCycle 
           frees = frees_step p (step.Used page v) q a t u refl refl free at (used_gives p.table.config w p.seat page v);
           others = λ r ne.
               state_behind p q _ a.world r
-              ∙ ap (λ (x : Page). record { page = x; freed = slice_index w.now.words.freed r; snapshot = slice_index w.now.words.snapshot r })
-              (get_or-set_other w.now.words.pages page r (record { header = header_at w.now.words page; used = v }) free_page ne)
+              ∙ ap (λ (x : Page). record {
+                page = x;
+                freed = slice_index w.now.words.freed r;
+                snapshot = slice_index w.now.words.snapshot r;
+              })
+              (get_or-set_other w.now.words.pages page r (record { header = header_at w.now.words page; used = v })
+              free_page ne)
               ∙ state_there p q w _ _ a.turn.steady r;
         }
 
-    pub used_state : page_state q page ≡ record (page_state p page) { page = record { header = header_at (now_of p).words page; used = v } }
+    pub used_state : page_state q page
+        ≡ record (page_state p page) { page = record { header = header_at (now_of p).words page; used = v } }
     unfolding state_at
     used_state =
         let w : World = world_at a.makes in
-        let known = stands p.table.config (p.seen ++ a.makes.others) (made p (step.Used page v) q a.makes t.own u.history).history in
+        let known = stands p.table.config (p.seen ++ a.makes.others)
+        (made p (step.Used page v) q a.makes t.own u.history).history in
         let long : page < length w.now.words.pages = subst (λ (n : ℕ). page < n) (sym known.known.lengths.pages) lt in
         state_behind p q _ a.world page
-        ∙ ap (λ (x : Page). record { page = x; freed = slice_index w.now.words.freed page; snapshot = slice_index w.now.words.snapshot page })
-        (get_or-set_same w.now.words.pages page (record { header = header_at w.now.words page; used = v }) free_page long)
-        ∙ ap (λ (x : PageState). record x { page = record { header = x.page.header; used = v } }) (state_there p q w _ _ a.turn.steady page)
+        ∙ ap (λ (x : Page). record {
+          page = x;
+          freed = slice_index w.now.words.freed page;
+          snapshot = slice_index w.now.words.snapshot page;
+        })
+        (get_or-set_same w.now.words.pages page (record { header = header_at w.now.words page; used = v }) free_page
+        long)
+        ∙ ap (λ (x : PageState). record x { page = record { header = x.page.header; used = v } })
+        (state_there p q w _ _ a.turn.steady page)
 
   module _ (page : ℕ) (a : Acts p (step.Head page 0) q) (lt : page < p.table.config.pages) where
     pub head_frees : FreesPage page p q
@@ -197,21 +261,33 @@ module _ (p q : PassState) (t : InTurn p) (u : InTurn q) (free : IsFreeForCycle 
           frees = frees_step p (step.Head page 0) q a t u refl refl free at (head_gives p.table.config w p.seat page 0);
           others = λ r ne.
               state_behind p q _ a.world r
-              ∙ ap (λ (x : Page). record { page = x; freed = slice_index w.now.words.freed r; snapshot = slice_index w.now.words.snapshot r })
-              (get_or-set_other w.now.words.pages page r (record { header = 0; used = used_at w.now.words page }) free_page ne)
+              ∙ ap (λ (x : Page). record {
+                page = x;
+                freed = slice_index w.now.words.freed r;
+                snapshot = slice_index w.now.words.snapshot r;
+              })
+              (get_or-set_other w.now.words.pages page r (record { header = 0; used = used_at w.now.words page })
+              free_page ne)
               ∙ state_there p q w _ _ a.turn.steady r;
         }
 
-    pub head_state : page_state q page ≡ record (page_state p page) { page = record { header = 0; used = used_at (now_of p).words page } }
+    pub head_state : page_state q page
+        ≡ record (page_state p page) { page = record { header = 0; used = used_at (now_of p).words page } }
     unfolding state_at
     head_state =
         let w : World = world_at a.makes in
-        let known = stands p.table.config (p.seen ++ a.makes.others) (made p (step.Head page 0) q a.makes t.own u.history).history in
+        let known = stands p.table.config (p.seen ++ a.makes.others)
+        (made p (step.Head page 0) q a.makes t.own u.history).history in
         let long : page < length w.now.words.pages = subst (λ (n : ℕ). page < n) (sym known.known.lengths.pages) lt in
         state_behind p q _ a.world page
-        ∙ ap (λ (x : Page). record { page = x; freed = slice_index w.now.words.freed page; snapshot = slice_index w.now.words.snapshot page })
+        ∙ ap (λ (x : Page). record {
+          page = x;
+          freed = slice_index w.now.words.freed page;
+          snapshot = slice_index w.now.words.snapshot page;
+        })
         (get_or-set_same w.now.words.pages page (record { header = 0; used = used_at w.now.words page }) free_page long)
-        ∙ ap (λ (x : PageState). record x { page = record { header = 0; used = x.page.used } }) (state_there p q w _ _ a.turn.steady page)
+        ∙ ap (λ (x : PageState). record x { page = record { header = 0; used = x.page.used } })
+        (state_there p q w _ _ a.turn.steady page)
 
   module _ (page v : ℕ) (a : Acts p (step.Quar page v) q) (lt : page < p.table.config.pages) where
     pub quar_frees : FreesPage page p q
@@ -223,9 +299,17 @@ module _ (p q : PassState) (t : InTurn p) (u : InTurn q) (free : IsFreeForCycle 
               (quar_gives p.table.config w p.seat page v (ap is_pending_free a.own.flight ∙ free.decided));
           others = λ r ne.
               state_behind p q _ a.world r
-              ∙ ap (λ (n : ℕ). record { page = page_of w.now.words r; freed = n; snapshot = slice_index (slice_set w.now.words.snapshot page (v / 2 ^ 32)) r })
+              ∙ ap (λ (n : ℕ). record {
+                page = page_of w.now.words r;
+                freed = n;
+                snapshot = slice_index (slice_set w.now.words.snapshot page (v / 2 ^ 32)) r;
+              })
               (get_or-set_other w.now.words.freed page r (v % 2 ^ 32) 0 ne)
-              ∙ ap (λ (n : ℕ). record { page = page_of w.now.words r; freed = slice_index w.now.words.freed r; snapshot = n })
+              ∙ ap (λ (n : ℕ). record {
+                page = page_of w.now.words r;
+                freed = slice_index w.now.words.freed r;
+                snapshot = n;
+              })
               (get_or-set_other w.now.words.snapshot page r (v / 2 ^ 32) 0 ne)
               ∙ state_there p q w _ _ a.turn.steady r;
         }
@@ -234,12 +318,19 @@ module _ (p q : PassState) (t : InTurn p) (u : InTurn q) (free : IsFreeForCycle 
     unfolding state_at
     quar_state =
         let w : World = world_at a.makes in
-        let known = stands p.table.config (p.seen ++ a.makes.others) (made p (step.Quar page v) q a.makes t.own u.history).history in
+        let known = stands p.table.config (p.seen ++ a.makes.others)
+        (made p (step.Quar page v) q a.makes t.own u.history).history in
         let long : page < length w.now.words.freed = subst (λ (n : ℕ). page < n) (sym known.known.lengths.freed) lt in
-        let long' : page < length w.now.words.snapshot = subst (λ (n : ℕ). page < n) (sym known.known.lengths.snapshot) lt in
+        let long' : page < length w.now.words.snapshot =
+        subst (λ (n : ℕ). page < n) (sym known.known.lengths.snapshot) lt in
         state_behind p q _ a.world page
-        ∙ ap (λ (n : ℕ). record { page = page_of w.now.words page; freed = n; snapshot = slice_index (slice_set w.now.words.snapshot page (v / 2 ^ 32)) page })
+        ∙ ap (λ (n : ℕ). record {
+          page = page_of w.now.words page;
+          freed = n;
+          snapshot = slice_index (slice_set w.now.words.snapshot page (v / 2 ^ 32)) page;
+        })
         (get_or-set_same w.now.words.freed page (v % 2 ^ 32) 0 long)
         ∙ ap (λ (n : ℕ). record { page = page_of w.now.words page; freed = v % 2 ^ 32; snapshot = n })
         (get_or-set_same w.now.words.snapshot page (v / 2 ^ 32) 0 long')
-        ∙ ap (λ (x : PageState). record x { freed = v % 2 ^ 32; snapshot = v / 2 ^ 32 }) (state_there p q w _ _ a.turn.steady page)
+        ∙ ap (λ (x : PageState). record x { freed = v % 2 ^ 32; snapshot = v / 2 ^ 32 })
+        (state_there p q w _ _ a.turn.steady page)

@@ -1,5 +1,6 @@
 -- What pages hold, one by one, which is little.
-use Rattle.std.proofs.Common.{◌≡◌, ℕ, zero, suc, ◌+◌, ◌<◌, ◌≤◌, Bool, true, false, List, length, drop, sym, subst, ◌∙◌, ap}
+use Rattle.std.proofs.Common.{◌≡◌, ℕ, zero, suc, ◌+◌, ◌<◌, ◌≤◌, Bool, true, false, List, length, drop, sym, subst, ◌∙◌}
+use Rattle.std.proofs.Common.{ap}
 use Rattle.std.proofs.Common.{arith, zero-add}
 use Rattle.std.specs.Prelude.{slice_index_or, count_by, Option, Some, None}
 use Rattle.std.proofs.Math.Nat.{mul-div-le, mul-le-mul_left}
@@ -51,7 +52,8 @@ free_holds w page header is none = ap (λ n. words_held_by (use_under (header_of
 
 pub held_next : (pages : List Page) (n : ℕ) → n < length pages
     → words_held_among (uses_of_pages (drop n pages))
-    ≡ words_held_by (use_of_page (slice_index_or pages n free_page)) + words_held_among (uses_of_pages (drop (n + 1) pages))
+    ≡ words_held_by (use_of_page (slice_index_or pages n free_page))
+    + words_held_among (uses_of_pages (drop (n + 1) pages))
 held_next pages n within =
     at_drop_more (λ rest. words_held_among (uses_of_pages rest)) pages n free_page within
     ∙ sum_by-cons words_held_by (use_of_page (slice_index_or pages n free_page)) (uses_of_pages (drop (n + 1) pages))
@@ -81,13 +83,15 @@ abbrev held_on_page : List Page → ℕ → ℕ
 held_on_page pages r = words_held_by (use_of_page (slice_index_or pages r free_page))
 
 held_to : (pages : List Page) (n : ℕ) → n ≤ length pages
-    → sum_below n (held_on_page pages) + words_held_among (uses_of_pages (drop n pages)) ≡ words_held_among (uses_of_pages pages)
+    → sum_below n (held_on_page pages) + words_held_among (uses_of_pages (drop n pages))
+    ≡ words_held_among (uses_of_pages pages)
 held_to pages zero le = zero-add (words_held_among (uses_of_pages pages))
 held_to pages (suc n) le =
     let before = held_to pages n (omega (arith, le)) in
     let here = held_next pages n (omega (arith, le)) in
     let next : suc n ≡ n + 1 = omega arith in
-    let rest : words_held_among (uses_of_pages (drop (suc n) pages)) ≡ words_held_among (uses_of_pages (drop (n + 1) pages)) =
+    let rest : words_held_among (uses_of_pages (drop (suc n) pages))
+    ≡ words_held_among (uses_of_pages (drop (n + 1) pages)) =
     ap (λ m. words_held_among (uses_of_pages (drop m pages))) next in
     omega (arith, before, here, rest)
 

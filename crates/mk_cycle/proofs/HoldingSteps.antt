@@ -42,15 +42,18 @@ held_table p q w k is = ap (λ (x : PassState). x.table) k.keeps.call.pass ∙ i
 pub held_seat : (p q : PassState) → HoldsGates p q → q.seat ≡ p.seat
 held_seat p q k = ap (λ (x : PassState). x.seat) k.keeps.call.pass
 
-pub hold_allowed : (p : PassState) → InTurn p → IsFreeForCycle p → (j : ℕ) → j < p.table.config.callers → is_number_of p.seat j ≡ false
+pub hold_allowed : (p : PassState) → InTurn p → IsFreeForCycle p → (j : ℕ) → j < p.table.config.callers
+    → is_number_of p.seat j ≡ false
     → is_held (now_of p).words j ≡ false → IsEnabledTo p (step.Hold j)
 hold_allowed p t free j lt other none =
     may_act p (step.Hold j) (protocol p t free) t.holds free.decided refl
-    (and_from (nat_lt j p.table.config.callers) (not (is_number_of p.seat j)) (lt-ltb j p.table.config.callers lt) (ap not other))
+    (and_from (nat_lt j p.table.config.callers) (not (is_number_of p.seat j)) (lt-ltb j p.table.config.callers lt)
+    (ap not other))
     (ap not none) refl refl
 
 -- A gate that is held stays so where one that was found open is held.
-stays_held : (gs : List ℕ) (i j : ℕ) → slice_index gs j ≡ 2 → slice_index (slice_set gs i (if slice_index gs i == 0 then 2 else slice_index gs i)) j ≡ 2
+stays_held : (gs : List ℕ) (i j : ℕ) → slice_index gs j ≡ 2
+    → slice_index (slice_set gs i (if slice_index gs i == 0 then 2 else slice_index gs i)) j ≡ 2
 stays_held gs i j two = elim (cases_eq j i) [
   | inr ne ↦ get_or-set_other gs i j _ 0 ne ∙ two
   | inl e ↦ elim (cases_lt i (length gs)) [
@@ -59,7 +62,8 @@ stays_held gs i j two = elim (cases_eq j i) [
         let here : slice_index gs i ≡ 2 = ap (λ (k : ℕ). slice_index gs k) (sym e) ∙ two in
         ap (λ (k : ℕ). slice_index (slice_set gs i (if slice_index gs i == 0 then 2 else slice_index gs i)) k) e
         ∙ get_or-set_same gs i _ 0 near
-        ∙ ap (λ (b : Bool). if b then 2 else slice_index gs i) (ne_eqb (slice_index gs i) 0 (λ z. absurd (omega arith))) ∙ here
+        ∙ ap (λ (b : Bool). if b then 2 else slice_index gs i) (ne_eqb (slice_index gs i) 0 (λ z. absurd (omega arith)))
+        ∙ here
   ]
 ]
 
@@ -69,7 +73,8 @@ module _ (p q : PassState) (t : InTurn p) (free : IsFreeForCycle p) (u : InTurn 
       record {
         does = does_step holds_gates p q (step.Look (word.Gate j)) t.own a.makes refl;
         keeps = calm_keeps p (step.Look (word.Gate j)) q a t u.history refl free whole refl;
-        held = λ i h. eq-eqb _ 2 (ap (λ (w : World). slice_index w.now.words.gates i) a.world ∙ a.turn.held_gates i (eqb-true _ 2 h));
+        held = λ i h. eq-eqb _ 2 (ap (λ (w : World). slice_index w.now.words.gates i) a.world
+            ∙ a.turn.held_gates i (eqb-true _ 2 h));
       }
 
   pub hold_holds : (j : ℕ) → Acts p (step.Hold j) q → HoldsGates p q
@@ -88,7 +93,8 @@ all_held_below p callers h = all_from callers (λ j. is_number_of p.seat j || is
 
 pub still_held_or_own : (p q : PassState) (j : ℕ) → HoldsGates p q → IsHeldOrOwn p j → IsHeldOrOwn q j
 still_held_or_own p q j k h = elim (cases_Bool (is_number_of p.seat j)) [
-  | inl own ↦ ap (λ (b : Bool). b || is_held (now_of q).words j) (ap (λ (s : Seat). is_number_of s j) (held_seat p q k) ∙ own)
+  | inl own ↦ ap (λ (b : Bool). b || is_held (now_of q).words j) (ap (λ (s : Seat). is_number_of s j) (held_seat p q k)
+      ∙ own)
   | inr other ↦ or_right (is_number_of q.seat j) (is_held (now_of q).words j)
       (k.held j (sym (ap (λ (b : Bool). b || is_held (now_of p).words j) other) ∙ h))
 ]

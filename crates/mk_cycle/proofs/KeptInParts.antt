@@ -35,7 +35,8 @@ keeps_at_once view p =
       counts = record { ends = refl; fulls = refl };
     }
 
-pub keeps_then : (view : Steady → Steady) (p q r : PassState) → KeepsTurn view p q → KeepsTurn view q r → KeepsTurn view p r
+pub keeps_then : (view : Steady → Steady) (p q r : PassState) → KeepsTurn view p q → KeepsTurn view q r
+    → KeepsTurn view p r
 keeps_then view p q r a b =
     record {
       call = calls_then p q r a.call b.call;
@@ -43,12 +44,14 @@ keeps_then view p q r a b =
       counts =
           record {
             ends = b.counts.ends ∙ a.counts.ends;
-            fulls = subst (λ (c : Config). fulls c r.seen ≡ fulls c q.seen) (same_config p q a.call.pass) b.counts.fulls ∙ a.counts.fulls;
+            fulls = subst (λ (c : Config). fulls c r.seen ≡ fulls c q.seen) (same_config p q a.call.pass) b.counts.fulls
+                ∙ a.counts.fulls;
           };
     }
 
 -- Less is seen by another view of the view.
-pub keeps_less : (view more : Steady → Steady) (p q : PassState) → KeepsTurn view p q → KeepsTurn (λ s. more (view s)) p q
+pub keeps_less : (view more : Steady → Steady) (p q : PassState) → KeepsTurn view p q
+    → KeepsTurn (λ s. more (view s)) p q
 keeps_less view more p q a = record { call = a.call; steady = ap more a.steady; counts = a.counts }
 
 pub gates_then : (p q r : PassState) → q ≡ record p { seen = q.seen } → KeepsGates p q → KeepsGates q r → KeepsGates p r
@@ -63,7 +66,8 @@ held_so a b held free = elim (cases_eq a 2) [
 
 -- A step that changes no gate: others neither hold one nor open one that is held.
 pub gates_behind : (p : PassState) (s : Step) (q : PassState) (a : Acts p s q)
-    → (world_behind p.table.config (world_at a.makes) (event_of p s)).now.words.gates ≡ (world_at a.makes).now.words.gates → KeepsGates p q
+    → (world_behind p.table.config (world_at a.makes) (event_of p s)).now.words.gates
+    ≡ (world_at a.makes).now.words.gates → KeepsGates p q
 gates_behind p s q a same j lt =
     ap (λ (w : World). is_held w.now.words j) a.world
     ∙ ap (λ gs. slice_index gs j == 2) same

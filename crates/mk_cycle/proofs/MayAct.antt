@@ -20,7 +20,8 @@ use Rattle.mk_never.specs.Admitted.{AreAdmitted}
 use Rattle.mk_core.specs.Decided.{Decided, asked}
 use Rattle.mk_core.specs.History.{never_first, IsHistory}
 use Rattle.mk_core.specs.Moments.{Moment, flight_of, marker_at}
-use Rattle.mk_core.specs.Order.{seat_exists, group_of, is_open_to, is_of_any_holder, is_of_turn, may_decide, comes_next, comes_next_to_host, host_has_turn, is_in_order}
+use Rattle.mk_core.specs.Order.{seat_exists, group_of, is_open_to, is_of_any_holder, is_of_turn, may_decide, comes_next}
+use Rattle.mk_core.specs.Order.{comes_next_to_host, host_has_turn, is_in_order}
 use Rattle.mk_core.specs.Ranges.{is_in_range, has_gates, has_phase}
 use Rattle.mk_core.specs.Readings.{Holds, is_idle}
 use Rattle.mk_core.specs.Words.{phase_of}
@@ -86,7 +87,8 @@ host_next has (step.Take o) is h = cc
 host_next has step.Over is h = refl
 host_next has s is h = ap (λ (b : Bool). b && is_of_any_holder s) is ∙ h
 
-orders : (c : Config) (m : Moment) (seat : Seat) (s : Step) → Protocol c m → Holds c m seat → is_pending_free (flight_of m seat) ≡ false
+orders : (c : Config) (m : Moment) (seat : Seat) (s : Step) → Protocol c m → Holds c m seat
+    → is_pending_free (flight_of m seat) ≡ false
     → is_of_any_holder s ≡ true → is_in_order c m seat s ≡ true
 orders c m (Caller k) s p holds pending h =
     comes (flight_of m (Caller k)).stage (flight_of m (Caller k)).op s (p.stage k holds.0) holds.1 pending h
@@ -95,14 +97,16 @@ orders c m Host s p holds pending h = host_next (host_has_turn c m) s (eq-eqb m.
 
 pub may_act : (p : PassState) (s : Step) → Protocol p.table.config (now_of p) → Holds p.table.config (now_of p) p.seat
     → is_pending_free (call_of p) ≡ false → is_of_any_holder s ≡ true
-    → is_in_range p.table.config p.seat (call_of p) s ≡ true → has_gates p.table.config (now_of p).words p.seat (call_of p) s ≡ true
+    → is_in_range p.table.config p.seat (call_of p) s ≡ true
+    → has_gates p.table.config (now_of p).words p.seat (call_of p) s ≡ true
     → has_phase (phase_of (now_of p).words) s ≡ true → holder_may p.table.config (now_of p) (call_of p) s ≡ true
     → IsEnabledTo p s
 may_act p s protocol holds pending any range gates phase holder =
     meets_enabled p.table.config (now_of p) (event_of p s)
     (record {
       seat = exists p.table.config (now_of p) p.seat holds;
-      kind = ap (λ (g : Group). is_open_to p.seat g) (is_turn (group_of s) (any_is s any)) ∙ opens p.table.config (now_of p) p.seat holds;
+      kind = ap (λ (g : Group). is_open_to p.seat g) (is_turn (group_of s) (any_is s any))
+          ∙ opens p.table.config (now_of p) p.seat holds;
       order = orders p.table.config (now_of p) p.seat s protocol holds pending any;
       range = range;
       gates = gates;
@@ -112,10 +116,12 @@ may_act p s protocol holds pending any range gates phase holder =
     })
 
 -- A step that decides nothing is admitted.
-pub calm_admitted : (p : PassState) (s : Step) → IsHistory p.table.config p.seen → is_calm s ≡ true → is_pending_free (call_of p) ≡ false
+pub calm_admitted : (p : PassState) (s : Step) → IsHistory p.table.config p.seen → is_calm s ≡ true
+    → is_pending_free (call_of p) ≡ false
     → IsAdmittedTo p s
 calm_admitted p s h kind free =
     let c : Config = p.table.config in
     subst (λ (xs : List Decided). AreAdmitted c.globals (never_first c) (asked xs))
-    (sym (no_more_calls c p.seen (event_of p s) (undecided c (now_of p) p.seat s (λ n. calm_still c (now_of p) (call_of p) n s kind free))))
+    (sym (no_more_calls c p.seen (event_of p s)
+    (undecided c (now_of p) p.seat s (λ n. calm_still c (now_of p) (call_of p) n s kind free))))
     h.admitted

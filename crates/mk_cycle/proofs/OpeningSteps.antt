@@ -1,5 +1,6 @@
 -- The gates are opened behind a `release`.
-use Rattle.std.proofs.Common.{◌≡◌, ℕ, Bool, true, false, List, [], ◌∷◌, ◌++◌, refl, sym, ap, subst, ◌∙◌, inl, inr, append-nil, append_assoc}
+use Rattle.std.proofs.Common.{◌≡◌, ℕ, Bool, true, false, List, [], ◌∷◌, ◌++◌, refl, sym, ap, subst, ◌∙◌, inl, inr}
+use Rattle.std.proofs.Common.{append-nil, append_assoc}
 use Rattle.mk_core.specs.declared.config.Config.{Config}
 use Rattle.mk_core.specs.declared.events.Event.{Event}
 use Rattle.mk_core.specs.declared.events.Seat.{Seat}
@@ -44,13 +45,15 @@ open_is_holders (step.Open j) h = refl
 open_is_holders _ h = cc
 
 -- Only the turn's holder opens a gate.
-opens_itself : (p : PassState) (e : Event) → InTurn p → IsHistory p.table.config (p.seen ++ e ∷ []) → is_open e.step ≡ true → e.seat ≡ p.seat
+opens_itself : (p : PassState) (e : Event) → InTurn p → IsHistory p.table.config (p.seen ++ e ∷ [])
+    → is_open e.step ≡ true → e.seat ≡ p.seat
 opens_itself p e t h is =
     let c : Config = p.table.config in
     let last = comes_last c p.seen e h in
     let orderly = (stands c p.seen t.history).known.now.orderly in
     same_holder c (view_of (now_of p)) e.seat p.seat orderly
-    (acts_as_holder c (now_of p) e.seat e.step (actor_of c (now_of p) e.seat e.step orderly last.meets) (open_is_holders e.step is))
+    (acts_as_holder c (now_of p) e.seat e.step (actor_of c (now_of p) e.seat e.step orderly last.meets)
+    (open_is_holders e.step is))
     (holds_turn c (now_of p) p.seat orderly t.holds)
 
 -- one event further
@@ -68,7 +71,8 @@ by_another p e t at h other =
     let c : Config = p.table.config in
     let others : AreOfOthers p.seats (e ∷ []) = (other, tt) in
     let before = earlier_part_is_history c p.seen (e ∷ []) h in
-    let frame = others_leave c p.seen (e ∷ []) p.seat before.within_limits h.enabled (others_own p.seats p.seat (e ∷ []) t.own others) in
+    let frame = others_leave c p.seen (e ∷ []) p.seat before.within_limits h.enabled
+    (others_own p.seats p.seat (e ∷ []) t.own others) in
     record {
       none = record {
         frees = others_free p (e ∷ []) t others h at;
@@ -78,7 +82,8 @@ by_another p e t at h other =
     }
 
 by_itself : (p : PassState) (j : ℕ) → InTurn p → IsFreeForCycle p → IsAtPhase p 4
-    → IsHistory p.table.config (p.seen ++ event_of p (step.Open j) ∷ []) → Further p (behind p (event_of p (step.Open j) ∷ []))
+    → IsHistory p.table.config (p.seen ++ event_of p (step.Open j) ∷ [])
+    → Further p (behind p (event_of p (step.Open j) ∷ []))
 unfolding behind AreOfOthers
 by_itself p j t free at h =
     let q : PassState = record p { seen = p.seen ++ event_of p (step.Open j) ∷ [] } in
@@ -89,26 +94,34 @@ by_itself p j t free at h =
       is = ap (λ (es : List Event). record p { seen = es ++ event_of p (step.Open j) ∷ [] }) (sym (append-nil p.seen));
     } in
     let a = acts p (step.Open j) q makes t.own h t.holds in
-    let turn = still_turn p (step.Open j) q makes t.own h (op_for p.seat (call_of p)) refl (record { holds = t.holds; op = refl }) in
+    let turn = still_turn p (step.Open j) q makes t.own h (op_for p.seat (call_of p)) refl
+    (record { holds = t.holds; op = refl }) in
     let next : InTurn q = record { own = t.own; holds = turn.holds; history = h } in
     record {
       none = record {
-        frees = frees_step p (step.Open j) q a t next refl refl free at (open_gives p.table.config (world_at a.makes) p.seat j);
+        frees = frees_step p (step.Open j) q a t next refl refl free at
+            (open_gives p.table.config (world_at a.makes) p.seat j);
         same = λ r.
-            ap (λ (w : World). record { page = page_of w.now.words r; freed = slice_index w.now.words.freed r; snapshot = slice_index w.now.words.snapshot r }) a.world
+            ap (λ (w : World). record {
+              page = page_of w.now.words r;
+              freed = slice_index w.now.words.freed r;
+              snapshot = slice_index w.now.words.snapshot r;
+            }) a.world
             ∙ state_there p q (world_of p) _ _ a.turn.steady r;
       };
       turn = next;
     }
 
-opens_one : (p : PassState) (e : Event) → InTurn p → IsFreeForCycle p → IsAtPhase p 4 → IsHistory p.table.config (p.seen ++ e ∷ [])
+opens_one : (p : PassState) (e : Event) → InTurn p → IsFreeForCycle p → IsAtPhase p 4
+    → IsHistory p.table.config (p.seen ++ e ∷ [])
     → is_open e.step ≡ true → Further p (behind p (e ∷ []))
 opens_one p e t free at h is = by e.step refl is (opens_itself p e t h is)
   where
     by : (x : Step) → e.step ≡ x → is_open x ≡ true → e.seat ≡ p.seat → Further p (behind p (e ∷ []))
     by (step.Open j) at_step kind same =
         let it : event_of p (step.Open j) ≡ e =
-        ap (λ (s : Seat). record { seat = s; step = step.Open j }) (sym same) ∙ ap (λ (x : Step). record { seat = e.seat; step = x }) (sym at_step) in
+        ap (λ (s : Seat). record { seat = s; step = step.Open j }) (sym same)
+        ∙ ap (λ (x : Step). record { seat = e.seat; step = x }) (sym at_step) in
         subst (λ (f : Event). Further p (behind p (f ∷ []))) it
         (by_itself p j t free at (subst (λ (f : Event). IsHistory p.table.config (p.seen ++ f ∷ [])) (sym it) h))
     by _ at_step kind same = cc
@@ -127,10 +140,12 @@ opens_all (e ∷ es) p t free at only h =
       | inl other ↦ by_another p e t at first other
       | inr opens ↦ opens_one p e t free at first opens
     ] in
-    let rest = opens_all es (record p { seen = p.seen ++ e ∷ [] }) one.turn (freed_free p _ one.none.frees free) (freed_phase p _ one.none.frees at) only.1 whole in
+    let rest = opens_all es (record p { seen = p.seen ++ e ∷ [] }) one.turn (freed_free p _ one.none.frees free)
+    (freed_phase p _ one.none.frees at) only.1 whole in
     subst (λ (xs : List Event). FreesNone p (record p { seen = xs })) split (none_then p _ _ one.none rest)
 
-pub opens_frees : (p q : PassState) → InTurn p → IsFreeForCycle p → IsAtPhase p 4 → Opens p q → IsHistory q.table.config q.seen → FreesNone p q
+pub opens_frees : (p q : PassState) → InTurn p → IsFreeForCycle p → IsAtPhase p 4 → Opens p q
+    → IsHistory q.table.config q.seen → FreesNone p q
 unfolding behind
 opens_frees p q t free at o h =
     subst (λ (x : PassState). FreesNone p x) (sym o.is)
@@ -143,6 +158,7 @@ others_may_open p t free at held j le lt other =
     let w : Words = (now_of p).words in
     let all = all_below-at p.table.config.callers j (λ i. is_number_of p.seat i || is_held w i) held lt in
     may_act p (step.Open j) (protocol p t free) t.holds free.decided refl
-    (and_from (nat_lt j p.table.config.callers) (not (is_number_of p.seat j)) (lt-ltb j p.table.config.callers lt) (ap not other))
+    (and_from (nat_lt j p.table.config.callers) (not (is_number_of p.seat j)) (lt-ltb j p.table.config.callers lt)
+    (ap not other))
     (sym (ap (λ (b : Bool). b || is_held w j) other) ∙ all)
     (ap (λ (n : ℕ). not (n == 3)) at) free.gone

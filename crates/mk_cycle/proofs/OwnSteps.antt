@@ -1,5 +1,6 @@
 -- What a step of the turn's holder keeps, of whatever kind.
-use Rattle.std.proofs.Common.{◌≡◌, ℕ, ◌+◌, ◌<◌, Bool, true, false, List, [], ◌∷◌, ◌++◌, length, refl, sym, ap, subst, ◌∙◌, append-nil, arith}
+use Rattle.std.proofs.Common.{◌≡◌, ℕ, ◌+◌, ◌<◌, Bool, true, false, List, [], ◌∷◌, ◌++◌, length, refl, sym, ap, subst}
+use Rattle.std.proofs.Common.{◌∙◌, append-nil, arith}
 use Rattle.std.specs.Prelude.{Option, Some, None, count_by, if◌then◌else◌}
 use Rattle.std.proofs.lemmas.Bool.{true≢false}
 use Rattle.std.proofs.lemmas.List.{get_or-set_same}
@@ -62,13 +63,15 @@ pub no_more_calls : (c : Config) (es : List Event) (e : Event) → answer_decide
     → calls c (es ++ e ∷ []) ≡ calls c es
 no_more_calls c es e none =
     calls_more c (first_world c) es e
-    ∙ ap (λ (a : Option Answer). calls c es ++ entry_of (caller_number e.seat) (flight_of (left c es).now e.seat).op a) none
+    ∙ ap (λ (a : Option Answer). calls c es ++ entry_of (caller_number e.seat) (flight_of (left c es).now e.seat).op a)
+    none
     ∙ append-nil (calls c es)
 
 no_end_more : (e : Event) → is_end e.step ≡ false → (es : List Event) → ends (es ++ e ∷ []) ≡ ends es
 no_end_more e none es =
     let one : ends (e ∷ []) ≡ 0 = ap (λ (b : Bool). count_by (λ (x : Event). b) (e ∷ [])) none in
-    sum_by-append (λ (x : Event). if is_end x.step then 1 else 0) es (e ∷ []) ∙ ap (λ (n : ℕ). ends es + n) one ∙ omega arith
+    sum_by-append (λ (x : Event). if is_end x.step then 1 else 0) es (e ∷ []) ∙ ap (λ (n : ℕ). ends es + n) one
+    ∙ omega arith
 
 module _ (p : PassState) (s : Step) (q : PassState) (a : Acts p s q) (own : Has p.seats p.seat)
     (holds : Holds p.table.config (now_of p) p.seat) (history : IsHistory q.table.config q.seen) where
@@ -94,11 +97,13 @@ module _ (p : PassState) (s : Step) (q : PassState) (a : Acts p s q) (own : Has 
       ∙ flight_behind c m p.seat s d.protocol holds_there st
       ∙ a.own.flight
 
-  same_done : ((n : ℕ) → done_in (holding_behind c m p.seat (flight_of m p.seat) n s m.seats.holding) ≡ done_in m.seats.holding)
+  same_done : ((n : ℕ)
+      → done_in (holding_behind c m p.seat (flight_of m p.seat) n s m.seats.holding) ≡ done_in m.seats.holding)
       → done_of (now_of q) ≡ done_of (now_of p)
   same_done k = ap (λ (w : World). done_of w.now) a.world ∙ k _ ∙ ap (λ (h : Holding). done_in h) a.holding
 
-  pub still_gone : ((n : ℕ) → (holding_behind c m p.seat (flight_of m p.seat) n s m.seats.holding).freed ≡ m.seats.holding.freed)
+  pub still_gone : ((n : ℕ)
+      → (holding_behind c m p.seat (flight_of m p.seat) n s m.seats.holding).freed ≡ m.seats.holding.freed)
       → stores s ≡ false → IsGone p → IsGone q
   still_gone k none gone =
       let at = holder_finds c p.seat p.seen a.makes.others d.history d.others holds in
@@ -116,13 +121,20 @@ module _ (p : PassState) (s : Step) (q : PassState) (a : Acts p s q) (own : Has 
       gone_on None is g = refl
       gone_on (Some r) is g =
           let known = stands c (p.seen ++ a.makes.others) d.history in
-          gone_behind c (world_at a.makes) known.known known.all.order.laid r is g p.seat s d.meets (λ st. absurd (true≢false (sym st ∙ none)))
+          gone_behind c (world_at a.makes) known.known known.all.order.laid r is g p.seat s d.meets
+          (λ st. absurd (true≢false (sym st ∙ none)))
 
   pub keeps_call : ((n : ℕ) → progress c m (flight_of m p.seat) n s ≡ still (flight_of m p.seat))
-      → ((n : ℕ) → done_in (holding_behind c m p.seat (flight_of m p.seat) n s m.seats.holding) ≡ done_in m.seats.holding)
+      → ((n : ℕ) → done_in (holding_behind c m p.seat (flight_of m p.seat) n s m.seats.holding)
+      ≡ done_in m.seats.holding)
       → stores s ≡ false → KeepsCall p q
   keeps_call st k none =
-      record { pass = same_pass; call = same_call st; done = same_done k; gone = still_gone (λ n. ap (λ (x : Done). x.freed) (k n)) none }
+      record {
+        pass = same_pass;
+        call = same_call st;
+        done = same_done k;
+        gone = still_gone (λ n. ap (λ (x : Done). x.freed) (k n)) none;
+      }
 
   seen_is : q.seen ≡ (p.seen ++ a.makes.others) ++ event_of p s ∷ []
   seen_is = ap (λ (r : PassState). r.seen) a.makes.is
@@ -135,7 +147,8 @@ module _ (p : PassState) (s : Step) (q : PassState) (a : Acts p s q) (own : Has 
         ends = ap ends seen_is ∙ no_end es ∙ a.counts.ends;
         fulls =
             ap (λ (xs : List Event). fulls c xs) seen_is
-            ∙ ap (λ (xs : List Decided). count_by is_full_answer (answered xs)) (no_more_calls c es (event_of p s) (undecided c m p.seat s st))
+            ∙ ap (λ (xs : List Decided). count_by is_full_answer (answered xs))
+            (no_more_calls c es (event_of p s) (undecided c m p.seat s st))
             ∙ a.counts.fulls;
       }
     where
@@ -145,4 +158,5 @@ module _ (p : PassState) (s : Step) (q : PassState) (a : Acts p s q) (own : Has 
   pub steady_behind : (view : Steady → Steady)
       → ((w : World) → view (steady_of (world_behind c w (event_of p s))) ≡ view (steady_of w))
       → view (steady_of (world_of q)) ≡ view (steady_of (world_of p))
-  steady_behind view same = ap (λ (w : World). view (steady_of w)) a.world ∙ same (world_at a.makes) ∙ ap view a.turn.steady
+  steady_behind view same = ap (λ (w : World). view (steady_of w)) a.world ∙ same (world_at a.makes)
+      ∙ ap view a.turn.steady

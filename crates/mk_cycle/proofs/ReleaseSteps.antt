@@ -27,24 +27,28 @@ use Rattle.mk_cycle.proofs.MayAct.{may_act}
 use Rattle.mk_cycle.proofs.ReleasedCounts.{fresh_words_stay}
 
 -- One is added to the phase.
-phase_more : (n markers phase : ℕ) → n % 8 ≡ phase → phase < 7 → n / 8 ≡ markers → markers ≤ 8 → (n + 1) % 2 ^ 64 % 8 ≡ phase + 1
+phase_more : (n markers phase : ℕ) → n % 8 ≡ phase → phase < 7 → n / 8 ≡ markers → markers ≤ 8
+    → (n + 1) % 2 ^ 64 % 8 ≡ phase + 1
 phase_more n markers phase now small high few = omega arith
 
 -- the phase where the step is made
-pub phase_at : (p : PassState) (s : Step) (q : PassState) (a : Acts p s q) → InTurn p → InTurn q → (phase : ℕ) → IsAtPhase p phase → phase < 7
+pub phase_at : (p : PassState) (s : Step) (q : PassState) (a : Acts p s q) → InTurn p → InTurn q → (phase : ℕ)
+    → IsAtPhase p phase → phase < 7
     → ((world_at a.makes).now.words.phase + 1) % 2 ^ 64 % 8 ≡ phase + 1
 phase_at p s q a t u phase at small =
     let w : World = world_at a.makes in
     let there = (made p s q a.makes t.own u.history).protocol in
     let low : w.now.words.phase % 8 ≡ phase = ap (λ (y : Steady). y.phase) a.turn.steady ∙ at in
     let few : count_by is_in w.now.seats.markers ≤ 8 =
-    subst (λ (n : ℕ). count_by is_in w.now.seats.markers ≤ n) there.markers (count_by-le-length is_in w.now.seats.markers) in
+    subst (λ (n : ℕ). count_by is_in w.now.seats.markers ≤ n) there.markers
+    (count_by-le-length is_in w.now.seats.markers) in
     phase_more w.now.words.phase (count_by is_in w.now.seats.markers) phase low small there.high few
 
 pub release_allowed : (p : PassState) → InTurn p → IsFreeForCycle p → IsAtPhase p 3
     → others_are_held p.table.config.callers (now_of p).words p.seat ≡ true → IsEnabledTo p step.Release
 release_allowed p t free at held =
-    may_act p step.Release (protocol p t free) t.holds free.decided refl refl held (eq-eqb (phase_of (now_of p).words) 3 at) refl
+    may_act p step.Release (protocol p t free) t.holds free.decided refl refl held
+    (eq-eqb (phase_of (now_of p).words) 3 at) refl
 
 pub close_leaves : (p q : PassState) → InTurn p → IsFreeForCycle p → IsAtPhase p 2 → Acts p step.Close q → InTurn q
     → KeepsTurn but_phase p q × IsAtPhase q 3
@@ -56,7 +60,8 @@ close_leaves p q t free at a u = (
 but_release : Steady → Steady
 but_release s = record s { phase = 0; allocations = [] }
 
-pub releases_unmarked : (p b d q : PassState) → InTurn p → IsFreeForCycle p → ClosesMarks p b → InTurn b → Acts b step.Close d → InTurn d
+pub releases_unmarked : (p b d q : PassState) → InTurn p → IsFreeForCycle p → ClosesMarks p b → InTurn b
+    → Acts b step.Close d → InTurn d
     → Acts d step.Release q → InTurn q → ReleasesUnmarked p q
 unfolding but_release
 releases_unmarked p b d q t free marks tb close td release tq =
@@ -66,7 +71,8 @@ releases_unmarked p b d q t free marks tb close td release tq =
     let two = calm_keeps d step.Release q release td tq.history refl free_d but_release refl in
     let c : Config = p.table.config in
     let w : Words = (moment_of release.makes).words in
-    let phase : ((world_at release.makes).now.words.phase + 1) % 2 ^ 64 % 8 ≡ 4 = phase_at d step.Release q release td tq 3 one.1 (omega arith) in
+    let phase : ((world_at release.makes).now.words.phase + 1) % 2 ^ 64 % 8 ≡ 4 =
+    phase_at d step.Release q release td tq 3 one.1 (omega arith) in
     let same_b : b.table.config ≡ c = same_config p b marks.keeps.call.pass in
     let same_d : d.table.config ≡ c = same_config b d one.0.call.pass ∙ same_b in
     record {
@@ -74,16 +80,32 @@ releases_unmarked p b d q t free marks tb close td release tq =
       call = calls_then p d q (calls_then p b d marks.keeps.call one.0.call) two.call;
       steady =
           ap (λ (x : World). steady_of x) release.world
-          ∙ ap (λ (n : ℕ). record (steady_of (world_at release.makes)) { phase = n; allocations = map (with_released d.table.config w) (world_at release.makes).allocations }) phase
-          ∙ ap (λ (s : Steady). record s { phase = 4; allocations = map (with_released d.table.config w) s.allocations }) release.turn.steady
-          ∙ ap (λ (s : Steady). record s { phase = 4; allocations = map (with_released d.table.config w) s.allocations }) one.0.steady
-          ∙ ap (λ (s : Steady). record s { phase = 4; allocations = map (with_released d.table.config w) s.allocations }) marks.keeps.steady
-          ∙ ap (λ (e : Config). record (steady_of (world_of p)) { phase = 4; allocations = map (with_released e w) (world_of p).allocations }) same_d;
+          ∙ ap (λ (n : ℕ). record (steady_of (world_at release.makes)) {
+            phase = n;
+            allocations = map (with_released d.table.config w) (world_at release.makes).allocations;
+          }) phase
+          ∙ ap (λ (s : Steady). record s {
+            phase = 4;
+            allocations = map (with_released d.table.config w) s.allocations;
+          }) release.turn.steady
+          ∙ ap (λ (s : Steady). record s {
+            phase = 4;
+            allocations = map (with_released d.table.config w) s.allocations;
+          }) one.0.steady
+          ∙ ap (λ (s : Steady). record s {
+            phase = 4;
+            allocations = map (with_released d.table.config w) s.allocations;
+          }) marks.keeps.steady
+          ∙ ap (λ (e : Config). record (steady_of (world_of p)) {
+            phase = 4;
+            allocations = map (with_released e w) (world_of p).allocations;
+          }) same_d;
       counts =
           counts_then p b q same_b marks.keeps.counts
           (counts_then b d q (same_config b d one.0.call.pass) one.0.counts two.counts);
       fresh =
-          subst (λ (e : Config). fresh_words_of e (world_of q).allocations ≡ fresh_words_of e (world_of d).allocations) same_d
+          subst (λ (e : Config). fresh_words_of e (world_of q).allocations ≡ fresh_words_of e (world_of d).allocations)
+          same_d
           (fresh_words_stay d q td tq one.1 release)
           ∙ ap (λ (s : Steady). fresh_words_of c s.allocations) (one.0.steady)
           ∙ ap (λ (s : Steady). fresh_words_of c s.allocations) marks.keeps.steady;

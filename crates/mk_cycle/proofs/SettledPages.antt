@@ -1,7 +1,9 @@
 -- Pages are settled one after the other.
-use Rattle.std.proofs.Common.{◌≡◌, ◌≢◌, ◌⊎◌, ℕ, ◌+◌, ◌*◌, ◌/◌, ◌^◌, ◌<◌, ◌≤◌, Bool, true, false, List, refl, sym, ap, subst, ◌∙◌, arith, inl, inr}
+use Rattle.std.proofs.Common.{◌≡◌, ◌≢◌, ◌⊎◌, ℕ, ◌+◌, ◌*◌, ◌/◌, ◌^◌, ◌<◌, ◌≤◌, Bool, true, false, List, refl, sym, ap}
+use Rattle.std.proofs.Common.{subst, ◌∙◌, arith, inl, inr}
 use Rattle.std.specs.Prelude.{slice_index, ◌==◌, ◌&&◌, ◌||◌, not, Option, Some}
-use Rattle.std.proofs.lemmas.Bool.{cases_eq, eq-eqb, eqb-true, ne_eqb, and_from, and_parts, true≢false, false_from_ne_true}
+use Rattle.std.proofs.lemmas.Bool.{cases_eq, eq-eqb, eqb-true, ne_eqb, and_from, and_parts, true≢false}
+use Rattle.std.proofs.lemmas.Bool.{false_from_ne_true}
 use Rattle.mk_geom.specs.declared.headers.Header.{Header}
 use Rattle.mk_geom.specs.declared.headers.Header.TheVariants as header
 use Rattle.mk_geom.specs.declared.addresses.Cell.{Cell}
@@ -20,18 +22,22 @@ use Rattle.mk_invariant.proofs.Theorems.{allocations_stand}
 use Rattle.mk_frames.proofs.LastEvents.{stands}
 use Rattle.mk_words.specs.States.{PassState, world_of, now_of}
 use Rattle.mk_cycle.specs.EngineLaw.{IsAtPhase}
-use Rattle.mk_cycle.specs.Freeing.{Frees, FreesNone, FreesPage, GivesBack, HasFreeCells, IsSettledPage, IsUnmappedWord, PageState, SamePage, page_state}
+use Rattle.mk_cycle.specs.Freeing.{Frees, FreesNone, FreesPage, GivesBack, HasFreeCells, IsSettledPage, IsUnmappedWord}
+use Rattle.mk_cycle.specs.Freeing.{PageState, SamePage, page_state}
 use Rattle.mk_cycle.specs.TurnKeeps.{InTurn}
 use Rattle.mk_cycle.proofs.CleaningSteps.{halves}
 use Rattle.mk_cycle.proofs.GivingSteps.{still_unmapped_word}
 use Rattle.mk_cycle.proofs.PageSteps.{page_at_once, page_then, same_header, same_left, same_used}
 
-pub free_cells_stay : (p q : PassState) (page : ℕ) → Frees p q → SamePage p q page → HasFreeCells p page → HasFreeCells q page
+pub free_cells_stay : (p q : PassState) (page : ℕ) → Frees p q → SamePage p q page → HasFreeCells p page
+    → HasFreeCells q page
 free_cells_stay p q page k same cells x i has lt =
     let header : header_at (now_of q).words page ≡ header_at (now_of p).words page = same_header p q page same in
-    let size : words_under (header_in (now_of q).words page) ≡ words_under (header_in (now_of p).words page) = ap (λ (n : ℕ). words_under (header_of n)) header in
+    let size : words_under (header_in (now_of q).words page) ≡ words_under (header_in (now_of p).words page) =
+    ap (λ (n : ℕ). words_under (header_of n)) header in
     subst (λ (n : ℕ). IsUnmappedWord q (64 * page + x * n + i)) (sym size)
-    (still_unmapped_word p q _ k (cells x i (sym (ap (λ (n : ℕ). has_bit n x) (same_left p q page same k.marks)) ∙ has) (subst (λ (n : ℕ). i < n) size lt)))
+    (still_unmapped_word p q _ k (cells x i (sym (ap (λ (n : ℕ). has_bit n x) (same_left p q page same k.marks))
+    ∙ has) (subst (λ (n : ℕ). i < n) size lt)))
 
 pub gives_then : (page : ℕ) (p b q : PassState) → FreesNone p b → GivesBack page b q → GivesBack page p q
 gives_then page p b q k g =
@@ -41,40 +47,51 @@ gives_then page p b q k g =
       none_left = g.none_left;
     }
 
-pub gives_none : (page : ℕ) (p b : PassState) → FreesNone p b → left_unmarked (now_of b).words page ≡ 0 → GivesBack page p b
+pub gives_none : (page : ℕ) (p b : PassState) → FreesNone p b → left_unmarked (now_of b).words page ≡ 0
+    → GivesBack page p b
 gives_none page p b k none =
     record { frees = page_at_once page p b k; header = same_header p b page (k.same page); none_left = none }
 
 -- Where no cell is used and none is released, none is freed.
-unused_freed : (p : PassState) → InTurn p → IsAtPhase p 4 → (h : ℕ) → used_at (now_of p).words h ≡ 0 → left_unmarked (now_of p).words h ≡ 0
+unused_freed : (p : PassState) → InTurn p → IsAtPhase p 4 → (h : ℕ) → used_at (now_of p).words h ≡ 0
+    → left_unmarked (now_of p).words h ≡ 0
     → (k : ℕ) → has_bit (slice_index (now_of p).words.freed h) k ≡ false
 unused_freed p t at h unused none k =
-    false_from_ne_true (has_bit (slice_index (now_of p).words.freed h) k) (λ has. by ((stands p.table.config p.seen t.history).all.order.quarantined.owned h k has))
+    false_from_ne_true (has_bit (slice_index (now_of p).words.freed h) k)
+    (λ has. by ((stands p.table.config p.seen t.history).all.order.quarantined.owned h k has))
   where
     by : IsFreedCell p.table.config (world_of p).allocations h k
         ⊎ (is_released_in (is_phase (now_of p).words 4) (now_of p).words.snapshot (now_of p).words.marks h k ≡ true) → ⊥
     by (inl f) =
         let st = allocations_stand p.table.config p.seen t.history f.number f.unreleased in
-        true≢false (sym (subst (λ (cell : Cell). is_used (now_of p).words cell ≡ true) f.cell st.used) ∙ no_bit (used_at (now_of p).words h) k unused)
+        true≢false (sym (subst (λ (cell : Cell). is_used (now_of p).words cell ≡ true) f.cell st.used)
+        ∙ no_bit (used_at (now_of p).words h) k unused)
     by (inr r) =
-        let parts = and_parts (is_phase (now_of p).words 4 && has_bit (slice_index (now_of p).words.snapshot h) k) (not (has_bit (slice_index (now_of p).words.marks h) k)) r in
-        let first = and_parts (is_phase (now_of p).words 4) (has_bit (slice_index (now_of p).words.snapshot h) k) parts.0 in
-        true≢false (sym (has_bit_without (slice_index (now_of p).words.snapshot h) (slice_index (now_of p).words.marks h) k ∙ and_from _ _ first.1 parts.1)
+        let parts = and_parts (is_phase (now_of p).words 4 && has_bit (slice_index (now_of p).words.snapshot h) k)
+        (not (has_bit (slice_index (now_of p).words.marks h) k)) r in
+        let first = and_parts (is_phase (now_of p).words 4) (has_bit (slice_index (now_of p).words.snapshot h) k)
+        parts.0 in
+        true≢false (sym (has_bit_without (slice_index (now_of p).words.snapshot h)
+        (slice_index (now_of p).words.marks h) k ∙ and_from _ _ first.1 parts.1)
         ∙ no_bit (left_unmarked (now_of p).words h) k none)
 
 pub empties_here : (p : PassState) → InTurn p → IsAtPhase p 4 → (page h : ℕ) → h ≡ head_page (now_of p).words page
     → used_at (now_of p).words h ≡ 0 → left_unmarked (now_of p).words h ≡ 0 → empties (now_of p).words page 0 ≡ true
 empties_here p t at page h is unused none =
     let w : Words = (now_of p).words in
-    let freed : slice_index w.freed h ≡ 0 = zero_from_bits (slice_index w.freed h) (unused_freed p t at h unused none) in
+    let freed : slice_index w.freed h ≡ 0 =
+    zero_from_bits (slice_index w.freed h) (unused_freed p t at h unused none) in
     let snapshot : slice_index w.snapshot h ≡ 0 =
     zero_from_bits (slice_index w.snapshot h) (λ k. false_from_ne_true (has_bit (slice_index w.snapshot h) k) (λ has.
-    true≢false (sym ((stands p.table.config p.seen t.history).all.order.quarantined.within h k has) ∙ unused_freed p t at h unused none k))) in
-    subst (λ (n : ℕ). ((0 == 0) && (used_at w n == 0) && (slice_index w.freed n == 0) && (slice_index w.snapshot n == 0)) ≡ true) is
+    true≢false (sym ((stands p.table.config p.seen t.history).all.order.quarantined.within h k has)
+    ∙ unused_freed p t at h unused none k))) in
+    subst (λ (n : ℕ). ((0 == 0) && (used_at w n == 0) && (slice_index w.freed n == 0)
+    && (slice_index w.snapshot n == 0)) ≡ true) is
     (and_from _ _ (and_from _ _ (and_from _ _ refl (eq-eqb _ 0 unused)) (eq-eqb _ 0 freed)) (eq-eqb _ 0 snapshot))
 
 -- A page without a header has no released cell.
-pub bare_left : (p : PassState) → InTurn p → (page : ℕ) → header_at (now_of p).words page ≡ 0 → left_unmarked (now_of p).words page ≡ 0
+pub bare_left : (p : PassState) → InTurn p → (page : ℕ) → header_at (now_of p).words page ≡ 0
+    → left_unmarked (now_of p).words page ≡ 0
 bare_left p t page none =
     let w : Words = (now_of p).words in
     let order = (stands p.table.config p.seen t.history).all.order in
@@ -90,7 +107,8 @@ pub bare_snapshot : (p : PassState) → InTurn p → (page : ℕ) → header_at 
 bare_snapshot p t page none =
     let w : Words = (now_of p).words in
     let order = (stands p.table.config p.seen t.history).all.order in
-    zero_from_bits (slice_index w.snapshot page) (λ k. false_from_ne_true (has_bit (slice_index w.snapshot page) k) (λ has.
+    zero_from_bits (slice_index w.snapshot page)
+    (λ k. false_from_ne_true (has_bit (slice_index w.snapshot page) k) (λ has.
     let small = order.known page k (order.quarantined.within page k has) in
     let no_cells : cells_under (header_in w page) ≡ 0 = ap (λ (n : ℕ). cells_under (header_of n)) none in
     absurd (omega arith)))
@@ -104,14 +122,17 @@ or_right : (a b : Bool) → b ≡ true → (a || b) ≡ true
 or_right true b h = refl
 or_right false b h = h
 
-pub settled_bare : (p : PassState) (page : ℕ) → left_unmarked (now_of p).words page ≡ 0 → header_at (now_of p).words page ≡ 0 → IsSettledPage p page
-settled_bare p page none bare = and_from _ _ (eq-eqb _ 0 none) (or_left (header_at (now_of p).words page == 0) _ (eq-eqb _ 0 bare))
+pub settled_bare : (p : PassState) (page : ℕ) → left_unmarked (now_of p).words page ≡ 0
+    → header_at (now_of p).words page ≡ 0 → IsSettledPage p page
+settled_bare p page none bare =
+    and_from _ _ (eq-eqb _ 0 none) (or_left (header_at (now_of p).words page == 0) _ (eq-eqb _ 0 bare))
 
 pub settled_used : (p : PassState) (page : ℕ) → left_unmarked (now_of p).words page ≡ 0
     → used_at (now_of p).words (head_page (now_of p).words page) ≢ 0 → IsSettledPage p page
 settled_used p page none used =
     and_from _ _ (eq-eqb _ 0 none)
-    (or_right (header_at (now_of p).words page == 0) _ (ap not (ne_eqb (used_at (now_of p).words (head_page (now_of p).words page)) 0 used)))
+    (or_right (header_at (now_of p).words page == 0) _
+    (ap not (ne_eqb (used_at (now_of p).words (head_page (now_of p).words page)) 0 used)))
 
 pub settled_left : (p : PassState) (page : ℕ) → IsSettledPage p page → left_unmarked (now_of p).words page ≡ 0
 settled_left p page h = eqb-true _ 0 (and_parts (left_unmarked (now_of p).words page == 0) _ h).0
@@ -125,16 +146,24 @@ pub head_near : (w : Words) (page : ℕ) → head_page w page ≤ page
 head_near w page = head_before (header_in w page) page
 
 -- Settled pages stay so while a later one changes.
-pub still_settled : (p q : PassState) (page r : ℕ) → FreesPage page p q → r < page → IsSettledPage p r → IsSettledPage q r
+pub still_settled : (p q : PassState) (page r : ℕ) → FreesPage page p q → r < page → IsSettledPage p r
+    → IsSettledPage q r
 still_settled p q page r k lt h =
     let same : SamePage p q r = k.others r (λ e. absurd (omega arith)) in
     let near = head_near (now_of p).words r in
-    let head_same : SamePage p q (head_page (now_of p).words r) = k.others (head_page (now_of p).words r) (λ e. absurd (omega arith)) in
-    let head : head_page (now_of q).words r ≡ head_page (now_of p).words r = ap (λ (n : ℕ). head_page_under (header_of n) r) (same_header p q r same) in
-    ap (λ (n : ℕ). (n == 0) && ((header_at (now_of q).words r == 0) || not (used_at (now_of q).words (head_page (now_of q).words r) == 0))) (same_left p q r same k.frees.marks)
-    ∙ ap (λ (n : ℕ). (left_unmarked (now_of p).words r == 0) && ((n == 0) || not (used_at (now_of q).words (head_page (now_of q).words r) == 0))) (same_header p q r same)
-    ∙ ap (λ (n : ℕ). (left_unmarked (now_of p).words r == 0) && ((header_at (now_of p).words r == 0) || not (used_at (now_of q).words n == 0))) head
-    ∙ ap (λ (n : ℕ). (left_unmarked (now_of p).words r == 0) && ((header_at (now_of p).words r == 0) || not (n == 0))) (same_used p q (head_page (now_of p).words r) head_same)
+    let head_same : SamePage p q (head_page (now_of p).words r) =
+    k.others (head_page (now_of p).words r) (λ e. absurd (omega arith)) in
+    let head : head_page (now_of q).words r ≡ head_page (now_of p).words r =
+    ap (λ (n : ℕ). head_page_under (header_of n) r) (same_header p q r same) in
+    ap (λ (n : ℕ). (n == 0)
+    && ((header_at (now_of q).words r == 0) || not (used_at (now_of q).words (head_page (now_of q).words r) == 0)))
+    (same_left p q r same k.frees.marks)
+    ∙ ap (λ (n : ℕ). (left_unmarked (now_of p).words r == 0)
+    && ((n == 0) || not (used_at (now_of q).words (head_page (now_of q).words r) == 0))) (same_header p q r same)
+    ∙ ap (λ (n : ℕ). (left_unmarked (now_of p).words r == 0)
+    && ((header_at (now_of p).words r == 0) || not (used_at (now_of q).words n == 0))) head
+    ∙ ap (λ (n : ℕ). (left_unmarked (now_of p).words r == 0) && ((header_at (now_of p).words r == 0) || not (n == 0)))
+    (same_used p q (head_page (now_of p).words r) head_same)
     ∙ h
 
 -- and while nothing is given back
@@ -143,7 +172,8 @@ settled_alike p q page k h = still_settled p q (page + 1) page (page_at_once (pa
 
 -- what two looks tell of the released cells
 pub marked_gone : (a b : PassState) (page quarantine marks : ℕ) → InTurn a → FreesNone a b
-    → quarantine ≡ quarantine_word (slice_index (now_of a).words.freed page) (slice_index (now_of a).words.snapshot page)
+    → quarantine ≡ quarantine_word (slice_index (now_of a).words.freed page)
+    (slice_index (now_of a).words.snapshot page)
     → marks ≡ slice_index (now_of b).words.marks page
     → without (quarantine / 2 ^ 32) marks ≡ left_unmarked (now_of b).words page
 marked_gone a b page quarantine marks t k word is =
@@ -151,7 +181,8 @@ marked_gone a b page quarantine marks t k word is =
     ap (λ (n : ℕ). without n marks) (h.snapshot ∙ sym (ap (λ (x : PageState). x.snapshot) (k.same page)))
     ∙ ap (λ (n : ℕ). without (slice_index (now_of b).words.snapshot page) n) is
 
-pub head_stays : (p q : PassState) (page : ℕ) → SamePage p q page → head_page (now_of q).words page ≡ head_page (now_of p).words page
+pub head_stays : (p q : PassState) (page : ℕ) → SamePage p q page
+    → head_page (now_of q).words page ≡ head_page (now_of p).words page
 head_stays p q page same = ap (λ (n : ℕ). head_page_under (header_of n) page) (same_header p q page same)
 
 -- No cell is released at the head of the page's run: it is the page itself, or one that is settled.
@@ -159,7 +190,8 @@ pub none_at : (p a b : PassState) (page h : ℕ) → FreesNone p a → GivesBack
     → ((r : ℕ) → r < page → IsSettledPage p r) → left_unmarked (now_of b).words h ≡ 0
 none_at p a b page h k g le settled = elim (cases_eq h page) [
   | inl e ↦ ap (λ (n : ℕ). left_unmarked (now_of b).words n) e ∙ g.none_left
-  | inr ne ↦ same_left a b h (g.frees.others h ne) g.frees.frees.marks ∙ same_left p a h (k.same h) k.frees.marks ∙ settled_left p h (settled h (omega arith))
+  | inr ne ↦ same_left a b h (g.frees.others h ne) g.frees.frees.marks ∙ same_left p a h (k.same h) k.frees.marks
+      ∙ settled_left p h (settled h (omega arith))
 ]
 
 pub freed_settles : (a q : PassState) (page used : ℕ) → FreesPage page a q
@@ -168,5 +200,6 @@ pub freed_settles : (a q : PassState) (page used : ℕ) → FreesPage page a q
 freed_settles a q page used k state none =
     settled_bare q page
     (ap (λ (x : PageState). without x.snapshot (slice_index (now_of q).words.marks page)) state
-    ∙ ap (λ (ms : List ℕ). without (slice_index (now_of a).words.snapshot page) (slice_index ms page)) k.frees.marks ∙ none)
+    ∙ ap (λ (ms : List ℕ). without (slice_index (now_of a).words.snapshot page) (slice_index ms page)) k.frees.marks
+    ∙ none)
     (ap (λ (x : PageState). x.page.header) state)

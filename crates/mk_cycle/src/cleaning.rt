@@ -1,5 +1,5 @@
-//! What comes before a cycle's `begin`: the marks of the cycle before are cleared, and the snapshot is taken. A word that
-//! is as it is to be isn't stored to.
+//! What comes before a cycle's `begin`: the marks of the cycle before are cleared, and the snapshot is taken. A word
+//! that is as it is to be isn't stored to.
 ghost use Rattle.std.specs.Prelude.{◌≡◌, ◌<◌, ℕ};
 ghost use Rattle.mk_cycle.specs.Cleaning.{Cleans, IsUnmarked, IsUnscanned, HasSnapshot, IsClean};
 ghost use Rattle.mk_cycle.specs.EngineLaw.{IsFreeForCycle, IsAtPhase};

@@ -29,7 +29,8 @@ pub(crate) fn release_unmarked<E: Engine, R: Threads + Wait + Sync>(
     ensures made_for { E.made_for engine.new ≡ E.made_for engine.old }
     ensures releases { ReleasesUnmarked stop.old.pass stop.new.pass }
     ensures cells { (page : ℕ) → HasFreeCells stop.new.pass page }
-    ensures told { HasReleased stop.old.pass stop.new.pass (released_below (now_of stop.new.pass).words words.now.config.pages) }
+    ensures told { HasReleased stop.old.pass stop.new.pass
+        (released_below (now_of stop.new.pass).words words.now.config.pages) }
     ensures reached { E.sweeps ≡ false → SweepsNothing stop.old.pass stop.new.pass }
     ensures told_at_close { IsToldAtClose (E.tells engine.new) stop.old.pass stop.new.pass }
 {

@@ -1,5 +1,5 @@
-//! Page by page, what was released is counted and given back, pages on which nothing is left are freed, and what is held
-//! is counted: in one pass, which looks at a free page once.
+//! Page by page, what was released is counted and given back, pages on which nothing is left are freed, and what is
+//! held is counted: in one pass, which looks at a free page once.
 ghost use Rattle.std.specs.Prelude.{◌≡◌, ◌<◌, ◌≤◌, ℕ};
 ghost use Rattle.mk_core.specs.Cells.{head_page, left_unmarked};
 ghost use Rattle.mk_core.specs.TurnConditions.{words_held};

@@ -24,7 +24,9 @@ use Rattle.mk_cycle.specs.Holding.{IsHeldOrOwn}
 use Rattle.mk_cycle.specs.Kinds.{begins_marking}
 use Rattle.mk_cycle.specs.TurnKeeps.{KeepsTurn, KeepsGates, whole}
 use Rattle.mk_cycle.proofs.KeptInParts.{free_then, gates_then, keeps_at_once, keeps_then, same_config}
-use Rattle.mk_engines.specs.Beside.{FindsInRoot, GoesBeside, IsBeside, IsOpenToLook, KeepsOtherGates, LooksAt, MarksBeside, MarksReachedAlone, StaysWell, done_since, found_well, is_same_root, looks_at, looks_at_root}
+use Rattle.mk_engines.specs.Beside.{FindsInRoot, GoesBeside, IsBeside, IsOpenToLook, KeepsOtherGates, LooksAt}
+use Rattle.mk_engines.specs.Beside.{MarksBeside, MarksReachedAlone, StaysWell, done_since, found_well, is_same_root}
+use Rattle.mk_engines.specs.Beside.{looks_at, looks_at_root}
 use Rattle.mk_engines.proofs.Since.{done_then, nothing_done, nothing_keeps, rule_then}
 
 -- The turn goes on being free, and the cycle marking.

@@ -1,4 +1,5 @@
-//! Clients: who has a turn that is free for a cycle may begin one with an engine of this crate, and nothing more is asked.
+//! Clients: who has a turn that is free for a cycle may begin one with an engine of this crate, and nothing more is
+//! asked.
 ghost use Rattle.std.specs.Prelude.{◌≡◌, OnOk};
 ghost use Rattle.mk_cycle.specs.BeginCycle.{BeginsCycle};
 ghost use Rattle.mk_cycle.specs.EngineLaw.{IsFreeForCycle, IsAtPhase};

@@ -10,7 +10,8 @@ use Rattle.mk_never.specs.declared.operations.Op.TheVariants as op
 use Rattle.mk_never.specs.Types.{kinds_of}
 use Rattle.mk_never.specs.NeverHeap.{NeverState, allocation_at, register_at}
 use Rattle.mk_never.specs.Laws.{Continues, KeepsRegisters}
-use Rattle.mk_never.specs.Admitted.{AccessIsAdmitted, AreAdmitted, IsAdmitted, IsBase, IsNumber, IsOfKind, IsPointer, Meets, OperandsAreInRange, StoreIsAdmitted}
+use Rattle.mk_never.specs.Admitted.{AccessIsAdmitted, AreAdmitted, IsAdmitted, IsBase, IsNumber, IsOfKind, IsPointer}
+use Rattle.mk_never.specs.Admitted.{Meets, OperandsAreInRange, StoreIsAdmitted}
 use Rattle.mk_never.specs.Typed.{IsSound, IsTyped}
 use Rattle.mk_core.specs.declared.events.Answer.{Answer}
 use Rattle.mk_core.specs.Decided.{asked, entry_of, flagged}

@@ -1,5 +1,5 @@
--- What a step asks of the heap that never reuses storage it asks behind a longer list too: what it finds may differ, and
--- so the answer, but not whether it decides, nor what for.
+-- What a step asks of the heap that never reuses storage it asks behind a longer list too: what it finds may differ,
+-- and so the answer, but not whether it decides, nor what for.
 use Rattle.std.proofs.Common.{Bool, ap, false, refl, sym, true, ℕ, ◌∙◌, ◌≡◌}
 use Rattle.std.specs.Prelude.{None, Option, Some, if◌then◌else◌, ◌==◌}
 use Rattle.mk_never.specs.declared.operations.Op.{Op}

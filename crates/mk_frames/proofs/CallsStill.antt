@@ -1,6 +1,7 @@
 -- A caller whose gate is held decides no call, so its registers stay as they are in the heap that never reuses storage,
 -- and where all gates are held, all of that heap does.
-use Rattle.std.proofs.Common.{List, [], ap, arith, false, inl, inr, refl, subst, sym, true, ℕ, ◌++◌, ◌<◌, ◌∙◌, ◌∷◌, ◌≡◌, ◌≢◌}
+use Rattle.std.proofs.Common.{List, [], ap, arith, false, inl, inr, refl, subst, sym, true, ℕ, ◌++◌, ◌<◌, ◌∙◌, ◌∷◌, ◌≡◌}
+use Rattle.std.proofs.Common.{◌≢◌}
 use Rattle.std.specs.Prelude.{None, Option, Some, slice_index, ◌==◌, ◌||◌}
 use Rattle.std.proofs.lemmas.Bool.{cases_eq, ltb-true}
 use Rattle.mk_never.specs.declared.operations.Op.{Op}

@@ -23,9 +23,15 @@ use Rattle.mk_core.specs.MarkerConditions.{may_end_all}
 use Rattle.mk_core.specs.Moments.{is_phase, others_are_held}
 use Rattle.mk_core.specs.Ranges.{has_gates, has_phase}
 use Rattle.mk_core.specs.declared.events.Seat.{Seat}
-use Rattle.mk_core.specs.NewPlaces.{bits_made, header_made, is_next_header, is_run_gone, object_made, pages_made, target}
-use Rattle.mk_core.specs.StopConditions.{blackens, has_closed_page, marks_by_hand, marks_place, may_begin, may_black, may_close, may_end, may_mark, may_turn_black, may_unblack, may_undirty, none_attends, roots_point_well}
-use Rattle.mk_core.specs.TurnConditions.{are_wiped, carves, drops, empties, frees, gives_back, is_decided, is_full, is_in_gone_run, is_marked_first, is_used_once, may_give, may_head, may_quarantine, may_use, may_wipe, place_now, takes_cell, takes_snapshot, unmaps, words_held}
+use Rattle.mk_core.specs.NewPlaces.{bits_made, header_made, is_next_header, is_run_gone, object_made, pages_made}
+use Rattle.mk_core.specs.NewPlaces.{target}
+use Rattle.mk_core.specs.StopConditions.{blackens, has_closed_page, marks_by_hand, marks_place, may_begin, may_black}
+use Rattle.mk_core.specs.StopConditions.{may_close, may_end, may_mark, may_turn_black, may_unblack, may_undirty}
+use Rattle.mk_core.specs.StopConditions.{none_attends, roots_point_well}
+use Rattle.mk_core.specs.TurnConditions.{are_wiped, carves, drops, empties, frees, gives_back, is_decided, is_full}
+use Rattle.mk_core.specs.TurnConditions.{is_in_gone_run, is_marked_first, is_used_once, may_give, may_head}
+use Rattle.mk_core.specs.TurnConditions.{may_quarantine, may_use, may_wipe, place_now, takes_cell, takes_snapshot}
+use Rattle.mk_core.specs.TurnConditions.{unmaps, words_held}
 use Rattle.mk_core.specs.Words.{Words, header_at, phase_of, quarantine_word, used_at}
 use Rattle.mk_protocol.proofs.Asked.{none_at}
 use Rattle.mk_frames.proofs.Tests.{and_on, if_on, none_from, or_on, some_on, without_on}

@@ -6,9 +6,11 @@ use Rattle.mk_core.specs.declared.config.Config.{Config}
 use Rattle.mk_core.specs.declared.events.Event.{Event}
 use Rattle.mk_core.specs.Decided.{Decided, asked}
 use Rattle.mk_core.specs.Enabled.{IsEnabled, MeetsAll}
-use Rattle.mk_core.specs.History.{AreEnabledFrom, IsHistory, call_decided, calls_from, left, left_from, never_behind, world_behind}
+use Rattle.mk_core.specs.History.{AreEnabledFrom, IsHistory, call_decided, calls_from, left, left_from, never_behind}
+use Rattle.mk_core.specs.History.{world_behind}
 use Rattle.mk_core.proofs.Conditions.{enabled_meets}
-use Rattle.mk_core.proofs.HistoryParts.{admitted_in_parts, earlier_part_is_history, enabled_in_parts, left_in_parts, never_in_parts}
+use Rattle.mk_core.proofs.HistoryParts.{admitted_in_parts, earlier_part_is_history, enabled_in_parts, left_in_parts}
+use Rattle.mk_core.proofs.HistoryParts.{never_in_parts}
 use Rattle.mk_images.proofs.FreedRuns.{never_after}
 use Rattle.mk_images.proofs.KnownWorlds.{KnownWorld, known_world}
 use Rattle.mk_invariant.specs.Invariant.{Invariant}

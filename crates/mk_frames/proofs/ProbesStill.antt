@@ -1,5 +1,6 @@
 -- A run that a `probe` finds unmapped stays so: the call's own register points into its allocation.
-use Rattle.std.proofs.Common.{Bool, ap, arith, false, inl, inr, length, refl, subst, sym, true, ℕ, ◌+◌, ◌*◌, ◌<◌, ◌∙◌, ◌≡◌}
+use Rattle.std.proofs.Common.{Bool, ap, arith, false, inl, inr, length, refl, subst, sym, true, ℕ, ◌+◌, ◌*◌, ◌<◌, ◌∙◌}
+use Rattle.std.proofs.Common.{◌≡◌}
 use Rattle.std.specs.Prelude.{if◌then◌else◌, nat_lt}
 use Rattle.std.proofs.lemmas.Bool.{and_from, and_parts, cases_Bool, true≢false}
 use Rattle.mk_never.specs.declared.operations.Op.{Op}

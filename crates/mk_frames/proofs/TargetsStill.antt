@@ -1,5 +1,6 @@
 -- An allocation to which a caller's register leads stays unreleased, where it is, and in a call of the caller mapped.
-use Rattle.std.proofs.Common.{List, [], append-nil, append_assoc, ap, arith, false, inl, inr, length, refl, subst, sym, true, ℕ, ◌++◌, ◌*◌, ◌+◌, ◌/◌, ◌<◌, ◌∙◌, ◌∷◌, ◌≡◌}
+use Rattle.std.proofs.Common.{List, [], append-nil, append_assoc, ap, arith, false, inl, inr, length, refl, subst, sym}
+use Rattle.std.proofs.Common.{true, ℕ, ◌++◌, ◌*◌, ◌+◌, ◌/◌, ◌<◌, ◌∙◌, ◌∷◌, ◌≡◌}
 use Rattle.std.specs.Prelude.{not, slice_index}
 use Rattle.std.proofs.lemmas.Bool.{and_from, and_parts, cases_lt, not-true, false≢true}
 use Rattle.std.proofs.lemmas.List.{get_or_append_left, get_or_past, length-map}

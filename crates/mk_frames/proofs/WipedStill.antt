@@ -1,5 +1,6 @@
 -- The words of released cells are in no mapped allocation: what is wiped stays so.
-use Rattle.std.proofs.Common.{Bool, List, ap, arith, false, inl, inr, refl, subst, sym, true, ℕ, ◌*◌, ◌+◌, ◌-◌, ◌/◌, ◌%◌, ◌<◌, ◌∙◌, ◌≡◌, ◌≢◌}
+use Rattle.std.proofs.Common.{Bool, List, ap, arith, false, inl, inr, refl, subst, sym, true, ℕ, ◌*◌, ◌+◌, ◌-◌, ◌/◌}
+use Rattle.std.proofs.Common.{◌%◌, ◌<◌, ◌∙◌, ◌≡◌, ◌≢◌}
 use Rattle.std.specs.Prelude.{None, Option, Some, if◌then◌else◌, nat_le, nat_lt, not, slice_index, ◌||◌, ◌==◌}
 use Rattle.std.proofs.lemmas.Nat.{div-mul-add}
 use Rattle.std.proofs.lemmas.Bool.{and_from, cases_Bool, cases_eq, or_left, or_right, true≢false}
@@ -14,7 +15,8 @@ use Rattle.mk_geom.proofs.ClassTable.{cell_ends}
 use Rattle.mk_core.specs.declared.config.Config.{Config}
 use Rattle.mk_core.specs.Allocations.{PlacedAllocation, cell_of_allocation, placed_at}
 use Rattle.mk_core.specs.Bits.{has_bit}
-use Rattle.mk_core.specs.Cells.{cell_words, cells_under, first_word, header_in, heads_run, is_released, pointed_cell, words_are_zero, words_under}
+use Rattle.mk_core.specs.Cells.{cell_words, cells_under, first_word, header_in, heads_run, is_released, pointed_cell}
+use Rattle.mk_core.specs.Cells.{words_are_zero, words_under}
 use Rattle.mk_core.specs.History.{World}
 use Rattle.mk_core.specs.Moments.{is_phase}
 use Rattle.mk_core.specs.TurnConditions.{are_wiped, gives_back}

@@ -1,5 +1,6 @@
 -- How many operations a script without `if` asks for, whatever it is answered.
-use Rattle.std.proofs.Common.{◌≡◌, ℕ, zero, suc, ◌+◌, ◌*◌, Bool, true, false, List, [], ◌∷◌, length, Option, Some, None, refl, ap, ◌∙◌, sym, subst, arith, if◌then◌else◌}
+use Rattle.std.proofs.Common.{◌≡◌, ℕ, zero, suc, ◌+◌, ◌*◌, Bool, true, false, List, [], ◌∷◌, length, Option, Some, None}
+use Rattle.std.proofs.Common.{refl, ap, ◌∙◌, sym, subst, arith, if◌then◌else◌}
 use Rattle.std.specs.Prelude.{⊤, is_some}
 use Rattle.std.proofs.lemmas.Bool.{false≢true}
 use Rattle.std.proofs.lemmas.List.{length_push}
@@ -8,7 +9,8 @@ use Rattle.mk_core.specs.declared.events.Answer.{Answer}
 use Rattle.mk_script.specs.declared.items.Item.{Item}
 use Rattle.mk_script.specs.declared.items.Item.TheVariants.{Getn, Print, Else}
 use Rattle.mk_check.specs.Blocks.{Blocks, Done, Line, Rounds, Choice, followed_by, is_done, blocks_from, ScriptText}
-use Rattle.mk_check.specs.Feed.{Scope, Fed, op_of, run_line, run_rounds, run, with_answer, note, take_answer, take_answers, fed_before_lines, fed_before_answers, feed_script, has_ended}
+use Rattle.mk_check.specs.Feed.{Scope, Fed, op_of, run_line, run_rounds, run, with_answer, note, take_answer}
+use Rattle.mk_check.specs.Feed.{take_answers, fed_before_lines, fed_before_answers, feed_script, has_ended}
 
 abbrev pub nowhere : Scope
 nowhere = record { types = []; globals = []; pointers = []; numbers = [] }
@@ -92,7 +94,8 @@ module _ (scope : Scope) where
       let behind : (f : Fed) → IsLeft (more * calls_of body + 0) f (run_rounds more body go f) =
       λ f. recounted (omega arith) (rounds_left more body go plain goes f) in
       recounted (omega arith)
-      (left_then (calls_of body) fed (go fed) (run_rounds more body go) (Rounds more body Done) (goes fed) (plain, tt) behind
+      (left_then (calls_of body) fed (go fed) (run_rounds more body go) (Rounds more body Done) (goes fed)
+      (plain, tt) behind
       (is_done (go fed).left) refl)
 
   line_keeps : (fed : Fed) (item : Item) → (run_line scope fed item).ops ≡ fed.ops

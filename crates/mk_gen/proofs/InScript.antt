@@ -1,5 +1,6 @@
 -- The lines of a script are read by what stands behind its first line alone.
-use Rattle.std.proofs.Common.{◌≡◌, ℕ, ◌+◌, Bool, true, false, List, [], ◌∷◌, ◌++◌, length, refl, ap, ◌∙◌, sym, Option, Some, None}
+use Rattle.std.proofs.Common.{◌≡◌, ℕ, ◌+◌, Bool, true, false, List, [], ◌∷◌, ◌++◌, length, refl, ap, ◌∙◌, sym, Option}
+use Rattle.std.proofs.Common.{Some, None}
 use Rattle.std.specs.List.{list_all}
 use Rattle.std.proofs.lemmas.List.Folds.{list_any-append}
 use Rattle.std.proofs.lemmas.List.Sums.{fold-append}
@@ -12,7 +13,8 @@ use Rattle.mk_script.specs.declared.faults.Which.TheVariants as which
 use Rattle.mk_script.specs.Words.{words_of}
 use Rattle.mk_script.specs.Keywords.{keyword_of}
 use Rattle.mk_script.specs.Scopes.{pointer_names, number_names, is_script, this_script, open_behind, open_blocks}
-use Rattle.mk_script.specs.Lines.{has_script, is_among, register_names, at_most, is_placed, placed_item, other_line, line_item, is_twice, limit_fault, checked_item}
+use Rattle.mk_script.specs.Lines.{has_script, is_among, register_names, at_most, is_placed, placed_item, other_line}
+use Rattle.mk_script.specs.Lines.{line_item, is_twice, limit_fault, checked_item}
 use Rattle.mk_check.specs.Lookups.{lines_behind}
 use Rattle.mk_check.proofs.LookupLemmas.{this_script-push}
 use Rattle.mk_gen.proofs.ReadLines.{IsRead, AreRead}
@@ -45,7 +47,8 @@ alike_push a b item alike = record {
   script = has_script-push a item alike.script;
   script' = has_script-push b item alike.script';
   lines = this_script-push a item ∙ ap (λ lines. lines_behind lines item) alike.lines ∙ sym (this_script-push b item);
-  blocks = open_blocks-push a item ∙ ap (λ blocks. open_behind blocks item) alike.blocks ∙ sym (open_blocks-push b item);
+  blocks = open_blocks-push a item ∙ ap (λ blocks. open_behind blocks item) alike.blocks
+      ∙ sym (open_blocks-push b item);
 }
 
 -- behind the first line of a script nothing else counts
@@ -94,7 +97,8 @@ module _ (a b : List Item) (alike : AreAlike a b) where
   limit_alike (TypeLine name words) inside = absurd (false≢true inside)
   limit_alike (Global name ty) inside = absurd (false≢true inside)
   limit_alike (Script name) inside = absurd (false≢true inside)
-  limit_alike (Ptr name at) inside = ap (λ lines. at_most (length (pointer_names lines) + 1) 8 which.Pointers) alike.lines
+  limit_alike (Ptr name at) inside =
+      ap (λ lines. at_most (length (pointer_names lines) + 1) 8 which.Pointers) alike.lines
   limit_alike (Num name) inside = ap (λ lines. at_most (length (number_names lines) + 1) 8 which.Numbers) alike.lines
   limit_alike (Repeat rounds) inside = ap (λ blocks. at_most (length blocks + 1) 32 which.Depth) alike.blocks
   limit_alike (If number) inside = ap (λ blocks. at_most (length blocks + 1) 32 which.Depth) alike.blocks

@@ -1,5 +1,6 @@
 -- The lines of a script behind its name line are read.
-use Rattle.std.proofs.Common.{◌≡◌, ℕ, ◌<◌, ◌≤◌, ◌^◌, true, false, ◌&&◌, nat_eq, nat_le, not, Bool, List, [], ◌∷◌, ◌++◌, length, refl, ap, ◌∙◌, sym, subst, arith, Ok}
+use Rattle.std.proofs.Common.{◌≡◌, ℕ, ◌<◌, ◌≤◌, ◌^◌, true, false, ◌&&◌, nat_eq, nat_le, not, Bool, List, [], ◌∷◌, ◌++◌}
+use Rattle.std.proofs.Common.{length, refl, ap, ◌∙◌, sym, subst, arith, Ok}
 use Rattle.std.specs.Fmt.{decimal}
 use Rattle.std.specs.List.{All, list_all}
 use Rattle.std.proofs.lemmas.Fmt.{length-decimal-le}
@@ -83,7 +84,8 @@ body_is_read turns number place t a i =
     and by_words (codes "setn" ∷ codes "b" ∷ decimal place ∷ codes "n" ∷ [])
     refl
     (refl, (refl, (is_word-decimal place i, (refl, tt))))
-    (read_number place i _ refl) refl (omega (arith, length-decimal place i, length-append (decimal place) (codes " n")))
+    (read_number place i _ refl) refl
+    (omega (arith, length-decimal place i, length-append (decimal place) (codes " n")))
     and plain refl refl refl
     and plain refl refl refl
     and plain refl refl refl

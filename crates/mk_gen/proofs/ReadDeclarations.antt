@@ -20,7 +20,8 @@ use Rattle.mk_gen.proofs.ReadBody.{by_words, plain, length-decimal}
 -- `n*K` for K from 1 on, with K = 1 too
 field_of-numbers : (numbers : ℕ) → 1 ≤ numbers → numbers < 2 ^ 64
     → field_of (codes "n*" ++ decimal numbers) ≡ Some (replicate numbers Number)
-field_of-numbers numbers some small = rw (number_of_word-decimal numbers small) (cond-true _ _ _ (le-leb 1 numbers some))
+field_of-numbers numbers some small =
+    rw (number_of_word-decimal numbers small) (cond-true _ _ _ (le-leb 1 numbers some))
 
 pub declarations_are_read : (numbers : ℕ) → 1 ≤ numbers → numbers ≤ 100
     → AreRead [] (declaration_lines numbers) (declarations numbers)
@@ -34,6 +35,7 @@ declarations_are_read numbers some few =
     and by_words (codes "type" ∷ codes "Buf" ∷ (codes "n*" ++ decimal numbers) ∷ [])
     (ap (λ digits. codes "type Buf n*" ++ digits) (sym (append-nil (decimal numbers))))
     (refl, (refl, (is_word-append (codes "n*") (decimal numbers) refl (is_solid-decimal numbers small), tt)))
-    (rw (field_of-numbers numbers some small, append-nil) refl) (rw short refl) (omega (arith, length-decimal numbers small))
+    (rw (field_of-numbers numbers some small, append-nil) refl) (rw short refl)
+    (omega (arith, length-decimal numbers small))
     and plain refl refl refl
     and tt

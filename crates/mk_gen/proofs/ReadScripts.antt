@@ -1,5 +1,6 @@
 -- The scripts are read, each behind those before it.
-use Rattle.std.proofs.Common.{◌≡◌, ℕ, ◌+◌, ◌/◌, ◌<◌, ◌≤◌, ◌^◌, Bool, true, ◌&&◌, not, nat_le, List, [], ◌∷◌, ◌++◌, length, refl, ap, ◌∙◌, sym, arith, Ok}
+use Rattle.std.proofs.Common.{◌≡◌, ℕ, ◌+◌, ◌/◌, ◌<◌, ◌≤◌, ◌^◌, Bool, true, ◌&&◌, not, nat_le, List, [], ◌∷◌, ◌++◌}
+use Rattle.std.proofs.Common.{length, refl, ap, ◌∙◌, sym, arith, Ok}
 use Rattle.std.proofs.Math.Nat.{mod-lt}
 use Rattle.std.proofs.lemmas.Bool.{false≢true, and_parts, not-true, leb-true}
 use Rattle.std.proofs.lemmas.List.{append-nil}
@@ -95,7 +96,8 @@ draw-lt x m some = mod-lt (x / 2 ^ 33) some
 module _ (turns numbers : ℕ) (t : turns < 2 ^ 64) (some : 0 < numbers) (few : numbers ≤ 100) where
   pub scripts_are_read : (x : ℕ) (names before_names : List (List ℕ)) (before : List Item)
       → AreReady before before_names
-      → MayBegin before_names names → AreRead before (script_lines turns numbers x names) (scripts turns numbers x names)
+      → MayBegin before_names names
+      → AreRead before (script_lines turns numbers x names) (scripts turns numbers x names)
   scripts_are_read x [] before_names before ready may = tt
   scripts_are_read x (name ∷ names) before_names before ready may =
       let number = draw (next_state x) 1000 in
@@ -105,6 +107,8 @@ module _ (turns numbers : ℕ) (t : turns < 2 ^ 64) (some : 0 < numbers) (few : 
       let place_small : place < 2 ^ 64 = omega (arith, draw-lt behind numbers some, few) in
       let script = script_is_read turns number place t number_small place_small before before_names name ready may.0 in
       let ready' = ready_behind turns number place before before_names name ready in
-      AreRead-append ((codes "script " ++ name) ∷ body_lines turns number place) (script_lines turns numbers behind names)
+      AreRead-append ((codes "script " ++ name) ∷ body_lines turns number place)
+      (script_lines turns numbers behind names)
       before (script_items turns number place name) (scripts turns numbers behind names) script
-      (scripts_are_read behind names (before_names ++ name ∷ []) (before ++ script_items turns number place name) ready' may.1)
+      (scripts_are_read behind names (before_names ++ name ∷ []) (before ++ script_items turns number place name) ready'
+      may.1)

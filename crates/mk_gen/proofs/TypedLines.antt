@@ -1,5 +1,6 @@
 -- Lines of a script that are well typed behind others.
-use Rattle.std.proofs.Common.{◌≡◌, ℕ, ◌+◌, true, List, [], ◌∷◌, ◌++◌, Option, None, refl, ap, ◌∙◌, sym, subst, append_assoc}
+use Rattle.std.proofs.Common.{◌≡◌, ℕ, ◌+◌, true, List, [], ◌∷◌, ◌++◌, Option, None, refl, ap, ◌∙◌, sym, subst}
+use Rattle.std.proofs.Common.{append_assoc}
 use Rattle.std.proofs.lemmas.Bool.{false≢true}
 use Rattle.std.proofs.lemmas.List.{append-nil}
 use Rattle.mk_script.specs.declared.items.Item.{Item}
@@ -46,12 +47,14 @@ pub typed_then : (program script before items more : List Item) (line : ℕ) →
 typed_then program script before [] more line is are rest =
     subst (λ b. fault_from program line b more ≡ None) (append-nil before) (rest line)
 typed_then program script before (item ∷ items) more line is are rest =
-    let no_fault : typing_fault (record { program = program; script = this_script before }) line (items ++ more) item ≡ None =
+    let no_fault : typing_fault (record { program = program; script = this_script before }) line (items ++ more) item
+    ≡ None =
     fault_inside (record { program = program; script = this_script before }) line (items ++ more) item are.0.inside
     ∙ ap (λ lines. typing_fault (record { program = program; script = lines }) 0 [] item) is ∙ are.0.no_fault in
     let script_is : this_script (before ++ item ∷ []) ≡ script ++ item ∷ [] =
     this_script-push before item ∙ ap (λ lines. lines_behind lines item) is ∙ script_inside script item are.0.inside in
     let behind : (later : ℕ) → fault_from program later ((before ++ item ∷ []) ++ items) more ≡ None =
-    λ later. subst (λ b. fault_from program later b more ≡ None) (sym (append_assoc before (item ∷ []) items)) (rest later) in
+    λ later. subst (λ b. fault_from program later b more ≡ None) (sym (append_assoc before (item ∷ []) items))
+    (rest later) in
     go_on line _ _ no_fault
     (typed_then program (script ++ item ∷ []) (before ++ item ∷ []) items more (line + 1) script_is are.1 behind)

@@ -8,10 +8,12 @@ use Rattle.mk_script.specs.declared.items.TypeWord.TheVariants.{Number}
 use Rattle.mk_script.specs.Scopes.{this_script}
 use Rattle.mk_check.specs.Blocks.{before_next_script, blocks_from}
 use Rattle.mk_check.specs.Lengths.{length_of}
-use Rattle.mk_check.specs.Typing.{Around, length_fault, pointers_fault, offsets_fault, typing_fault, fault_from, IsWellTyped}
+use Rattle.mk_check.specs.Typing.{Around, length_fault, pointers_fault, offsets_fault, typing_fault, fault_from}
+use Rattle.mk_check.specs.Typing.{IsWellTyped}
 use Rattle.mk_check.proofs.LookupLemmas.{this_script-push}
 use Rattle.mk_gen.specs.Draws.{next_state, draw}
-use Rattle.mk_gen.specs.Generated.{all_names, declarations, script_body, scripts, numbers_of, turns_of, generated_program}
+use Rattle.mk_gen.specs.Generated.{all_names, declarations, script_body, scripts, numbers_of, turns_of}
+use Rattle.mk_gen.specs.Generated.{generated_program}
 use Rattle.mk_gen.proofs.ReadScripts.{draw-lt}
 use Rattle.mk_gen.proofs.ReadText.{numbers_some}
 use Rattle.mk_gen.proofs.TypedLines.{go_on, typed_then}
@@ -56,7 +58,8 @@ module _ (turns numbers : ℕ) (rest : List Item) (few : turns ≤ 62500) (some 
       go_on line _ _
       (first_is_typed around line turns number place more name few (none_before_scripts turns numbers behind names))
       (typed_then program [] (before ++ Script name ∷ []) (script_body turns number place) more (line + 1)
-      (this_script-push before (Script name)) (body_is_typed numbers turns number place rest (draw-lt behind numbers some))
+      (this_script-push before (Script name))
+      (body_is_typed numbers turns number place rest (draw-lt behind numbers some))
       (λ later. scripts_are_typed names behind later ((before ++ Script name ∷ []) ++ script_body turns number place)))
 
 numbers_have_types : (a : Around) (count : ℕ) → pointers_fault a (replicate count Number) ≡ None

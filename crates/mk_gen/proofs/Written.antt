@@ -1,5 +1,6 @@
 -- The text that is written, script by script.
-use Rattle.std.proofs.Common.{◌≡◌, ℕ, ◌+◌, ◌<◌, length, get_or, drop, map, Bor, List, [], ◌∷◌, ◌++◌, refl, ap, ◌∙◌, sym, append_assoc}
+use Rattle.std.proofs.Common.{◌≡◌, ℕ, ◌+◌, ◌<◌, length, get_or, drop, map, Bor, List, [], ◌∷◌, ◌++◌, refl, ap, ◌∙◌, sym}
+use Rattle.std.proofs.Common.{append_assoc}
 use Rattle.std.proofs.lemmas.List.{get_or-map}
 use lib.Chars.{codes}
 use Rattle.mk_script.proofs.Spacing.{drop_next}
@@ -24,13 +25,16 @@ all_scripts_left start count numbers x text are is written =
     rw (written, is, are) (sym (text_of_lines-append (declaration_lines (numbers_of start)) scripts))
 
 -- One script more is written, of those that are left: y is the state behind its first draw, and z behind its second.
-pub one_script_more : (turns numbers x number y place z i : ℕ) (names : List (List ℕ)) (name before after whole : List ℕ)
-    → number ≡ draw (next_state x) 1000 → y ≡ next_state x → place ≡ draw (next_state y) numbers → z ≡ next_state y → i < length names
+pub one_script_more : (turns numbers x number y place z i : ℕ) (names : List (List ℕ))
+    (name before after whole : List ℕ)
+    → number ≡ draw (next_state x) 1000 → y ≡ next_state x → place ≡ draw (next_state y) numbers → z ≡ next_state y
+    → i < length names
     → before ++ text_of_lines (script_lines turns numbers x (drop i names)) ≡ whole
     → after ≡ before ++ text_of_lines ((codes "script " ++ name) ∷ body_lines turns number place)
     → name ≡ get_or names i name
     → after ++ text_of_lines (script_lines turns numbers z (drop (i + 1) names)) ≡ whole
-one_script_more turns numbers x number y place z i names name before after whole drawn is drawn' is' inside was more named =
+one_script_more turns numbers x number y place z i names name before after whole drawn is drawn' is' inside was more
+    named =
     let rest = script_lines turns numbers z (drop (i + 1) names) in
     let script = (codes "script " ++ name) ∷ body_lines turns number place in
     let left : script ++ rest ≡ script_lines turns numbers x (drop i names) =

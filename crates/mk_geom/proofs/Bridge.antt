@@ -1,5 +1,6 @@
 -- What pages show is what the storages say that stand on them.
-use Rattle.std.proofs.Common.{◌≡◌, ℕ, zero, suc, ◌-◌, ◌/◌, ◌<◌, ◌≤◌, Bool, true, false, ◌&&◌, List, length, Option, Some, IsSome, inl, inr, refl, sym, ◌∙◌, ap, subst, arith, slice_index_or}
+use Rattle.std.proofs.Common.{◌≡◌, ℕ, zero, suc, ◌-◌, ◌/◌, ◌<◌, ◌≤◌, Bool, true, false, ◌&&◌, List, length, Option}
+use Rattle.std.proofs.Common.{Some, IsSome, inl, inr, refl, sym, ◌∙◌, ap, subst, arith, slice_index_or}
 use Rattle.std.proofs.lemmas.Bool.{cases_Bool, and_parts, cond-true, cond-false}
 use Rattle.std.proofs.lemmas.List.{same_lists, length-map, get_or-map}
 use Rattle.std.proofs.lemmas.List.Elements.{All-contains}
@@ -10,7 +11,10 @@ use Rattle.mk_geom.specs.Classes.{cells_of}
 use Rattle.mk_geom.specs.Headers.{IsInRange, IsHeaderWord, word_of, header_of}
 use Rattle.mk_geom.specs.PageUses.{PageUse, Cells, PartOfRun, place_among, census_among}
 use Rattle.mk_geom.specs.PageWords.{bits_of, use_under, use_of_page, uses_of_pages, HaveHeaderWords}
-use Rattle.mk_geom.specs.Storages.{Storage, is_small, first_page, stands_on, class_of_storage, taken_cells, use_by, use_of_storages, uses_of_storages, place_of, census_of, block_header, run_header, run_used, free_page, block_page, run_page, used_word, words_by, words_of_storages, IsRun, IsStorage, AreLaidOut, PagesStandFor}
+use Rattle.mk_geom.specs.Storages.{Storage, is_small, first_page, stands_on, class_of_storage, taken_cells, use_by}
+use Rattle.mk_geom.specs.Storages.{use_of_storages, uses_of_storages, place_of, census_of, block_header, run_header}
+use Rattle.mk_geom.specs.Storages.{run_used, free_page, block_page, run_page, used_word, words_by, words_of_storages}
+use Rattle.mk_geom.specs.Storages.{IsRun, IsStorage, AreLaidOut, PagesStandFor}
 use Rattle.mk_geom.proofs.HeaderLemmas.{header_of-word_of}
 use Rattle.mk_geom.proofs.ListSearch.{find_cases}
 use Rattle.mk_geom.proofs.Standing.{small_is_cell, large_is_run, class_of_cell, stands_parts}
@@ -22,7 +26,8 @@ use Rattle.mk_geom.proofs.UsedWords.{bits_of-used_word}
 abbrev pub Shows : Page → PageUse → Type 0
 Shows page use' = IsHeaderWord page.header × (use_of_page page ≡ use')
 
-shows_header : (h : Header) (used : ℕ) → IsInRange h → Shows (record { header = word_of h; used = used }) (use_under (Some h) used)
+shows_header : (h : Header) (used : ℕ) → IsInRange h
+    → Shows (record { header = word_of h; used = used }) (use_under (Some h) used)
 shows_header h used in_range =
     let is : header_of (word_of h) ≡ Some h = header_of-word_of h in_range in
     (subst (λ (o : Option Header). IsSome o) (sym is) refl, ap (λ o. use_under o used) is)
@@ -31,63 +36,87 @@ pub block_in_range : (class : ℕ) (leaf : Bool) → class < 8 → IsInRange (bl
 block_in_range class true known = known
 block_in_range class false known = known
 
-block_use : (class : ℕ) (leaf : Bool) (used : ℕ) → use_under (Some (block_header class leaf)) used ≡ Cells class leaf (bits_of (cells_of class) used)
+block_use : (class : ℕ) (leaf : Bool) (used : ℕ)
+    → use_under (Some (block_header class leaf)) used ≡ Cells class leaf (bits_of (cells_of class) used)
 block_use class true used = refl
 block_use class false used = refl
 
-pub block_shows : (class : ℕ) (leaf : Bool) (taken : List Bool) → class < 8 → length taken ≡ cells_of class → Shows (block_page class leaf (used_word taken)) (Cells class leaf taken)
+pub block_shows : (class : ℕ) (leaf : Bool) (taken : List Bool) → class < 8 → length taken ≡ cells_of class
+    → Shows (block_page class leaf (used_word taken)) (Cells class leaf taken)
 block_shows class leaf taken known long =
-    let shown = shows_header (block_header class leaf) (used_word taken) (block_in_range class leaf known) in
-    (shown.0, shown.1 ∙ block_use class leaf (used_word taken) ∙ ap (Cells class leaf) (bits_of-used_word taken (cells_of class) long))
+    let shown = shows_header (block_header class leaf) (used_word taken) (block_in_range class leaf known) in (
+      shown.0,
+      shown.1 ∙ block_use class leaf (used_word taken)
+          ∙ ap (Cells class leaf) (bits_of-used_word taken (cells_of class) long),
+    )
 
-pub run_in_range : (pages : ℕ) (mapped leaf : Bool) (distance : ℕ) → 1 ≤ pages → pages ≤ 64 → distance ≤ 63 → IsInRange (run_header pages mapped leaf distance)
+pub run_in_range : (pages : ℕ) (mapped leaf : Bool) (distance : ℕ) → 1 ≤ pages → pages ≤ 64 → distance ≤ 63
+    → IsInRange (run_header pages mapped leaf distance)
 run_in_range pages mapped leaf zero some most near = elim (cases_Bool (leaf && mapped)) [
   | inl both ↦ subst IsInRange (sym (cond-true (leaf && mapped) _ _ both)) (some, most)
   | inr not_both ↦ subst IsInRange (sym (cond-false (leaf && mapped) _ _ not_both)) (some, most)
 ]
 run_in_range pages mapped leaf (suc distance) some most near = (omega arith, near)
 
-run_use : (pages : ℕ) (mapped leaf : Bool) (distance used : ℕ) → use_under (Some (run_header pages mapped leaf distance)) used ≡ PartOfRun mapped
+run_use : (pages : ℕ) (mapped leaf : Bool) (distance used : ℕ)
+    → use_under (Some (run_header pages mapped leaf distance)) used ≡ PartOfRun mapped
 run_use pages mapped leaf zero used = elim (cases_Bool (leaf && mapped)) [
-  | inl both ↦ ap (λ h. use_under (Some h) used) (cond-true (leaf && mapped) _ _ both) ∙ ap PartOfRun (sym (and_parts leaf mapped both).1)
+  | inl both ↦ ap (λ h. use_under (Some h) used) (cond-true (leaf && mapped) _ _ both)
+      ∙ ap PartOfRun (sym (and_parts leaf mapped both).1)
   | inr not_both ↦ ap (λ h. use_under (Some h) used) (cond-false (leaf && mapped) _ _ not_both)
 ]
 run_use pages mapped leaf (suc distance) used = refl
 
-pub run_shows : (pages : ℕ) (mapped leaf : Bool) (distance : ℕ) → 1 ≤ pages → pages ≤ 64 → distance ≤ 63 → Shows (run_page pages mapped leaf distance) (PartOfRun mapped)
+pub run_shows : (pages : ℕ) (mapped leaf : Bool) (distance : ℕ) → 1 ≤ pages → pages ≤ 64 → distance ≤ 63
+    → Shows (run_page pages mapped leaf distance) (PartOfRun mapped)
 run_shows pages mapped leaf distance some most near =
-    let shown = shows_header (run_header pages mapped leaf distance) (run_used distance) (run_in_range pages mapped leaf distance some most near) in
+    let shown = shows_header (run_header pages mapped leaf distance) (run_used distance)
+    (run_in_range pages mapped leaf distance some most near) in
     (shown.0, shown.1 ∙ run_use pages mapped leaf distance (run_used distance))
 
 pub run_near : (s : Storage) (page : ℕ) → IsRun s → stands_on page s ≡ true → page - first_page s ≤ 63
 run_near s page run stands = let parts = stands_parts page s stands in omega (arith, run.words, run.most, run.first)
 
-shown_by : (n page : ℕ) (xs : List Storage) (s : Storage) → IsStorage n s → stands_on page s ≡ true → Shows (words_by xs page (Some s)) (use_by xs page (Some s))
+shown_by : (n page : ℕ) (xs : List Storage) (s : Storage) → IsStorage n s → stands_on page s ≡ true
+    → Shows (words_by xs page (Some s)) (use_by xs page (Some s))
 shown_by n page xs s is stands = elim (cases_Bool (is_small s)) [
   | inl small ↦
       let cell = small_is_cell n s is small in
       let known : class_of_storage s < 8 = omega (arith, class_of_cell s cell, cell.known) in
       let taken = taken_cells xs page (class_of_storage s) in
-      let shown = block_shows (class_of_storage s) s.leaf taken known (length-taken_cells xs page (class_of_storage s)) in
+      let shown = block_shows (class_of_storage s) s.leaf taken known (length-taken_cells xs page (class_of_storage s))
+      in
       moved (sym (words_by_small page xs s small)) (sym (cond-true (is_small s) _ _ small)) shown
   | inr large ↦
       let run = large_is_run n s is large in
-      moved (sym (words_by_large page xs s large)) (sym (cond-false (is_small s) _ _ large)) (run_shows (s.words / 64) s.mapped s.leaf (page - first_page s) (omega (arith, run.words, run.some)) (omega (arith, run.words, run.most)) (run_near s page run stands))
+      moved (sym (words_by_large page xs s large)) (sym (cond-false (is_small s) _ _ large))
+      (run_shows (s.words / 64) s.mapped s.leaf (page - first_page s) (omega (arith, run.words, run.some))
+      (omega (arith, run.words, run.most)) (run_near s page run stands))
 ]
   where
     moved : {p q : Page} {u v : PageUse} → p ≡ q → u ≡ v → Shows p u → Shows q v
-    moved {p} {q} {u} {v} same_page same_use shown = (subst (λ (page : Page). IsHeaderWord page.header) same_page shown.0, sym (ap use_of_page same_page) ∙ shown.1 ∙ same_use)
+    moved {p} {q} {u} {v} same_page same_use shown = (
+      subst (λ (page : Page). IsHeaderWord page.header) same_page shown.0,
+      sym (ap use_of_page same_page) ∙ shown.1
+          ∙ same_use,
+    )
 
 shown : (n page : ℕ) (xs : List Storage) → AreLaidOut n xs → Shows (words_of_storages xs page) (use_of_storages xs page)
 shown n page xs laid = elim (find_cases (stands_on page) xs) [
-  | inl (s, found, inside, stands) ↦ subst (λ (o : Option Storage). Shows (words_by xs page o) (use_by xs page o)) (sym found) (shown_by n page xs s (All-contains (IsStorage n) xs s laid.each inside) stands)
-  | inr (none, others) ↦ subst (λ (o : Option Storage). Shows (words_by xs page o) (use_by xs page o)) (sym none) (refl, refl)
+  | inl (s, found, inside, stands) ↦ subst (λ (o : Option Storage). Shows (words_by xs page o) (use_by xs page o))
+      (sym found) (shown_by n page xs s (All-contains (IsStorage n) xs s laid.each inside) stands)
+  | inr (none, others) ↦ subst (λ (o : Option Storage). Shows (words_by xs page o) (use_by xs page o)) (sym none)
+      (refl, refl)
 ]
 
-pub page_shows : (pages : List Page) (storages : List Storage) → PagesStandFor pages storages → (page : ℕ) (d : Page) → page < length pages → Shows (slice_index_or pages page d) (use_of_storages storages page)
-page_shows pages storages stand page d within = subst (λ (p : Page). Shows p (use_of_storages storages page)) (sym (stand.words page d within)) (shown (length pages) page storages stand.laid_out)
+pub page_shows : (pages : List Page) (storages : List Storage) → PagesStandFor pages storages → (page : ℕ) (d : Page)
+    → page < length pages → Shows (slice_index_or pages page d) (use_of_storages storages page)
+page_shows pages storages stand page d within =
+    subst (λ (p : Page). Shows p (use_of_storages storages page)) (sym (stand.words page d within))
+    (shown (length pages) page storages stand.laid_out)
 
-pub same_uses : (pages : List Page) (storages : List Storage) → PagesStandFor pages storages → uses_of_pages pages ≡ uses_of_storages (length pages) storages
+pub same_uses : (pages : List Page) (storages : List Storage) → PagesStandFor pages storages
+    → uses_of_pages pages ≡ uses_of_storages (length pages) storages
 same_uses pages storages stand = same_lists _ _ (shown_length ∙ sym said_length) each
   where
     shown_length : length (uses_of_pages pages) ≡ length pages
@@ -96,18 +125,22 @@ same_uses pages storages stand = same_lists _ _ (shown_length ∙ sym said_lengt
     said_length : length (uses_of_storages (length pages) storages) ≡ length pages
     said_length = length-map-range_with_len (use_of_storages storages) 0 (length pages)
 
-    each : (k : ℕ) (d : PageUse) → k < length (uses_of_pages pages) → slice_index_or (uses_of_pages pages) k d ≡ slice_index_or (uses_of_storages (length pages) storages) k d
+    each : (k : ℕ) (d : PageUse) → k < length (uses_of_pages pages)
+        → slice_index_or (uses_of_pages pages) k d ≡ slice_index_or (uses_of_storages (length pages) storages) k d
     each k d below =
         let within : k < length pages = omega (arith, shown_length) in
         get_or-map use_of_page pages k free_page d within ∙ (page_shows pages storages stand k free_page within).1
         ∙ sym (get_or-map-range_with_len (use_of_storages storages) 0 (length pages) k k d within (omega arith))
 
-pub same_places : (pages : List Page) (storages : List Storage) (limit words : ℕ) (leaf : Bool) → PagesStandFor pages storages
+pub same_places : (pages : List Page) (storages : List Storage) (limit words : ℕ) (leaf : Bool)
+    → PagesStandFor pages storages
     → place_among limit words leaf (uses_of_pages pages) ≡ place_of (length pages) limit words leaf storages
 same_places pages storages limit words leaf stand = ap (place_among limit words leaf) (same_uses pages storages stand)
 
-pub same_census : (pages : List Page) (storages : List Storage) → PagesStandFor pages storages → census_among (uses_of_pages pages) ≡ census_of (length pages) storages
+pub same_census : (pages : List Page) (storages : List Storage) → PagesStandFor pages storages
+    → census_among (uses_of_pages pages) ≡ census_of (length pages) storages
 same_census pages storages stand = ap census_among (same_uses pages storages stand)
 
-pub have_header_words : (pages : List Page) (storages : List Storage) → PagesStandFor pages storages → HaveHeaderWords pages
+pub have_header_words : (pages : List Page) (storages : List Storage) → PagesStandFor pages storages
+    → HaveHeaderWords pages
 have_header_words pages storages stand k d within = (page_shows pages storages stand k d within).0

@@ -1,5 +1,7 @@
 -- What values point into on pages that stand for storages: their cells, and nothing else that is taken.
-use Rattle.std.proofs.Common.{◌≡◌, ℕ, ◌+◌, ◌*◌, ◌/◌, ◌%◌, ◌<◌, ◌≤◌, true, false, ◌==◌, nat_le, nat_lt, List, length, Some, None, Contains, find, ◌⊎◌, ◌↔◌, inl, inr, refl, sym, ◌∙◌, ap, subst, arith, leb-true, ltb-true, div-add-mod'}
+use Rattle.std.proofs.Common.{◌≡◌, ℕ, ◌+◌, ◌*◌, ◌/◌, ◌%◌, ◌<◌, ◌≤◌, true, false, ◌==◌, nat_le, nat_lt, List, length}
+use Rattle.std.proofs.Common.{Some, None, Contains, find, ◌⊎◌, ◌↔◌, inl, inr, refl, sym, ◌∙◌, ap, subst, arith}
+use Rattle.std.proofs.Common.{leb-true, ltb-true, div-add-mod'}
 use Rattle.std.specs.Int.{bit_at}
 use Rattle.std.proofs.lemmas.Bool.{cases_Bool, and_parts, cond-true, cond-false}
 use Rattle.std.proofs.lemmas.Nat.{div_below, mod_below}
@@ -10,25 +12,33 @@ use Rattle.mk_geom.specs.declared.headers.Header.TheVariants.{Free}
 use Rattle.mk_geom.specs.Addresses.{is_heap_address, page_at_address, word_at_address, cell_at}
 use Rattle.mk_geom.specs.Classes.{class_words_of, cells_of}
 use Rattle.mk_geom.specs.Headers.{word_of, header_of}
-use Rattle.mk_geom.specs.Storages.{Storage, is_small, first_page, stands_on, class_of_storage, is_cell_taken, taken_cells, used_word, free_page, words_by, IsStorage, AreLaidOut, PagesStandFor}
+use Rattle.mk_geom.specs.Storages.{Storage, is_small, first_page, stands_on, class_of_storage, is_cell_taken}
+use Rattle.mk_geom.specs.Storages.{taken_cells, used_word, free_page, words_by, IsStorage, AreLaidOut, PagesStandFor}
 use Rattle.mk_geom.specs.StorageWords.{PointsInto, cell_of_storage, header_shown, ShowsStorage, page_in, cell_on}
 use Rattle.mk_geom.proofs.ClassTable.{class_words_within, cell_ends}
 use Rattle.mk_geom.proofs.ListSearch.{find_cases}
-use Rattle.mk_geom.proofs.PointedCells.{class_has_words, cell_first, cell_from_first, looked_up, small_lookup, large_lookup, cell_index, small_cell_of, large_cell_of, stands_at_address, points_into_cell}
-use Rattle.mk_geom.proofs.Standing.{AreAlike, storage_in, same_or_apart, has_words, small_is_cell, large_is_run, class_of_cell, stands_parts, stands_at_first, same_or_alike}
+use Rattle.mk_geom.proofs.PointedCells.{class_has_words, cell_first, cell_from_first, looked_up, small_lookup}
+use Rattle.mk_geom.proofs.PointedCells.{large_lookup, cell_index, small_cell_of, large_cell_of, stands_at_address}
+use Rattle.mk_geom.proofs.PointedCells.{points_into_cell}
+use Rattle.mk_geom.proofs.Standing.{AreAlike, storage_in, same_or_apart, has_words, small_is_cell, large_is_run}
+use Rattle.mk_geom.proofs.Standing.{class_of_cell, stands_parts, stands_at_first, same_or_alike}
 use Rattle.mk_geom.proofs.StoredWords.{words_by_small, words_by_large, words_at}
 use Rattle.mk_geom.proofs.TakenCells.{cell_taken_by, length-taken_cells, get_or-taken_cells}
 use Rattle.mk_geom.proofs.UsedWords.{bit_at-used_word}
 
 -- a storage's page has the header that it shows
-header_by : (xs : List Storage) (page : ℕ) (s : Storage) → (words_by xs page (Some s)).header ≡ header_shown s page s.mapped
+header_by : (xs : List Storage) (page : ℕ) (s : Storage)
+    → (words_by xs page (Some s)).header ≡ header_shown s page s.mapped
 header_by xs page s = elim (cases_Bool (is_small s)) [
-  | inl small ↦ ap (λ (p : Page). p.header) (words_by_small page xs s small) ∙ sym (ap word_of (cond-true (is_small s) _ _ small))
-  | inr large ↦ ap (λ (p : Page). p.header) (words_by_large page xs s large) ∙ sym (ap word_of (cond-false (is_small s) _ _ large))
+  | inl small ↦ ap (λ (p : Page). p.header) (words_by_small page xs s small)
+      ∙ sym (ap word_of (cond-true (is_small s) _ _ small))
+  | inr large ↦ ap (λ (p : Page). p.header) (words_by_large page xs s large)
+      ∙ sym (ap word_of (cond-false (is_small s) _ _ large))
 ]
 
 -- a value that points into a cell is an address of a page of the heap
-pub is_address : (pages header u : ℕ) (k : Cell) → cell_at pages header u ≡ Some k → (65536 ≤ u) × (page_at_address u < pages)
+pub is_address : (pages header u : ℕ) (k : Cell) → cell_at pages header u ≡ Some k
+    → (65536 ≤ u) × (page_at_address u < pages)
 is_address pages header u k is = elim (cases_Bool (is_heap_address pages u)) [
   | inl inside ↦
       let parts = and_parts (nat_le 65536 u) (nat_lt u (65536 + 512 * pages)) inside in
@@ -43,12 +53,14 @@ pub record IsCellOn (xs : List Storage) (u : ℕ) (k : Cell) (t : Storage) : Typ
   pub inside : Contains xs t
   pub low : 65536 ≤ u
   pub stands : stands_on (page_at_address u) t ≡ true
-  pub at : (is_small t ≡ true) × (word_at_address u < cells_of (class_of_storage t) * class_words_of (class_of_storage t))
+  pub at : (is_small t ≡ true)
+      × (word_at_address u < cells_of (class_of_storage t) * class_words_of (class_of_storage t))
       × (k ≡ record { page = page_at_address u; index = word_at_address u / class_words_of (class_of_storage t) })
       ⊎ (is_small t ≡ false) × (k ≡ cell_of_storage t)
 
 pub cell_is_shown : (n header u : ℕ) (k : Cell) (xs : List Storage) (t : Storage) → AreLaidOut n xs → Contains xs t
-    → stands_on (page_at_address u) t ≡ true → ShowsStorage t (page_at_address u) header → cell_at n header u ≡ Some k → IsCellOn xs u k t
+    → stands_on (page_at_address u) t ≡ true → ShowsStorage t (page_at_address u) header → cell_at n header u ≡ Some k
+    → IsCellOn xs u k t
 cell_is_shown n header u k xs t laid inside stands shows is =
     let low = (is_address n header u k is).0 in
     let t_is = storage_in n xs t laid inside in
@@ -57,38 +69,51 @@ cell_is_shown n header u k xs t laid inside stands shows is =
     elim (cases_Bool (is_small t)) [
       | inl small ↦
           let lookup = small_lookup n header u t t_is low stands shows small in
-          let (below, same) = cond_some (nat_lt (word_at_address u) end) (record { page = page_at_address u; index = word_at_address u / words }) k (sym lookup ∙ is) in
-          record { inside = inside; low = low; stands = stands; at = inl (small, ltb-true (word_at_address u) end below, sym same) }
+          let (below, same) = cond_some (nat_lt (word_at_address u) end)
+          (record { page = page_at_address u; index = word_at_address u / words }) k (sym lookup ∙ is) in
+          record {
+            inside = inside;
+            low = low;
+            stands = stands;
+            at = inl (small, ltb-true (word_at_address u) end below, sym same);
+          }
       | inr large ↦
           let lookup = large_lookup n header u t t_is low stands shows large in
-          let same = same_Some k (cell_of_storage t) (sym is ∙ lookup ∙ ap (λ (k : Cell). Some k) (sym (large_cell_of t large))) in
+          let same = same_Some k (cell_of_storage t) (sym is ∙ lookup
+          ∙ ap (λ (k : Cell). Some k) (sym (large_cell_of t large))) in
           record { inside = inside; low = low; stands = stands; at = inr (large, same) }
     ]
 
 module _ (pages : List Page) (storages : List Storage) (stand : PagesStandFor pages storages) where
   -- a page shows each storage that stands on it
-  pub page_shows_storage : (page : ℕ) (s : Storage) → Contains storages s → stands_on page s ≡ true → page < length pages
+  pub page_shows_storage : (page : ℕ) (s : Storage) → Contains storages s → stands_on page s ≡ true
+      → page < length pages
       → ShowsStorage s page (page_in pages page).header
   page_shows_storage page s inside stands within =
-      let words = stand.words page free_page within ∙ words_at (length pages) page storages s stand.laid_out inside stands in
+      let words = stand.words page free_page within
+      ∙ words_at (length pages) page storages s stand.laid_out inside stands in
       (s.mapped, ap (λ (p : Page). p.header) words ∙ header_by storages page s)
 
-  pub points_into_on_pages : (u : ℕ) (s : Storage) → Contains storages s → PointsInto u s → cell_on pages u ≡ Some (cell_of_storage s)
+  pub points_into_on_pages : (u : ℕ) (s : Storage) → Contains storages s → PointsInto u s
+      → cell_on pages u ≡ Some (cell_of_storage s)
   points_into_on_pages u s inside into =
       let is = storage_in (length pages) storages s stand.laid_out inside in
       let stands = stands_at_address u s into in
       let ends = (stands_parts (page_at_address u) s stands).1 in
       let within : page_at_address u < length pages = omega (arith, is.1, has_words (length pages) s is) in
-      points_into_cell (length pages) (page_in pages (page_at_address u)).header u s is (page_shows_storage (page_at_address u) s inside stands within) into
+      points_into_cell (length pages) (page_in pages (page_at_address u)).header u s is
+      (page_shows_storage (page_at_address u) s inside stands within) into
 
   address_within : (u : ℕ) (k : Cell) → cell_on pages u ≡ Some k → (65536 ≤ u) × (page_at_address u < length pages)
   address_within u k is = is_address (length pages) (page_in pages (page_at_address u)).header u k is
 
-  nothing_on_free : (u : ℕ) (k : Cell) → cell_on pages u ≡ Some k → find (stands_on (page_at_address u)) storages ≡ None → ⊥
+  nothing_on_free : (u : ℕ) (k : Cell) → cell_on pages u ≡ Some k → find (stands_on (page_at_address u)) storages ≡ None
+      → ⊥
   nothing_on_free u k is none =
       let page = page_at_address u in
       let (low, within) = address_within u k is in
-      let free : page_in pages page ≡ free_page = stand.words page free_page within ∙ ap (words_by storages page) none in
+      let free : page_in pages page ≡ free_page = stand.words page free_page within
+      ∙ ap (words_by storages page) none in
       let header_free = ap (λ (p : Page). header_of p.header) free in
       none-some k (sym (looked_up (length pages) (page_in pages page).header u Free low within header_free) ∙ is)
 
@@ -98,15 +123,20 @@ module _ (pages : List Page) (storages : List Storage) (stand : PagesStandFor pa
       let (low, within) = address_within u k is in
       elim (find_cases (stands_on page) storages) [
         | inl (t, found, inside, stands) ↦
-            let shows = page_shows_storage page t inside stands within in
-            (t, cell_is_shown (length pages) (page_in pages page).header u k storages t stand.laid_out inside stands shows is)
+            let shows = page_shows_storage page t inside stands within in (
+              t,
+              cell_is_shown (length pages) (page_in pages page).header u k storages t stand.laid_out inside stands
+                  shows is,
+            )
         | inr (none, others) ↦ absurd (nothing_on_free u k is none)
       ]
 
 -- the words of a cell of a page, by the quotient
-word_in_cell : (word index words : ℕ) → 1 ≤ words → word / words ≡ index → (index * words ≤ word) × (word < index * words + words)
+word_in_cell : (word index words : ℕ) → 1 ≤ words → word / words ≡ index
+    → (index * words ≤ word) × (word < index * words + words)
 word_in_cell word index words some is =
-    let split : index * words + word % words ≡ word = ap (λ (n : ℕ). n * words + word % words) (sym is) ∙ div-add-mod' word words in
+    let split : index * words + word % words ≡ word = ap (λ (n : ℕ). n * words + word % words) (sym is)
+    ∙ div-add-mod' word words in
     let rest = mod_below word words some in
     (omega arith, omega arith)
 
@@ -116,13 +146,17 @@ like_small (inl one) small = (ap is_small one ∙ small, ap (λ (x : Storage). x
 like_small (inr alike) small = (alike.small, alike.words)
 
 -- two storages that begin on one page stand on it
-both_stand : (n : ℕ) (xs : List Storage) (s t : Storage) → AreLaidOut n xs → Contains xs s → Contains xs t → first_page s ≡ first_page t
+both_stand : (n : ℕ) (xs : List Storage) (s t : Storage) → AreLaidOut n xs → Contains xs s → Contains xs t
+    → first_page s ≡ first_page t
     → (stands_on (first_page t) s ≡ true) × (stands_on (first_page t) t ≡ true)
-both_stand n xs s t laid s_in t_in at =
-    (stands_at_first n s (first_page t) (storage_in n xs s laid s_in) at, stands_at_first n t (first_page t) (storage_in n xs t laid t_in) refl)
+both_stand n xs s t laid s_in t_in at = (
+  stands_at_first n s (first_page t) (storage_in n xs s laid s_in) at,
+  stands_at_first n t (first_page t) (storage_in n xs t laid t_in) refl,
+)
 
 -- two storages that have one cell are one
-pub same_from_cells : (n : ℕ) (xs : List Storage) (s t : Storage) → AreLaidOut n xs → Contains xs s → Contains xs t → cell_of_storage s ≡ cell_of_storage t → s ≡ t
+pub same_from_cells : (n : ℕ) (xs : List Storage) (s t : Storage) → AreLaidOut n xs → Contains xs s → Contains xs t
+    → cell_of_storage s ≡ cell_of_storage t → s ≡ t
 same_from_cells n xs s t laid s_in t_in same = elim (same_or_apart n xs s t laid s_in t_in) [
   | inl one ↦ one
   | inr apart ↦
@@ -139,24 +173,29 @@ same_from_cells n xs s t laid s_in t_in same = elim (same_or_apart n xs s t laid
       elim apart.apart [ inl before ↦ absurd (omega arith) | inr behind ↦ absurd (omega arith) ]
 ]
 
-small_back : (n u : ℕ) (s t : Storage) → IsStorage n s → is_small s ≡ true → 65536 ≤ u → first_page s ≡ page_at_address u
-    → class_words_of (class_of_storage t) ≡ s.words → s.first % 64 / s.words ≡ word_at_address u / class_words_of (class_of_storage t) → PointsInto u s
+small_back : (n u : ℕ) (s t : Storage) → IsStorage n s → is_small s ≡ true → 65536 ≤ u
+    → first_page s ≡ page_at_address u
+    → class_words_of (class_of_storage t) ≡ s.words
+    → s.first % 64 / s.words ≡ word_at_address u / class_words_of (class_of_storage t) → PointsInto u s
 small_back n u s t is small low at words index =
     let cell = small_is_cell n s is small in
     let some = has_words n s is in
-    let same : word_at_address u / s.words ≡ cell.index = ap (λ (w : ℕ). word_at_address u / w) (sym words) ∙ sym index ∙ cell_index s cell in
+    let same : word_at_address u / s.words ≡ cell.index = ap (λ (w : ℕ). word_at_address u / w) (sym words) ∙ sym index
+    ∙ cell_index s cell in
     let range = word_in_cell (word_at_address u) cell.index s.words some same in
     let first : s.first % 64 ≡ cell.index * s.words = cell.first ∙ ap (λ (w : ℕ). cell.index * w) (sym cell.words) in
     (low, (omega arith, omega arith))
 
-run_back : (n u : ℕ) (s : Storage) → IsStorage n s → is_small s ≡ false → 65536 ≤ u → stands_on (page_at_address u) s ≡ true → PointsInto u s
+run_back : (n u : ℕ) (s : Storage) → IsStorage n s → is_small s ≡ false → 65536 ≤ u
+    → stands_on (page_at_address u) s ≡ true → PointsInto u s
 run_back n u s is large low stands =
     let run = large_is_run n s is large in
     let parts = stands_parts (page_at_address u) s stands in
     (low, (omega (arith, run.first), omega (arith, run.first, run.words, run.some)))
 
 -- a value that points into a storage's cell is in the storage
-pub cell_has_value : (n u : ℕ) (xs : List Storage) (s t : Storage) → AreLaidOut n xs → Contains xs s → IsCellOn xs u (cell_of_storage s) t → PointsInto u s
+pub cell_has_value : (n u : ℕ) (xs : List Storage) (s t : Storage) → AreLaidOut n xs → Contains xs s
+    → IsCellOn xs u (cell_of_storage s) t → PointsInto u s
 cell_has_value n u xs s t laid inside on =
     let page = page_at_address u in
     let s_is = storage_in n xs s laid inside in
@@ -164,7 +203,9 @@ cell_has_value n u xs s t laid inside on =
     elim on.at [
       | inl (small, below, same) ↦
           let at : first_page s ≡ page_at_address u = ap (λ (k : Cell). k.page) same in
-          let (s_small, words) = like_small (same_or_alike n xs page s t laid inside on.inside (stands_at_first n s page s_is at) on.stands) small in
+          let (s_small, words) =
+          like_small (same_or_alike n xs page s t laid inside on.inside (stands_at_first n s page s_is at)
+          on.stands) small in
           let t_words = class_has_words t (small_is_cell n t t_is small) in
           let index = sym (ap (λ (k : Cell). k.index) (small_cell_of s s_small)) ∙ ap (λ (k : Cell). k.index) same in
           small_back n u s t s_is s_small on.low at (t_words ∙ sym words) index
@@ -173,8 +214,10 @@ cell_has_value n u xs s t laid inside on =
           subst (λ (x : Storage). PointsInto u x) (sym one) (run_back n u t t_is large on.low on.stands)
     ]
 
-pub shown_cell_has_value : (n header u : ℕ) (xs : List Storage) (s t : Storage) → AreLaidOut n xs → Contains xs s → Contains xs t
-    → stands_on (page_at_address u) t ≡ true → ShowsStorage t (page_at_address u) header → cell_at n header u ≡ Some (cell_of_storage s) → PointsInto u s
+pub shown_cell_has_value : (n header u : ℕ) (xs : List Storage) (s t : Storage) → AreLaidOut n xs → Contains xs s
+    → Contains xs t
+    → stands_on (page_at_address u) t ≡ true → ShowsStorage t (page_at_address u) header
+    → cell_at n header u ≡ Some (cell_of_storage s) → PointsInto u s
 shown_cell_has_value n header u xs s t laid s_in t_in stands shows is =
     cell_has_value n u xs s t laid s_in (cell_is_shown n header u (cell_of_storage s) xs t laid t_in stands shows is)
 
@@ -182,7 +225,8 @@ module _ (pages : List Page) (storages : List Storage) (stand : PagesStandFor pa
   storage_of : (s : Storage) → Contains storages s → IsStorage (length pages) s
   storage_of s inside = storage_in (length pages) storages s stand.laid_out inside
 
-  pub points_into_iff : (u : ℕ) (s : Storage) → Contains storages s → PointsInto u s ↔ (cell_on pages u ≡ Some (cell_of_storage s))
+  pub points_into_iff : (u : ℕ) (s : Storage) → Contains storages s
+      → PointsInto u s ↔ (cell_on pages u ≡ Some (cell_of_storage s))
   points_into_iff u s inside = (
     points_into_on_pages pages storages stand u s inside,
     λ is.
@@ -191,8 +235,10 @@ module _ (pages : List Page) (storages : List Storage) (stand : PagesStandFor pa
   )
 
   -- a cell whose used bit is set, of a block of which t is a cell
-  used_cell_of_block : (u : ℕ) (k : Cell) (t : Storage) → IsCellOn storages u k t → page_at_address u < length pages → is_small t ≡ true
-      → k.index < cells_of (class_of_storage t) → k.page ≡ page_at_address u → (bit_at (page_in pages k.page).used k.index == 1) ≡ true
+  used_cell_of_block : (u : ℕ) (k : Cell) (t : Storage) → IsCellOn storages u k t → page_at_address u < length pages
+      → is_small t ≡ true
+      → k.index < cells_of (class_of_storage t) → k.page ≡ page_at_address u
+      → (bit_at (page_in pages k.page).used k.index == 1) ≡ true
       → (s : Storage) × Contains storages s × (cell_of_storage s ≡ k)
   used_cell_of_block u k t on within small index_within at bit =
       let n = length pages in
@@ -203,20 +249,26 @@ module _ (pages : List Page) (storages : List Storage) (stand : PagesStandFor pa
       let words : page_in pages page ≡ words_by storages page (Some t) =
       stand.words page free_page within ∙ words_at n page storages t stand.laid_out on.inside on.stands in
       let used : (page_in pages k.page).used ≡ used_word (taken_cells storages page c) =
-      ap (λ (p : ℕ). (page_in pages p).used) at ∙ ap (λ (p : Page). p.used) (words ∙ words_by_small page storages t small) in
+      ap (λ (p : ℕ). (page_in pages p).used) at
+      ∙ ap (λ (p : Page). p.used) (words ∙ words_by_small page storages t small) in
       let long : k.index < length (taken_cells storages page c) = omega (arith, length-taken_cells storages page c) in
       let taken : is_cell_taken storages page (class_words_of c) k.index ≡ true =
-      sym (get_or-taken_cells storages page c k.index false index_within) ∙ sym (bit_at-used_word (taken_cells storages page c) k.index false long)
+      sym (get_or-taken_cells storages page c k.index false index_within)
+      ∙ sym (bit_at-used_word (taken_cells storages page c) k.index false long)
       ∙ ap (λ (w : ℕ). bit_at w k.index == 1) (sym used) ∙ bit in
-      let (s, inside, first, stands) = cell_taken_by n page c k.index storages known index_within stand.laid_out.each taken in
-      let (s_small, alike) = like_small (same_or_alike n storages page s t stand.laid_out inside on.inside stands on.stands) small in
+      let (s, inside, first, stands) =
+      cell_taken_by n page c k.index storages known index_within stand.laid_out.each taken in
+      let (s_small, alike) =
+      like_small (same_or_alike n storages page s t stand.laid_out inside on.inside stands on.stands) small in
       let s_words : class_words_of c ≡ s.words = class_has_words t cell ∙ sym alike in
-      let ends : k.index * s.words + s.words ≤ 64 = subst (λ (w : ℕ). k.index * w + w ≤ 64) s_words (cell_ends k.index (class_words_of c) index_within) in
+      let ends : k.index * s.words + s.words ≤ 64 =
+      subst (λ (w : ℕ). k.index * w + w ≤ 64) s_words (cell_ends k.index (class_words_of c) index_within) in
       let s_first : s.first ≡ 64 * k.page + k.index * s.words =
       first ∙ ap (λ (w : ℕ). 64 * page + k.index * w) s_words ∙ ap (λ (p : ℕ). 64 * p + k.index * s.words) (sym at) in
       (s, inside, cell_from_first s k.page k.index s_small (has_words n s (storage_of s inside)) ends s_first)
 
-  pub used_cell_has_storage : (u : ℕ) (k : Cell) → cell_on pages u ≡ Some k → (bit_at (page_in pages k.page).used k.index == 1) ≡ true
+  pub used_cell_has_storage : (u : ℕ) (k : Cell) → cell_on pages u ≡ Some k
+      → (bit_at (page_in pages k.page).used k.index == 1) ≡ true
       → (s : Storage) × Contains storages s × (cell_of_storage s ≡ k)
   used_cell_has_storage u k is bit =
       let (t, on) = cell_is_on pages storages stand u k is in
@@ -227,6 +279,7 @@ module _ (pages : List Page) (storages : List Storage) (stand : PagesStandFor pa
             let some = class_words_within c (omega (arith, class_of_cell t cell, cell.known)) in
             let near = div_below (word_at_address u) (class_words_of c) (cells_of c) (omega arith) below in
             let index_within : k.index < cells_of c = subst (λ (j : Cell). j.index < cells_of c) (sym same) near in
-            used_cell_of_block u k t on (address_within pages storages stand u k is).1 small index_within (ap (λ (k : Cell). k.page) same) bit
+            used_cell_of_block u k t on (address_within pages storages stand u k is).1 small index_within
+            (ap (λ (k : Cell). k.page) same) bit
         | inr (large, same) ↦ (t, on.inside, sym same)
       ]

@@ -1,5 +1,6 @@
 -- The classes, one by one, and the cells of a page.
-use Rattle.std.proofs.Common.{◌≡◌, ℕ, zero, suc, ◌+◌, ◌*◌, ◌/◌, ◌<◌, ◌≤◌, ◌==◌, nat_le, Some, None, position, refl, sym, ◌∙◌, inl, inr, arith, le_refl, div-add-mod', leb-true}
+use Rattle.std.proofs.Common.{◌≡◌, ℕ, zero, suc, ◌+◌, ◌*◌, ◌/◌, ◌<◌, ◌≤◌, ◌==◌, nat_le, Some, None, position, refl, sym}
+use Rattle.std.proofs.Common.{◌∙◌, inl, inr, arith, le_refl, div-add-mod', leb-true}
 use Rattle.std.proofs.lemmas.Bool.{cases_Bool, cond-true, cond-false}
 use Rattle.std.proofs.lemmas.List.Quantifiers.{position-Some}
 use Rattle.std.proofs.lemmas.Nat.{mul-le, le-div}
@@ -30,15 +31,20 @@ class_words_within (suc (suc (suc (suc (suc (suc (suc (suc n)))))))) known = abs
 
 -- a cell of so many words ends within its page
 pub cell_ends : (index words : ℕ) → index < 64 / words → index * words + words ≤ 64
-cell_ends index words within = omega (arith, div-add-mod' 64 words, mul-le (suc index) words (64 / words) words within (le_refl words))
+cell_ends index words within =
+    omega (arith, div-add-mod' 64 words, mul-le (suc index) words (64 / words) words within (le_refl words))
 
 pub class_for-some : (words class : ℕ) → class_for words ≡ Some class → (class < 8) × (words ≤ class_words_of class)
 class_for-some words class is = elim (cases_Bool (words == 0)) [
-  | inl zero_words ↦ absurd (none-some class (sym (cond-true (words == 0) None (position (λ size. nat_le words size) class_sizes) zero_words) ∙ is))
+  | inl zero_words ↦ absurd
+      (none-some class (sym (cond-true (words == 0) None (position (λ size. nat_le words size) class_sizes) zero_words)
+      ∙ is))
   | inr some ↦
-      let at = position-Some (λ size. nat_le words size) class_sizes class 0 (sym (cond-false (words == 0) None (position (λ size. nat_le words size) class_sizes) some) ∙ is) in
+      let at = position-Some (λ size. nat_le words size) class_sizes class 0
+      (sym (cond-false (words == 0) None (position (λ size. nat_le words size) class_sizes) some) ∙ is) in
       (at.0, leb-true words (class_words_of class) at.1)
 ]
 
 pub some_cells : (class : ℕ) → class < 8 → 0 < cells_of class
-some_cells class known = let range = class_words_within class known in le-div 1 64 (class_words_of class) (omega arith) (omega arith)
+some_cells class known = let range = class_words_within class known in le-div 1 64 (class_words_of class) (omega arith)
+    (omega arith)

@@ -1,13 +1,19 @@
 -- First fit finds a place that is as it says.
-use Rattle.std.proofs.Common.{◌≡◌, ℕ, zero, suc, ◌+◌, ◌<◌, ◌≤◌, Bool, true, false, not, ◌==◌, ◌&&◌, nat_lt, nat_le, if◌then◌else◌, List, [], ◌∷◌, length, get_or, slice_get, Option, Some, None, option_map, option_and_then, ◌⊎◌, inl, inr, refl, sym, ◌∙◌, ap, subst, arith, add-one, eqb-true, ltb-true, leb-true, le-leb}
+use Rattle.std.proofs.Common.{◌≡◌, ℕ, zero, suc, ◌+◌, ◌<◌, ◌≤◌, Bool, true, false, not, ◌==◌, ◌&&◌, nat_lt, nat_le}
+use Rattle.std.proofs.Common.{if◌then◌else◌, List, [], ◌∷◌, length, get_or, slice_get, Option, Some, None, option_map}
+use Rattle.std.proofs.Common.{option_and_then, ◌⊎◌, inl, inr, refl, sym, ◌∙◌, ap, subst, arith, add-one, eqb-true}
+use Rattle.std.proofs.Common.{ltb-true, leb-true, le-leb}
 use Rattle.std.specs.List.{AllWithin}
-use Rattle.std.proofs.lemmas.Bool.{cases_Bool, false≢true, not-true, and_parts, cond-true, cond-false, cond_both, lt-leb}
+use Rattle.std.proofs.lemmas.Bool.{cases_Bool, false≢true, not-true, and_parts, cond-true, cond-false, cond_both}
+use Rattle.std.proofs.lemmas.Bool.{lt-leb}
 use Rattle.std.proofs.lemmas.List.{get_or-map, length-map}
 use Rattle.std.proofs.lemmas.Option.{slice_get-map, same_Some, none-some}
 use Rattle.mk_geom.specs.declared.pages.Page.{Page}
 use Rattle.mk_geom.specs.declared.pages.Place.{Place}
 use Rattle.mk_geom.specs.Classes.{cells_of, class_for, run_pages_of}
-use Rattle.mk_geom.specs.PageUses.{PageUse, Nothing, Cells, PartOfRun, is_free_page, resident_pages, is_same_sort, cells_taken, first_where, or_else, page_behind, cell_place, carved, small_place, free_range, range_start, large_place, place_among}
+use Rattle.mk_geom.specs.PageUses.{PageUse, Nothing, Cells, PartOfRun, is_free_page, resident_pages, is_same_sort}
+use Rattle.mk_geom.specs.PageUses.{cells_taken, first_where, or_else, page_behind, cell_place, carved, small_place}
+use Rattle.mk_geom.specs.PageUses.{free_range, range_start, large_place, place_among}
 use Rattle.mk_geom.specs.PageWords.{use_of_page, uses_of_pages}
 use Rattle.mk_geom.specs.Places.{MayTakeCell, AreFree, IsCellPlace, IsRunPlace}
 use Rattle.mk_geom.specs.Storages.{Storage, place_of, PagesStandFor}
@@ -18,7 +24,8 @@ or_else_cases : {A : Type 0} (o p : Option A) (x : A) → or_else o p ≡ Some x
 or_else_cases (Some y) p x is = inl is
 or_else_cases None p x is = inr is
 
-option_map_some : {A B : Type 0} (f : A → B) (o : Option A) (y : B) → option_map f o ≡ Some y → (x : A) × (o ≡ Some x) × (f x ≡ y)
+option_map_some : {A B : Type 0} (f : A → B) (o : Option A) (y : B) → option_map f o ≡ Some y
+    → (x : A) × (o ≡ Some x) × (f x ≡ y)
 option_map_some f (Some x) y is = (x, refl, same_Some (f x) y is)
 option_map_some f None y is = absurd (none-some y is)
 
@@ -26,14 +33,16 @@ if_some : {A : Type 0} (b : Bool) (o : Option A) (x : A) → (if b then o else N
 if_some true o x is = (refl, is)
 if_some false o x is = absurd (none-some x is)
 
-first_where_passes : {A : Type 0} (p : A → Bool) (xs : List A) (i : ℕ) → first_where p xs ≡ Some i → (x : A) × (slice_get xs i ≡ Some x) × (p x ≡ true)
+first_where_passes : {A : Type 0} (p : A → Bool) (xs : List A) (i : ℕ) → first_where p xs ≡ Some i
+    → (x : A) × (slice_get xs i ≡ Some x) × (p x ≡ true)
 first_where_passes p [] i is = absurd (none-some i is)
 first_where_passes {A} p (x ∷ xs) i is = elim (cases_Bool (p x)) [
   | inl passes ↦
       let zero_is : 0 ≡ i = same_Some 0 i (sym (cond-true (p x) (Some 0) _ passes) ∙ is) in
       (x, ap (slice_get (x ∷ xs)) (sym zero_is), passes)
   | inr fails ↦
-      let (n, found, suc_is) = option_map_some (λ (n : ℕ). n + 1) (first_where p xs) i (sym (cond-false (p x) (Some 0) _ fails) ∙ is) in
+      let (n, found, suc_is) =
+      option_map_some (λ (n : ℕ). n + 1) (first_where p xs) i (sym (cond-false (p x) (Some 0) _ fails) ∙ is) in
       let (y, at, passes) = first_where_passes p xs n found in
       let place : i ≡ suc n = omega arith in
       (y, ap (slice_get (x ∷ xs)) place ∙ at, passes)
@@ -44,16 +53,31 @@ same_sort_is true b is = is
 same_sort_is false b is = not-true b is
 
 -- a cell that isn't taken on a page
-free_cell_is : (class : ℕ) (leaf : Bool) (u : PageUse) (index : ℕ) → first_where not (cells_taken class leaf u) ≡ Some index → MayTakeCell class leaf index u × (false ≡ is_free_page u)
+free_cell_is : (class : ℕ) (leaf : Bool) (u : PageUse) (index : ℕ)
+    → first_where not (cells_taken class leaf u) ≡ Some index
+    → MayTakeCell class leaf index u × (false ≡ is_free_page u)
 free_cell_is class leaf Nothing index is = absurd (none-some index is)
 free_cell_is class leaf (PartOfRun mapped) index is = absurd (none-some index is)
-free_cell_is class leaf (Cells class' leaf' taken) index is = elim (cases_Bool ((class == class') && is_same_sort leaf leaf')) [
-  | inl of_sort ↦
-      let parts = and_parts (class == class') (is_same_sort leaf leaf') of_sort in
-      let (bit, at, unset) = first_where_passes not taken index (subst (λ (bits : List Bool). first_where not bits ≡ Some index) (cond-true _ taken [] of_sort) is) in
-      ((sym (eqb-true class class' parts.0), same_sort_is leaf leaf' parts.1, at ∙ ap Some (not-true bit unset)), refl)
-  | inr other ↦ absurd (none-some index (subst (λ (bits : List Bool). first_where not bits ≡ Some index) (cond-false _ taken [] other) is))
-]
+free_cell_is class leaf (Cells class' leaf' taken) index is =
+    elim (cases_Bool ((class == class') && is_same_sort leaf leaf')) [
+      | inl of_sort ↦
+          let parts = and_parts (class == class') (is_same_sort leaf leaf') of_sort in
+          let (bit, at, unset) =
+          first_where_passes not taken index
+          (subst (λ (bits : List Bool). first_where not bits ≡ Some index) (cond-true _ taken [] of_sort) is) in (
+            (
+              sym (eqb-true class class' parts.0),
+              same_sort_is leaf leaf' parts.1,
+              at
+                  ∙ ap Some (not-true bit unset),
+            ),
+            refl,
+          )
+      | inr other ↦ absurd
+          (none-some index (subst (λ (bits : List Bool). first_where not bits ≡ Some index)
+          (cond-false _ taken [] other)
+          is))
+    ]
 
 -- a page's use that is as the place says
 record FitsOn (class : ℕ) (leaf : Bool) (uses : List PageUse) (place : Place) : Type 0 where
@@ -66,19 +90,31 @@ record FitsOn (class : ℕ) (leaf : Bool) (uses : List PageUse) (place : Place) 
 abbrev cell_here : ℕ → Place
 cell_here index = record { page = 0; index = index; carve = false }
 
-cell_place_fits : (class : ℕ) (leaf : Bool) (uses : List PageUse) (place : Place) → cell_place class leaf uses ≡ Some place → FitsOn class leaf uses place × (place.carve ≡ false)
+cell_place_fits : (class : ℕ) (leaf : Bool) (uses : List PageUse) (place : Place)
+    → cell_place class leaf uses ≡ Some place → FitsOn class leaf uses place × (place.carve ≡ false)
 cell_place_fits class leaf [] place is = absurd (none-some place is)
 cell_place_fits class leaf (u ∷ uses) place is =
-    elim (or_else_cases (option_map cell_here (first_where not (cells_taken class leaf u))) (option_map page_behind (cell_place class leaf uses)) place is) [
+    elim (or_else_cases (option_map cell_here (first_where not (cells_taken class leaf u)))
+    (option_map page_behind (cell_place class leaf uses)) place is) [
       | inl here ↦
-          let (index, found, place_is) = option_map_some cell_here (first_where not (cells_taken class leaf u)) place here in
+          let (index, found, place_is) =
+          option_map_some cell_here (first_where not (cells_taken class leaf u)) place here in
           let fits = free_cell_is class leaf u index found in
-          subst (λ (x : Place). FitsOn class leaf (u ∷ uses) x × (x.carve ≡ false)) place_is (record { on = u; at = refl; may_take = fits.0; carves = fits.1 }, refl)
+          subst (λ (x : Place). FitsOn class leaf (u ∷ uses) x × (x.carve ≡ false)) place_is
+          (record { on = u; at = refl; may_take = fits.0; carves = fits.1 }, refl)
       | inr later ↦
           let (behind, found, place_is) = option_map_some page_behind (cell_place class leaf uses) place later in
           let (fits, kept) = cell_place_fits class leaf uses behind found in
-          subst (λ (x : Place). FitsOn class leaf (u ∷ uses) x × (x.carve ≡ false)) place_is
-          (record { on = fits.on; at = ap (slice_get (u ∷ uses)) (add-one behind.page) ∙ fits.at; may_take = fits.may_take; carves = fits.carves }, kept)
+          subst (λ (x : Place). FitsOn class leaf (u ∷ uses) x × (x.carve ≡ false)) place_is (
+            record {
+              on = fits.on;
+              at = ap (slice_get (u ∷ uses)) (add-one behind.page)
+                  ∙ fits.at;
+              may_take = fits.may_take;
+              carves = fits.carves;
+            },
+            kept,
+          )
     ]
 
 free_is_nothing : (u : PageUse) → is_free_page u ≡ true → u ≡ Nothing
@@ -86,11 +122,14 @@ free_is_nothing Nothing free = refl
 free_is_nothing (Cells class leaf taken) free = absurd (false≢true free)
 free_is_nothing (PartOfRun mapped) free = absurd (false≢true free)
 
-small_place_fits : (limit class : ℕ) (leaf : Bool) (uses : List PageUse) (place : Place) → 0 < cells_of class → small_place limit class leaf uses ≡ Some place
-    → FitsOn class leaf uses place × (place.carve ≡ true → place.index ≡ 0) × (place.carve ≡ true → resident_pages uses < limit)
+small_place_fits : (limit class : ℕ) (leaf : Bool) (uses : List PageUse) (place : Place) → 0 < cells_of class
+    → small_place limit class leaf uses ≡ Some place
+    → FitsOn class leaf uses place × (place.carve ≡ true → place.index ≡ 0)
+    × (place.carve ≡ true → resident_pages uses < limit)
 small_place_fits limit class leaf uses place some is =
     let free = option_map carved (first_where is_free_page uses) in
-    elim (or_else_cases (cell_place class leaf uses) (if nat_lt (resident_pages uses) limit then free else None) place is) [
+    elim (or_else_cases (cell_place class leaf uses) (if nat_lt (resident_pages uses) limit then free
+    else None) place is) [
       | inl cell ↦
           let (fits, kept) = cell_place_fits class leaf uses place cell in
           (fits, λ carves. absurd (false≢true (sym kept ∙ carves)), λ carves. absurd (false≢true (sym kept ∙ carves)))
@@ -99,7 +138,13 @@ small_place_fits limit class leaf uses place some is =
           let (page, first, place_is) = option_map_some carved (first_where is_free_page uses) place found in
           let (u, at, is_free) = first_where_passes is_free_page uses page first in
           let nothing : Nothing ≡ u = sym (free_is_nothing u is_free) in (
-            subst (λ (x : Place). FitsOn class leaf uses x) place_is (record { on = u; at = at; may_take = subst (λ (v : PageUse). MayTakeCell class leaf 0 v) nothing some; carves = sym is_free }),
+            subst (λ (x : Place). FitsOn class leaf uses x) place_is
+                (record {
+                  on = u;
+                  at = at;
+                  may_take = subst (λ (v : PageUse). MayTakeCell class leaf 0 v) nothing some;
+                  carves = sym is_free;
+                }),
             λ carves. sym (ap (λ (x : Place). x.index) place_is),
             λ carves. ltb-true (resident_pages uses) limit room,
           )
@@ -108,49 +153,68 @@ small_place_fits limit class leaf uses place some is =
 -- the pages at the front that are free
 free_range_within : (uses : List PageUse) → free_range uses ≤ length uses
 free_range_within [] = omega arith
-free_range_within (u ∷ uses) = cond_both (is_free_page u) (free_range uses + 1) 0 (λ n. n ≤ suc (length uses)) (λ free. omega (arith, free_range_within uses)) (λ taken. omega arith)
+free_range_within (u ∷ uses) = cond_both (is_free_page u) (free_range uses + 1) 0 (λ n. n ≤ suc (length uses))
+    (λ free. omega (arith, free_range_within uses)) (λ taken. omega arith)
 
-first_is_free : (u : PageUse) (uses : List PageUse) (k : ℕ) → k < free_range (u ∷ uses) → (is_free_page u ≡ true) × (k < free_range uses + 1)
+first_is_free : (u : PageUse) (uses : List PageUse) (k : ℕ) → k < free_range (u ∷ uses)
+    → (is_free_page u ≡ true) × (k < free_range uses + 1)
 first_is_free u uses k within = elim (cases_Bool (is_free_page u)) [
   | inl free ↦ (free, subst (λ n. k < n) (cond-true (is_free_page u) (free_range uses + 1) 0 free) within)
-  | inr taken ↦ let none : k < 0 = subst (λ n. k < n) (cond-false (is_free_page u) (free_range uses + 1) 0 taken) within in absurd (omega arith)
+  | inr taken ↦ let none : k < 0 =
+      subst (λ n. k < n) (cond-false (is_free_page u) (free_range uses + 1) 0 taken) within in absurd (omega arith)
 ]
 
-free_in_range : (uses : List PageUse) (k : ℕ) (d : PageUse) → k < free_range uses → is_free_page (get_or uses k d) ≡ true
+free_in_range : (uses : List PageUse) (k : ℕ) (d : PageUse) → k < free_range uses
+    → is_free_page (get_or uses k d) ≡ true
 free_in_range [] k d within = absurd (omega arith)
 free_in_range (u ∷ uses) zero d within = (first_is_free u uses zero within).0
-free_in_range (u ∷ uses) (suc k) d within = free_in_range uses k d (omega (arith, (first_is_free u uses (suc k) within).1))
+free_in_range (u ∷ uses) (suc k) d within =
+    free_in_range uses k d (omega (arith, (first_is_free u uses (suc k) within).1))
 
 -- so many uses from `start` on are there, and free
 record AreFreeUses (start count : ℕ) (uses : List PageUse) : Type 0 where
   within : start + count ≤ length uses
   free : AllWithin (λ u. is_free_page u ≡ true) uses start (start + count)
 
-range_start_free : (count : ℕ) (uses : List PageUse) (start : ℕ) → range_start count uses ≡ Some start → AreFreeUses start count uses
+range_start_free : (count : ℕ) (uses : List PageUse) (start : ℕ) → range_start count uses ≡ Some start
+    → AreFreeUses start count uses
 range_start_free count [] start is = absurd (none-some start is)
 range_start_free count (u ∷ uses) start is = elim (cases_Bool (nat_le count (free_range (u ∷ uses)))) [
   | inl enough ↦
-      let here : 0 ≡ start = same_Some 0 start (sym (cond-true (nat_le count (free_range (u ∷ uses))) (Some 0) later enough) ∙ is) in
+      let here : 0 ≡ start =
+      same_Some 0 start (sym (cond-true (nat_le count (free_range (u ∷ uses))) (Some 0) later enough) ∙ is) in
       let fit : count ≤ free_range (u ∷ uses) = leb-true count (free_range (u ∷ uses)) enough in
-      record { within = omega (arith, free_range_within (u ∷ uses)); free = λ k d low high. free_in_range (u ∷ uses) k d (omega arith) }
+      record {
+        within = omega (arith, free_range_within (u ∷ uses));
+        free = λ k d low high. free_in_range (u ∷ uses) k d (omega arith);
+      }
   | inr few ↦
-      let (n, found, start_is) = option_map_some (λ (n : ℕ). n + 1) (range_start count uses) start (sym (cond-false (nat_le count (free_range (u ∷ uses))) (Some 0) later few) ∙ is) in
+      let (n, found, start_is) =
+      option_map_some (λ (n : ℕ). n + 1) (range_start count uses) start
+      (sym (cond-false (nat_le count (free_range (u ∷ uses))) (Some 0) later few) ∙ is) in
       let rest = range_start_free count uses n found in
-      record { within = omega (arith, rest.within); free = λ k d low high. behind n rest k d (omega arith) (omega arith) }
+      record {
+        within = omega (arith, rest.within);
+        free = λ k d low high. behind n rest k d (omega arith) (omega arith);
+      }
 ]
   where
     later : Option ℕ
     later = option_map (λ (n : ℕ). n + 1) (range_start count uses)
 
-    behind : (n : ℕ) → AreFreeUses n count uses → (k : ℕ) (d : PageUse) → n < k → k < suc n + count → is_free_page (get_or (u ∷ uses) k d) ≡ true
+    behind : (n : ℕ) → AreFreeUses n count uses → (k : ℕ) (d : PageUse) → n < k → k < suc n + count
+        → is_free_page (get_or (u ∷ uses) k d) ≡ true
     behind n rest zero d low high = absurd (omega arith)
     behind n rest (suc k) d low high = rest.free k d (omega arith) (omega arith)
 
 -- from what stands on the pages to the pages
-use_of_some : (pages : List Page) (k : ℕ) (u : PageUse) → slice_get (uses_of_pages pages) k ≡ Some u → (p : Page) × (slice_get pages k ≡ Some p) × (use_of_page p ≡ u)
-use_of_some pages k u at = option_map_some use_of_page (slice_get pages k) u (sym (slice_get-map use_of_page pages k) ∙ at)
+use_of_some : (pages : List Page) (k : ℕ) (u : PageUse) → slice_get (uses_of_pages pages) k ≡ Some u
+    → (p : Page) × (slice_get pages k ≡ Some p) × (use_of_page p ≡ u)
+use_of_some pages k u at = option_map_some use_of_page (slice_get pages k) u (sym (slice_get-map use_of_page pages k)
+    ∙ at)
 
-cell_place_on : (limit class : ℕ) (leaf : Bool) (pages : List Page) (place : Place) → FitsOn class leaf (uses_of_pages pages) place → (place.carve ≡ true → place.index ≡ 0)
+cell_place_on : (limit class : ℕ) (leaf : Bool) (pages : List Page) (place : Place)
+    → FitsOn class leaf (uses_of_pages pages) place → (place.carve ≡ true → place.index ≡ 0)
     → (place.carve ≡ true → resident_pages (uses_of_pages pages) < limit) → IsCellPlace limit class leaf pages place
 cell_place_on limit class leaf pages place fits first room =
     let (p, at, shows) = use_of_some pages place.page fits.on fits.at in
@@ -163,7 +227,8 @@ cell_place_on limit class leaf pages place fits first room =
       has_room = room;
     }
 
-pub cell_place_is : (limit words class : ℕ) (leaf : Bool) (pages : List Page) (place : Place) → class_for words ≡ Some class → place_among limit words leaf (uses_of_pages pages) ≡ Some place
+pub cell_place_is : (limit words class : ℕ) (leaf : Bool) (pages : List Page) (place : Place)
+    → class_for words ≡ Some class → place_among limit words leaf (uses_of_pages pages) ≡ Some place
     → IsCellPlace limit class leaf pages place
 cell_place_is limit words class leaf pages place class_is is =
     let uses = uses_of_pages pages in
@@ -172,23 +237,29 @@ cell_place_is limit words class leaf pages place class_is is =
     let small : nat_le words 32 ≡ true = le-leb words 32 (omega arith) in
     let found : small_place limit class leaf uses ≡ Some place =
     sym (ap (option_and_then (λ class. small_place limit class leaf uses)) class_is)
-    ∙ sym (cond-true (nat_le words 32) (option_and_then (λ class. small_place limit class leaf uses) (class_for words)) (large_place limit (run_pages_of words) uses) small) ∙ is in
+    ∙ sym (cond-true (nat_le words 32) (option_and_then (λ class. small_place limit class leaf uses) (class_for words))
+    (large_place limit (run_pages_of words) uses) small) ∙ is in
     let (fits, first, room) = small_place_fits limit class leaf uses place (some_cells class known) found in
     cell_place_on limit class leaf pages place fits first room
 
-pub run_place_is : (limit words : ℕ) (leaf : Bool) (pages : List Page) (place : Place) → 32 < words → place_among limit words leaf (uses_of_pages pages) ≡ Some place
+pub run_place_is : (limit words : ℕ) (leaf : Bool) (pages : List Page) (place : Place) → 32 < words
+    → place_among limit words leaf (uses_of_pages pages) ≡ Some place
     → IsRunPlace limit (run_pages_of words) pages place
 run_place_is limit words leaf pages place large is =
     let uses = uses_of_pages pages in
     let count = run_pages_of words in
     let found : large_place limit count uses ≡ Some place =
-    sym (cond-false (nat_le words 32) (option_and_then (λ class. small_place limit class leaf uses) (class_for words)) (large_place limit count uses) (lt-leb words 32 large)) ∙ is in
-    let (room, start_found) = if_some (nat_le (resident_pages uses + count) limit) (option_map carved (range_start count uses)) place found in
+    sym (cond-false (nat_le words 32) (option_and_then (λ class. small_place limit class leaf uses) (class_for words))
+    (large_place limit count uses) (lt-leb words 32 large)) ∙ is in
+    let (room, start_found) =
+    if_some (nat_le (resident_pages uses + count) limit) (option_map carved (range_start count uses)) place found in
     let (start, at, place_is) = option_map_some carved (range_start count uses) place start_found in
     let uses_free = range_start_free count uses start at in
     let free : AreFree start count pages = record {
       within = omega (arith, uses_free.within, length-map pages use_of_page);
-      free = λ k d low high. ap is_free_page (sym (get_or-map use_of_page pages k d Nothing (omega (arith, uses_free.within, length-map pages use_of_page)))) ∙ uses_free.free k Nothing low high;
+      free = λ k d low high. ap is_free_page
+          (sym (get_or-map use_of_page pages k d Nothing
+          (omega (arith, uses_free.within, length-map pages use_of_page)))) ∙ uses_free.free k Nothing low high;
     } in
     record {
       free = subst (λ (x : Place). AreFree x.page count pages) place_is free;
@@ -197,12 +268,14 @@ run_place_is limit words leaf pages place large is =
       has_room = leb-true (resident_pages uses + count) limit room;
     }
 
-pub cell_place_found : (pages : List Page) (storages : List Storage) (limit words class : ℕ) (leaf : Bool) (place : Place) → PagesStandFor pages storages → class_for words ≡ Some class
+pub cell_place_found : (pages : List Page) (storages : List Storage) (limit words class : ℕ) (leaf : Bool)
+    (place : Place) → PagesStandFor pages storages → class_for words ≡ Some class
     → place_of (length pages) limit words leaf storages ≡ Some place → IsCellPlace limit class leaf pages place
 cell_place_found pages storages limit words class leaf place stand class_is is =
     cell_place_is limit words class leaf pages place class_is (same_places pages storages limit words leaf stand ∙ is)
 
-pub run_place_found : (pages : List Page) (storages : List Storage) (limit words : ℕ) (leaf : Bool) (place : Place) → PagesStandFor pages storages → 32 < words
+pub run_place_found : (pages : List Page) (storages : List Storage) (limit words : ℕ) (leaf : Bool) (place : Place)
+    → PagesStandFor pages storages → 32 < words
     → place_of (length pages) limit words leaf storages ≡ Some place → IsRunPlace limit (run_pages_of words) pages place
 run_place_found pages storages limit words leaf place stand large is =
     run_place_is limit words leaf pages place large (same_places pages storages limit words leaf stand ∙ is)

@@ -1,5 +1,7 @@
 -- The words that pages hold are those of the mapped storages that stand on them.
-use Rattle.std.proofs.Common.{◌≡◌, ◌≢◌, ℕ, suc, ◌+◌, ◌*◌, ◌<◌, ◌≤◌, Bool, true, false, ◌==◌, ◌||◌, if◌then◌else◌, cond, List, [], ◌∷◌, length, get_or, set, find, Option, Some, Contains, inl, inr, refl, sym, ◌∙◌, ap, subst, arith, ne_eqb, unwrap_or}
+use Rattle.std.proofs.Common.{◌≡◌, ◌≢◌, ℕ, suc, ◌+◌, ◌*◌, ◌<◌, ◌≤◌, Bool, true, false, ◌==◌, ◌||◌, if◌then◌else◌, cond}
+use Rattle.std.proofs.Common.{List, [], ◌∷◌, length, get_or, set, find, Option, Some, Contains, inl, inr, refl, sym}
+use Rattle.std.proofs.Common.{◌∙◌, ap, subst, arith, ne_eqb, unwrap_or}
 use Rattle.std.specs.List.{count_by}
 use Rattle.std.proofs.lemmas.Bool.{cases_Bool, false≢true, false_from_ne_true, cond-true, cond-false}
 use Rattle.std.proofs.lemmas.List.Elements.{All-head, All-tail}
@@ -8,15 +10,19 @@ use Rattle.mk_geom.specs.declared.pages.Page.{Page}
 use Rattle.mk_geom.specs.Classes.{class_for, class_words_of, cells_of}
 use Rattle.mk_geom.specs.PageUses.{PageUse, Cells, PartOfRun, words_held_by, words_held_among}
 use Rattle.mk_geom.specs.PageWords.{uses_of_pages}
-use Rattle.mk_geom.specs.Storages.{Storage, is_small, first_page, last_page, stands_on, class_of_storage, is_cell_taken, taken_cells, use_by, use_of_storages, IsCell, IsStorage, LieApart, AreLaidOut, PagesStandFor}
+use Rattle.mk_geom.specs.Storages.{Storage, is_small, first_page, last_page, stands_on, class_of_storage, is_cell_taken}
+use Rattle.mk_geom.specs.Storages.{taken_cells, use_by, use_of_storages, IsCell, IsStorage, LieApart, AreLaidOut}
+use Rattle.mk_geom.specs.Storages.{PagesStandFor}
 use Rattle.mk_geom.specs.StorageWords.{mapped_words}
 use Rattle.mk_geom.proofs.Bridge.{same_uses}
 use Rattle.mk_geom.proofs.ClassTable.{class_words_within}
 use Rattle.mk_geom.proofs.ListSearch.{Contains-head, Contains-tail, Contains-cons_cases, find_cases}
 use Rattle.mk_geom.proofs.PageSums.{sum_below, sum_by-range, sum_below-add, sum_below-zero, sum_below-block}
 use Rattle.mk_geom.proofs.PointedCells.{class_has_words, first_in_page}
-use Rattle.mk_geom.proofs.Standing.{storage_in, cell_within, has_words, small_is_cell, large_is_run, class_of_cell, stands_parts, stands_from, cell_stands_at}
-use Rattle.mk_geom.proofs.TakenCells.{taken_same, cell_taken_by, cell_taken_from, length-taken_cells, get_or-taken_cells, taken_cells-set, same_index, none_taken}
+use Rattle.mk_geom.proofs.Standing.{storage_in, cell_within, has_words, small_is_cell, large_is_run, class_of_cell}
+use Rattle.mk_geom.proofs.Standing.{stands_parts, stands_from, cell_stands_at}
+use Rattle.mk_geom.proofs.TakenCells.{taken_same, cell_taken_by, cell_taken_from, length-taken_cells}
+use Rattle.mk_geom.proofs.TakenCells.{get_or-taken_cells, taken_cells-set, same_index, none_taken}
 
 -- the words of a storage that are on one page, where it is mapped
 abbrev pub words_there : Storage → ℕ
@@ -32,10 +38,12 @@ words_on_page : (s : Storage) (page : ℕ) → stands_on page s ≡ true → wor
 words_on_page s page stands = cond-true (stands_on page s) (words_there s) 0 stands
 
 words_off_page : (s : Storage) (page : ℕ) → (stands_on page s ≡ true → ⊥) → words_on s page ≡ 0
-words_off_page s page elsewhere = cond-false (stands_on page s) (words_there s) 0 (false_from_ne_true (stands_on page s) elsewhere)
+words_off_page s page elsewhere =
+    cond-false (stands_on page s) (words_there s) 0 (false_from_ne_true (stands_on page s) elsewhere)
 
 -- a storage that stands on so many pages
-sum_on_pages : (s : Storage) (n count : ℕ) → first_page s + count ≡ last_page s + 1 → first_page s + count ≤ n → sum_below (words_on s) n ≡ count * words_there s
+sum_on_pages : (s : Storage) (n count : ℕ) → first_page s + count ≡ last_page s + 1 → first_page s + count ≤ n
+    → sum_below (words_on s) n ≡ count * words_there s
 sum_on_pages s n count ends within =
     sum_below-block (words_on s) (first_page s) count (words_there s)
     (λ p low. words_off_page s p (λ stands. let parts = stands_parts p s stands in omega arith))
@@ -49,7 +57,8 @@ large_there s pages large words = by s.mapped
     page_words : (if is_small s then s.words else 64) ≡ 64
     page_words = cond-false (is_small s) s.words 64 large
 
-    by : (mapped : Bool) → pages * (if mapped then (if is_small s then s.words else 64) else 0) ≡ (if mapped then s.words else 0)
+    by : (mapped : Bool)
+        → pages * (if mapped then (if is_small s then s.words else 64) else 0) ≡ (if mapped then s.words else 0)
     by true = ap (λ (n : ℕ). pages * n) page_words ∙ omega arith
     by false = omega arith
 
@@ -66,14 +75,16 @@ storage_sum n s is = elim (cases_Bool (is_small s)) [
       omega (arith, sum, small_there s small)
   | inr large ↦
       let run = large_is_run n s is large in
-      sum_on_pages s n run.pages (omega (arith, run.first, run.words, run.some)) (omega (arith, run.first, run.words, is.1)) ∙ large_there s run.pages large run.words
+      sum_on_pages s n run.pages (omega (arith, run.first, run.words, run.some))
+      (omega (arith, run.first, run.words, is.1)) ∙ large_there s run.pages large run.words
 ]
 
 -- how many bits are set
 abbrev count : List Bool → ℕ
 count bits = count_by (λ cell. cell) bits
 
-one_more : (bits : List Bool) (k : ℕ) → k < length bits → get_or bits k true ≡ false → count (set bits k true) ≡ count bits + 1
+one_more : (bits : List Bool) (k : ℕ) → k < length bits → get_or bits k true ≡ false
+    → count (set bits k true) ≡ count bits + 1
 one_more bits k within unset =
     let change = sum_by-set (λ (bit : Bool). cond {A = ℕ} bit 1 0) bits k true true within in
     let old : cond {A = ℕ} (get_or bits k true) 1 0 ≡ 0 = ap (λ (bit : Bool). cond {A = ℕ} bit 1 0) unset in
@@ -83,7 +94,8 @@ none_set : (bits : List Bool) → ((k : ℕ) → k < length bits → get_or bits
 none_set [] each = refl
 none_set (bit ∷ bits) each =
     let first : cond {A = ℕ} bit 1 0 ≡ 0 = ap (λ (b : Bool). cond {A = ℕ} b 1 0) (each 0 (omega arith)) in
-    sum_by-cons (λ (b : Bool). cond {A = ℕ} b 1 0) bit bits ∙ omega (arith, none_set bits (λ k within. each (suc k) (omega arith)))
+    sum_by-cons (λ (b : Bool). cond {A = ℕ} b 1 0) bit bits
+    ∙ omega (arith, none_set bits (λ k within. each (suc k) (omega arith)))
 
 -- the words that a page holds, where this is a storage that stands there
 abbrev held_as : List Storage → ℕ → Option Storage → ℕ
@@ -93,16 +105,21 @@ abbrev cells_with : List Storage → ℕ → Storage → PageUse
 cells_with xs page s = Cells (class_of_storage s) s.leaf (taken_cells xs page (class_of_storage s))
 
 held_small : (xs : List Storage) (page : ℕ) (s : Storage) → is_small s ≡ true
-    → words_held_by (use_by xs page (Some s)) ≡ class_words_of (class_of_storage s) * count (taken_cells xs page (class_of_storage s))
+    → words_held_by (use_by xs page (Some s))
+    ≡ class_words_of (class_of_storage s) * count (taken_cells xs page (class_of_storage s))
 held_small xs page s small = ap words_held_by (cond-true (is_small s) (cells_with xs page s) (PartOfRun s.mapped) small)
 
-held_large : (xs : List Storage) (page : ℕ) (s : Storage) → is_small s ≡ false → words_held_by (use_by xs page (Some s)) ≡ (if s.mapped then 64 else 0)
-held_large xs page s large = ap words_held_by (cond-false (is_small s) (cells_with xs page s) (PartOfRun s.mapped) large)
+held_large : (xs : List Storage) (page : ℕ) (s : Storage) → is_small s ≡ false
+    → words_held_by (use_by xs page (Some s)) ≡ (if s.mapped then 64 else 0)
+held_large xs page s large =
+    ap words_held_by (cond-false (is_small s) (cells_with xs page s) (PartOfRun s.mapped) large)
 
-found_first : (page : ℕ) (s : Storage) (xs : List Storage) → stands_on page s ≡ true → find (stands_on page) (s ∷ xs) ≡ Some s
+found_first : (page : ℕ) (s : Storage) (xs : List Storage) → stands_on page s ≡ true
+    → find (stands_on page) (s ∷ xs) ≡ Some s
 found_first page s xs stands = rw stands refl
 
-found_later : (page : ℕ) (s : Storage) (xs : List Storage) → stands_on page s ≡ false → find (stands_on page) (s ∷ xs) ≡ find (stands_on page) xs
+found_later : (page : ℕ) (s : Storage) (xs : List Storage) → stands_on page s ≡ false
+    → find (stands_on page) (s ∷ xs) ≡ find (stands_on page) xs
 found_later page s xs apart = rw apart refl
 
 -- One storage more, before the others.
@@ -113,17 +130,22 @@ module _ (n : ℕ) (s : Storage) (xs : List Storage) (laid : AreLaidOut n (s ∷
   pub laid_tail : AreLaidOut n xs
   laid_tail = record {
     each = All-tail (IsStorage n) s xs laid.each;
-    apart = λ i j d i_within j_within other. laid.apart (suc i) (suc j) d (omega arith) (omega arith) (λ same. other (omega arith));
+    apart = λ i j d i_within j_within other. laid.apart (suc i) (suc j) d (omega arith) (omega arith)
+        (λ same. other (omega arith));
   }
 
   from_head : (t : Storage) → Contains xs t → LieApart s t
-  from_head t (k, within, is) = subst (λ (x : Storage). LieApart s x) is (laid.apart 0 (suc k) t (omega arith) (omega arith) (λ same. omega arith))
+  from_head t (k, within, is) =
+      subst (λ (x : Storage). LieApart s x) is
+      (laid.apart 0 (suc k) t (omega arith) (omega arith) (λ same. omega arith))
 
   -- a page that it doesn't stand on holds what it held
-  held_elsewhere : (page : ℕ) → stands_on page s ≡ false → words_held_by (use_of_storages (s ∷ xs) page) ≡ words_held_by (use_of_storages xs page)
+  held_elsewhere : (page : ℕ) → stands_on page s ≡ false
+      → words_held_by (use_of_storages (s ∷ xs) page) ≡ words_held_by (use_of_storages xs page)
   held_elsewhere page apart =
       ap (held_as (s ∷ xs) page) (found_later page s xs apart) ∙ elim (find_cases (stands_on page) xs) [
-        | inl (t, found, inside, stands) ↦ ap (held_as (s ∷ xs) page) found ∙ same t inside ∙ sym (ap (held_as xs page) found)
+        | inl (t, found, inside, stands) ↦ ap (held_as (s ∷ xs) page) found ∙ same t inside
+            ∙ sym (ap (held_as xs page) found)
         | inr (none, others) ↦ ap (held_as (s ∷ xs) page) none ∙ sym (ap (held_as xs page) none)
       ]
     where
@@ -133,14 +155,16 @@ module _ (n : ℕ) (s : Storage) (xs : List Storage) (laid : AreLaidOut n (s ∷
         | inr inside' ↦ inside'
       ]
 
-      same : (t : Storage) → Contains xs t → words_held_by (use_by (s ∷ xs) page (Some t)) ≡ words_held_by (use_by xs page (Some t))
+      same : (t : Storage) → Contains xs t
+          → words_held_by (use_by (s ∷ xs) page (Some t)) ≡ words_held_by (use_by xs page (Some t))
       same t inside = elim (cases_Bool (is_small t)) [
         | inl small ↦
             let cell = small_is_cell n t (storage_in n xs t laid_tail inside) small in
             let known : class_of_storage t < 8 = omega (arith, class_of_cell t cell, cell.known) in
             held_small (s ∷ xs) page t small
             ∙ ap (λ (bits : List Bool). class_words_of (class_of_storage t) * count bits)
-            (taken_same n page (class_of_storage t) (s ∷ xs) xs known laid.each laid_tail.each without (λ u stands inside'. Contains-tail s xs u inside'))
+            (taken_same n page (class_of_storage t) (s ∷ xs) xs known laid.each laid_tail.each without
+            (λ u stands inside'. Contains-tail s xs u inside'))
             ∙ sym (held_small xs page t small)
         | inr large ↦ held_large (s ∷ xs) page t large ∙ sym (held_large xs page t large)
       ]
@@ -149,9 +173,11 @@ module _ (n : ℕ) (s : Storage) (xs : List Storage) (laid : AreLaidOut n (s ∷
   held_on_run : (page : ℕ) → stands_on page s ≡ true → is_small s ≡ false
       → words_held_by (use_of_storages (s ∷ xs) page) ≡ words_there s + words_held_by (use_of_storages xs page)
   held_on_run page stands large =
-      let there : words_there s ≡ (if s.mapped then 64 else 0) = ap (λ (n : ℕ). if s.mapped then n else 0) (cond-false (is_small s) s.words 64 large) in
+      let there : words_there s ≡ (if s.mapped then 64 else 0) =
+      ap (λ (n : ℕ). if s.mapped then n else 0) (cond-false (is_small s) s.words 64 large) in
       let nothing : words_held_by (use_of_storages xs page) ≡ 0 = elim (find_cases (stands_on page) xs) [
-        | inl (t, found, inside, t_stands) ↦ absurd (false≢true (sym large ∙ ((from_head t inside).alike page stands t_stands).0))
+        | inl (t, found, inside, t_stands) ↦ absurd
+            (false≢true (sym large ∙ ((from_head t inside).alike page stands t_stands).0))
         | inr (none, others) ↦ ap (held_as xs page) none
       ] in
       ap (held_as (s ∷ xs) page) (found_first page s xs stands) ∙ held_large (s ∷ xs) page s large ∙ omega arith
@@ -178,66 +204,90 @@ module _ (n : ℕ) (s : Storage) (xs : List Storage) (laid : AreLaidOut n (s ∷
 
     was_free : is_cell_taken xs page (class_words_of (class_of_storage s)) cell.index ≡ false
     was_free = false_from_ne_true _ (λ taken.
-        let (t, inside, first, t_stands) = cell_taken_by n page (class_of_storage s) cell.index xs class_known index_within laid_tail.each taken in
+        let (t, inside, first, t_stands) =
+        cell_taken_by n page (class_of_storage s) cell.index xs class_known index_within laid_tail.each taken in
         let s_some = has_words n s s_is in
         let t_some = has_words n t (storage_in n xs t laid_tail inside) in
         let same : t.first ≡ s.first = first ∙ sym first_is in
         elim (from_head t inside).apart [ inl before ↦ omega arith | inr behind ↦ omega arith ])
 
     others_stay : (k : ℕ) → k < cells_of (class_of_storage s) → k ≢ cell.index
-        → is_cell_taken (s ∷ xs) page (class_words_of (class_of_storage s)) k ≡ is_cell_taken xs page (class_words_of (class_of_storage s)) k
+        → is_cell_taken (s ∷ xs) page (class_words_of (class_of_storage s)) k
+        ≡ is_cell_taken xs page (class_words_of (class_of_storage s)) k
     others_stay k within other =
         let not_here : (s.first == 64 * page + k * class_words_of (class_of_storage s)) ≡ false =
         ne_eqb s.first (64 * page + k * class_words_of (class_of_storage s))
-        (λ at. other (same_index (class_words_of (class_of_storage s)) k cell.index some_words (let first = first_is in omega arith))) in
+        (λ at. other (same_index (class_words_of (class_of_storage s)) k cell.index some_words
+        (let first = first_is in omega arith))) in
         ap (λ (here : Bool). here || is_cell_taken xs page (class_words_of (class_of_storage s)) k) not_here
 
-    taken_more : count (taken_cells (s ∷ xs) page (class_of_storage s)) ≡ count (taken_cells xs page (class_of_storage s)) + 1
+    taken_more : count (taken_cells (s ∷ xs) page (class_of_storage s))
+        ≡ count (taken_cells xs page (class_of_storage s)) + 1
     taken_more =
-        let here = cell_taken_from page (class_words_of (class_of_storage s)) cell.index (s ∷ xs) s (Contains-head s xs) first_is in
-        ap (λ (bits : List Bool). count bits) (taken_cells-set page (class_of_storage s) cell.index xs (s ∷ xs) true here others_stay)
-        ∙ one_more (taken_cells xs page (class_of_storage s)) cell.index (omega (arith, length-taken_cells xs page (class_of_storage s), index_within))
+        let here = cell_taken_from page (class_words_of (class_of_storage s)) cell.index (s ∷ xs) s
+        (Contains-head s xs) first_is in
+        ap (λ (bits : List Bool). count bits)
+        (taken_cells-set page (class_of_storage s) cell.index xs (s ∷ xs) true here others_stay)
+        ∙ one_more (taken_cells xs page (class_of_storage s)) cell.index
+        (omega (arith, length-taken_cells xs page (class_of_storage s), index_within))
         (get_or-taken_cells xs page (class_of_storage s) cell.index true index_within ∙ was_free)
 
-    held_before : words_held_by (use_of_storages xs page) ≡ class_words_of (class_of_storage s) * count (taken_cells xs page (class_of_storage s))
+    held_before : words_held_by (use_of_storages xs page)
+        ≡ class_words_of (class_of_storage s) * count (taken_cells xs page (class_of_storage s))
     held_before = elim (find_cases (stands_on page) xs) [
       | inl (t, found, inside, t_stands) ↦
           let alike = (from_head t inside).alike page stands t_stands in
           ap (held_as xs page) found ∙ held_small xs page t alike.1
-          ∙ ap (λ (w : ℕ). class_words_of (unwrap_or (class_for w) 0) * count (taken_cells xs page (unwrap_or (class_for w) 0))) (sym alike.2)
+          ∙ ap (λ (w : ℕ). class_words_of (unwrap_or (class_for w) 0) * count
+          (taken_cells xs page (unwrap_or (class_for w) 0))) (sym alike.2)
       | inr (none, others) ↦
           let no_bit : count (taken_cells xs page (class_of_storage s)) ≡ 0 =
           none_set (taken_cells xs page (class_of_storage s)) (λ k below.
-          let within : k < cells_of (class_of_storage s) = omega (arith, length-taken_cells xs page (class_of_storage s)) in
-          get_or-taken_cells xs page (class_of_storage s) k false within ∙ none_taken n page (class_of_storage s) xs class_known laid_tail.each others k within) in
+          let within : k < cells_of (class_of_storage s) =
+          omega (arith, length-taken_cells xs page (class_of_storage s)) in
+          get_or-taken_cells xs page (class_of_storage s) k false within
+          ∙ none_taken n page (class_of_storage s) xs class_known laid_tail.each others k within) in
           ap (held_as xs page) none ∙ sym (ap (λ (k : ℕ). class_words_of (class_of_storage s) * k) no_bit ∙ omega arith)
     ]
 
-    held_on_block : words_held_by (use_of_storages (s ∷ xs) page) ≡ words_there s + words_held_by (use_of_storages xs page)
+    held_on_block : words_held_by (use_of_storages (s ∷ xs) page)
+        ≡ words_there s + words_held_by (use_of_storages xs page)
     held_on_block =
         let words = class_has_words s cell in
         let there : words_there s ≡ s.words = small_there s small ∙ cond-true s.mapped s.words 0 cell.mapped in
         ap (held_as (s ∷ xs) page) (found_first page s xs stands) ∙ held_small (s ∷ xs) page s small
         ∙ ap (λ (k : ℕ). class_words_of (class_of_storage s) * k) taken_more ∙ omega (arith, held_before)
 
-  pub held_more : (page : ℕ) → words_held_by (use_of_storages (s ∷ xs) page) ≡ words_on s page + words_held_by (use_of_storages xs page)
+  pub held_more : (page : ℕ)
+      → words_held_by (use_of_storages (s ∷ xs) page) ≡ words_on s page + words_held_by (use_of_storages xs page)
   held_more page = elim (cases_Bool (stands_on page s)) [
     | inl stands ↦ elim (cases_Bool (is_small s)) [
-      | inl small ↦ held_on_block page stands small ∙ ap (λ (k : ℕ). k + words_held_by (use_of_storages xs page)) (sym (words_on_page s page stands))
-      | inr large ↦ held_on_run page stands large ∙ ap (λ (k : ℕ). k + words_held_by (use_of_storages xs page)) (sym (words_on_page s page stands))
+      | inl small ↦ held_on_block page stands small
+          ∙ ap (λ (k : ℕ). k + words_held_by (use_of_storages xs page)) (sym (words_on_page s page stands))
+      | inr large ↦ held_on_run page stands large
+          ∙ ap (λ (k : ℕ). k + words_held_by (use_of_storages xs page)) (sym (words_on_page s page stands))
     ]
-    | inr apart ↦ held_elsewhere page apart ∙ omega (arith, words_off_page s page (λ stands. false≢true (sym apart ∙ stands)))
+    | inr apart ↦ held_elsewhere page apart
+        ∙ omega (arith, words_off_page s page (λ stands. false≢true (sym apart ∙ stands)))
   ]
 
-held_sum : (n : ℕ) (xs : List Storage) → AreLaidOut n xs → sum_below (λ page. words_held_by (use_of_storages xs page)) n ≡ mapped_words xs
+held_sum : (n : ℕ) (xs : List Storage) → AreLaidOut n xs
+    → sum_below (λ page. words_held_by (use_of_storages xs page)) n ≡ mapped_words xs
 held_sum n [] laid = sum_below-zero (λ page. words_held_by (use_of_storages [] page)) n (λ page within. refl)
 held_sum n (s ∷ xs) laid =
-    sum_below-add (λ page. words_held_by (use_of_storages (s ∷ xs) page)) (words_on s) (λ page. words_held_by (use_of_storages xs page)) n
+    sum_below-add (λ page. words_held_by (use_of_storages (s ∷ xs) page)) (words_on s)
+    (λ page. words_held_by (use_of_storages xs page)) n
     (λ page within. held_more n s xs laid page)
-    ∙ omega (arith, storage_sum n s (All-head (IsStorage n) s xs laid.each), held_sum n xs (laid_tail n s xs laid), sum_by-cons held_by s xs)
+    ∙ omega (
+      arith,
+      storage_sum n s (All-head (IsStorage n) s xs laid.each),
+      held_sum n xs (laid_tail n s xs laid),
+      sum_by-cons held_by s xs,
+    )
 
 pub pages_hold_mapped_words : (pages : List Page) (storages : List Storage) → PagesStandFor pages storages
     → words_held_among (uses_of_pages pages) ≡ mapped_words storages
 pages_hold_mapped_words pages storages stand =
-    ap words_held_among (same_uses pages storages stand) ∙ sum_by-range words_held_by (use_of_storages storages) (length pages)
+    ap words_held_among (same_uses pages storages stand)
+    ∙ sum_by-range words_held_by (use_of_storages storages) (length pages)
     ∙ held_sum (length pages) storages stand.laid_out

@@ -1,5 +1,6 @@
 -- What `find` and `list_any` say of the elements of a list.
-use Rattle.std.proofs.Common.{◌≡◌, zero, suc, Bool, true, false, List, [], ◌∷◌, Some, None, Contains, find, ◌⊎◌, inl, inr, refl, sym, ◌∙◌, subst, arith}
+use Rattle.std.proofs.Common.{◌≡◌, zero, suc, Bool, true, false, List, [], ◌∷◌, Some, None, Contains, find, ◌⊎◌, inl}
+use Rattle.std.proofs.Common.{inr, refl, sym, ◌∙◌, subst, arith}
 use Rattle.std.specs.List.{list_any}
 use Rattle.std.proofs.lemmas.Bool.{cases_Bool, false≢true, or_cases}
 
@@ -17,24 +18,36 @@ pub Contains-nil : {X : Type 0} (y : X) → Contains [] y → ⊥
 Contains-nil y (k, within, is) = omega arith
 
 -- the first element that passes, or none does
-pub find_cases : {X : Type 0} (p : X → Bool) (xs : List X) → ((x : X) × (find p xs ≡ Some x) × Contains xs x × (p x ≡ true)) ⊎ ((find p xs ≡ None) × ((x : X) → Contains xs x → p x ≡ false))
+pub find_cases : {X : Type 0} (p : X → Bool) (xs : List X)
+    → ((x : X) × (find p xs ≡ Some x) × Contains xs x × (p x ≡ true))
+    ⊎ ((find p xs ≡ None) × ((x : X) → Contains xs x → p x ≡ false))
 find_cases p [] = inr (refl, λ x in_nil. absurd (Contains-nil x in_nil))
 find_cases {X} p (x ∷ xs) = elim (cases_Bool (p x)) [
   | inl passes ↦ inl (x, rw passes refl, Contains-head x xs, passes)
   | inr fails ↦ elim (find_cases p xs) [
     | inl (y, found, inside, passes) ↦ inl (y, rw fails found, Contains-tail x xs y inside, passes)
-    | inr (none, others) ↦ inr (rw fails none, λ y inside. elim (Contains-cons_cases x xs y inside) [ inl same ↦ subst (λ (z : X). p z ≡ false) same fails | inr inside' ↦ others y inside' ])
+    | inr (none, others) ↦ inr (
+      rw fails none,
+      λ y inside. elim (Contains-cons_cases x xs y inside)
+          [ inl same ↦ subst (λ (z : X). p z ≡ false) same fails | inr inside' ↦ others y inside' ],
+    )
   ]
 ]
 
-pub list_any_from : {X : Type 0} (p : X → Bool) (xs : List X) (x : X) → Contains xs x → p x ≡ true → list_any p xs ≡ true
+pub list_any_from : {X : Type 0} (p : X → Bool) (xs : List X) (x : X) → Contains xs x → p x ≡ true
+    → list_any p xs ≡ true
 list_any_from p [] x inside passes = absurd (Contains-nil x inside)
 list_any_from {X} p (y ∷ xs) x inside passes = elim (cases_Bool (p y)) [
   | inl passes' ↦ rw passes' refl
-  | inr fails ↦ rw fails (elim (Contains-cons_cases y xs x inside) [ inl same ↦ absurd (false≢true (sym fails ∙ subst (λ (z : X). p z ≡ true) (sym same) passes)) | inr inside' ↦ list_any_from p xs x inside' passes ])
+  | inr fails ↦ rw fails
+      (elim (Contains-cons_cases y xs x inside) [
+        | inl same ↦ absurd (false≢true (sym fails ∙ subst (λ (z : X). p z ≡ true) (sym same) passes))
+        | inr inside' ↦ list_any_from p xs x inside' passes
+      ])
 ]
 
-pub list_any_found : {X : Type 0} (p : X → Bool) (xs : List X) → list_any p xs ≡ true → (x : X) × Contains xs x × (p x ≡ true)
+pub list_any_found : {X : Type 0} (p : X → Bool) (xs : List X) → list_any p xs ≡ true
+    → (x : X) × Contains xs x × (p x ≡ true)
 list_any_found p [] is = absurd (false≢true is)
 list_any_found p (x ∷ xs) is = elim (or_cases (p x) (list_any p xs) is) [
   | inl passes ↦ (x, Contains-head x xs, passes)

@@ -1,5 +1,6 @@
 -- Sums of a number that each page has.
-use Rattle.std.proofs.Common.{◌≡◌, ℕ, zero, suc, ◌+◌, ◌*◌, ◌<◌, ◌≤◌, map, inl, inr, refl, ◌∙◌, ap, subst, arith, add-one}
+use Rattle.std.proofs.Common.{◌≡◌, ℕ, zero, suc, ◌+◌, ◌*◌, ◌<◌, ◌≤◌, map, inl, inr, refl, ◌∙◌, ap, subst, arith}
+use Rattle.std.proofs.Common.{add-one}
 use Rattle.std.specs.List.{range_with_len, sum_by}
 use Rattle.std.proofs.lemmas.Bool.{cases_lt}
 use Rattle.std.proofs.lemmas.List.FromFn.{sum_by-map-range_with_len_more}
@@ -9,15 +10,18 @@ abbrev pub sum_below : (ℕ → ℕ) → ℕ → ℕ
 sum_below f zero = 0
 sum_below f (suc n) = sum_below f n + f n
 
-pub sum_by-range : {X : Type 0} (g : X → ℕ) (f : ℕ → X) (n : ℕ) → sum_by g (map f (range_with_len 0 n)) ≡ sum_below (λ p. g (f p)) n
+pub sum_by-range : {X : Type 0} (g : X → ℕ) (f : ℕ → X) (n : ℕ)
+    → sum_by g (map f (range_with_len 0 n)) ≡ sum_below (λ p. g (f p)) n
 sum_by-range g f zero = refl
 sum_by-range g f (suc n) =
     subst (λ (m : ℕ). sum_by g (map f (range_with_len 0 m)) ≡ sum_below (λ p. g (f p)) n + g (f n)) (add-one n)
     (sum_by-map-range_with_len_more g f 0 n n (omega arith) ∙ ap (λ (x : ℕ). x + g (f n)) (sum_by-range g f n))
 
-pub sum_below-add : (f g h : ℕ → ℕ) (n : ℕ) → ((p : ℕ) → p < n → f p ≡ g p + h p) → sum_below f n ≡ sum_below g n + sum_below h n
+pub sum_below-add : (f g h : ℕ → ℕ) (n : ℕ) → ((p : ℕ) → p < n → f p ≡ g p + h p)
+    → sum_below f n ≡ sum_below g n + sum_below h n
 sum_below-add f g h zero each = refl
-sum_below-add f g h (suc n) each = omega (arith, sum_below-add f g h n (λ p lt. each p (omega arith)), each n (omega arith))
+sum_below-add f g h (suc n) each =
+    omega (arith, sum_below-add f g h n (λ p lt. each p (omega arith)), each n (omega arith))
 
 pub sum_below-zero : (f : ℕ → ℕ) (n : ℕ) → ((p : ℕ) → p < n → f p ≡ 0) → sum_below f n ≡ 0
 sum_below-zero f zero each = refl
@@ -29,7 +33,8 @@ module _ (f : ℕ → ℕ) (first count a : ℕ) (before : (p : ℕ) → p < fir
   sum_within : (n k : ℕ) → n ≡ first + k → k ≤ count → sum_below f n ≡ k * a
   sum_within n zero is le = omega (arith, sum_below-zero f n (λ p lt. before p (omega arith)))
   sum_within zero (suc k) is le = absurd (omega arith)
-  sum_within (suc n) (suc k) is le = omega (arith, sum_within n k (omega arith) (omega arith), within n (omega arith) (omega arith))
+  sum_within (suc n) (suc k) is le =
+      omega (arith, sum_within n k (omega arith) (omega arith), within n (omega arith) (omega arith))
 
   pub sum_below-block : (n : ℕ) → first + count ≤ n → sum_below f n ≡ count * a
   sum_below-block zero le = sum_within 0 count (omega arith) (omega arith)

@@ -1,33 +1,43 @@
 -- What an address in a storage points into, and in which storage an address is that points into its cell.
-use Rattle.std.proofs.Common.{Option, ◌≡◌, ℕ, zero, suc, ◌+◌, ◌-◌, ◌*◌, ◌/◌, ◌%◌, ◌<◌, ◌≤◌, Bool, true, false, nat_le, nat_lt, Some, None, inl, inr, refl, sym, ◌∙◌, ap, subst, arith, le-leb, le_refl, option_and_then, ◌↔◌}
+use Rattle.std.proofs.Common.{Option, ◌≡◌, ℕ, zero, suc, ◌+◌, ◌-◌, ◌*◌, ◌/◌, ◌%◌, ◌<◌, ◌≤◌, Bool, true, false, nat_le}
+use Rattle.std.proofs.Common.{nat_lt, Some, None, inl, inr, refl, sym, ◌∙◌, ap, subst, arith, le-leb, le_refl}
+use Rattle.std.proofs.Common.{option_and_then, ◌↔◌}
 use Rattle.std.proofs.lemmas.Bool.{cases_Bool, and_from, cond-true, cond-false, lt-ltb, lt-leb}
 use Rattle.std.proofs.lemmas.Nat.{mul-le, div-mul-add}
 use Rattle.mk_geom.specs.declared.addresses.Cell.{Cell}
 use Rattle.mk_geom.specs.declared.headers.Header.{Header}
-use Rattle.mk_geom.specs.Addresses.{address_of, heap_word_at, is_heap_address, page_at_address, word_at_address, cell_of_block, cell_under, cell_at}
+use Rattle.mk_geom.specs.Addresses.{address_of, heap_word_at, is_heap_address, page_at_address, word_at_address}
+use Rattle.mk_geom.specs.Addresses.{cell_of_block, cell_under, cell_at}
 use Rattle.mk_geom.specs.Classes.{class_words_of, cells_of}
 use Rattle.mk_geom.specs.Headers.{word_of, header_of}
-use Rattle.mk_geom.specs.Storages.{Storage, is_small, first_page, stands_on, class_of_storage, block_header, run_header, IsCell, IsStorage}
+use Rattle.mk_geom.specs.Storages.{Storage, is_small, first_page, stands_on, class_of_storage, block_header, run_header}
+use Rattle.mk_geom.specs.Storages.{IsCell, IsStorage}
 use Rattle.mk_geom.specs.StorageWords.{IsWordOf, PointsInto, cell_of_storage, ShowsStorage}
 use Rattle.mk_geom.proofs.Bridge.{block_in_range, run_in_range, run_near}
 use Rattle.mk_geom.proofs.ClassTable.{class_words_within, cell_ends}
 use Rattle.mk_geom.proofs.HeaderLemmas.{header_of-word_of}
-use Rattle.mk_geom.proofs.Standing.{class_of_words, has_words, small_is_cell, large_is_run, class_of_cell, cell_stands_at, stands_parts, stands_from}
+use Rattle.mk_geom.proofs.Standing.{class_of_words, has_words, small_is_cell, large_is_run, class_of_cell}
+use Rattle.mk_geom.proofs.Standing.{cell_stands_at, stands_parts, stands_from}
 
 -- a heap address whose page has this header
 pub looked_up : (pages header u : ℕ) (h : Header) → 65536 ≤ u → page_at_address u < pages → header_of header ≡ Some h
     → cell_at pages header u ≡ cell_under h (page_at_address u) (word_at_address u)
 looked_up pages header u h low within is =
     let high : u < 65536 + 512 * pages = omega arith in
-    let inside : is_heap_address pages u ≡ true = and_from (nat_le 65536 u) (nat_lt u (65536 + 512 * pages)) (le-leb 65536 u low) (lt-ltb u (65536 + 512 * pages) high) in
-    cond-true (is_heap_address pages u) (option_and_then (λ h. cell_under h (page_at_address u) (word_at_address u)) (header_of header)) None inside
+    let inside : is_heap_address pages u ≡ true =
+    and_from (nat_le 65536 u) (nat_lt u (65536 + 512 * pages)) (le-leb 65536 u low)
+    (lt-ltb u (65536 + 512 * pages) high) in
+    cond-true (is_heap_address pages u)
+    (option_and_then (λ h. cell_under h (page_at_address u) (word_at_address u)) (header_of header)) None inside
     ∙ ap (option_and_then (λ h. cell_under h (page_at_address u) (word_at_address u))) is
 
-block_under : (class : ℕ) (leaf : Bool) (page word : ℕ) → cell_under (block_header class leaf) page word ≡ cell_of_block class page word
+block_under : (class : ℕ) (leaf : Bool) (page word : ℕ)
+    → cell_under (block_header class leaf) page word ≡ cell_of_block class page word
 block_under class true page word = refl
 block_under class false page word = refl
 
-own_page : (page : ℕ) → ◌≡◌ {A = Option Cell} (Some (record { page = page; index = 0 })) (Some (record { page = page - 0; index = 0 }))
+own_page : (page : ℕ)
+    → ◌≡◌ {A = Option Cell} (Some (record { page = page; index = 0 })) (Some (record { page = page - 0; index = 0 }))
 own_page page = let same : page ≡ page - 0 = omega arith in ap (λ p. Some (record { page = p; index = 0 })) same
 
 run_under : (pages : ℕ) (mapped leaf : Bool) (distance page word : ℕ) → distance ≤ page
@@ -37,7 +47,8 @@ run_under pages true false zero page word near = own_page page
 run_under pages false true zero page word near = own_page page
 run_under pages false false zero page word near = own_page page
 run_under pages mapped leaf (suc distance) page word near =
-    cond-true (nat_le (suc distance) page) (Some (record { page = page - suc distance; index = 0 })) None (le-leb (suc distance) page near)
+    cond-true (nat_le (suc distance) page) (Some (record { page = page - suc distance; index = 0 })) None
+    (le-leb (suc distance) page near)
 
 -- What an address points into whose page shows a storage that stands there.
 module _ (pages header u : ℕ) (s : Storage) (is : IsStorage pages s) (low : 65536 ≤ u)
@@ -45,13 +56,15 @@ module _ (pages header u : ℕ) (s : Storage) (is : IsStorage pages s) (low : 65
   page_within : page_at_address u < pages
   page_within = let parts = stands_parts (page_at_address u) s stands in omega (arith, is.1, has_words pages s is)
 
-  pub small_lookup : is_small s ≡ true → cell_at pages header u ≡ cell_of_block (class_of_storage s) (page_at_address u) (word_at_address u)
+  pub small_lookup : is_small s ≡ true
+      → cell_at pages header u ≡ cell_of_block (class_of_storage s) (page_at_address u) (word_at_address u)
   small_lookup small =
       let cell = small_is_cell pages s is small in
       let known : class_of_storage s < 8 = omega (arith, class_of_cell s cell, cell.known) in
       let h : Header = block_header (class_of_storage s) s.leaf in
       let header_is : header ≡ word_of h = shows.1 ∙ ap word_of (cond-true (is_small s) _ _ small) in
-      looked_up pages header u h low page_within (ap header_of header_is ∙ header_of-word_of h (block_in_range (class_of_storage s) s.leaf known))
+      looked_up pages header u h low page_within (ap header_of header_is
+      ∙ header_of-word_of h (block_in_range (class_of_storage s) s.leaf known))
       ∙ block_under (class_of_storage s) s.leaf (page_at_address u) (word_at_address u)
 
   pub large_lookup : is_small s ≡ false → cell_at pages header u ≡ Some (record { page = first_page s; index = 0 })
@@ -63,7 +76,8 @@ module _ (pages header u : ℕ) (s : Storage) (is : IsStorage pages s) (low : 65
       let h : Header = run_header (s.words / 64) shows.0 s.leaf (page - first_page s) in
       let header_is : header ≡ word_of h = shows.1 ∙ ap word_of (cond-false (is_small s) _ _ large) in
       let back : page - (page - first_page s) ≡ first_page s = omega arith in
-      let in_range = run_in_range (s.words / 64) shows.0 s.leaf (page - first_page s) (omega (arith, run.words, run.some)) (omega (arith, run.words, run.most)) near in
+      let in_range = run_in_range (s.words / 64) shows.0 s.leaf (page - first_page s)
+      (omega (arith, run.words, run.some)) (omega (arith, run.words, run.most)) near in
       looked_up pages header u h low page_within (ap header_of header_is ∙ header_of-word_of h in_range)
       ∙ run_under (s.words / 64) shows.0 s.leaf (page - first_page s) page (word_at_address u) (omega arith)
       ∙ ap (λ (p : ℕ). Some (record { page = p; index = 0 })) back
@@ -79,39 +93,53 @@ class_has_words s cell = ap class_words_of (class_of_cell s cell) ∙ sym cell.w
 pub cell_index : (s : Storage) (cell : IsCell s) → s.first % 64 / s.words ≡ cell.index
 cell_index s cell =
     let range = class_words_within cell.class cell.known in
-    let first : s.first % 64 ≡ cell.index * s.words + 0 = omega (arith, cell.first, ap (λ (n : ℕ). cell.index * n) cell.words) in
+    let first : s.first % 64 ≡ cell.index * s.words + 0 =
+    omega (arith, cell.first, ap (λ (n : ℕ). cell.index * n) cell.words) in
     ap (λ (n : ℕ). n / s.words) first ∙ div-mul-add cell.index s.words 0 (omega (arith, cell.words))
 
 same_cell : (j k : Cell) → j.page ≡ k.page → j.index ≡ k.index → j ≡ k
 same_cell j k page index = λ i. record { page = page i; index = index i }
 
-pub small_cell_of : (s : Storage) → is_small s ≡ true → cell_of_storage s ≡ record { page = first_page s; index = s.first % 64 / s.words }
-small_cell_of s small = ap (λ (n : ℕ). record { page = first_page s; index = n }) (cond-true (is_small s) (s.first % 64 / s.words) 0 small)
+pub small_cell_of : (s : Storage) → is_small s ≡ true
+    → cell_of_storage s ≡ record { page = first_page s; index = s.first % 64 / s.words }
+small_cell_of s small =
+    ap (λ (n : ℕ). record { page = first_page s; index = n }) (cond-true (is_small s) (s.first % 64 / s.words) 0 small)
 
 small_cell_is : (s : Storage) (cell : IsCell s) (page : ℕ) → is_small s ≡ true → page ≡ first_page s
     → Some (record { page = page; index = cell.index }) ≡ Some (cell_of_storage s)
 small_cell_is s cell page small at =
-    ap (λ (p : ℕ). Some (record { page = p; index = cell.index })) at ∙ ap (λ (n : ℕ). Some (record { page = first_page s; index = n })) (sym (cell_index s cell))
+    ap (λ (p : ℕ). Some (record { page = p; index = cell.index })) at
+    ∙ ap (λ (n : ℕ). Some (record { page = first_page s; index = n })) (sym (cell_index s cell))
     ∙ ap (λ (k : Cell). Some k) (sym (small_cell_of s small))
 
-pub cell_from_first : (s : Storage) (page index : ℕ) → is_small s ≡ true → 1 ≤ s.words → index * s.words + s.words ≤ 64 → s.first ≡ 64 * page + index * s.words
+pub cell_from_first : (s : Storage) (page index : ℕ) → is_small s ≡ true → 1 ≤ s.words → index * s.words + s.words ≤ 64
+    → s.first ≡ 64 * page + index * s.words
     → cell_of_storage s ≡ record { page = page; index = index }
 cell_from_first s page index small some ends first =
     let at : first_page s ≡ page = omega arith in
     let offset : s.first % 64 ≡ index * s.words + 0 = omega arith in
     let is : s.first % 64 / s.words ≡ index = ap (λ (n : ℕ). n / s.words) offset ∙ div-mul-add index s.words 0 some in
-    small_cell_of s small ∙ same_cell (record { page = first_page s; index = s.first % 64 / s.words }) (record { page = page; index = index }) at is
+    small_cell_of s small
+    ∙ same_cell (record { page = first_page s; index = s.first % 64 / s.words })
+    (record { page = page; index = index }) at is
 
 pub large_cell_of : (s : Storage) → is_small s ≡ false → cell_of_storage s ≡ record { page = first_page s; index = 0 }
-large_cell_of s large = ap (λ (n : ℕ). record { page = first_page s; index = n }) (cond-false (is_small s) (s.first % 64 / s.words) 0 large)
+large_cell_of s large =
+    ap (λ (n : ℕ). record { page = first_page s; index = n }) (cond-false (is_small s) (s.first % 64 / s.words) 0 large)
 
 -- the first word of the cell
-pub cell_first : (pages : ℕ) (s : Storage) → IsStorage pages s → 64 * (cell_of_storage s).page + (cell_of_storage s).index * s.words ≡ s.first
+pub cell_first : (pages : ℕ) (s : Storage) → IsStorage pages s
+    → 64 * (cell_of_storage s).page + (cell_of_storage s).index * s.words ≡ s.first
 cell_first pages s is = elim (cases_Bool (is_small s)) [
   | inl small ↦
       let cell = small_is_cell pages s is small in
       ap (λ (k : Cell). 64 * k.page + k.index * s.words) (small_cell_of s small)
-      ∙ omega (arith, ap (λ (n : ℕ). n * s.words) (cell_index s cell), cell.first, ap (λ (n : ℕ). cell.index * n) cell.words)
+      ∙ omega (
+        arith,
+        ap (λ (n : ℕ). n * s.words) (cell_index s cell),
+        cell.first,
+        ap (λ (n : ℕ). cell.index * n) cell.words,
+      )
   | inr large ↦
       let run = large_is_run pages s is large in
       ap (λ (k : Cell). 64 * k.page + k.index * s.words) (large_cell_of s large) ∙ omega (arith, run.first)
@@ -122,39 +150,50 @@ pub stands_at_address : (u : ℕ) (s : Storage) → PointsInto u s → stands_on
 stands_at_address u s (low, (from, to)) = stands_from (page_at_address u) s (omega arith) (omega arith)
 
 -- the cell of a block that has one of its words
-block_cell : (class page index offset word : ℕ) → index < cells_of class → offset < class_words_of class → word ≡ index * class_words_of class + offset
+block_cell : (class page index offset word : ℕ) → index < cells_of class → offset < class_words_of class
+    → word ≡ index * class_words_of class + offset
     → cell_of_block class page word ≡ Some (record { page = page; index = index })
 block_cell class page index offset word within inside is =
     let w = class_words_of class in
     let below : word < cells_of class * w = omega (arith, mul-le (suc index) w (cells_of class) w within (le_refl w)) in
     let at : word / w ≡ index = ap (λ (n : ℕ). n / w) is ∙ div-mul-add index w offset inside in
-    cond-true (nat_lt word (cells_of class * w)) (Some (record { page = page; index = word / w })) None (lt-ltb word (cells_of class * w) below)
+    cond-true (nat_lt word (cells_of class * w)) (Some (record { page = page; index = word / w })) None
+    (lt-ltb word (cells_of class * w) below)
     ∙ ap (λ (n : ℕ). Some (record { page = page; index = n })) at
 
 small_cell_at : (u : ℕ) (s : Storage) (cell : IsCell s) → is_small s ≡ true → PointsInto u s
     → cell_of_block (class_of_storage s) (page_at_address u) (word_at_address u) ≡ Some (cell_of_storage s)
 small_cell_at u s cell small into =
-    let at : page_at_address u ≡ first_page s = sym (cell_stands_at s (page_at_address u) cell (stands_at_address u s into)) in
+    let at : page_at_address u ≡ first_page s =
+    sym (cell_stands_at s (page_at_address u) cell (stands_at_address u s into)) in
     let words = class_has_words s cell in
-    let within : cell.index < cells_of (class_of_storage s) = subst (λ (c : ℕ). cell.index < cells_of c) (sym (class_of_cell s cell)) cell.within in
+    let within : cell.index < cells_of (class_of_storage s) =
+    subst (λ (c : ℕ). cell.index < cells_of c) (sym (class_of_cell s cell)) cell.within in
     let ends = cell_ends cell.index (class_words_of (class_of_storage s)) within in
     let first : s.first % 64 ≡ cell.index * class_words_of (class_of_storage s) = first_in_page s cell in
     let low = into.1.0 in
     let high = into.1.1 in
     let offset : heap_word_at u - s.first < class_words_of (class_of_storage s) = omega arith in
-    let word : word_at_address u ≡ cell.index * class_words_of (class_of_storage s) + (heap_word_at u - s.first) = omega arith in
-    block_cell (class_of_storage s) (page_at_address u) cell.index (heap_word_at u - s.first) (word_at_address u) within offset word
+    let word : word_at_address u ≡ cell.index * class_words_of (class_of_storage s) + (heap_word_at u - s.first) =
+    omega arith in
+    block_cell (class_of_storage s) (page_at_address u) cell.index (heap_word_at u - s.first) (word_at_address u) within
+    offset word
     ∙ small_cell_is s cell (page_at_address u) small at
 
 -- what the header word of its page says, by a storage's numbers
-pub shows_cell : (s : Storage) (page header class : ℕ) → class < 8 → s.words ≡ class_words_of class → header ≡ word_of (block_header class s.leaf)
+pub shows_cell : (s : Storage) (page header class : ℕ) → class < 8 → s.words ≡ class_words_of class
+    → header ≡ word_of (block_header class s.leaf)
     → ShowsStorage s page header
 shows_cell s page header class known words is =
     let range = class_words_within class known in
-    let class_is : class_of_storage s ≡ class = class_of_words s class known words in
-    (true, is ∙ sym (ap word_of (cond-true (is_small s) _ _ (le-leb s.words 32 (omega arith))) ∙ ap (λ (c : ℕ). word_of (block_header c s.leaf)) class_is))
+    let class_is : class_of_storage s ≡ class = class_of_words s class known words in (
+      true,
+      is ∙ sym (ap word_of (cond-true (is_small s) _ _ (le-leb s.words 32 (omega arith)))
+          ∙ ap (λ (c : ℕ). word_of (block_header c s.leaf)) class_is),
+    )
 
-pub shows_run : (s : Storage) (header first count distance : ℕ) (mapped : Bool) → s.first ≡ 64 * first → s.words ≡ 64 * count → 1 ≤ count
+pub shows_run : (s : Storage) (header first count distance : ℕ) (mapped : Bool) → s.first ≡ 64 * first
+    → s.words ≡ 64 * count → 1 ≤ count
     → header ≡ word_of (run_header count mapped s.leaf distance) → ShowsStorage s (first + distance) header
 shows_run s header first count distance mapped begins words some is =
     let pages : s.words / 64 ≡ count = omega arith in
@@ -170,11 +209,14 @@ address_points_into word s =
     let at : heap_word_at (address_of word) ≡ word = omega arith in
     (λ into. subst (IsWordOf s) at into.1, λ is. (omega arith, subst (IsWordOf s) (sym at) is))
 
-pub points_into_cell : (pages header u : ℕ) (s : Storage) → IsStorage pages s → ShowsStorage s (page_at_address u) header → PointsInto u s
+pub points_into_cell : (pages header u : ℕ) (s : Storage) → IsStorage pages s
+    → ShowsStorage s (page_at_address u) header → PointsInto u s
     → cell_at pages header u ≡ Some (cell_of_storage s)
 points_into_cell pages header u s is shows into =
     let stands = stands_at_address u s into in
     elim (cases_Bool (is_small s)) [
-      | inl small ↦ small_lookup pages header u s is into.0 stands shows small ∙ small_cell_at u s (small_is_cell pages s is small) small into
-      | inr large ↦ large_lookup pages header u s is into.0 stands shows large ∙ ap (λ (k : Cell). Some k) (sym (large_cell_of s large))
+      | inl small ↦ small_lookup pages header u s is into.0 stands shows small
+          ∙ small_cell_at u s (small_is_cell pages s is small) small into
+      | inr large ↦ large_lookup pages header u s is into.0 stands shows large
+          ∙ ap (λ (k : Cell). Some k) (sym (large_cell_of s large))
     ]

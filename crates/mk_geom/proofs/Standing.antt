@@ -1,10 +1,12 @@
 -- Which pages a storage stands on, and what two storages on one page share.
-use Rattle.std.proofs.Common.{◌≡◌, ℕ, ◌+◌, ◌-◌, ◌/◌, ◌%◌, ◌<◌, ◌≤◌, true, false, List, get_or, Contains, ◌⊎◌, inl, inr, refl, sym, ◌∙◌, ap, subst, arith, leb-true, le-leb, nat_le}
+use Rattle.std.proofs.Common.{◌≡◌, ℕ, ◌+◌, ◌-◌, ◌/◌, ◌%◌, ◌<◌, ◌≤◌, true, false, List, get_or, Contains, ◌⊎◌, inl, inr}
+use Rattle.std.proofs.Common.{refl, sym, ◌∙◌, ap, subst, arith, leb-true, le-leb, nat_le}
 use Rattle.std.proofs.lemmas.Bool.{false≢true, and_parts, and_from, cases_eq, lt-leb}
 use Rattle.std.proofs.lemmas.List.{get_or_default}
 use Rattle.std.proofs.lemmas.List.Elements.{All-contains}
 use Rattle.mk_geom.specs.Classes.{class_words_of}
-use Rattle.mk_geom.specs.Storages.{Storage, is_small, first_page, last_page, stands_on, class_of_storage, IsCell, IsRun, IsStorage, LieApart, AreLaidOut}
+use Rattle.mk_geom.specs.Storages.{Storage, is_small, first_page, last_page, stands_on, class_of_storage, IsCell, IsRun}
+use Rattle.mk_geom.specs.Storages.{IsStorage, LieApart, AreLaidOut}
 use Rattle.mk_geom.proofs.ClassTable.{class_for-class_words_of, class_words_within, cell_ends}
 
 -- a cell lies within a page
@@ -38,13 +40,17 @@ pub has_words : (n : ℕ) (s : Storage) → IsStorage n s → 1 ≤ s.words
 has_words n s (inl cell, inside) = (cell_within s cell).0
 has_words n s (inr run, inside) = omega (arith, run.words, run.some)
 
-pub stands_parts : (page : ℕ) (s : Storage) → stands_on page s ≡ true → (s.first / 64 ≤ page) × (page ≤ (s.first + s.words - 1) / 64)
+pub stands_parts : (page : ℕ) (s : Storage) → stands_on page s ≡ true
+    → (s.first / 64 ≤ page) × (page ≤ (s.first + s.words - 1) / 64)
 stands_parts page s stands =
     let parts = and_parts (nat_le (first_page s) page) (nat_le page (last_page s)) stands in
     (leb-true (first_page s) page parts.0, leb-true page (last_page s) parts.1)
 
-pub stands_from : (page : ℕ) (s : Storage) → s.first / 64 ≤ page → page ≤ (s.first + s.words - 1) / 64 → stands_on page s ≡ true
-stands_from page s begins ends = and_from (nat_le (first_page s) page) (nat_le page (last_page s)) (le-leb (first_page s) page begins) (le-leb page (last_page s) ends)
+pub stands_from : (page : ℕ) (s : Storage) → s.first / 64 ≤ page → page ≤ (s.first + s.words - 1) / 64
+    → stands_on page s ≡ true
+stands_from page s begins ends =
+    and_from (nat_le (first_page s) page) (nat_le page (last_page s)) (le-leb (first_page s) page begins)
+    (le-leb page (last_page s) ends)
 
 -- a storage stands on the page of its first word, and a cell on no other
 pub stands_at_first : (n : ℕ) (s : Storage) (page : ℕ) → IsStorage n s → s.first / 64 ≡ page → stands_on page s ≡ true
@@ -66,7 +72,8 @@ pub record AreAlike (s t : Storage) : Type 0 where
 pub storage_in : (n : ℕ) (xs : List Storage) (s : Storage) → AreLaidOut n xs → Contains xs s → IsStorage n s
 storage_in n xs s laid inside = All-contains (IsStorage n) xs s laid.each inside
 
-pub same_or_apart : (n : ℕ) (xs : List Storage) (s t : Storage) → AreLaidOut n xs → Contains xs s → Contains xs t → (s ≡ t) ⊎ LieApart s t
+pub same_or_apart : (n : ℕ) (xs : List Storage) (s t : Storage) → AreLaidOut n xs → Contains xs s → Contains xs t
+    → (s ≡ t) ⊎ LieApart s t
 same_or_apart n xs s t laid (i, i_within, i_is) (j, j_within, j_is) = elim (cases_eq i j) [
   | inl same ↦ inl (sym i_is ∙ get_or_default xs i s t i_within ∙ ap (λ k. get_or xs k t) same ∙ j_is)
   | inr other ↦
@@ -75,7 +82,8 @@ same_or_apart n xs s t laid (i, i_within, i_is) (j, j_within, j_is) = elim (case
       inr (subst (λ (x : Storage). LieApart x t) s_is (subst (λ (x : Storage). LieApart (get_or xs i t) x) j_is apart))
 ]
 
-pub same_or_alike : (n : ℕ) (xs : List Storage) (page : ℕ) (s t : Storage) → AreLaidOut n xs → Contains xs s → Contains xs t
+pub same_or_alike : (n : ℕ) (xs : List Storage) (page : ℕ) (s t : Storage) → AreLaidOut n xs → Contains xs s
+    → Contains xs t
     → stands_on page s ≡ true → stands_on page t ≡ true → (s ≡ t) ⊎ AreAlike s t
 same_or_alike n xs page s t laid s_in t_in s_stands t_stands = elim (same_or_apart n xs s t laid s_in t_in) [
   | inl same ↦ inl same

@@ -5,6 +5,9 @@ use Rattle.mk_geom.specs.Storages.{free_page, PagesStandFor}
 
 pub free_pages : (n : ℕ) → PagesStandFor (replicate n free_page) []
 free_pages n = record {
-  laid_out = record { each = λ k d within. absurd (omega arith); apart = λ i j d i_within j_within other. absurd (omega arith) };
+  laid_out = record {
+    each = λ k d within. absurd (omega arith);
+    apart = λ i j d i_within j_within other. absurd (omega arith);
+  };
   words = λ page d within. get_or-replicate n page free_page d (omega (arith, length-replicate n free_page));
 }

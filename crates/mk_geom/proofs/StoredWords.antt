@@ -1,29 +1,36 @@
 -- The words of a page, by any storage that stands on it.
-use Rattle.std.proofs.Common.{◌≡◌, ℕ, ◌+◌, ◌-◌, ◌*◌, ◌/◌, ◌<◌, true, false, List, Some, Contains, inl, inr, sym, ◌∙◌, ap, arith, unwrap_or, le-leb}
+use Rattle.std.proofs.Common.{◌≡◌, ℕ, ◌+◌, ◌-◌, ◌*◌, ◌/◌, ◌<◌, true, false, List, Some, Contains, inl, inr, sym, ◌∙◌}
+use Rattle.std.proofs.Common.{ap, arith, unwrap_or, le-leb}
 use Rattle.std.proofs.lemmas.Bool.{false≢true, cond-true, cond-false, lt-leb}
 use Rattle.mk_geom.specs.Classes.{class_words_of, class_for, cells_of}
-use Rattle.mk_geom.specs.Storages.{Storage, is_small, first_page, stands_on, class_of_storage, taken_cells, used_word, free_page, block_page, run_page, words_by, words_of_storages, AreLaidOut}
+use Rattle.mk_geom.specs.Storages.{Storage, is_small, first_page, stands_on, class_of_storage, taken_cells, used_word}
+use Rattle.mk_geom.specs.Storages.{free_page, block_page, run_page, words_by, words_of_storages, AreLaidOut}
 use Rattle.mk_geom.proofs.ClassTable.{class_words_within, cell_ends}
 use Rattle.mk_geom.proofs.ListSearch.{find_cases}
 use Rattle.mk_geom.proofs.Standing.{class_of_words, storage_in, AreAlike, same_or_alike, stands_at_first, stands_from}
 
 pub words_by_small : (page : ℕ) (xs : List Storage) (s : Storage) → is_small s ≡ true
-    → words_by xs page (Some s) ≡ block_page (class_of_storage s) s.leaf (used_word (taken_cells xs page (class_of_storage s)))
+    → words_by xs page (Some s)
+    ≡ block_page (class_of_storage s) s.leaf (used_word (taken_cells xs page (class_of_storage s)))
 words_by_small page xs s small = cond-true (is_small s) _ _ small
 
 pub words_by_large : (page : ℕ) (xs : List Storage) (s : Storage) → is_small s ≡ false
     → words_by xs page (Some s) ≡ run_page (s.words / 64) s.mapped s.leaf (page - first_page s)
 words_by_large page xs s large = cond-false (is_small s) _ _ large
 
-words_by_alike : (page : ℕ) (xs : List Storage) (s t : Storage) → AreAlike s t → words_by xs page (Some s) ≡ words_by xs page (Some t)
+words_by_alike : (page : ℕ) (xs : List Storage) (s t : Storage) → AreAlike s t
+    → words_by xs page (Some s) ≡ words_by xs page (Some t)
 words_by_alike page xs s t alike =
     words_by_small page xs s alike.small
-    ∙ ap (λ words. block_page (unwrap_or (class_for words) 0) s.leaf (used_word (taken_cells xs page (unwrap_or (class_for words) 0)))) alike.words
-    ∙ ap (λ leaf. block_page (class_of_storage t) leaf (used_word (taken_cells xs page (class_of_storage t)))) alike.leaf
+    ∙ ap (λ words. block_page (unwrap_or (class_for words) 0) s.leaf
+    (used_word (taken_cells xs page (unwrap_or (class_for words) 0)))) alike.words
+    ∙ ap (λ leaf. block_page (class_of_storage t) leaf (used_word (taken_cells xs page (class_of_storage t))))
+    alike.leaf
     ∙ sym (words_by_small page xs t alike.small_too)
 
 -- Any storage on a page says what its words are, and where there is none they are 0.
-pub words_at : (n page : ℕ) (xs : List Storage) (s : Storage) → AreLaidOut n xs → Contains xs s → stands_on page s ≡ true
+pub words_at : (n page : ℕ) (xs : List Storage) (s : Storage) → AreLaidOut n xs → Contains xs s
+    → stands_on page s ≡ true
     → words_of_storages xs page ≡ words_by xs page (Some s)
 words_at n page xs s laid inside stands = elim (find_cases (stands_on page) xs) [
   | inl (t, found, t_inside, t_stands) ↦
@@ -37,14 +44,16 @@ words_at n page xs s laid inside stands = elim (find_cases (stands_on page) xs) 
 -- The words of a page, where a storage stands on it: `words_at` reads them off any storage there is, and these two say
 -- them of a cell and of a run that the list has, each by its numbers.
 module _ (n : ℕ) (xs : List Storage) (s : Storage) (laid : AreLaidOut n xs) (inside : Contains xs s) where
-  pub cell_page_words : (page class index : ℕ) → class < 8 → index < cells_of class → s.first ≡ 64 * page + index * class_words_of class → s.words ≡ class_words_of class
+  pub cell_page_words : (page class index : ℕ) → class < 8 → index < cells_of class
+      → s.first ≡ 64 * page + index * class_words_of class → s.words ≡ class_words_of class
       → words_of_storages xs page ≡ block_page class s.leaf (used_word (taken_cells xs page class))
   cell_page_words page class index known within first words =
       let range = class_words_within class known in
       let ends = cell_ends index (class_words_of class) within in
       let small : is_small s ≡ true = le-leb s.words 32 (omega arith) in
       let class_is : class_of_storage s ≡ class = class_of_words s class known words in
-      words_at n page xs s laid inside (stands_at_first n s page (storage_in n xs s laid inside) (omega arith)) ∙ words_by_small page xs s small
+      words_at n page xs s laid inside (stands_at_first n s page (storage_in n xs s laid inside) (omega arith))
+      ∙ words_by_small page xs s small
       ∙ ap (λ (c : ℕ). block_page c s.leaf (used_word (taken_cells xs page c))) class_is
 
   pub run_page_words : (first count distance : ℕ) → s.first ≡ 64 * first → s.words ≡ 64 * count → distance < count
@@ -53,10 +62,13 @@ module _ (n : ℕ) (xs : List Storage) (s : Storage) (laid : AreLaidOut n xs) (i
       let large : is_small s ≡ false = lt-leb s.words 32 (omega arith) in
       let pages : s.words / 64 ≡ count = omega arith in
       let behind : first + distance - first_page s ≡ distance = omega arith in
-      words_at n (first + distance) xs s laid inside (stands_from (first + distance) s (omega arith) (omega arith)) ∙ words_by_large (first + distance) xs s large
-      ∙ ap (λ (k : ℕ). run_page k s.mapped s.leaf (first + distance - first_page s)) pages ∙ ap (run_page count s.mapped s.leaf) behind
+      words_at n (first + distance) xs s laid inside (stands_from (first + distance) s (omega arith) (omega arith))
+      ∙ words_by_large (first + distance) xs s large
+      ∙ ap (λ (k : ℕ). run_page k s.mapped s.leaf (first + distance - first_page s)) pages
+      ∙ ap (run_page count s.mapped s.leaf) behind
 
-pub words_free : (page : ℕ) (xs : List Storage) → ((s : Storage) → Contains xs s → stands_on page s ≡ false) → words_of_storages xs page ≡ free_page
+pub words_free : (page : ℕ) (xs : List Storage) → ((s : Storage) → Contains xs s → stands_on page s ≡ false)
+    → words_of_storages xs page ≡ free_page
 words_free page xs none = elim (find_cases (stands_on page) xs) [
   | inl (t, found, inside, stands) ↦ absurd (false≢true (sym (none t inside) ∙ stands))
   | inr (not_found, others) ↦ ap (words_by xs page) not_found

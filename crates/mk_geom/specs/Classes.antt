@@ -1,5 +1,6 @@
 -- The sizes of objects: the classes of the small ones, and the pages of the large ones. A page has 64 words.
-use Rattle.std.specs.Prelude.{ℕ, ◌+◌, ◌/◌, Bool, Option, None, List, [], ◌∷◌, nat_le, ◌==◌, slice_index, position, if◌then◌else◌}
+use Rattle.std.specs.Prelude.{ℕ, ◌+◌, ◌/◌, Bool, Option, None, List, [], ◌∷◌, nat_le, ◌==◌, slice_index, position}
+use Rattle.std.specs.Prelude.{if◌then◌else◌}
 
 -- the words of a cell, by class
 abbrev pub class_sizes : List ℕ

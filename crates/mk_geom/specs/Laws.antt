@@ -1,5 +1,6 @@
 -- The laws of pages and storages. Each holds of all pages and all storages that they stand for.
-use Rattle.std.specs.Prelude.{◌≡◌, ℕ, ◌+◌, ◌*◌, ◌<◌, Bool, true, false, List, [], length, replicate, ◌==◌, ◌↔◌, Some, Contains}
+use Rattle.std.specs.Prelude.{◌≡◌, ℕ, ◌+◌, ◌*◌, ◌<◌, Bool, true, false, List, [], length, replicate, ◌==◌, ◌↔◌, Some}
+use Rattle.std.specs.Prelude.{Contains}
 use Rattle.std.specs.Int.{bit_at}
 use Rattle.mk_geom.specs.declared.addresses.Cell.{Cell}
 use Rattle.mk_geom.specs.declared.pages.Page.{Page}
@@ -9,8 +10,11 @@ use Rattle.mk_geom.specs.Addresses.{address_of, page_at_address, cell_at}
 use Rattle.mk_geom.specs.PageUses.{place_among, words_held_among, census_among}
 use Rattle.mk_geom.specs.PageWords.{uses_of_pages, HaveHeaderWords}
 use Rattle.mk_geom.specs.Places.{IsCellPlace, IsRunPlace}
-use Rattle.mk_geom.specs.Storages.{Storage, stands_on, uses_of_storages, place_of, census_of, taken_cells, used_word, free_page, block_page, run_page, words_of_storages, IsStorage, AreLaidOut, PagesStandFor}
-use Rattle.mk_geom.specs.StorageWords.{IsWordOf, PointsInto, cell_of_storage, mapped_words, ShowsStorage, page_in, cell_on}
+use Rattle.mk_geom.specs.Storages.{Storage, stands_on, uses_of_storages, place_of, census_of, taken_cells, used_word}
+use Rattle.mk_geom.specs.Storages.{free_page, block_page, run_page, words_of_storages, IsStorage, AreLaidOut}
+use Rattle.mk_geom.specs.Storages.{PagesStandFor}
+use Rattle.mk_geom.specs.StorageWords.{IsWordOf, PointsInto, cell_of_storage, mapped_words, ShowsStorage, page_in}
+use Rattle.mk_geom.specs.StorageWords.{cell_on}
 
 -- Pages show what stands on them,
 abbrev pub PagesShowUses : Type 0
@@ -39,7 +43,8 @@ PagesHoldMappedWords =
 
 -- Each header of such pages is a header word.
 abbrev pub PagesHaveHeaderWords : Type 0
-PagesHaveHeaderWords = (pages : List Page) (storages : List Storage) → PagesStandFor pages storages → HaveHeaderWords pages
+PagesHaveHeaderWords = (pages : List Page) (storages : List Storage) → PagesStandFor pages storages
+    → HaveHeaderWords pages
 
 -- The words of the page of a cell that is one of storages that are laid out,
 abbrev pub CellPageHasWords : Type 0

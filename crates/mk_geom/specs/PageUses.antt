@@ -1,5 +1,6 @@
 -- What stands on the pages of a heap, where an object goes by first fit, and the counts.
-use Rattle.std.specs.Prelude.{ℕ, ◌+◌, ◌*◌, max, Bool, true, false, not, ◌&&◌, ◌==◌, nat_le, nat_lt, if◌then◌else◌, List, [], ◌∷◌, ◌++◌, map, sum_by, count_by, Option, Some, None, option_map, option_and_then}
+use Rattle.std.specs.Prelude.{ℕ, ◌+◌, ◌*◌, max, Bool, true, false, not, ◌&&◌, ◌==◌, nat_le, nat_lt, if◌then◌else◌, List}
+use Rattle.std.specs.Prelude.{[], ◌∷◌, ◌++◌, map, sum_by, count_by, Option, Some, None, option_map, option_and_then}
 use Rattle.std.specs.List.{range_with_len}
 use Rattle.mk_geom.specs.declared.pages.Place.{Place}
 use Rattle.mk_geom.specs.declared.pages.Census.{Census}
@@ -51,7 +52,8 @@ page_behind place = record place { page = place.page + 1 }
 abbrev pub cell_place : ℕ → Bool → List PageUse → Option Place
 cell_place class leaf [] = None
 cell_place class leaf (page ∷ pages) =
-    or_else (option_map (λ index. record { page = 0; index = index; carve = false }) (first_where not (cells_taken class leaf page)))
+    or_else (option_map (λ index. record { page = 0; index = index; carve = false })
+    (first_where not (cells_taken class leaf page)))
     (option_map page_behind (cell_place class leaf pages))
 
 -- the pages from a page on, where they are free and have to be carved
@@ -108,5 +110,6 @@ census_among pages = record {
   free_pages = count_by is_free_page pages;
   longest_range = longest_free_range pages;
   resident = resident_pages pages;
-  free_cells = map (free_cells_among false pages) (range_with_len 0 8) ++ map (free_cells_among true pages) (range_with_len 0 8);
+  free_cells = map (free_cells_among false pages) (range_with_len 0 8) ++ map (free_cells_among true pages)
+      (range_with_len 0 8);
 }

@@ -10,7 +10,8 @@ use Rattle.mk_geom.specs.PageWords.{use_of_page, uses_of_pages}
 -- An object of this class and sort may take the cell: the page is free, or a block of them where the cell isn't taken.
 abbrev pub MayTakeCell : ℕ → Bool → ℕ → PageUse → Type 0
 MayTakeCell class leaf index Nothing = index < cells_of class
-MayTakeCell class leaf index (Cells class' leaf' taken) = (class' ≡ class) × (leaf' ≡ leaf) × (slice_get taken index ≡ Some false)
+MayTakeCell class leaf index (Cells class' leaf' taken) = (class' ≡ class) × (leaf' ≡ leaf)
+    × (slice_get taken index ≡ Some false)
 MayTakeCell class leaf index (PartOfRun mapped) = ⊥
 
 -- the pages from `first` on are there, and free

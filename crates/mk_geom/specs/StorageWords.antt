@@ -1,5 +1,6 @@
 -- The words of a storage, the addresses in them, and the cell that an address in it points into.
-use Rattle.std.specs.Prelude.{◌≡◌, ℕ, ◌+◌, ◌-◌, ◌/◌, ◌%◌, ◌<◌, ◌≤◌, Bool, if◌then◌else◌, List, slice_index_or, sum_by, Option, length}
+use Rattle.std.specs.Prelude.{◌≡◌, ℕ, ◌+◌, ◌-◌, ◌/◌, ◌%◌, ◌<◌, ◌≤◌, Bool, if◌then◌else◌, List, slice_index_or, sum_by}
+use Rattle.std.specs.Prelude.{Option, length}
 use Rattle.mk_geom.specs.declared.addresses.Cell.{Cell}
 use Rattle.mk_geom.specs.declared.pages.Page.{Page}
 use Rattle.mk_geom.specs.Addresses.{heap_word_at, page_at_address, cell_at}
@@ -30,7 +31,8 @@ header_shown s page mapped =
     then block_header (class_of_storage s) s.leaf
     else run_header (s.words / 64) mapped s.leaf (page - first_page s))
 
--- The header word is one that the storage gives the page. The pages of a run may be mapped and unmapped, each by itself.
+-- The header word is one that the storage gives the page. The pages of a run may be mapped and unmapped, each by
+-- itself.
 abbrev pub ShowsStorage : Storage → ℕ → ℕ → Type 0
 ShowsStorage s page header = (mapped : Bool) × (header ≡ header_shown s page mapped)
 

@@ -1,5 +1,7 @@
 -- The storage of objects: what stands on the pages of a heap, read off a plain list.
-use Rattle.std.specs.Prelude.{◌≡◌, ◌≢◌, ℕ, zero, suc, ◌+◌, ◌-◌, ◌*◌, ◌/◌, ◌%◌, ◌<◌, ◌≤◌, Bool, true, false, ◌&&◌, ◌==◌, nat_le, if◌then◌else◌, List, [], ◌∷◌, length, map, find, slice_index_or, All, Option, Some, None, IsSome, unwrap_or, ◌⊎◌}
+use Rattle.std.specs.Prelude.{◌≡◌, ◌≢◌, ℕ, zero, suc, ◌+◌, ◌-◌, ◌*◌, ◌/◌, ◌%◌, ◌<◌, ◌≤◌, Bool, true, false, ◌&&◌, ◌==◌}
+use Rattle.std.specs.Prelude.{nat_le, if◌then◌else◌, List, [], ◌∷◌, length, map, find, slice_index_or, All, Option}
+use Rattle.std.specs.Prelude.{Some, None, IsSome, unwrap_or, ◌⊎◌}
 use Rattle.std.specs.List.{range_with_len, list_any}
 use Rattle.mk_geom.specs.declared.pages.Page.{Page}
 use Rattle.mk_geom.specs.declared.pages.Place.{Place}
@@ -40,13 +42,15 @@ abbrev pub is_cell_taken : List Storage → ℕ → ℕ → ℕ → Bool
 is_cell_taken storages page words k = list_any (λ s. s.first == 64 * page + k * words) storages
 
 abbrev pub taken_cells : List Storage → ℕ → ℕ → List Bool
-taken_cells storages page class = map (is_cell_taken storages page (class_words_of class)) (range_with_len 0 (cells_of class))
+taken_cells storages page class =
+    map (is_cell_taken storages page (class_words_of class)) (range_with_len 0 (cells_of class))
 
 -- what stands on a page, where this is a storage that does
 abbrev pub use_by : List Storage → ℕ → Option Storage → PageUse
 use_by storages page None = Nothing
 use_by storages page (Some s) =
-    if is_small s then Cells (class_of_storage s) s.leaf (taken_cells storages page (class_of_storage s)) else PartOfRun s.mapped
+    if is_small s then Cells (class_of_storage s) s.leaf (taken_cells storages page (class_of_storage s))
+    else PartOfRun s.mapped
 
 abbrev pub use_of_storages : List Storage → ℕ → PageUse
 use_of_storages storages page = use_by storages page (find (stands_on page) storages)
@@ -123,7 +127,8 @@ abbrev pub block_page : ℕ → Bool → ℕ → Page
 block_page class leaf used = record { header = word_of (block_header class leaf); used = used }
 
 abbrev pub run_page : ℕ → Bool → Bool → ℕ → Page
-run_page pages mapped leaf distance = record { header = word_of (run_header pages mapped leaf distance); used = run_used distance }
+run_page pages mapped leaf distance =
+    record { header = word_of (run_header pages mapped leaf distance); used = run_used distance }
 
 -- the words of a page, where this is a storage that stands on it
 abbrev pub words_by : List Storage → ℕ → Option Storage → Page
@@ -140,4 +145,5 @@ words_of_storages storages page = words_by storages page (find (stands_on page) 
 -- The headers and used bits of the pages stand for these storages.
 pub record PagesStandFor (pages : List Page) (storages : List Storage) : Type 0 where
   pub laid_out : AreLaidOut (length pages) storages
-  pub words : (page : ℕ) (d : Page) → page < length pages → slice_index_or pages page d ≡ words_of_storages storages page
+  pub words : (page : ℕ) (d : Page) → page < length pages
+      → slice_index_or pages page d ≡ words_of_storages storages page

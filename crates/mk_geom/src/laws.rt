@@ -1,6 +1,10 @@
 //! Laws of pages and the storages that they stand for: facts alone, with no code. A proof that needs a
 //! law calls its function, or cites the lemma that proves it.
-ghost use Rattle.mk_geom.specs.Laws.{PagesShowUses, PagesShowPlaces, PagesShowCensus, PagesHoldMappedWords, PagesHaveHeaderWords, FreePagesStandForNothing, CellPageHasWords, RunPageHasWords, BarePageIsFree, PointsIntoCell, CellHasPointers, PointersHitCells, UsedCellHasStorage, CellsTellStoragesApart, AddressesOfWordsPointIn, CellHasFirstWord, FoundCellIsPlace, FoundRunIsPlace};
+ghost use Rattle.mk_geom.specs.Laws.{PagesShowUses, PagesShowPlaces, PagesShowCensus, PagesHoldMappedWords};
+ghost use Rattle.mk_geom.specs.Laws.{PagesHaveHeaderWords, FreePagesStandForNothing, CellPageHasWords, RunPageHasWords};
+ghost use Rattle.mk_geom.specs.Laws.{BarePageIsFree, PointsIntoCell, CellHasPointers, PointersHitCells};
+ghost use Rattle.mk_geom.specs.Laws.{UsedCellHasStorage, CellsTellStoragesApart, AddressesOfWordsPointIn};
+ghost use Rattle.mk_geom.specs.Laws.{CellHasFirstWord, FoundCellIsPlace, FoundRunIsPlace};
 
 /// Place, fits, census and the words that are held may be read off the pages as they are.
 pub fn pages_show_what_stands_there()

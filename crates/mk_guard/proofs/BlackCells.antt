@@ -1,6 +1,8 @@
 -- The words of black cells stay guarded: cells that turn black, and pages that are made clean.
-use Rattle.std.proofs.Common.{◌≡◌, ◌≢◌, ℕ, zero, suc, ◌+◌, ◌*◌, ◌/◌, ◌^◌, ◌<◌, Bool, true, false, List, refl, sym, ◌∙◌, ap, subst, inl, inr, arith}
-use Rattle.std.specs.Prelude.{Option, Some, None, is_none, slice_index, slice_set, nat_lt, ◌&&◌, ◌||◌, ◌==◌, not, bit_or}
+use Rattle.std.proofs.Common.{◌≡◌, ◌≢◌, ℕ, zero, suc, ◌+◌, ◌*◌, ◌/◌, ◌^◌, ◌<◌, Bool, true, false, List, refl, sym, ◌∙◌}
+use Rattle.std.proofs.Common.{ap, subst, inl, inr, arith}
+use Rattle.std.specs.Prelude.{Option, Some, None, is_none, slice_index, slice_set, nat_lt, ◌&&◌, ◌||◌, ◌==◌, not}
+use Rattle.std.specs.Prelude.{bit_or}
 use Rattle.std.proofs.lemmas.Bool.{eq-eqb, cases_eq, true≢false, eqb-true, and_parts, or_cases, not-true}
 use Rattle.std.proofs.lemmas.List.{get_or-set_other}
 use Rattle.mk_core.specs.declared.config.Config.{Config}
@@ -12,7 +14,8 @@ use Rattle.mk_core.specs.Bits.{has_bit}
 use Rattle.mk_core.specs.Bounded.{all_below}
 use Rattle.mk_core.specs.Words.{Words, phase_of}
 use Rattle.mk_core.specs.Layout.{AreOfPages}
-use Rattle.mk_core.specs.Cells.{cells_under, words_under, has_no_pointers, head_page, header_in, is_marked, first_word, cell_words, word_points_well, words_point_well}
+use Rattle.mk_core.specs.Cells.{cells_under, words_under, has_no_pointers, head_page, header_in, is_marked, first_word}
+use Rattle.mk_core.specs.Cells.{cell_words, word_points_well, words_point_well}
 use Rattle.mk_core.specs.Moments.{Moment, marker_of, is_phase}
 use Rattle.mk_core.specs.Accesses.{scan_page, scan_bit}
 use Rattle.mk_core.specs.MarkerConditions.{is_scanned}
@@ -38,16 +41,20 @@ use Rattle.mk_guard.proofs.Markers.{nothing_is}
 -- bits are added to the black word of one page, each of a cell whose words are guarded
 blackened : (c : Config) (m n : Moment) (q bits : ℕ) → Keeps c m n → NewCellsAreGuarded c m n
     → n.words.blacks ≡ slice_set m.words.blacks q (bit_or (slice_index m.words.blacks q) bits)
-    → ((k : ℕ) → has_bit bits k ≡ true → (i : ℕ) → k < cells_under (header_in m.words q) → has_no_pointers (header_in m.words q) ≡ false → i < words_under (header_in m.words q)
+    → ((k : ℕ) → has_bit bits k ≡ true → (i : ℕ) → k < cells_under (header_in m.words q)
+    → has_no_pointers (header_in m.words q) ≡ false → i < words_under (header_in m.words q)
     → IsGuarded c m (64 * q + k * words_under (header_in m.words q) + i))
     → BlackIsGuarded c m → BlackIsGuarded c n
 blackened c m n q bits keeps new are guarded black =
     black_kept c m n keeps new
-    (λ p k is. elim (more_bits m.words.blacks q bits p k (subst (λ (bs : List ℕ). has_bit (slice_index bs p) k ≡ true) are is)) [
+    (λ p k is. elim (more_bits m.words.blacks q bits p k
+    (subst (λ (bs : List ℕ). has_bit (slice_index bs p) k ≡ true) are is)) [
       | inl old ↦ inl old
-      | inr at ↦ inr (λ i lt sc li. subst (λ r. IsGuarded c m (64 * r + k * words_under (header_in m.words r) + i)) (sym at.0)
+      | inr at ↦ inr (λ i lt sc li. subst (λ r. IsGuarded c m (64 * r + k * words_under (header_in m.words r) + i))
+          (sym at.0)
           (guarded k at.1 i (subst (λ r. k < cells_under (header_in m.words r)) at.0 lt)
-          (subst (λ r. has_no_pointers (header_in m.words r) ≡ false) at.0 sc) (subst (λ r. i < words_under (header_in m.words r)) at.0 li)))
+          (subst (λ r. has_no_pointers (header_in m.words r) ≡ false) at.0 sc)
+          (subst (λ r. i < words_under (header_in m.words r)) at.0 li)))
     ]) black
 
 -- `black`: the cell whose bit is added
@@ -56,12 +63,16 @@ record Blackened (w : Words) (pages p value : ℕ) : Type 0 where
   bit : ℕ
   is : blackens pages w p value bit ≡ true
 
-turned : (w : Words) (pages p value n : ℕ) → all_below n (λ k. not (blackens pages w p value k)) ≡ false → Blackened w pages p value
+turned : (w : Words) (pages p value n : ℕ) → all_below n (λ k. not (blackens pages w p value k)) ≡ false
+    → Blackened w pages p value
 unfolding all_below
 turned w pages p value zero h = cc
-turned w pages p value (suc n) h = by (blackens pages w p value n) refl (all_below n (λ k. not (blackens pages w p value k))) (λ f. turned w pages p value n f) h
+turned w pages p value (suc n) h =
+    by (blackens pages w p value n) refl (all_below n (λ k. not (blackens pages w p value k)))
+    (λ f. turned w pages p value n f) h
   where
-    by : (b : Bool) → blackens pages w p value n ≡ b → (r : Bool) → (r ≡ false → Blackened w pages p value) → (r && not b) ≡ false
+    by : (b : Bool) → blackens pages w p value n ≡ b → (r : Bool) → (r ≡ false → Blackened w pages p value)
+        → (r && not b) ≡ false
         → Blackened w pages p value
     by true e r before h = record { bit = n; is = e }
     by false e false before h = before refl
@@ -72,18 +83,22 @@ turned_words : (pages : ℕ) (w : Words) (p k : ℕ) → may_turn_black pages w 
 unfolding may_turn_black
 turned_words pages w p k h sc =
     let there = nat_lt k (cells_under (header_in w p)) && is_marked w (record { page = p; index = k }) in
-    let a = (and_parts there (has_no_pointers (header_in w p) || words_point_well pages w (record { page = p; index = k })) h).1 in
+    let a = (and_parts there
+    (has_no_pointers (header_in w p) || words_point_well pages w (record { page = p; index = k })) h).1 in
     elim (or_cases (has_no_pointers (header_in w p)) (words_point_well pages w (record { page = p; index = k })) a) [
       | inl t ↦ absurd (true≢false (sym t ∙ sc))
       | inr is ↦ is
     ]
 
-pub black_kind : (c : Config) (m : Moment) (seat : Seat) (p value : ℕ) → Keeps c m (Behind c m seat (step.Black p value))
+pub black_kind : (c : Config) (m : Moment) (seat : Seat) (p value : ℕ)
+    → Keeps c m (Behind c m seat (step.Black p value))
     → NewCellsAreGuarded c m (Behind c m seat (step.Black p value))
     → Meets c m seat (step.Black p value) → BlackIsGuarded c m → BlackIsGuarded c (Behind c m seat (step.Black p value))
 black_kind c m seat p value keeps new h black =
-    let own = and_parts (none_attends m.seats.markers) (not (all_below 32 (λ k. not (blackens c.pages m.words p value k)))) h.holder in
-    let t = turned m.words c.pages p value 32 (not-true (all_below 32 (λ k. not (blackens c.pages m.words p value k))) own.1) in
+    let own = and_parts (none_attends m.seats.markers)
+    (not (all_below 32 (λ k. not (blackens c.pages m.words p value k)))) h.holder in
+    let t = turned m.words c.pages p value 32
+    (not-true (all_below 32 (λ k. not (blackens c.pages m.words p value k))) own.1) in
     let a = and_parts (value == 2 ^ t.bit) (may_turn_black c.pages m.words (record { page = p; index = t.bit })) t.is in
     blackened c m (Behind c m seat (step.Black p value)) p value keeps new refl
     (λ k is i lt sc li.
@@ -100,26 +115,32 @@ pub mblack_kind : (c : Config) (m : Moment) (k : ℕ) → Known c m → Keeps c 
     → NewCellsAreGuarded c m (Behind c m (Marker k) step.Mblack)
     → Meets c m (Marker k) step.Mblack → Guard c m → BlackIsGuarded c (Behind c m (Marker k) step.Mblack)
 mblack_kind c m k known keeps new h g =
-    blackened c m (Behind c m (Marker k) step.Mblack) (scan_page (marker_of m k).scan) (scan_bit (marker_of m k).scan) keeps new refl
+    blackened c m (Behind c m (Marker k) step.Mblack) (scan_page (marker_of m k).scan) (scan_bit (marker_of m k).scan)
+    keeps new refl
     (by (marker_of m k).scan refl own.0) g.black
   where
     own : (is_scanned (marker_of m k).scan ≡ true) × (is_none (marker_of m k).hand ≡ true)
     own = and_parts (is_scanned (marker_of m k).scan) (is_none (marker_of m k).hand) h.marker
 
-    by : (scan : Option Scan) → (marker_of m k).scan ≡ scan → is_scanned scan ≡ true → (j : ℕ) → has_bit (scan_bit scan) j ≡ true → (i : ℕ)
+    by : (scan : Option Scan) → (marker_of m k).scan ≡ scan → is_scanned scan ≡ true → (j : ℕ)
+        → has_bit (scan_bit scan) j ≡ true → (i : ℕ)
         → j < cells_under (header_in m.words (scan_page scan))
-        → has_no_pointers (header_in m.words (scan_page scan)) ≡ false → i < words_under (header_in m.words (scan_page scan))
+        → has_no_pointers (header_in m.words (scan_page scan)) ≡ false
+        → i < words_under (header_in m.words (scan_page scan))
         → IsGuarded c m (64 * scan_page scan + j * words_under (header_in m.words (scan_page scan)) + i)
     by None e done j is i lt sc li = cc
     by (Some y) e done j is i lt sc li =
-        let st = (g.markers k (work_attends c (marker_of m k) step.Mblack (known.orderly.idle k) h.marker refl)).scan y e in
+        let st = (g.markers k (work_attends c (marker_of m k) step.Mblack (known.orderly.idle k) h.marker refl)).scan y
+        e in
         let none = nothing_is (marker_of m k).hand own.1 in
-        subst (λ r. IsGuarded c m (64 * y.page + r * words_under (header_in m.words y.page) + i)) (sym (bit_of_cell y.index j is))
+        subst (λ r. IsGuarded c m (64 * y.page + r * words_under (header_in m.words y.page) + i))
+        (sym (bit_of_cell y.index j is))
         (scanned_guarded c m y (subst (λ (u : Option ℕ). ScanStands c m u y) none st) done sc i li)
 
 -- `undirty`: in the stop, nothing that is black has a word other than 0 there
 
-stop_wanted : (m : Moment) → IsMarking m.words → ((phase_of m.words == 0) || (phase_of m.words == 2)) ≡ true → is_phase m.words 2 ≡ true
+stop_wanted : (m : Moment) → IsMarking m.words → ((phase_of m.words == 0) || (phase_of m.words == 2)) ≡ true
+    → is_phase m.words 2 ≡ true
 stop_wanted m early h = elim (either_phase (phase_of m.words) 0 2 h) [
   | inl z ↦ elim early [ inl e ↦ absurd (omega arith) | inr e ↦ absurd (omega arith) ]
   | inr two ↦ eq-eqb (phase_of m.words) 2 two
@@ -129,30 +150,40 @@ pub record Undirties (m : Moment) (q : ℕ) : Type 0 where
   pub none : none_attends m.seats.markers ≡ true
   pub head : slice_index m.words.blacks (head_page m.words q) ≡ 0
 
-pub undirties : (c : Config) (m : Moment) (seat : Seat) (q : ℕ) → IsMarking m.words → Meets c m seat (step.Undirty q) → Undirties m q
+pub undirties : (c : Config) (m : Moment) (seat : Seat) (q : ℕ) → IsMarking m.words → Meets c m seat (step.Undirty q)
+    → Undirties m q
 undirties c m seat q early h = by (is_phase m.words 2) (stop_wanted m early h.phase) h.holder
   where
     by : (b : Bool) → b ≡ true
-        → (not b || (none_attends m.seats.markers && (slice_index m.words.blacks q == 0) && (slice_index m.words.blacks (head_page m.words q) == 0))) ≡ true → Undirties m q
+        → (not b || (none_attends m.seats.markers && (slice_index m.words.blacks q == 0)
+        && (slice_index m.words.blacks (head_page m.words q) == 0))) ≡ true → Undirties m q
     by false e own = absurd (true≢false (sym e))
     by true e own =
-        let a = and_parts (none_attends m.seats.markers && (slice_index m.words.blacks q == 0)) (slice_index m.words.blacks (head_page m.words q) == 0) own in
+        let a = and_parts (none_attends m.seats.markers && (slice_index m.words.blacks q == 0))
+        (slice_index m.words.blacks (head_page m.words q) == 0) own in
         let b = and_parts (none_attends m.seats.markers) (slice_index m.words.blacks q == 0) a.0 in
         record { none = b.0; head = eqb-true (slice_index m.words.blacks (head_page m.words q)) 0 a.1 }
 
-pub undirty_kind : (c : Config) (w : World) (seat : Seat) (q : ℕ) → AreOfPages c.pages w.now.words → IsMarking w.now.words → OthersSay c w
+pub undirty_kind : (c : Config) (w : World) (seat : Seat) (q : ℕ) → AreOfPages c.pages w.now.words
+    → IsMarking w.now.words → OthersSay c w
     → Meets c w.now seat (step.Undirty q)
     → BlackIsGuarded c w.now → BlackIsGuarded c (Behind c w.now seat (step.Undirty q))
-undirty_kind c w seat q len early say h black p k i lt is scanned li = elim (cases_eq (slice_index w.now.words.heap (64 * p + k * words_under (header_in w.now.words p) + i)) 0) [
-  | inl z ↦ bare_guarded c (Behind c w.now seat (step.Undirty q)) (64 * p + k * words_under (header_in w.now.words p) + i) z
-  | inr some ↦ elim (cases_eq ((64 * p + k * words_under (header_in w.now.words p) + i) / 64) q) [
-    | inl e ↦
-        let u = undirties c w.now seat q early h in
-        let head : head_page w.now.words q ≡ p = subst (λ j. head_page w.now.words j ≡ p) e (covered_word w.now.words p k i (say.later early) lt scanned li some) in
-        absurd (true≢false (sym is ∙ no_bit (slice_index w.now.words.blacks p) k (ap (λ j. slice_index w.now.words.blacks j) (sym head) ∙ u.head)))
-    | inr ne ↦ by (black p k i lt is scanned li) ne
-  ]
-]
+undirty_kind c w seat q len early say h black p k i lt is scanned li =
+    elim (cases_eq (slice_index w.now.words.heap (64 * p + k * words_under (header_in w.now.words p) + i)) 0) [
+      | inl z ↦ bare_guarded c (Behind c w.now seat (step.Undirty q))
+          (64 * p + k * words_under (header_in w.now.words p) + i) z
+      | inr some ↦ elim (cases_eq ((64 * p + k * words_under (header_in w.now.words p) + i) / 64) q) [
+        | inl e ↦
+            let u = undirties c w.now seat q early h in
+            let head : head_page w.now.words q ≡ p =
+            subst (λ j. head_page w.now.words j ≡ p) e
+            (covered_word w.now.words p k i (say.later early) lt scanned li some) in
+            absurd (true≢false (sym is
+            ∙ no_bit (slice_index w.now.words.blacks p) k (ap (λ j. slice_index w.now.words.blacks j) (sym head)
+            ∙ u.head)))
+        | inr ne ↦ by (black p k i lt is scanned li) ne
+      ]
+    ]
   where
     by : {x : ℕ} → IsGuarded c w.now x → x / 64 ≢ q → IsGuarded c (Behind c w.now seat (step.Undirty q)) x
     by {x} (PointsWell h) ne = PointsWell h

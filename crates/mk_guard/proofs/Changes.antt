@@ -1,5 +1,6 @@
 -- What each kind of step changes of what the guard reads.
-use Rattle.std.proofs.Common.{◌≡◌, ◌⊎◌, ℕ, ◌*◌, ◌/◌, ◌<◌, Bool, true, false, List, length, refl, sym, ◌∙◌, ap, subst, inl, inr, arith}
+use Rattle.std.proofs.Common.{◌≡◌, ◌⊎◌, ℕ, ◌*◌, ◌/◌, ◌<◌, Bool, true, false, List, length, refl, sym, ◌∙◌, ap, subst}
+use Rattle.std.proofs.Common.{inl, inr, arith}
 use Rattle.std.specs.Prelude.{nat_le, nat_lt, slice_index, slice_index_or, slice_set}
 use Rattle.std.proofs.lemmas.Bool.{cases_eq, cases_lt, true≢false, ltb-true, and_parts}
 use Rattle.std.proofs.lemmas.List.{get_or-set_same, get_or-set_other, set_past}
@@ -54,7 +55,15 @@ pub record Table : Type 0 where
   pub heap : List ℕ
 
 abbrev pub table_of : Words → Table
-table_of w = record { phase = w.phase; globals = w.globals; pages = w.pages; marks = w.marks; blacks = w.blacks; dirty = w.dirty; heap = w.heap }
+table_of w = record {
+  phase = w.phase;
+  globals = w.globals;
+  pages = w.pages;
+  marks = w.marks;
+  blacks = w.blacks;
+  dirty = w.dirty;
+  heap = w.heap;
+}
 
 register_table : (w : Words) (k r : ℕ) (a : Access) → table_of (accessed w (Named (word.Reg k r)) a) ≡ table_of w
 register_table w k r Load = refl
@@ -66,7 +75,8 @@ tally_table w _ v = refl
 
 pub reg_table : (c : Config) (m : Moment) (seat : Seat) → table_of (Behind c m seat step.Reg).words ≡ table_of m.words
 reg_table c m seat =
-    register_table m.words (caller_number seat) (register_met (flight_of m seat) (flight_of m seat).stage) (reg_access (flight_of m seat) (flight_of m seat).stage)
+    register_table m.words (caller_number seat) (register_met (flight_of m seat) (flight_of m seat).stage)
+    (reg_access (flight_of m seat) (flight_of m seat).stage)
 
 -- A call that has written, or exchanged, owes the dirty word behind it.
 
@@ -83,14 +93,22 @@ swapped _ h = cc
 
 stored : (c : Config) (m : Moment) (k : ℕ) (x : Step) (n y : ℕ) (f : Flight) → k < length m.seats.flights
     → (Behind c m (Caller k) x).words.heap ≡ slice_set m.words.heap (word_met (flight_of m (Caller k))) n
-    → (Behind c m (Caller k) x).seats.flights ≡ slice_set m.seats.flights k f → f.stage ≡ stage.Dirty → word_met f ≡ word_met (flight_of m (Caller k))
-    → (slice_index (Behind c m (Caller k) x).words.heap y ≡ slice_index m.words.heap y) ⊎ IsGuarded c (Behind c m (Caller k) x) y
+    → (Behind c m (Caller k) x).seats.flights ≡ slice_set m.seats.flights k f → f.stage ≡ stage.Dirty
+    → word_met f ≡ word_met (flight_of m (Caller k))
+    → (slice_index (Behind c m (Caller k) x).words.heap y ≡ slice_index m.words.heap y)
+    ⊎ IsGuarded c (Behind c m (Caller k) x) y
 stored c m k x n y f lt heap flights at same = elim (cases_eq y (word_met (flight_of m (Caller k)))) [
   | inl e ↦
       let is : flight_of (Behind c m (Caller k) x) (Caller k) ≡ f
-      = ap (λ (fs : List Flight). slice_index_or fs k at_rest) flights ∙ get_or-set_same m.seats.flights k f at_rest lt in
-      inr (DirtyIsOwed k (ap (λ (g : Flight). g.stage) is ∙ at, ap (λ (g : Flight). page_met g) is ∙ ap (λ i. i / 64) (same ∙ sym e)))
-  | inr ne ↦ inl (ap (λ (ys : List ℕ). slice_index ys y) heap ∙ get_or-set_other m.words.heap (word_met (flight_of m (Caller k))) y n 0 ne)
+      = ap (λ (fs : List Flight). slice_index_or fs k at_rest) flights
+      ∙ get_or-set_same m.seats.flights k f at_rest lt in
+      inr (DirtyIsOwed k (
+        ap (λ (g : Flight). g.stage) is ∙ at,
+        ap (λ (g : Flight). page_met g) is
+            ∙ ap (λ i. i / 64) (same ∙ sym e),
+      ))
+  | inr ne ↦ inl (ap (λ (ys : List ℕ). slice_index ys y) heap
+      ∙ get_or-set_other m.words.heap (word_met (flight_of m (Caller k))) y n 0 ne)
 ]
 
 pub heap_kind : (c : Config) (m : Moment) (seat : Seat) (x : Step) → Known c m → Meets c m seat x → (y : ℕ)
@@ -100,17 +118,25 @@ heap_kind c m seat (step.Tally n v) known h y = inl (ap (λ (t : Table). slice_i
 heap_kind c m (Caller k) step.Write known h y =
     let lt = ltb-true k c.callers h.seat in
     let at = at_its_stage (flight_of m (Caller k)).stage (flight_of m (Caller k)).op step.Write refl h.order in
-    let fine = subst (λ (s : Stage). is_astray (standing_at s (flight_of m (Caller k)).op) ≡ false) at (not_astray c m known.orderly k lt) in
-    stored c m k step.Write _ y (progress c m (flight_of m (Caller k)) (found c m (record { seat = Caller k; step = step.Write })) step.Write).flight
+    let fine = subst (λ (s : Stage). is_astray (standing_at s (flight_of m (Caller k)).op) ≡ false) at
+    (not_astray c m known.orderly k lt) in
+    stored c m k step.Write _ y
+    (progress c m (flight_of m (Caller k)) (found c m (record { seat = Caller k; step = step.Write }))
+    step.Write).flight
     (omega (arith, lt, known.orderly.flights)) refl refl
-    (ap (λ (s : Stage). stage_behind s (steps_of (flight_of m (Caller k)).op)) at ∙ wrote (flight_of m (Caller k)).op fine) refl
+    (ap (λ (s : Stage). stage_behind s (steps_of (flight_of m (Caller k)).op)) at
+    ∙ wrote (flight_of m (Caller k)).op fine) refl
 heap_kind c m (Caller k) step.Cas known h y =
     let lt = ltb-true k c.callers h.seat in
     let at = at_its_stage (flight_of m (Caller k)).stage (flight_of m (Caller k)).op step.Cas refl h.order in
-    let fine = subst (λ (s : Stage). is_astray (standing_at s (flight_of m (Caller k)).op) ≡ false) at (not_astray c m known.orderly k lt) in
-    stored c m k step.Cas _ y (progress c m (flight_of m (Caller k)) (found c m (record { seat = Caller k; step = step.Cas })) step.Cas).flight
+    let fine = subst (λ (s : Stage). is_astray (standing_at s (flight_of m (Caller k)).op) ≡ false) at
+    (not_astray c m known.orderly k lt) in
+    stored c m k step.Cas _ y
+    (progress c m (flight_of m (Caller k)) (found c m (record { seat = Caller k; step = step.Cas }))
+    step.Cas).flight
     (omega (arith, lt, known.orderly.flights)) refl refl
-    (ap (λ (s : Stage). stage_behind s (steps_of (flight_of m (Caller k)).op)) at ∙ swapped (flight_of m (Caller k)).op fine) refl
+    (ap (λ (s : Stage). stage_behind s (steps_of (flight_of m (Caller k)).op)) at
+    ∙ swapped (flight_of m (Caller k)).op fine) refl
 heap_kind c m (Marker k) step.Write known h y = let kind = h.kind in cc
 heap_kind c m Host step.Write known h y = let kind = h.kind in cc
 heap_kind c m (Marker k) step.Cas known h y = let kind = h.kind in cc
@@ -132,14 +158,17 @@ abbrev pub is_undirty : Step → Bool
 is_undirty (step.Undirty p) = true
 is_undirty _ = false
 
-pub dirty_kind : (c : Config) (m : Moment) (seat : Seat) (x : Step) → is_undirty x ≡ false → (p : ℕ) → slice_index m.words.dirty p ≡ 1
+pub dirty_kind : (c : Config) (m : Moment) (seat : Seat) (x : Step) → is_undirty x ≡ false → (p : ℕ)
+    → slice_index m.words.dirty p ≡ 1
     → slice_index (Behind c m seat x).words.dirty p ≡ 1
 dirty_kind c m seat step.Reg u p h = ap (λ (t : Table). slice_index t.dirty p) (reg_table c m seat) ∙ h
 dirty_kind c m seat (step.Tally n v) u p h = ap (λ (t : Table). slice_index t.dirty p) (tally_table m.words n v) ∙ h
 dirty_kind c m seat step.Dirty u p h = elim (cases_eq p (page_met (flight_of m seat))) [
   | inl e ↦ elim (cases_lt (page_met (flight_of m seat)) (length m.words.dirty)) [
-    | inl lt ↦ ap (λ i. slice_index (slice_set m.words.dirty (page_met (flight_of m seat)) 1) i) e ∙ get_or-set_same m.words.dirty (page_met (flight_of m seat)) 1 0 lt
-    | inr past ↦ ap (λ (ys : List ℕ). slice_index ys p) (set_past m.words.dirty (page_met (flight_of m seat)) 1 past) ∙ h
+    | inl lt ↦ ap (λ i. slice_index (slice_set m.words.dirty (page_met (flight_of m seat)) 1) i) e
+        ∙ get_or-set_same m.words.dirty (page_met (flight_of m seat)) 1 0 lt
+    | inr past ↦ ap (λ (ys : List ℕ). slice_index ys p) (set_past m.words.dirty (page_met (flight_of m seat)) 1 past)
+        ∙ h
   ]
   | inr ne ↦ get_or-set_other m.words.dirty (page_met (flight_of m seat)) p 1 0 ne ∙ h
 ]
@@ -157,24 +186,30 @@ at_owed o step.Dirty h = refl
 at_owed o _ h = cc
 
 pub owed_kind : (c : Config) (m : Moment) (seat : Seat) (x : Step) → AreOfPages c.pages m.words → Meets c m seat x
-    → (j p : ℕ) → OwesDirty m j p → OwesDirty (Behind c m seat x) j p ⊎ (slice_index (Behind c m seat x).words.dirty p ≡ 1)
+    → (j p : ℕ) → OwesDirty m j p
+    → OwesDirty (Behind c m seat x) j p ⊎ (slice_index (Behind c m seat x).words.dirty p ≡ 1)
 owed_kind c m (Marker k) x len h j p owes = inl owes
 owed_kind c m Host x len h j p owes = inl owes
 owed_kind c m (Caller k) x len h j p owes = elim (cases_eq j k) [
   | inr ne ↦
-      let is = get_or-set_other m.seats.flights k j (progress c m (flight_of m (Caller k)) (found c m (record { seat = Caller k; step = x })) x).flight at_rest ne in
+      let is = get_or-set_other m.seats.flights k j
+      (progress c m (flight_of m (Caller k)) (found c m (record { seat = Caller k; step = x })) x).flight at_rest ne
+      in
       inl (ap (λ (f : Flight). f.stage) is ∙ owes.0, ap (λ (f : Flight). page_met f) is ∙ owes.1)
   | inl e ↦
-      let own : (flight_of m (Caller k)).stage ≡ stage.Dirty = subst (λ i. (flight_of m (Caller i)).stage ≡ stage.Dirty) e owes.0 in
+      let own : (flight_of m (Caller k)).stage ≡ stage.Dirty =
+      subst (λ i. (flight_of m (Caller i)).stage ≡ stage.Dirty) e owes.0 in
       let page : page_met (flight_of m (Caller k)) ≡ p = subst (λ i. page_met (flight_of m (Caller i)) ≡ p) e owes.1 in
       inr (subst (λ q. slice_index (Behind c m (Caller k) x).words.dirty q ≡ 1) page
-      (paid x h (at_owed (flight_of m (Caller k)).op x (subst (λ (s : Stage). comes_next s (flight_of m (Caller k)).op x ≡ true) own h.order))))
+      (paid x h (at_owed (flight_of m (Caller k)).op x
+      (subst (λ (s : Stage). comes_next s (flight_of m (Caller k)).op x ≡ true) own h.order))))
 ]
   where
     paid : (x : Step) → Meets c m (Caller k) x → is_dirty x ≡ true
         → slice_index (Behind c m (Caller k) x).words.dirty (page_met (flight_of m (Caller k))) ≡ 1
     paid step.Dirty h is =
-        let met = (and_parts (nat_le 65536 (flight_of m (Caller k)).q) (nat_lt (word_met (flight_of m (Caller k))) (64 * c.pages)) h.range).1 in
+        let met = (and_parts (nat_le 65536 (flight_of m (Caller k)).q)
+        (nat_lt (word_met (flight_of m (Caller k))) (64 * c.pages)) h.range).1 in
         let lt = ltb-true (word_met (flight_of m (Caller k))) (64 * c.pages) met in
         get_or-set_same m.words.dirty (page_met (flight_of m (Caller k))) 1 0 (omega (arith, len.dirty, lt))
     paid _ h is = cc
@@ -187,23 +222,32 @@ is_head _ = false
 
 pub headers_kind : (c : Config) (m : Moment) (seat : Seat) (x : Step) → is_head x ≡ false → (p : ℕ)
     → header_at (Behind c m seat x).words p ≡ header_at m.words p
-headers_kind c m seat step.Reg u p = ap (λ (t : Table). (slice_index_or t.pages p free_page).header) (reg_table c m seat)
-headers_kind c m seat (step.Tally n v) u p = ap (λ (t : Table). (slice_index_or t.pages p free_page).header) (tally_table m.words n v)
+headers_kind c m seat step.Reg u p =
+    ap (λ (t : Table). (slice_index_or t.pages p free_page).header) (reg_table c m seat)
+headers_kind c m seat (step.Tally n v) u p =
+    ap (λ (t : Table). (slice_index_or t.pages p free_page).header) (tally_table m.words n v)
 headers_kind c m seat (step.Head q n) u p = cc
 headers_kind c m seat (step.Used q n) u p = elim (cases_eq p q) [
   | inl e ↦ elim (cases_lt q (length m.words.pages)) [
     | inl lt ↦
-        ap (λ i. (slice_index_or (slice_set m.words.pages q (record { header = header_at m.words q; used = n })) i free_page).header) e
-        ∙ ap (λ (y : Page). y.header) (get_or-set_same m.words.pages q (record { header = header_at m.words q; used = n }) free_page lt) ∙ ap (λ i. header_at m.words i) (sym e)
-    | inr past ↦ ap (λ (ys : List Page). (slice_index_or ys p free_page).header) (set_past m.words.pages q (record { header = header_at m.words q; used = n }) past)
+        ap (λ i. (slice_index_or (slice_set m.words.pages q (record { header = header_at m.words q; used = n })) i
+        free_page).header) e
+        ∙ ap (λ (y : Page). y.header)
+        (get_or-set_same m.words.pages q (record { header = header_at m.words q; used = n }) free_page lt)
+        ∙ ap (λ i. header_at m.words i) (sym e)
+    | inr past ↦ ap (λ (ys : List Page). (slice_index_or ys p free_page).header)
+        (set_past m.words.pages q (record { header = header_at m.words q; used = n }) past)
   ]
-  | inr ne ↦ ap (λ (y : Page). y.header) (get_or-set_other m.words.pages q p (record { header = header_at m.words q; used = n }) free_page ne)
+  | inr ne ↦ ap (λ (y : Page). y.header)
+      (get_or-set_other m.words.pages q p (record { header = header_at m.words q; used = n }) free_page ne)
 ]
 headers_kind c m seat _ u p = refl
 
 -- marks only grow while a cycle marks
-marks_grow : (c : Config) (m : Moment) (seat : Seat) (y : Colours) → IsMarking m.words → ColourStep c m seat y → OnlyGrow m.words.marks y.marks
-marks_grow c m seat y early (ClearsMarks p z) = elim early [ inl e ↦ absurd (omega arith) | inr e ↦ absurd (omega arith) ]
+marks_grow : (c : Config) (m : Moment) (seat : Seat) (y : Colours) → IsMarking m.words → ColourStep c m seat y
+    → OnlyGrow m.words.marks y.marks
+marks_grow c m seat y early (ClearsMarks p z) =
+    elim early [ inl e ↦ absurd (omega arith) | inr e ↦ absurd (omega arith) ]
 marks_grow c m seat y early (AddsMarks p bits e h) = grows_more m.words.marks p bits
 marks_grow c m seat y early (MarksSeen p bits s e f) = grows_more m.words.marks p bits
 marks_grow c m seat y early _ = grows_same m.words.marks
@@ -220,8 +264,10 @@ is_blackening _ = false
 
 pub blacks_kind : (c : Config) (m : Moment) (seat : Seat) (x : Step) → is_blackening x ≡ false
     → OnlyGrow (Behind c m seat x).words.blacks m.words.blacks
-blacks_kind c m seat step.Reg u = subst (λ (t : Table). OnlyGrow t.blacks m.words.blacks) (sym (reg_table c m seat)) (grows_same m.words.blacks)
-blacks_kind c m seat (step.Tally n v) u = subst (λ (t : Table). OnlyGrow t.blacks m.words.blacks) (sym (tally_table m.words n v)) (grows_same m.words.blacks)
+blacks_kind c m seat step.Reg u = subst (λ (t : Table). OnlyGrow t.blacks m.words.blacks) (sym (reg_table c m seat))
+    (grows_same m.words.blacks)
+blacks_kind c m seat (step.Tally n v) u =
+    subst (λ (t : Table). OnlyGrow t.blacks m.words.blacks) (sym (tally_table m.words n v)) (grows_same m.words.blacks)
 blacks_kind c m seat (step.Black p n) u = cc
 blacks_kind c m seat step.Mblack u = cc
 blacks_kind c m seat (step.Unblack q) u = λ p k is. elim (cases_eq p q) [

@@ -12,21 +12,27 @@ use Rattle.mk_core.specs.Cells.{cells_under, words_under, header_in, has_no_poin
 use Rattle.mk_guard.specs.Kept.{LaterPagesAreKnown}
 
 -- a page that is its own head
-own_head : (w : Words) (p : ℕ) (x : Option Header) → header_in w p ≡ x → head_page_under x p ≡ p → (n : ℕ) → n / 64 ≡ p → head_page w (n / 64) ≡ p
+own_head : (w : Words) (p : ℕ) (x : Option Header) → header_in w p ≡ x → head_page_under x p ≡ p → (n : ℕ) → n / 64 ≡ p
+    → head_page w (n / 64) ≡ p
 own_head w p x is head n at = ap (λ q. head_page w q) at ∙ ap (λ (y : Option Header). head_page_under y p) is ∙ head
 
-pub covered_word : (w : Words) (p k i : ℕ) → LaterPagesAreKnown w → k < cells_under (header_in w p) → has_no_pointers (header_in w p) ≡ false
+pub covered_word : (w : Words) (p k i : ℕ) → LaterPagesAreKnown w → k < cells_under (header_in w p)
+    → has_no_pointers (header_in w p) ≡ false
     → i < words_under (header_in w p)
-    → slice_index w.heap (64 * p + k * words_under (header_in w p) + i) ≢ 0 → head_page w ((64 * p + k * words_under (header_in w p) + i) / 64) ≡ p
+    → slice_index w.heap (64 * p + k * words_under (header_in w p) + i) ≢ 0
+    → head_page w ((64 * p + k * words_under (header_in w p) + i) / 64) ≡ p
 covered_word w p k i later lk scanned li some = by (header_in w p) refl lk scanned li some
   where
-    in_run : (count : ℕ) → header_in w p ≡ Some (Run count true) → k < 1 → i < 64 * count → slice_index w.heap (64 * p + k * (64 * count) + i) ≢ 0
+    in_run : (count : ℕ) → header_in w p ≡ Some (Run count true) → k < 1 → i < 64 * count
+        → slice_index w.heap (64 * p + k * (64 * count) + i) ≢ 0
         → head_page w ((64 * p + k * (64 * count) + i) / 64) ≡ p
     in_run count is lk li some =
         let zero : k ≡ 0 = omega arith in
-        let at : 64 * p + k * (64 * count) + i ≡ 64 * p + i = ap (λ j. 64 * p + j * (64 * count) + i) zero ∙ omega arith in
+        let at : 64 * p + k * (64 * count) + i ≡ 64 * p + i = ap (λ j. 64 * p + j * (64 * count) + i) zero
+        ∙ omega arith in
         elim (cases_eq (i / 64) 0) [
-          | inl first ↦ own_head w p (Some (Run count true)) is refl (64 * p + k * (64 * count) + i) (ap (λ n. n / 64) at ∙ omega arith)
+          | inl first ↦ own_head w p (Some (Run count true)) is refl (64 * p + k * (64 * count) + i)
+              (ap (λ n. n / 64) at ∙ omega arith)
           | inr ne ↦
               let page : (64 * p + k * (64 * count) + i) / 64 ≡ p + i / 64 = ap (λ n. n / 64) at ∙ omega arith in
               elim (later p count (i / 64) is (omega arith) (omega arith)) [

@@ -28,12 +28,14 @@ use Rattle.mk_guard.proofs.Changes.{is_head, headers_kind}
 -- It finds no header on its page, marked cells and words 0; or it unmaps, which shows the same.
 pub data HeadFinds (pages : ℕ) (w : Words) (p header : ℕ) : Type 0 where
   Carved : header_at w p ≡ 0
-      → ((value : ℕ) (x : Cell) → page_at_address value ≡ p → cell_at pages header value ≡ Some x → is_marked w x ≡ true)
+      → ((value : ℕ) (x : Cell) → page_at_address value ≡ p → cell_at pages header value ≡ Some x
+      → is_marked w x ≡ true)
       → ((k i : ℕ) → k < cells_under (header_of header) → i < words_under (header_of header)
       → slice_index w.heap (64 * p + k * words_under (header_of header) + i) ≡ 0)
       → HeadFinds pages w p header
   Unmapped : header ≢ 0 → GoesOn pages (header_at w p) header
-      → ((value : ℕ) (x : Cell) → page_at_address value ≡ p → cell_at pages header value ≡ Some x → cell_at pages (header_at w p) value ≡ Some x)
+      → ((value : ℕ) (x : Cell) → page_at_address value ≡ p → cell_at pages header value ≡ Some x
+      → cell_at pages (header_at w p) value ≡ Some x)
       → (cells_under (header_in w p) ≡ 0 → cells_under (header_of header) ≡ 0)
       → HeadFinds pages w p header
 
@@ -59,7 +61,8 @@ pub record HeadKeeps (c : Config) (m n : Moment) : Type 0 where
   pub headers : (p : ℕ) → GoesOn c.pages (header_at m.words p) (header_at n.words p)
   pub new : NewCellsAreGuarded c m n
 
-pub head_keeps : (c : Config) (m : Moment) (seat : Seat) (p n : ℕ) → AreOfPages c.pages m.words → Meets c m seat (step.Head p n)
+pub head_keeps : (c : Config) (m : Moment) (seat : Seat) (p n : ℕ) → AreOfPages c.pages m.words
+    → Meets c m seat (step.Head p n)
     → HeadFinds c.pages m.words p n → HeadKeeps c m (Behind c m seat (step.Head p n))
 head_keeps c m seat p n len h finds =
     record {
@@ -72,25 +75,33 @@ head_keeps c m seat p n len h finds =
         | inr ne ↦ is y (subst (λ a. cell_at c.pages a v ≡ Some y) (other (page_at_address v) ne) at)
       ];
       headers = λ q. elim (cases_eq q p) [
-        | inl e ↦ subst (λ a. GoesOn c.pages (header_at m.words q) a) (sym (here q e)) (subst (λ j. GoesOn c.pages (header_at m.words j) n) (sym e) (goes finds))
-        | inr ne ↦ subst (λ a. GoesOn c.pages (header_at m.words q) a) (sym (other q ne)) (goes_same c.pages (header_at m.words q))
+        | inl e ↦ subst (λ a. GoesOn c.pages (header_at m.words q) a) (sym (here q e))
+            (subst (λ j. GoesOn c.pages (header_at m.words j) n) (sym e) (goes finds))
+        | inr ne ↦ subst (λ a. GoesOn c.pages (header_at m.words q) a) (sym (other q ne))
+            (goes_same c.pages (header_at m.words q))
       ];
       new = λ q k i none lt li. elim (cases_eq q p) [
         | inl e ↦
             made finds q k i e (subst (λ j. cells_under (header_in m.words j) ≡ 0) e none)
-            (subst (λ a. k < cells_under (header_of a)) (here q e) lt) (subst (λ a. i < words_under (header_of a)) (here q e) li)
-        | inr ne ↦ let bad : k < 0 = subst (λ a. k < a) (ap (λ a. cells_under (header_of a)) (other q ne) ∙ none) lt in absurd (omega arith)
+            (subst (λ a. k < cells_under (header_of a)) (here q e) lt)
+            (subst (λ a. i < words_under (header_of a)) (here q e) li)
+        | inr ne ↦ let bad : k < 0 = subst (λ a. k < a) (ap (λ a. cells_under (header_of a)) (other q ne)
+            ∙ none) lt in absurd (omega arith)
       ];
     }
   where
     here : (q : ℕ) → q ≡ p → header_at (Behind c m seat (step.Head p n)).words q ≡ n
     here q e =
         let lt = ltb-true p c.pages h.range in
-        ap (λ j. (slice_index_or (slice_set m.words.pages p (record { header = n; used = used_at m.words p })) j free_page).header) e
-        ∙ ap (λ (y : Page). y.header) (get_or-set_same m.words.pages p (record { header = n; used = used_at m.words p }) free_page (omega (arith, lt, len.pages)))
+        ap (λ j. (slice_index_or (slice_set m.words.pages p (record { header = n; used = used_at m.words p })) j
+        free_page).header) e
+        ∙ ap (λ (y : Page). y.header)
+        (get_or-set_same m.words.pages p (record { header = n; used = used_at m.words p }) free_page
+        (omega (arith, lt, len.pages)))
 
     other : (q : ℕ) → q ≢ p → header_at (Behind c m seat (step.Head p n)).words q ≡ header_at m.words q
-    other q ne = ap (λ (y : Page). y.header) (get_or-set_other m.words.pages p q (record { header = n; used = used_at m.words p }) free_page ne)
+    other q ne = ap (λ (y : Page). y.header)
+        (get_or-set_other m.words.pages p q (record { header = n; used = used_at m.words p }) free_page ne)
 
     filled : HeadFinds c.pages m.words p n → header_at m.words p ≢ 0 → n ≢ 0
     filled (Carved free marked bare) not_free z = not_free free
@@ -100,21 +111,29 @@ head_keeps c m seat p n len h finds =
     goes (Carved free marked bare) = subst (λ a. GoesOn c.pages a n) (sym free) (from_free c.pages n)
     goes (Unmapped some on back still) = on
 
-    well : HeadFinds c.pages m.words p n → (v : ℕ) → page_at_address v ≡ p → IsWell c m.words v → (y : Cell) → cell_at c.pages n v ≡ Some y
+    well : HeadFinds c.pages m.words p n → (v : ℕ) → page_at_address v ≡ p → IsWell c m.words v → (y : Cell)
+        → cell_at c.pages n v ≡ Some y
         → is_marked m.words y ≡ true
     well (Carved free marked bare) v e is y at = marked v y e at
-    well (Unmapped some on back still) v e is y at = is y (subst (λ j. cell_at c.pages (header_at m.words j) v ≡ Some y) (sym e) (back v y e at))
+    well (Unmapped some on back still) v e is y at =
+        is y (subst (λ j. cell_at c.pages (header_at m.words j) v ≡ Some y) (sym e) (back v y e at))
 
-    made : HeadFinds c.pages m.words p n → (q k i : ℕ) → q ≡ p → cells_under (header_in m.words p) ≡ 0 → k < cells_under (header_of n)
+    made : HeadFinds c.pages m.words p n → (q k i : ℕ) → q ≡ p → cells_under (header_in m.words p) ≡ 0
+        → k < cells_under (header_of n)
         → i < words_under (header_of n)
-        → IsGuarded c (Behind c m seat (step.Head p n)) (64 * q + k * words_under (header_in (Behind c m seat (step.Head p n)).words q) + i)
+        → IsGuarded c (Behind c m seat (step.Head p n))
+        (64 * q + k * words_under (header_in (Behind c m seat (step.Head p n)).words q) + i)
     made (Carved free marked bare) q k i e none lt li =
-        let first : 64 * q + k * words_under (header_in (Behind c m seat (step.Head p n)).words q) + i ≡ 64 * p + k * words_under (header_of n) + i
-        = ap (λ a. 64 * q + k * words_under (header_of a) + i) (here q e) ∙ ap (λ j. 64 * j + k * words_under (header_of n) + i) e in
+        let first : 64 * q + k * words_under (header_in (Behind c m seat (step.Head p n)).words q) + i
+        ≡ 64 * p + k * words_under (header_of n) + i
+        = ap (λ a. 64 * q + k * words_under (header_of a) + i) (here q e)
+        ∙ ap (λ j. 64 * j + k * words_under (header_of n) + i) e in
         bare_guarded c (Behind c m seat (step.Head p n)) _ (ap (λ j. slice_index m.words.heap j) first ∙ bare k i lt li)
     made (Unmapped some on back still) q k i e none lt li = let z = still none in absurd (omega arith)
 
 -- no other kind makes cells
-pub no_new_cells : (c : Config) (m : Moment) (seat : Seat) (x : Step) → is_head x ≡ false → NewCellsAreGuarded c m (Behind c m seat x)
+pub no_new_cells : (c : Config) (m : Moment) (seat : Seat) (x : Step) → is_head x ≡ false
+    → NewCellsAreGuarded c m (Behind c m seat x)
 no_new_cells c m seat x no_head p k i none lt li =
-    let bad : k < 0 = subst (λ n. k < n) (ap (λ n. cells_under (header_of n)) (headers_kind c m seat x no_head p) ∙ none) lt in absurd (omega arith)
+    let bad : k < 0 = subst (λ n. k < n) (ap (λ n. cells_under (header_of n)) (headers_kind c m seat x no_head p)
+    ∙ none) lt in absurd (omega arith)

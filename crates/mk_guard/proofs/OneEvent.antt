@@ -28,7 +28,8 @@ use Rattle.mk_guard.specs.Kept.{OthersSay}
 use Rattle.mk_guard.proofs.Phases.{is_phase_step, phase_stays, over_phase}
 use Rattle.mk_guard.proofs.Wells.{wells_from}
 use Rattle.mk_guard.proofs.KeptGuard.{Keeps, goes_equal, black_kept}
-use Rattle.mk_guard.proofs.Changes.{heap_kind, dirty_kind, owed_kind, headers_kind, marks_kind, blacks_kind, is_head, is_undirty, is_blackening}
+use Rattle.mk_guard.proofs.Changes.{heap_kind, dirty_kind, owed_kind, headers_kind, marks_kind, blacks_kind, is_head}
+use Rattle.mk_guard.proofs.Changes.{is_undirty, is_blackening}
 use Rattle.mk_guard.proofs.FoundHeaders.{head_finds}
 use Rattle.mk_guard.proofs.Headers.{head_keeps, no_new_cells}
 use Rattle.mk_guard.proofs.Markers.{markers_stand}
@@ -38,20 +39,24 @@ use Rattle.mk_guard.proofs.Stopped.{stays_closed, leaves_closed}
 
 -- what a step keeps of the guarded words
 
-keeps_of : (c : Config) (m : Moment) (seat : Seat) (x : Step) → Known c m → AreOfPages c.pages m.words → IsMarking m.words → Meets c m seat x
+keeps_of : (c : Config) (m : Moment) (seat : Seat) (x : Step) → Known c m → AreOfPages c.pages m.words
+    → IsMarking m.words → Meets c m seat x
     → is_head x ≡ false → is_undirty x ≡ false
     → Keeps c m (Behind c m seat x)
 keeps_of c m seat x known len early h no_head no_clean =
     record {
-      wells = wells_from c m.words (Behind c m seat x).words (headers_kind c m seat x no_head) (marks_kind c m seat x early h);
+      wells = wells_from c m.words (Behind c m seat x).words (headers_kind c m seat x no_head)
+          (marks_kind c m seat x early h);
       heap = heap_kind c m seat x known h;
       dirty = dirty_kind c m seat x no_clean;
       owed = owed_kind c m seat x len h;
-      headers = λ p. goes_equal c.pages (header_at m.words p) (header_at (Behind c m seat x).words p) (headers_kind c m seat x no_head p);
+      headers = λ p. goes_equal c.pages (header_at m.words p) (header_at (Behind c m seat x).words p)
+          (headers_kind c m seat x no_head p);
       marks = marks_kind c m seat x early h;
     }
 
-keeps_head : (c : Config) (w : World) (seat : Seat) (p n : ℕ) → IsWithinLimits c → Known c w.now → AreOfPages c.pages w.now.words
+keeps_head : (c : Config) (w : World) (seat : Seat) (p n : ℕ) → IsWithinLimits c → Known c w.now
+    → AreOfPages c.pages w.now.words
     → IsMarking w.now.words → OthersSay c w → Meets c w.now seat (step.Head p n)
     → Keeps c w.now (Behind c w.now seat (step.Head p n))
 keeps_head c w seat p n limits known len early say h =
@@ -65,7 +70,8 @@ keeps_head c w seat p n limits known len early say h =
       marks = marks_kind c w.now seat (step.Head p n) early h;
     }
 
-black_behind : (c : Config) (w : World) (seat : Seat) (x : Step) → IsWithinLimits c → Known c w.now → AreOfPages c.pages w.now.words
+black_behind : (c : Config) (w : World) (seat : Seat) (x : Step) → IsWithinLimits c → Known c w.now
+    → AreOfPages c.pages w.now.words
     → IsMarking w.now.words → OthersSay c w → Meets c w.now seat x → Guard c w.now
     → BlackIsGuarded c (Behind c w.now seat x)
 black_behind c w seat (step.Head p n) limits known len early say h g =
@@ -74,9 +80,11 @@ black_behind c w seat (step.Head p n) limits known len early say h g =
     (λ q k is. inl (blacks_kind c w.now seat (step.Head p n) refl q k is)) g.black
 black_behind c w seat (step.Undirty q) limits known len early say h g = undirty_kind c w seat q len early say h g.black
 black_behind c w seat (step.Black p n) limits known len early say h g =
-    black_kind c w.now seat p n (keeps_of c w.now seat (step.Black p n) known len early h refl refl) (no_new_cells c w.now seat (step.Black p n) refl) h g.black
+    black_kind c w.now seat p n (keeps_of c w.now seat (step.Black p n) known len early h refl refl)
+    (no_new_cells c w.now seat (step.Black p n) refl) h g.black
 black_behind c w (Marker k) step.Mblack limits known len early say h g =
-    mblack_kind c w.now k known (keeps_of c w.now (Marker k) step.Mblack known len early h refl refl) (no_new_cells c w.now (Marker k) step.Mblack refl) h g
+    mblack_kind c w.now k known (keeps_of c w.now (Marker k) step.Mblack known len early h refl refl)
+    (no_new_cells c w.now (Marker k) step.Mblack refl) h g
 black_behind c w (Caller k) step.Mblack limits known len early say h g = let kind = h.kind in cc
 black_behind c w Host step.Mblack limits known len early say h g = let kind = h.kind in cc
 black_behind c w seat x limits known len early say h g = rest x h refl refl refl
@@ -84,7 +92,8 @@ black_behind c w seat x limits known len early say h g = rest x h refl refl refl
     rest : (x : Step) → Meets c w.now seat x → is_head x ≡ false → is_undirty x ≡ false → is_blackening x ≡ false
         → BlackIsGuarded c (Behind c w.now seat x)
     rest x h no_head no_clean no_black =
-        black_kept c w.now (Behind c w.now seat x) (keeps_of c w.now seat x known len early h no_head no_clean) (no_new_cells c w.now seat x no_head)
+        black_kept c w.now (Behind c w.now seat x) (keeps_of c w.now seat x known len early h no_head no_clean)
+        (no_new_cells c w.now seat x no_head)
         (λ p k is. inl (blacks_kind c w.now seat x no_black p k is)) g.black
 
 same_markers : (c : Config) (m : Moment) (seat : Seat) (q j : ℕ) → Meets c m seat (step.Undirty q)
@@ -93,25 +102,35 @@ same_markers c m (Caller k) q j h = refl
 same_markers c m Host q j h = refl
 same_markers c m (Marker k) q j h = let kind = h.kind in cc
 
-markers_behind : (c : Config) (w : World) (seat : Seat) (x : Step) → IsWithinLimits c → Known c w.now → AreOfPages c.pages w.now.words
+markers_behind : (c : Config) (w : World) (seat : Seat) (x : Step) → IsWithinLimits c → Known c w.now
+    → AreOfPages c.pages w.now.words
     → IsMarking w.now.words → OthersSay c w → Meets c w.now seat x → Guard c w.now
-    → (j : ℕ) → is_attending (marker_of (Behind c w.now seat x) j).presence ≡ true → MarkerStands c (Behind c w.now seat x) (marker_of (Behind c w.now seat x) j)
+    → (j : ℕ) → is_attending (marker_of (Behind c w.now seat x) j).presence ≡ true
+    → MarkerStands c (Behind c w.now seat x) (marker_of (Behind c w.now seat x) j)
 markers_behind c w seat (step.Head p n) limits known len early say h g j at =
-    markers_stand c w.now seat (step.Head p n) len h (keeps_head c w seat p n limits known len early say h) g.markers j at
+    markers_stand c w.now seat (step.Head p n) len h (keeps_head c w seat p n limits known len early say h) g.markers j
+    at
 markers_behind c w seat (step.Undirty q) limits known len early say h g j at =
     let u = undirties c w.now seat q early h in
-    absurd (true≢false (sym (subst (λ (y : MarkerState). is_attending y.presence ≡ true) (same_markers c w.now seat q j h) at) ∙ none_at w.now.seats.markers j u.none))
+    absurd (true≢false (sym
+    (subst (λ (y : MarkerState). is_attending y.presence ≡ true) (same_markers c w.now seat q j h) at)
+    ∙ none_at w.now.seats.markers j u.none))
 markers_behind c w seat x limits known len early say h g j at = rest x h refl refl at
   where
     rest : (x : Step) → Meets c w.now seat x → is_head x ≡ false → is_undirty x ≡ false
         → is_attending (marker_of (Behind c w.now seat x) j).presence ≡ true
         → MarkerStands c (Behind c w.now seat x) (marker_of (Behind c w.now seat x) j)
-    rest x h no_head no_clean at = markers_stand c w.now seat x len h (keeps_of c w.now seat x known len early h no_head no_clean) g.markers j at
+    rest x h no_head no_clean at =
+        markers_stand c w.now seat x len h (keeps_of c w.now seat x known len early h no_head no_clean) g.markers j at
 
-guard_behind : (c : Config) (w : World) (seat : Seat) (x : Step) → IsWithinLimits c → Known c w.now → AreOfPages c.pages w.now.words
+guard_behind : (c : Config) (w : World) (seat : Seat) (x : Step) → IsWithinLimits c → Known c w.now
+    → AreOfPages c.pages w.now.words
     → IsMarking w.now.words → OthersSay c w → Meets c w.now seat x → Guard c w.now → Guard c (Behind c w.now seat x)
 guard_behind c w seat x limits known len early say h g =
-    record { black = black_behind c w seat x limits known len early say h g; markers = markers_behind c w seat x limits known len early say h g }
+    record {
+      black = black_behind c w seat x limits known len early say h g;
+      markers = markers_behind c w seat x limits known len early say h g;
+    }
 
 -- `begin`: nothing is black, and no marker attends
 begun : (c : Config) (m : Moment) (seat : Seat) → Known c m → AreOfPages c.pages m.words → Meets c m seat step.Begin
@@ -129,15 +148,22 @@ begun c m seat known len h =
     white p = elim (cases_lt p c.pages) [
       | inl lt ↦
           let clean = all_below-at c.pages p (has_clean_page m.words) own lt in
-          let a = and_parts ((slice_index m.words.marks p == 0) && (slice_index m.words.blacks p == 0)) (slice_index m.words.freed p == slice_index m.words.snapshot p) clean in
-          eqb-true (slice_index m.words.blacks p) 0 (and_parts (slice_index m.words.marks p == 0) (slice_index m.words.blacks p == 0) a.0).1
+          let a = and_parts ((slice_index m.words.marks p == 0) && (slice_index m.words.blacks p == 0))
+          (slice_index m.words.freed p == slice_index m.words.snapshot p) clean in
+          eqb-true (slice_index m.words.blacks p) 0
+          (and_parts (slice_index m.words.marks p == 0) (slice_index m.words.blacks p == 0) a.0).1
       | inr past ↦ get_or_past m.words.blacks p 0 (omega (arith, len.blacks))
     ]
 
     quiet : (j : ℕ) → Meets c m seat step.Begin → is_attending (marker_of m j).presence ≡ true → ⊥
-    quiet j h at = let z = eqb-true (phase_of m.words) 0 h.phase in elim (known.orderly.attends j at) [ inl e ↦ absurd (omega arith) | inr e ↦ absurd (omega arith) ]
+    quiet j h at = let z =
+        eqb-true (phase_of m.words) 0 h.phase in elim (known.orderly.attends j at) [
+          | inl e ↦ absurd (omega arith)
+          | inr e ↦ absurd (omega arith)
+        ]
 
-    alone : (seat : Seat) → Meets c m seat step.Begin → (j : ℕ) → is_attending (marker_of (Behind c m seat step.Begin) j).presence ≡ true → ⊥
+    alone : (seat : Seat) → Meets c m seat step.Begin → (j : ℕ)
+        → is_attending (marker_of (Behind c m seat step.Begin) j).presence ≡ true → ⊥
     alone (Caller k) hh j at = quiet j h at
     alone Host hh j at = quiet j h at
     alone (Marker k) hh j at = let kind = hh.kind in cc
@@ -153,14 +179,18 @@ past c m n is out =
     late : (1 ≤ n) × (n ≤ 3) → ⊥
     late is = elim out [ inl z ↦ omega arith | inr le ↦ omega arith ]
 
-pub marks_behind : (c : Config) (w : World) (seat : Seat) (x : Step) → IsWithinLimits c → Known c w.now → AreOfPages c.pages w.now.words
+pub marks_behind : (c : Config) (w : World) (seat : Seat) (x : Step) → IsWithinLimits c → Known c w.now
+    → AreOfPages c.pages w.now.words
     → OthersSay c w → Meets c w.now seat x → MarksStand c w.now → MarksStand c (Behind c w.now seat x)
 marks_behind c w seat step.Begin limits known len say h g =
     let z = eqb-true (phase_of w.now.words) 0 h.phase in
     record { guarded = λ early. begun c w.now seat known len h; closed = λ three. absurd (omega arith) }
 marks_behind c w seat step.Want limits known len say h g =
     let one = eqb-true (phase_of w.now.words) 1 h.phase in
-    record { guarded = λ early. guard_behind c w seat step.Want limits known len (inl one) say h (g.guarded (inl one)); closed = λ three. absurd (omega arith) }
+    record {
+      guarded = λ early. guard_behind c w seat step.Want limits known len (inl one) say h (g.guarded (inl one));
+      closed = λ three. absurd (omega arith);
+    }
 marks_behind c w seat step.Close limits known len say h g =
     let two = eqb-true (phase_of w.now.words) 2 h.phase in
     record {
@@ -189,5 +219,6 @@ marks_behind c w seat x limits known len say h g = rest x h refl
               guard_behind c w seat x limits known len before say h (g.guarded before);
           closed = λ three.
               let before : phase_of w.now.words ≡ 3 = sym same ∙ three in
-              stays_closed c w.now.words (Behind c w.now seat x).words (leaves_closed c w.now seat x known before h) (g.closed before);
+              stays_closed c w.now.words (Behind c w.now seat x).words (leaves_closed c w.now seat x known before h)
+              (g.closed before);
         }

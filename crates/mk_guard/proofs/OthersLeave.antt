@@ -44,14 +44,16 @@ headers_joined c w u v a b =
     }
 
 -- one event while a cycle marks, whoever steps
-pub headers_after : (c : Config) (w : World) (seat : Seat) (x : Step) → IsWithinLimits c → Known c w.now → AreOfPages c.pages w.now.words → IsMarking w.now.words → OthersSay c w
+pub headers_after : (c : Config) (w : World) (seat : Seat) (x : Step) → IsWithinLimits c → Known c w.now
+    → AreOfPages c.pages w.now.words → IsMarking w.now.words → OthersSay c w
     → Meets c w.now seat x → HeadersAreLeft c w (WorldBehind c w seat x)
 headers_after c w seat (step.Head p n) limits known len early say h =
     let s = head_keeps c w.now seat p n len h (head_finds c w seat p n limits known early say h) in
     record {
       some = s.some;
       cells = λ q u cell is. (s.headers q).cell u cell is;
-      well = λ u is. well_is c (WorldBehind c w seat (step.Head p n)).now.words u (s.wells u (is_well c w.now.words u is));
+      well = λ u is. well_is c (WorldBehind c w seat (step.Head p n)).now.words u
+          (s.wells u (is_well c w.now.words u is));
     }
 headers_after c w seat x limits known len early say h = rest x h refl
   where
@@ -62,7 +64,8 @@ headers_after c w seat x limits known len early say h = rest x h refl
           some = λ p not_free z. not_free (sym (same p) ∙ z);
           cells = λ p u cell is. subst (λ n. cell_at c.pages n u ≡ Some cell) (sym (same p)) is;
           well = λ u is. well_is c (WorldBehind c w seat x).now.words u
-              (wells_from c w.now.words (WorldBehind c w seat x).now.words same (marks_kind c w.now seat x early h) u (is_well c w.now.words u is));
+              (wells_from c w.now.words (WorldBehind c w seat x).now.words same (marks_kind c w.now seat x early h) u
+              (is_well c w.now.words u is));
         }
 
 -- While a marker attends, a cycle marks.
@@ -71,7 +74,8 @@ attended c m (Marker k) known a = known.orderly.attends k a
 attended c m (Caller k) known a = absurd a
 attended c m Host known a = absurd a
 
-headers_from : (c : Config) (w : World) (s : Seat) (es : List Event) → IsWithinLimits c → Known c w.now → AreOfPages c.pages w.now.words → AreEnabledFrom c w es
+headers_from : (c : Config) (w : World) (s : Seat) (es : List Event) → IsWithinLimits c → Known c w.now
+    → AreOfPages c.pages w.now.words → AreEnabledFrom c w es
     → AreOfOthers (s ∷ []) es → OthersSayFrom c w es → Attends w.now s → HeadersAreLeft c w (left_from c w es)
 unfolding left_from AreEnabledFrom AreOfOthers OthersSayFrom
 headers_from c w s [] limits known len on others say a = headers_same c w
@@ -81,13 +85,15 @@ headers_from c w s (e ∷ es) limits known len on others say a =
     headers_joined c w (world_behind c w e) (left_from c (world_behind c w e) es)
     (headers_after c w e.seat e.step limits known len (attended c w.now s known a) say.0 h)
     (headers_from c (world_behind c w e) s es limits (known_behind c w.now e known on.0)
-    (accessed_lengths c.pages w.now.words (reached c w.now e) (access c w.now e) len) on.1 others.1 say.1 (still_attends c s w (world_behind c w e) own a))
+    (accessed_lengths c.pages w.now.words (reached c w.now e) (access c w.now e) len) on.1 others.1 say.1
+    (still_attends c s w (world_behind c w e) own a))
 
 pub others_leave_headers : OthersLeaveHeaders
 others_leave_headers c es more s limits on others say a =
     let parts = enabled_parts c (first_world c) es more on in
     subst (λ (v : World). HeadersAreLeft c (left c es) v) (sym (left_append c (first_world c) es more))
-    (headers_from c (left c es) s more limits (known_left c es limits parts.0) (histories_keep_lengths c es) parts.1 others say a)
+    (headers_from c (left c es) s more limits (known_left c es limits parts.0) (histories_keep_lengths c es) parts.1
+    others say a)
 
 -- The holder's pages stay as they are, and marks only grow.
 pub others_leave_wells : OthersLeaveWells
@@ -95,5 +101,6 @@ others_leave_wells c es more s limits on others holds u is =
     let turn = ((others_leave c es more s limits on others).turn holds).0 in
     let pages = ap (λ (x : Steady). x.pages) turn.steady in
     well_is c (left c (es ++ more)).now.words u
-    (wells_from c (left c es).now.words (left c (es ++ more)).now.words (λ p. ap (λ (ps : List Page). (slice_index_or ps p free_page).header) pages) turn.marks_grow u
+    (wells_from c (left c es).now.words (left c (es ++ more)).now.words
+    (λ p. ap (λ (ps : List Page). (slice_index_or ps p free_page).header) pages) turn.marks_grow u
     (is_well c (left c es).now.words u is))

@@ -14,7 +14,10 @@ use Rattle.mk_protocol.proofs.SameWords.{Behind}
 use Rattle.mk_guard.proofs.Changes.{Table, reg_table, tally_table}
 
 pub either_phase : (n a b : ℕ) → ((n == a) || (n == b)) ≡ true → (n ≡ a) ⊎ (n ≡ b)
-either_phase n a b h = elim (or_cases (n == a) (n == b) h) [ inl e ↦ inl (eqb-true n a e) | inr e ↦ inr (eqb-true n b e) ]
+either_phase n a b h = elim (or_cases (n == a) (n == b) h) [
+  | inl e ↦ inl (eqb-true n a e)
+  | inr e ↦ inr (eqb-true n b e)
+]
 
 -- six kinds change it
 
@@ -27,7 +30,8 @@ is_phase_step step.End = true
 is_phase_step step.Over = true
 is_phase_step _ = false
 
-pub phase_stays : (c : Config) (m : Moment) (seat : Seat) (x : Step) → is_phase_step x ≡ false → phase_of (Behind c m seat x).words ≡ phase_of m.words
+pub phase_stays : (c : Config) (m : Moment) (seat : Seat) (x : Step) → is_phase_step x ≡ false
+    → phase_of (Behind c m seat x).words ≡ phase_of m.words
 phase_stays c m seat step.Reg no_change = ap (λ (t : Table). t.phase % 8) (reg_table c m seat)
 phase_stays c m seat (step.Tally n v) no_change = ap (λ (t : Table). t.phase % 8) (tally_table m.words n v)
 phase_stays c m seat step.Begin no_change = cc

@@ -1,5 +1,6 @@
 -- What a marker's own step makes of its scan, its hand and the header that it has seen, in the words as they are.
-use Rattle.std.proofs.Common.{◌≡◌, ◌≢◌, ◌⊎◌, ℕ, ◌+◌, ◌*◌, ◌<◌, ◌≤◌, Bool, true, false, refl, sym, ◌∙◌, ap, subst, inl, inr, arith}
+use Rattle.std.proofs.Common.{◌≡◌, ◌≢◌, ◌⊎◌, ℕ, ◌+◌, ◌*◌, ◌<◌, ◌≤◌, Bool, true, false, refl, sym, ◌∙◌, ap, subst, inl}
+use Rattle.std.proofs.Common.{inr, arith}
 use Rattle.std.specs.Prelude.{Option, Some, None, slice_index, nat_lt, ◌==◌, not, if◌then◌else◌}
 use Rattle.std.proofs.lemmas.Option.{none-some, same_Some}
 use Rattle.std.proofs.lemmas.Bool.{cases_eq, cases_lt, true≢false, eqb-true, and_parts, ltb-true, lt-ltb}
@@ -32,7 +33,8 @@ outside_well c w v out y is = absurd (by (is_heap_address c.pages v) _ out is)
 
 -- the same scan, with another hand
 other_hand : (c : Config) (m : Moment) (hand new : Option ℕ) (x : Scan) → ScanStands c m hand x
-    → ((n : ℕ) → IsGuarded c m n ⊎ (hand ≡ Some (slice_index m.words.heap n)) → IsGuarded c m n ⊎ (new ≡ Some (slice_index m.words.heap n)))
+    → ((n : ℕ) → IsGuarded c m n ⊎ (hand ≡ Some (slice_index m.words.heap n))
+    → IsGuarded c m n ⊎ (new ≡ Some (slice_index m.words.heap n)))
     → ScanStands c m new x
 other_hand c m hand new x h over =
     record {
@@ -45,36 +47,50 @@ other_hand c m hand new x h over =
     }
 
 -- `mlook` at a header: the hand that it closes points into nothing
-look_passes : (c : Config) (m : Moment) (p : ℕ) (hand : Option ℕ) (n : ℕ) → IsGuarded c m n ⊎ (hand ≡ Some (slice_index m.words.heap n))
+look_passes : (c : Config) (m : Moment) (p : ℕ) (hand : Option ℕ) (n : ℕ)
+    → IsGuarded c m n ⊎ (hand ≡ Some (slice_index m.words.heap n))
     → IsGuarded c m n ⊎ (hand_behind_look c p (header_at m.words p) hand ≡ Some (slice_index m.words.heap n))
 look_passes c m p hand n (inl g) = inl g
 look_passes c m p None n (inr e) = absurd (none-some _ e)
-look_passes c m p (Some value) n (inr e) = by (p == page_at_address value) (cell_at c.pages (header_at m.words p) value) refl refl
+look_passes c m p (Some value) n (inr e) =
+    by (p == page_at_address value) (cell_at c.pages (header_at m.words p) value) refl refl
   where
-    by : (b : Bool) (x : Option Cell) → (p == page_at_address value) ≡ b → cell_at c.pages (header_at m.words p) value ≡ x
-        → IsGuarded c m n ⊎ (hand_behind_look c p (header_at m.words p) (Some value) ≡ Some (slice_index m.words.heap n))
+    by : (b : Bool) (x : Option Cell) → (p == page_at_address value) ≡ b
+        → cell_at c.pages (header_at m.words p) value ≡ x
+        → IsGuarded c m n ⊎ (hand_behind_look c p (header_at m.words p) (Some value)
+        ≡ Some (slice_index m.words.heap n))
     by true None at none =
         let there = ap (λ q. cell_at c.pages (header_at m.words q) value) (eqb-true p (page_at_address value) at) in
         let nothing : IsWell c m.words value = λ y is. absurd (none-some _ (sym none ∙ there ∙ is)) in
         inl (well_guarded c m n (subst (λ v. IsWell c m.words v) (same_Some _ _ e) nothing))
-    by false x at is = inr (let k : hand_behind_look c p (header_at m.words p) (Some value) ≡ Some value = rw at in k ∙ e)
-    by true (Some y) at is = inr (let k : hand_behind_look c p (header_at m.words p) (Some value) ≡ Some value = rw (at, is) in k ∙ e)
+    by false x at is = inr (let k : hand_behind_look c p (header_at m.words p) (Some value) ≡ Some value = rw at in k
+        ∙ e)
+    by true (Some y) at is =
+        inr (let k : hand_behind_look c p (header_at m.words p) (Some value) ≡ Some value = rw (at, is) in k ∙ e)
 
 pub look_stands : (c : Config) (m : Moment) (p : ℕ) (x : Marker) → MarkerStands c m x
-    → MarkerStands c m (record x { hand = hand_behind_look c p (header_at m.words p) x.hand; seen = Some (record { page = p; header = header_at m.words p }) })
+    → MarkerStands c m (record x {
+      hand = hand_behind_look c p (header_at m.words p) x.hand;
+      seen = Some (record { page = p; header = header_at m.words p });
+    })
 look_stands c m p x h =
     record {
-      scan = λ s is. other_hand c m x.hand (hand_behind_look c p (header_at m.words p) x.hand) s (h.scan s is) (look_passes c m p x.hand);
-      seen = λ s is. subst (λ (z : SeenHeader). GoesOn c.pages z.header (header_at m.words z.page)) (same_Some _ _ is) (goes_same c.pages (header_at m.words p));
+      scan = λ s is. other_hand c m x.hand (hand_behind_look c p (header_at m.words p) x.hand) s (h.scan s is)
+          (look_passes c m p x.hand);
+      seen = λ s is. subst (λ (z : SeenHeader). GoesOn c.pages z.header (header_at m.words z.page)) (same_Some _ _ is)
+          (goes_same c.pages (header_at m.words p));
     }
 
-pub unseen_stands : (c : Config) (m : Moment) (x : Marker) → MarkerStands c m x → MarkerStands c m (record x { seen = None })
+pub unseen_stands : (c : Config) (m : Moment) (x : Marker) → MarkerStands c m x
+    → MarkerStands c m (record x { seen = None })
 unseen_stands c m x h = record { scan = h.scan; seen = λ s is. absurd (none-some _ is) }
 
-pub unscanning_stands : (c : Config) (m : Moment) (x : Marker) → MarkerStands c m x → MarkerStands c m (record x { scan = None })
+pub unscanning_stands : (c : Config) (m : Moment) (x : Marker) → MarkerStands c m x
+    → MarkerStands c m (record x { scan = None })
 unscanning_stands c m x h = record { scan = λ s is. absurd (none-some _ is); seen = h.seen }
 
-pub idle_stands : (c : Config) (m : Moment) (at : Presence) → MarkerStands c m (record { presence = at; scan = None; hand = None; seen = None })
+pub idle_stands : (c : Config) (m : Moment) (at : Presence)
+    → MarkerStands c m (record { presence = at; scan = None; hand = None; seen = None })
 idle_stands c m at = record { scan = λ s is. absurd (none-some _ is); seen = λ s is. absurd (none-some _ is) }
 
 -- `claim`: the header that was seen goes on
@@ -98,12 +114,16 @@ begun_stands c m hand p k header lt is go =
     first = ap (λ n. 64 * p + k * n) (go.words some)
 
     ends : (b : Bool) → has_no_pointers (header_of header) ≡ b
-        → EndsItsCell m.words (record (scan_begun p k header) { end = 64 * p + k * words_under (header_of header) + (if b then 0 else words_under (header_of header)) })
+        → EndsItsCell m.words
+        (record (scan_begun p k header)
+        { end = 64 * p + k * words_under (header_of header) + (if b then 0 else words_under (header_of header)) })
     ends true e = inr (omega (arith, first), go.unscanned some e)
     ends false e =
-        inl (ap (λ n. n + words_under (header_of header)) (sym first) ∙ ap (λ n. 64 * p + k * words_under (header_in m.words p) + n) (sym (go.words some)))
+        inl (ap (λ n. n + words_under (header_of header)) (sym first)
+        ∙ ap (λ n. 64 * p + k * words_under (header_in m.words p) + n) (sym (go.words some)))
 
-pub claim_stands : (c : Config) (m : Moment) (x : Marker) (p k : ℕ) → has_seen_cell x.seen p k ≡ true → MarkerStands c m x
+pub claim_stands : (c : Config) (m : Moment) (x : Marker) (p k : ℕ) → has_seen_cell x.seen p k ≡ true
+    → MarkerStands c m x
     → MarkerStands c m (record x { scan = scan_claimed p k (slice_index m.words.marks p) x.seen })
 claim_stands c m x p k own h = record { scan = λ s is. by x.seen own h.seen s is; seen = h.seen }
   where
@@ -113,14 +133,16 @@ claim_stands c m x p k own h = record { scan = λ s is. by x.seen own h.seen s i
     by None own goes s is = cc
     by (Some seen) own goes s is = marked (has_bit (slice_index m.words.marks p) k) refl is
       where
-        marked : (b : Bool) → has_bit (slice_index m.words.marks p) k ≡ b → (if b then Some (scan_begun p k seen.header) else None) ≡ Some s
+        marked : (b : Bool) → has_bit (slice_index m.words.marks p) k ≡ b
+            → (if b then Some (scan_begun p k seen.header) else None) ≡ Some s
             → ScanStands c m x.hand s
         marked false e is = absurd (none-some _ is)
         marked true e is =
             let parts = and_parts (seen.page == p) (nat_lt k (cells_under (header_of seen.header))) own in
             subst (λ (z : Scan). ScanStands c m x.hand z) (same_Some _ _ is)
             (begun_stands c m x.hand p k seen.header (ltb-true k (cells_under (header_of seen.header)) parts.1) e
-            (subst (λ q. GoesOn c.pages seen.header (header_at m.words q)) (eqb-true seen.page p parts.0) (goes seen refl)))
+            (subst (λ q. GoesOn c.pages seen.header (header_at m.words q)) (eqb-true seen.page p parts.0)
+            (goes seen refl)))
 
 -- `mload`: the word loaded is the hand, or points into nothing
 pub load_stands : (c : Config) (m : Moment) (x : Marker) (next : ℕ) → has_next_word x.scan ≡ true → x.hand ≡ None
@@ -129,7 +151,8 @@ pub load_stands : (c : Config) (m : Moment) (x : Marker) (next : ℕ) → has_ne
 load_stands c m x next more none at h = record { scan = λ s is. by x.scan more at h.scan s is; seen = h.seen }
   where
     loaded : (n : ℕ) (b : Bool) → is_heap_address c.pages (slice_index m.words.heap n) ≡ b
-        → IsGuarded c m n ⊎ ((if b then Some (slice_index m.words.heap n) else None) ≡ Some (slice_index m.words.heap n))
+        → IsGuarded c m n ⊎ ((if b then Some (slice_index m.words.heap n) else None)
+        ≡ Some (slice_index m.words.heap n))
     loaded n true e = inr refl
     loaded n false e = inl (well_guarded c m n (outside_well c m.words (slice_index m.words.heap n) e))
 
@@ -148,7 +171,8 @@ load_stands c m x next more none at h = record { scan = λ s is. by x.scan more 
           end = st.end;
           passed = λ f n le l. elim (cases_eq n z.next) [
             | inl e ↦
-                subst (λ i. IsGuarded c m i ⊎ (open_hand c (slice_index m.words.heap next) ≡ Some (slice_index m.words.heap i))) (sym (e ∙ is))
+                subst (λ i. IsGuarded c m i
+                ⊎ (open_hand c (slice_index m.words.heap next) ≡ Some (slice_index m.words.heap i))) (sym (e ∙ is))
                 (loaded next (is_heap_address c.pages (slice_index m.words.heap next)) refl)
             | inr ne ↦ inl (old n (st.passed f n le (omega arith)))
           ];
@@ -163,7 +187,8 @@ load_stands c m x next more none at h = record { scan = λ s is. by x.scan more 
         (onward z (st z refl) (ltb-true z.next z.end more) (at z refl))
 
 -- `mmark`: what the hand points into is marked, so the hand is closed
-pub mark_stands : (c : Config) (m : Moment) (x : Marker) (value : ℕ) → x.hand ≡ Some value → IsWell c m.words value → MarkerStands c m x
+pub mark_stands : (c : Config) (m : Moment) (x : Marker) (value : ℕ) → x.hand ≡ Some value → IsWell c m.words value
+    → MarkerStands c m x
     → MarkerStands c m (record x { hand = None })
 mark_stands c m x value is well h =
     record { scan = λ s at. other_hand c m x.hand None s (h.scan s at) (λ n g. inl (by n g)); seen = h.seen }
@@ -173,16 +198,20 @@ mark_stands c m x value is well h =
     by n (inr e) = well_guarded c m n (subst (λ v. IsWell c m.words v) (same_Some _ _ (sym is ∙ e)) well)
 
 -- the cell that was seen is the one of now
-pub seen_well : (c : Config) (m : Moment) (x : Marker) (cell : Cell) (value : ℕ) → x.hand ≡ Some value → cell_seen c x.seen x.hand ≡ Some cell
+pub seen_well : (c : Config) (m : Moment) (x : Marker) (cell : Cell) (value : ℕ) → x.hand ≡ Some value
+    → cell_seen c x.seen x.hand ≡ Some cell
     → MarkerStands c m x → is_marked m.words cell ≡ true → IsWell c m.words value
-seen_well c m x cell value is at h marked = by x.seen (subst (λ (u : Option ℕ). cell_seen c x.seen u ≡ Some cell) is at) h.seen
+seen_well c m x cell value is at h marked =
+    by x.seen (subst (λ (u : Option ℕ). cell_seen c x.seen u ≡ Some cell) is at) h.seen
   where
     by : (seen : Option SeenHeader) → cell_seen c seen (Some value) ≡ Some cell
-        → ((q : SeenHeader) → seen ≡ Some q → GoesOn c.pages q.header (header_at m.words q.page)) → IsWell c m.words value
+        → ((q : SeenHeader) → seen ≡ Some q → GoesOn c.pages q.header (header_at m.words q.page))
+        → IsWell c m.words value
     by None at goes = absurd (none-some _ at)
     by (Some seen) at goes = here (seen.page == page_at_address value) refl at
       where
-        here : (b : Bool) → (seen.page == page_at_address value) ≡ b → (if b then cell_at c.pages seen.header value else None) ≡ Some cell
+        here : (b : Bool) → (seen.page == page_at_address value) ≡ b
+            → (if b then cell_at c.pages seen.header value else None) ≡ Some cell
             → IsWell c m.words value
         here false e at = absurd (none-some _ at)
         here true e at =
@@ -195,19 +224,24 @@ seen_well c m x cell value is at h marked = by x.seen (subst (λ (u : Option ℕ
 -- `mblack`: the scan is at its end, and no hand is open
 pub scanned_guarded : (c : Config) (m : Moment) (x : Scan) → ScanStands c m None x → is_scanned (Some x) ≡ true
     → has_no_pointers (header_in m.words x.page) ≡ false
-    → (i : ℕ) → i < words_under (header_in m.words x.page) → IsGuarded c m (64 * x.page + x.index * words_under (header_in m.words x.page) + i)
+    → (i : ℕ) → i < words_under (header_in m.words x.page)
+    → IsGuarded c m (64 * x.page + x.index * words_under (header_in m.words x.page) + i)
 scanned_guarded c m x st done f i lt = elim st.end [
   | inr e ↦ absurd (true≢false (sym e.1 ∙ f))
   | inl e ↦
       let le = past (nat_lt x.next x.end) refl done in
       let next = st.next in
       by (64 * x.page + x.index * words_under (header_in m.words x.page) + i)
-      (st.passed f (64 * x.page + x.index * words_under (header_in m.words x.page) + i) (omega arith) (omega (arith, le, next, e, lt)))
+      (st.passed f (64 * x.page + x.index * words_under (header_in m.words x.page) + i) (omega arith)
+      (omega (arith, le, next, e, lt)))
 ]
   where
     past : (b : Bool) → nat_lt x.next x.end ≡ b → not b ≡ true → x.end ≤ x.next
     past true e h = cc
-    past false e h = elim (cases_lt x.next x.end) [ inl lt ↦ absurd (true≢false (sym (lt-ltb x.next x.end lt) ∙ e)) | inr le ↦ le ]
+    past false e h = elim (cases_lt x.next x.end) [
+      | inl lt ↦ absurd (true≢false (sym (lt-ltb x.next x.end lt) ∙ e))
+      | inr le ↦ le
+    ]
 
     by : (n : ℕ) → IsGuarded c m n ⊎ (None ≡ Some (slice_index m.words.heap n)) → IsGuarded c m n
     by n (inl g) = g

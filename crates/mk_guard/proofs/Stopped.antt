@@ -1,5 +1,6 @@
 -- From `close` to `release` the marks stay closed: nothing changes but words that are wiped.
-use Rattle.std.proofs.Common.{◌≡◌, ◌⊎◌, ℕ, ◌+◌, ◌*◌, ◌<◌, true, false, List, length, refl, sym, ◌∙◌, ap, subst, inl, inr, arith}
+use Rattle.std.proofs.Common.{◌≡◌, ◌⊎◌, ℕ, ◌+◌, ◌*◌, ◌<◌, true, false, List, length, refl, sym, ◌∙◌, ap, subst, inl}
+use Rattle.std.proofs.Common.{inr, arith}
 use Rattle.std.specs.Prelude.{slice_index, slice_set, ◌==◌, ◌||◌}
 use Rattle.std.proofs.lemmas.Bool.{cases_Bool, cases_eq, cases_lt, true≢false, ltb-true, eqb-true, or_cases}
 use Rattle.std.proofs.lemmas.List.{get_or-set_same, get_or-set_other, set_past}
@@ -52,21 +53,27 @@ pub record LeavesClosed (w v : Words) : Type 0 where
 pub stays_closed : (c : Config) (w v : Words) → LeavesClosed w v → CellsAreClosed c w → CellsAreClosed c v
 stays_closed c w v same h =
     record {
-      registers = λ i. subst (λ (rs : List ℕ). points_well c.pages v (slice_index rs i) ≡ true) (sym same.registers) (over (slice_index w.registers i) (h.registers i));
-      globals = λ g. subst (λ (gs : List ℕ). points_well c.pages v (slice_index gs g) ≡ true) (sym same.globals) (over (slice_index w.globals g) (h.globals g));
+      registers = λ i. subst (λ (rs : List ℕ). points_well c.pages v (slice_index rs i) ≡ true) (sym same.registers)
+          (over (slice_index w.registers i) (h.registers i));
+      globals = λ g. subst (λ (gs : List ℕ). points_well c.pages v (slice_index gs g) ≡ true) (sym same.globals)
+          (over (slice_index w.globals g) (h.globals g));
       words = λ cell i lt is scanned li.
-          let first : first_word v cell ≡ first_word w cell = ap (λ a. 64 * cell.page + cell.index * words_under (header_of a)) (same.headers cell.page) in
+          let first : first_word v cell ≡ first_word w cell =
+          ap (λ a. 64 * cell.page + cell.index * words_under (header_of a)) (same.headers cell.page) in
           subst (λ n. word_points_well c.pages v (n + i) ≡ true) (sym first)
           (word (first_word w cell + i)
           (h.words cell i (subst (λ a. cell.index < cells_under (header_of a)) (same.headers cell.page) lt)
           (subst (λ (ms : List ℕ). has_bit (slice_index ms cell.page) cell.index ≡ true) same.marks is)
-          (subst (λ a. has_no_pointers (header_of a) ≡ false) (same.headers cell.page) scanned) (subst (λ a. i < words_under (header_of a)) (same.headers cell.page) li)));
+          (subst (λ a. has_no_pointers (header_of a) ≡ false) (same.headers cell.page) scanned)
+          (subst (λ a. i < words_under (header_of a)) (same.headers cell.page) li)));
     }
   where
     over : (value : ℕ) → points_well c.pages w value ≡ true → points_well c.pages v value ≡ true
     over value is =
         well_is c v value
-        (wells_from c w v same.headers (λ p k bit. subst (λ (ms : List ℕ). has_bit (slice_index ms p) k ≡ true) (sym same.marks) bit) value (is_well c w value is))
+        (wells_from c w v same.headers
+        (λ p k bit. subst (λ (ms : List ℕ). has_bit (slice_index ms p) k ≡ true) (sym same.marks) bit) value
+        (is_well c w value is))
 
     word : (n : ℕ) → word_points_well c.pages w n ≡ true → word_points_well c.pages v n ≡ true
     word n is = elim (same.heap n) [
@@ -76,10 +83,12 @@ stays_closed c w v same h =
 
 -- At this phase no caller is in a call outside the turn.
 
-no_call : (c : Config) (m : Moment) (k : ℕ) → Known c m → phase_of m.words ≡ 3 → k < c.callers → is_call_stage (flight_of m (Caller k)).stage ≡ true
+no_call : (c : Config) (m : Moment) (k : ℕ) → Known c m → phase_of m.words ≡ 3 → k < c.callers
+    → is_call_stage (flight_of m (Caller k)).stage ≡ true
     → ⊥
 no_call c m k known three lt at =
-    let stands = calls_stand (flight_of m (Caller k)).stage (flight_of m (Caller k)).op at (not_astray c m known.orderly k lt) in
+    let stands = calls_stand (flight_of m (Caller k)).stage (flight_of m (Caller k)).op at
+    (not_astray c m known.orderly k lt) in
     let s = shows_at c (view_of m) k InCall known.orderly lt stands in
     let one = s.0 in
     let two = known.orderly.stopped three k lt s.1 in
@@ -96,13 +105,17 @@ of_callers step.Setg own = refl
 of_callers step.Dirty own = refl
 of_callers _ own = cc
 
-no_step : (c : Config) (m : Moment) (seat : Seat) (x : Step) → Known c m → phase_of m.words ≡ 3 → Meets c m seat x → has_stage_of_its_own x ≡ true
+no_step : (c : Config) (m : Moment) (seat : Seat) (x : Step) → Known c m → phase_of m.words ≡ 3 → Meets c m seat x
+    → has_stage_of_its_own x ≡ true
     → is_call_stage (stage_of x) ≡ true → ⊥
 no_step c m (Caller k) x known three h own at =
     no_call c m k known three (ltb-true k c.callers h.seat)
-    (subst (λ (s : Stage). is_call_stage s ≡ true) (sym (at_its_stage (flight_of m (Caller k)).stage (flight_of m (Caller k)).op x own h.order)) at)
-no_step c m (Marker k) x known three h own at = true≢false (sym (ap (λ (g : Group). is_open_to (Marker k) g) (sym (of_callers x own)) ∙ h.kind))
-no_step c m Host x known three h own at = true≢false (sym (ap (λ (g : Group). is_open_to Host g) (sym (of_callers x own)) ∙ h.kind))
+    (subst (λ (s : Stage). is_call_stage s ≡ true)
+    (sym (at_its_stage (flight_of m (Caller k)).stage (flight_of m (Caller k)).op x own h.order)) at)
+no_step c m (Marker k) x known three h own at =
+    true≢false (sym (ap (λ (g : Group). is_open_to (Marker k) g) (sym (of_callers x own)) ∙ h.kind))
+no_step c m Host x known three h own at =
+    true≢false (sym (ap (λ (g : Group). is_open_to Host g) (sym (of_callers x own)) ∙ h.kind))
 
 -- `reg` only loads
 load_alone : (w : Words) (k r : ℕ) (f : Flight) (s : Stage) → is_reg_stage s ≡ true → is_call_stage s ≡ false
@@ -119,21 +132,25 @@ reg_still : (c : Config) (m : Moment) (seat : Seat) → Known c m → phase_of m
 reg_still c m (Caller k) known three h = elim (cases_Bool (is_call_stage (flight_of m (Caller k)).stage)) [
   | inl at ↦ absurd (no_call c m k known three (ltb-true k c.callers h.seat) at)
   | inr out ↦
-      load_alone m.words k (register_met (flight_of m (Caller k)) (flight_of m (Caller k)).stage) (flight_of m (Caller k)) (flight_of m (Caller k)).stage
+      load_alone m.words k (register_met (flight_of m (Caller k)) (flight_of m (Caller k)).stage)
+      (flight_of m (Caller k)) (flight_of m (Caller k)).stage
       (at_reg (flight_of m (Caller k)).stage (flight_of m (Caller k)).op h.order) out
 ]
 reg_still c m (Marker k) known three h = let kind = h.kind in cc
 reg_still c m Host known three h = let kind = h.kind in cc
 
-tally_registers : (w : Words) (n : Tally) (v : ℕ) → (accessed w (Named (tally_word n)) (Store v)).registers ≡ w.registers
+tally_registers : (w : Words) (n : Tally) (v : ℕ)
+    → (accessed w (Named (tally_word n)) (Store v)).registers ≡ w.registers
 tally_registers w tally.Held v = refl
 tally_registers w _ v = refl
 
-registers_still : (c : Config) (m : Moment) (seat : Seat) (x : Step) → Known c m → phase_of m.words ≡ 3 → Meets c m seat x
+registers_still : (c : Config) (m : Moment) (seat : Seat) (x : Step) → Known c m → phase_of m.words ≡ 3
+    → Meets c m seat x
     → (Behind c m seat x).words.registers ≡ m.words.registers
 registers_still c m seat step.Reg known three h = reg_still c m seat known three h
 registers_still c m seat (step.Tally n v) known three h = tally_registers m.words n v
-registers_still c m seat step.Grant known three h = elim (either_phase (phase_of m.words) 0 1 h.phase) [ inl e ↦ absurd (omega arith) | inr e ↦ absurd (omega arith) ]
+registers_still c m seat step.Grant known three h =
+    elim (either_phase (phase_of m.words) 0 1 h.phase) [ inl e ↦ absurd (omega arith) | inr e ↦ absurd (omega arith) ]
 registers_still c m seat _ known three h = refl
 
 globals_still : (c : Config) (m : Moment) (seat : Seat) (x : Step) → Known c m → phase_of m.words ≡ 3 → Meets c m seat x
@@ -143,10 +160,13 @@ globals_still c m seat (step.Tally n v) known three h = ap (λ (t : Table). t.gl
 globals_still c m seat step.Setg known three h = absurd (no_step c m seat step.Setg known three h refl refl)
 globals_still c m seat _ known three h = refl
 
-heap_still : (c : Config) (m : Moment) (seat : Seat) (x : Step) → Known c m → phase_of m.words ≡ 3 → Meets c m seat x → (n : ℕ)
-    → (slice_index (Behind c m seat x).words.heap n ≡ slice_index m.words.heap n) ⊎ (slice_index (Behind c m seat x).words.heap n ≡ 0)
+heap_still : (c : Config) (m : Moment) (seat : Seat) (x : Step) → Known c m → phase_of m.words ≡ 3 → Meets c m seat x
+    → (n : ℕ)
+    → (slice_index (Behind c m seat x).words.heap n ≡ slice_index m.words.heap n)
+    ⊎ (slice_index (Behind c m seat x).words.heap n ≡ 0)
 heap_still c m seat step.Reg known three h n = inl (ap (λ (t : Table). slice_index t.heap n) (reg_table c m seat))
-heap_still c m seat (step.Tally t v) known three h n = inl (ap (λ (t : Table). slice_index t.heap n) (tally_table m.words t v))
+heap_still c m seat (step.Tally t v) known three h n =
+    inl (ap (λ (t : Table). slice_index t.heap n) (tally_table m.words t v))
 heap_still c m seat step.Write known three h n = absurd (no_step c m seat step.Write known three h refl refl)
 heap_still c m seat step.Cas known three h n = absurd (no_step c m seat step.Cas known three h refl refl)
 heap_still c m seat (step.Wipe i) known three h n = elim (cases_eq n i) [
@@ -161,7 +181,8 @@ heap_still c m seat _ known three h n = inl refl
 -- marks: no marker attends
 no_mark : (c : Config) (m : Moment) (seat : Seat) → Known c m → phase_of m.words ≡ 3 → Meets c m seat step.Mmark → ⊥
 no_mark c m (Marker k) known three h =
-    elim (known.orderly.attends k (work_attends c (marker_of m k) step.Mmark (known.orderly.idle k) h.marker refl)) [ inl e ↦ absurd (omega arith) | inr e ↦ absurd (omega arith) ]
+    elim (known.orderly.attends k (work_attends c (marker_of m k) step.Mmark (known.orderly.idle k) h.marker refl))
+    [ inl e ↦ absurd (omega arith) | inr e ↦ absurd (omega arith) ]
 no_mark c m (Caller k) known three h = true≢false (sym h.kind)
 no_mark c m Host known three h = true≢false (sym h.kind)
 
@@ -169,8 +190,10 @@ marks_still : (c : Config) (m : Moment) (seat : Seat) (x : Step) → Known c m �
     → (Behind c m seat x).words.marks ≡ m.words.marks
 marks_still c m seat step.Reg known three h = ap (λ (t : Table). t.marks) (reg_table c m seat)
 marks_still c m seat (step.Tally n v) known three h = ap (λ (t : Table). t.marks) (tally_table m.words n v)
-marks_still c m seat (step.Clear p) known three h = let z = eqb-true (phase_of m.words) 0 h.phase in absurd (omega arith)
-marks_still c m seat (step.Mark p v) known three h = elim (either_phase (phase_of m.words) 1 2 h.phase) [ inl e ↦ absurd (omega arith) | inr e ↦ absurd (omega arith) ]
+marks_still c m seat (step.Clear p) known three h = let z =
+    eqb-true (phase_of m.words) 0 h.phase in absurd (omega arith)
+marks_still c m seat (step.Mark p v) known three h =
+    elim (either_phase (phase_of m.words) 1 2 h.phase) [ inl e ↦ absurd (omega arith) | inr e ↦ absurd (omega arith) ]
 marks_still c m seat step.Mmark known three h = absurd (no_mark c m seat known three h)
 marks_still c m seat _ known three h = refl
 
@@ -186,10 +209,12 @@ headers_still : (c : Config) (m : Moment) (seat : Seat) (x : Step) → phase_of 
 headers_still c m seat (step.Head q n) three h p = absurd (no_head (phase_of m.words) three h.phase)
 headers_still c m seat x three h p = rest x h refl
   where
-    rest : (x : Step) → Meets c m seat x → is_head x ≡ false → header_at (Behind c m seat x).words p ≡ header_at m.words p
+    rest : (x : Step) → Meets c m seat x → is_head x ≡ false
+        → header_at (Behind c m seat x).words p ≡ header_at m.words p
     rest x h none = headers_kind c m seat x none p
 
-pub leaves_closed : (c : Config) (m : Moment) (seat : Seat) (x : Step) → Known c m → phase_of m.words ≡ 3 → Meets c m seat x
+pub leaves_closed : (c : Config) (m : Moment) (seat : Seat) (x : Step) → Known c m → phase_of m.words ≡ 3
+    → Meets c m seat x
     → LeavesClosed m.words (Behind c m seat x).words
 leaves_closed c m seat x known three h =
     record {

@@ -12,7 +12,8 @@ use Rattle.mk_core.specs.Frames.{OnlyGrow}
 use Rattle.mk_core.specs.ClosedMarks.{IsGuarded, PointsWell}
 
 abbrev pub IsWell : Config → Words → ℕ → Type 0
-IsWell c w value = (x : Cell) → cell_at c.pages (header_at w (page_at_address value)) value ≡ Some x → is_marked w x ≡ true
+IsWell c w value = (x : Cell) → cell_at c.pages (header_at w (page_at_address value)) value ≡ Some x
+    → is_marked w x ≡ true
 
 pub well_is : (c : Config) (w : Words) (value : ℕ) → IsWell c w value → points_well c.pages w value ≡ true
 unfolding pointed_cell
@@ -34,7 +35,8 @@ pub bare_word_well : (c : Config) (w : Words) (value : ℕ) → value ≡ 0 → 
 bare_word_well c w value z = subst (λ v. IsWell c w v) (sym z) (zero_well c w)
 
 -- What points well goes on doing so where headers are the same and no mark is cleared.
-pub wells_from : (c : Config) (w v : Words) → ((p : ℕ) → header_at v p ≡ header_at w p) → OnlyGrow w.marks v.marks → (value : ℕ) → IsWell c w value → IsWell c v value
+pub wells_from : (c : Config) (w v : Words) → ((p : ℕ) → header_at v p ≡ header_at w p) → OnlyGrow w.marks v.marks
+    → (value : ℕ) → IsWell c w value → IsWell c v value
 wells_from c w v same grow value h x is =
     grow x.page x.index (h x (subst (λ n. cell_at c.pages n value ≡ Some x) (same (page_at_address value)) is))
 

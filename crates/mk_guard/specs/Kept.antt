@@ -21,11 +21,13 @@ use Rattle.mk_core.specs.ClosedMarks.{MarksAreClosed, MarkingIsGuarded}
 use Rattle.mk_core.specs.History.{World, world_behind, first_world, left, AreEnabled, IsEnabledBehind}
 use Rattle.mk_guard.specs.Guard.{IsMarking, MarksStand}
 
--- The place of a New that isn't decided: each page has its header or none, and while the first has none, all words are 0.
+-- The place of a New that isn't decided: each page has its header or none, and while the first has none, all words are
+-- 0.
 pub record PlaceIsBare (w : Words) (o : Object) (place : Place) : Type 0 where
   pub headers : (distance : ℕ) → distance < pages_made o
       → (header_at w (place.page + distance) ≡ 0) ⊎ (header_at w (place.page + distance) ≡ header_made o distance)
-  pub words : header_at w place.page ≡ 0 → (i : ℕ) → i < 64 * pages_made o → slice_index w.heap (64 * place.page + i) ≡ 0
+  pub words : header_at w place.page ≡ 0 → (i : ℕ) → i < 64 * pages_made o
+      → slice_index w.heap (64 * place.page + i) ≡ 0
 
 -- The pages of a run that a call frees have the headers of a large object, each mapped or unmapped.
 pub record RunHasObject (w : Words) (run : RunPages) : Type 0 where
@@ -50,12 +52,15 @@ pub record StandsMapped (c : Config) (w : Words) (a : PlacedAllocation) : Type 0
 -- What the layout and the zero words say of one world.
 pub record OthersSay (c : Config) (w : World) : Type 0 where
   -- while a cycle marks
-  pub place : IsMarking w.now.words → (seat : Seat) (place : Place) → place_now c w.now (flight_of w.now seat) ≡ Some place
+  pub place : IsMarking w.now.words → (seat : Seat) (place : Place)
+      → place_now c w.now (flight_of w.now seat) ≡ Some place
       → PlaceIsBare w.now.words (object_made c (flight_of w.now seat).op) place
-  pub freed : IsMarking w.now.words → (run : RunPages) → w.now.seats.holding.freed ≡ Some run → RunHasObject w.now.words run
+  pub freed : IsMarking w.now.words → (run : RunPages) → w.now.seats.holding.freed ≡ Some run
+      → RunHasObject w.now.words run
   pub later : IsMarking w.now.words → LaterPagesAreKnown w.now.words
   -- A mapped allocation stands on its pages, and they show it.
-  pub mapped : (i : ℕ) → is_mapped c (placed_at w.allocations i) ≡ true → StandsMapped c w.now.words (placed_at w.allocations i)
+  pub mapped : (i : ℕ) → is_mapped c (placed_at w.allocations i) ≡ true
+      → StandsMapped c w.now.words (placed_at w.allocations i)
 
 -- They say so before each event, from this world on.
 unfoldable pub OthersSayFrom : Config → World → List Event → Type 0
@@ -82,13 +87,15 @@ MarksStandBehindLists =
 abbrev pub CloseFindsMarksClosed : Type 0
 CloseFindsMarksClosed =
     (c : Config) (es : List Event) (seat : Seat) → IsWithinLimits c → AreEnabled c es
-    → IsEnabledBehind c es (record { seat = seat; step = step.Close }) → OthersSay c (left c es) → MarksStand c (left c es).now
+    → IsEnabledBehind c es (record { seat = seat; step = step.Close }) → OthersSay c (left c es)
+    → MarksStand c (left c es).now
     → MarksAreClosed c (left c es)
 
 -- They stay so up to the `release`.
 abbrev pub StoppedMarksAreClosed : Type 0
 StoppedMarksAreClosed =
-    (c : Config) (w : World) → IsWithinLimits c → OthersSay c w → MarksStand c w.now → phase_of w.now.words ≡ 3 → MarksAreClosed c w
+    (c : Config) (w : World) → IsWithinLimits c → OthersSay c w → MarksStand c w.now → phase_of w.now.words ≡ 3
+    → MarksAreClosed c w
 
 -- While the cycle marks, each word of a black cell is guarded.
 abbrev pub MarkingGuards : Type 0

@@ -14,12 +14,15 @@ use Rattle.mk_guard.specs.Kept.{OthersSayFrom}
 -- A marker that attends finds no header taken back, each cell that a header showed, and what points well still does.
 abbrev pub OthersLeaveHeaders : Type 0
 OthersLeaveHeaders =
-    (c : Config) (es more : List Event) (s : Seat) → IsWithinLimits c → AreEnabled c (es ++ more) → AreOfOthers (s ∷ []) more
+    (c : Config) (es more : List Event) (s : Seat) → IsWithinLimits c → AreEnabled c (es ++ more)
+    → AreOfOthers (s ∷ []) more
     → OthersSayFrom c (left c es) more → Attends (left c es).now s → HeadersAreLeft c (left c es) (left c (es ++ more))
 
 -- What points well still does for the turn's holder, whatever the layout says.
 abbrev pub OthersLeaveWells : Type 0
 OthersLeaveWells =
-    (c : Config) (es more : List Event) (s : Seat) → IsWithinLimits c → AreEnabled c (es ++ more) → AreOfOthers (s ∷ []) more
+    (c : Config) (es more : List Event) (s : Seat) → IsWithinLimits c → AreEnabled c (es ++ more)
+    → AreOfOthers (s ∷ []) more
     → Holds c (left c es).now s
-    → (u : ℕ) → points_well c.pages (left c es).now.words u ≡ true → points_well c.pages (left c (es ++ more)).now.words u ≡ true
+    → (u : ℕ) → points_well c.pages (left c es).now.words u ≡ true
+    → points_well c.pages (left c (es ++ more)).now.words u ≡ true

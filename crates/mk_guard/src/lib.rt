@@ -1,7 +1,8 @@
 //! What stands while a cycle marks, and from its `close` to its `release`: facts alone, with no code.
 #![tactic(auto)]
 
-ghost use Rattle.mk_guard.specs.Kept.{OthersSayAtFirst, EventsKeepTheMarks, MarksStandBehindLists, CloseFindsMarksClosed, StoppedMarksAreClosed, MarkingGuards};
+ghost use Rattle.mk_guard.specs.Kept.{OthersSayAtFirst, EventsKeepTheMarks, MarksStandBehindLists};
+ghost use Rattle.mk_guard.specs.Kept.{CloseFindsMarksClosed, StoppedMarksAreClosed, MarkingGuards};
 ghost use Rattle.mk_guard.specs.Left.{OthersLeaveHeaders, OthersLeaveWells};
 
 /// One event keeps what stands while a cycle marks and stops, where the layout says what is asked of it.

@@ -1,5 +1,6 @@
 -- What the client's calls ask.
-use Rattle.std.proofs.Common.{◌≡◌, ℕ, ◌+◌, ◌*◌, ◌<◌, ◌≤◌, Bool, true, false, List, [], ◌∷◌, ◌++◌, length, refl, sym, ◌∙◌, ap, subst, arith}
+use Rattle.std.proofs.Common.{◌≡◌, ℕ, ◌+◌, ◌*◌, ◌<◌, ◌≤◌, Bool, true, false, List, [], ◌∷◌, ◌++◌, length, refl, sym}
+use Rattle.std.proofs.Common.{◌∙◌, ap, subst, arith}
 use Rattle.std.specs.Prelude.{◌||◌}
 use Rattle.std.proofs.lemmas.List.{length-replicate}
 use Rattle.std.proofs.lemmas.List.Folds.{list_any-append}
@@ -35,7 +36,8 @@ may_clear p d of small =
     let exists = of.exists in
     record { of_a_caller = omega arith; in_range = small; access = tt; store = tt }
 
-pub pass_of_next : (h : HostState) (x : CallerState) (w : WordsState) → x ≡ at_home (pass_for h (Caller h.callers)) → h.pass.table ≡ w
+pub pass_of_next : (h : HostState) (x : CallerState) (w : WordsState) → x ≡ at_home (pass_for h (Caller h.callers))
+    → h.pass.table ≡ w
     → h.callers < w.config.callers → IsPassOf x.pass.table x.pass
 pass_of_next h x w is table lt =
     subst (λ (y : CallerState). IsPassOf y.pass.table y.pass) (sym is)
@@ -48,7 +50,8 @@ pass_of_next h x w is table lt =
     })
 
 -- the host behind one caller
-pub behind_one : (h g : HostState) (w : WordsState) → h ≡ first_host w → g ≡ with_caller_made h → (g.callers ≡ 1) × (g.pass.table ≡ w)
+pub behind_one : (h g : HostState) (w : WordsState) → h ≡ first_host w → g ≡ with_caller_made h
+    → (g.callers ≡ 1) × (g.pass.table ≡ w)
 behind_one h g w first is = (
   ap (λ (x : HostState). x.callers) is ∙ ap (λ (x : HostState). x.callers + 1) first,
   ap (λ (x : HostState). x.pass.table) is ∙ ap (λ (x : HostState). x.pass.table) first,

@@ -44,7 +44,8 @@ rested_turn : (c : Config) (m : Moment) → Protocol c m → host_has_turn c m �
     → ((s : Seat) → seat_exists c s ≡ true → Rests m s) → m.words.turn ≡ 0
 rested_turn c m protocol no_turn rests = by (cases_eq m.words.turn 0) (cases_eq m.words.turn (1 + c.callers))
   where
-    by : (m.words.turn ≡ 0) ⊎ (m.words.turn ≢ 0) → (m.words.turn ≡ 1 + c.callers) ⊎ (m.words.turn ≢ 1 + c.callers) → m.words.turn ≡ 0
+    by : (m.words.turn ≡ 0) ⊎ (m.words.turn ≢ 0) → (m.words.turn ≡ 1 + c.callers) ⊎ (m.words.turn ≢ 1 + c.callers)
+        → m.words.turn ≡ 0
     by (inl zero) host = zero
     by (inr some) (inl host) = absurd (true≢false (sym (eq-eqb m.words.turn (1 + c.callers) host) ∙ no_turn))
     by (inr some) (inr other) =
@@ -67,7 +68,8 @@ counts_told c es f h tidy no_turn rests told =
     record {
       held = told.held ∙ tells.0.held;
       fresh = told.fresh ∙ tells.0.fresh;
-      quarantined = told.quarantined ∙ freed_cells_are_quarantined c es h (λ four. protocol.cycle (omega arith) (omega arith) free);
+      quarantined = told.quarantined
+          ∙ freed_cells_are_quarantined c es h (λ four. protocol.cycle (omega arith) (omega arith) free);
       released = told.released ∙ is_tidy.released;
       cycles = told.cycles ∙ is_tidy.cycles;
       full = told.full ∙ is_tidy.full;
@@ -83,12 +85,14 @@ module _ (h : HostState) (w : WordsState) (is : IsHost h) (joined : AllAreJoined
     all_rest : (s : Seat) → seat_exists h.pass.table.config s ≡ true → Rests (now_of h.pass) s
     all_rest s exists = is.rests s (all_home h is own joined s exists)
 
-    module _ (f : Final) (history : IsHistory h.pass.table.config h.pass.seen) (tidy : IsTidy h.pass.table.config h.pass.seen)
+    module _ (f : Final) (history : IsHistory h.pass.table.config h.pass.seen)
+        (tidy : IsTidy h.pass.table.config h.pass.seen)
         (seen : final.history_of f ≡ h.pass.seen) (config : final.config_of f ≡ w.config)
       where
         pub ends_whole : IsWhole (final.config_of f) (final.history_of f)
         ends_whole =
-            subst (λ (c : Config). IsWhole c (final.history_of f)) (ap (λ (x : WordsState). x.config) table ∙ sym config)
+            subst (λ (c : Config). IsWhole c (final.history_of f)) (ap (λ (x : WordsState). x.config) table
+            ∙ sym config)
             (subst (λ (es : List Event). IsWhole h.pass.table.config es) (sym seen)
             (record { history = history; tidy = tidy; rests = all_rest }))
 
@@ -97,7 +101,8 @@ module _ (h : HostState) (w : WordsState) (is : IsHost h) (joined : AllAreJoined
             (report_of f)
         ends_counted told =
             let r : Report = report_of f in
-            subst (λ (c : Config). HasCounts c (final.history_of f) r) (ap (λ (x : WordsState). x.config) table ∙ sym config)
+            subst (λ (c : Config). HasCounts c (final.history_of f) r) (ap (λ (x : WordsState). x.config) table
+            ∙ sym config)
             (subst (λ (es : List Event). HasCounts h.pass.table.config es r) (sym seen)
             (counts_told h.pass.table.config h.pass.seen f history tidy is.no_turn all_rest
             (subst (λ (x : WordsState). HasTallies (now_of h.pass).words x.config.pages f) (sym table) told)))

@@ -1,5 +1,6 @@
 -- What always holds of the host holds of the first, and is kept where a caller or a marker is made or joined.
-use Rattle.std.proofs.Common.{◌≡◌, ℕ, ◌+◌, ◌<◌, ◌≤◌, List, [], ◌∷◌, get_or, replicate, refl, sym, ◌∙◌, ap, subst, ⊎_elim, arith}
+use Rattle.std.proofs.Common.{◌≡◌, ℕ, ◌+◌, ◌<◌, ◌≤◌, List, [], ◌∷◌, get_or, replicate, refl, sym, ◌∙◌, ap, subst}
+use Rattle.std.proofs.Common.{⊎_elim, arith}
 use Rattle.std.specs.Prelude.{Option, Some}
 use Rattle.std.proofs.lemmas.Bool.{ne_eqb, lt-ltb, cases_lt, ltb-true}
 use Rattle.std.proofs.lemmas.List.{get_or-replicate, get_or_past, length-replicate}
@@ -15,13 +16,15 @@ use Rattle.mk_words.specs.Seats.{Has, HasAll}
 use Rattle.mk_words.specs.States.{WordsState, PassState, now_of}
 use Rattle.mk_words.proofs.Seats.{has_all, has_either, has_left, only_one, without_keeps, without_less}
 use Rattle.mk_caller.specs.States.{IsIdleCaller}
-use Rattle.mk_heap.specs.Hosts.{HostState, host_of, IsWholeHost, pass_for, first_host, with_caller_made, with_caller_out, with_marker_made, with_joined, AllAreJoined, Rests, IsDone, IsHost}
+use Rattle.mk_heap.specs.Hosts.{HostState, host_of, IsWholeHost, pass_for, first_host, with_caller_made}
+use Rattle.mk_heap.specs.Hosts.{with_caller_out, with_marker_made, with_joined, AllAreJoined, Rests, IsDone, IsHost}
 use Rattle.mk_heap.proofs.Joining.{still_rests, still_no_turn}
 
 all_same : {A : Type 0} (n k : ℕ) (x : A) → get_or (replicate n x) k x ≡ x
 all_same n k x =
     ⊎_elim (λ (t : k < n). get_or-replicate n k x x t)
-    (λ (t : n ≤ k). get_or_past (replicate n x) k x (subst (λ (i : ℕ). i ≤ k) (sym (length-replicate n x)) t)) (cases_lt k n)
+    (λ (t : n ≤ k). get_or_past (replicate n x) k x (subst (λ (i : ℕ). i ≤ k) (sym (length-replicate n x)) t))
+    (cases_lt k n)
 
 first_rests : (c : Config) (s : Seat) → Rests (first_moment c) s
 first_rests c (Caller k) = record { call = all_same c.callers k at_rest; out = refl }
@@ -84,7 +87,8 @@ joined_is_host h p seen is own done table history mine theirs =
       no_turn = still_no_turn h.pass.table.id c h.pass.seats h.pass.seen seen history mine
           (subst (λ (s : Seat). Has h.pass.seats s) is.seat own) is.no_turn;
       rests = λ s has.
-          ⊎_elim (λ (t : Has h.pass.seats s). still_rests c h.pass.seats h.pass.seen seen s history mine t (is.rests s t))
+          ⊎_elim (λ (t : Has h.pass.seats s). still_rests c h.pass.seats h.pass.seen seen s history mine t
+          (is.rests s t))
           (λ (t : Has p.seats s). still_rests c p.seats p.seen seen s history theirs t (came s t))
           (has_either h.pass.seats p.seats s has);
       callers = λ k le lt. has_left h.pass.seats p.seats (Caller k) (is.callers k le lt);
@@ -98,7 +102,8 @@ joined_is_host h p seen is own done table history mine theirs =
         (subst (λ (x : Seat). Rests (now_of p) x) (sym same) done.rests)
 
 -- Where all are joined, every seat is home.
-pub all_home : (h : HostState) → IsHost h → Has h.pass.seats h.pass.seat → AllAreJoined h → HasAll h.pass.table.config h.pass.seats
+pub all_home : (h : HostState) → IsHost h → Has h.pass.seats h.pass.seat → AllAreJoined h
+    → HasAll h.pass.table.config h.pass.seats
 all_home h is own joined (Caller k) exists =
     ⊎_elim (λ (t : k < h.callers). joined.callers k t)
     (λ (t : h.callers ≤ k). is.callers k t (ltb-true k h.pass.table.config.callers exists)) (cases_lt k h.callers)
@@ -108,7 +113,8 @@ all_home h is own joined (Marker k) exists =
 all_home h is own joined Host exists = subst (λ (s : Seat). Has h.pass.seats s) is.seat own
 
 -- The next caller has no call in flight.
-pub next_is_idle : (h : HostState) → IsHost h → h.callers < h.pass.table.config.callers → IsIdleCaller (pass_for h (Caller h.callers))
+pub next_is_idle : (h : HostState) → IsHost h → h.callers < h.pass.table.config.callers
+    → IsIdleCaller (pass_for h (Caller h.callers))
 next_is_idle h is lt =
     record {
       caller = h.callers;
@@ -117,7 +123,8 @@ next_is_idle h is lt =
     }
 
 -- Nor has a caller that was joined.
-pub joined_is_idle : (h : HostState) (k : ℕ) → IsHost h → Has h.pass.seats (Caller k) → IsIdleCaller (pass_for h (Caller k))
+pub joined_is_idle : (h : HostState) (k : ℕ) → IsHost h → Has h.pass.seats (Caller k)
+    → IsIdleCaller (pass_for h (Caller k))
 joined_is_idle h k is joined =
     record { caller = k; seat = refl; rest = (is.rests (Caller k) joined).call }
 
@@ -130,7 +137,8 @@ pub home_is : (x : Option PassState) (p : PassState) (callers markers : ℕ) →
     → IsHost (home_host p callers markers)
 home_is x p callers markers is whole = subst (λ (y : Option PassState). IsWholeHost y callers markers) is whole
 
-pub home_view : (x : Option PassState) (p : PassState) (callers markers : ℕ) (h : HostState) → x ≡ Some p → host_of x callers markers ≡ h
+pub home_view : (x : Option PassState) (p : PassState) (callers markers : ℕ) (h : HostState) → x ≡ Some p
+    → host_of x callers markers ≡ h
     → home_host p callers markers ≡ h
 home_view x p callers markers h is view = ap (λ (y : Option PassState). host_of y callers markers) (sym is) ∙ view
 

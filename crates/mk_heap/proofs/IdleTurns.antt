@@ -1,5 +1,6 @@
 -- The host's turn before an `over`: whether a cycle is on, and that none is behind the end of one.
-use Rattle.std.proofs.Common.{◌≡◌, ◌⊎◌, ℕ, zero, suc, ◌≤◌, ◌%◌, true, false, List, refl, sym, ap, subst, ◌∙◌, inl, inr, arith}
+use Rattle.std.proofs.Common.{◌≡◌, ◌⊎◌, ℕ, zero, suc, ◌≤◌, ◌%◌, true, false, List, refl, sym, ap, subst, ◌∙◌, inl, inr}
+use Rattle.std.proofs.Common.{arith}
 use Rattle.std.specs.Prelude.{not, None}
 use Rattle.std.proofs.lemmas.Bool.{true≢false}
 use Rattle.mk_core.specs.declared.config.Config.{Config}

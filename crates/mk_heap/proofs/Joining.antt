@@ -27,7 +27,8 @@ abbrev take_of_host : Event
 take_of_host = record { seat = Host; step = step.Take None }
 
 -- The host may take the turn, where it hasn't it.
-pub host_may_take : (c : Config) (m : Moment) → host_has_turn c m ≡ false → IsEnabled c m (record { seat = Host; step = step.Take None })
+pub host_may_take : (c : Config) (m : Moment) → host_has_turn c m ≡ false
+    → IsEnabled c m (record { seat = Host; step = step.Take None })
 host_may_take c m no_turn =
     meets_enabled c m (record { seat = Host; step = step.Take None }) (record {
       seat = refl;
@@ -45,7 +46,8 @@ from_not true h = sym h
 from_not false h = refl
 
 -- a history's beginning is one
-begins : (c : Config) (seats : List Seat) (es fs : List Event) → IsHistory c fs → (g : Grows seats es fs) → IsHistory c (es ++ g.more)
+begins : (c : Config) (seats : List Seat) (es fs : List Event) → IsHistory c fs → (g : Grows seats es fs)
+    → IsHistory c (es ++ g.more)
 begins c seats es fs h g = subst (λ (l : List Event). IsHistory c l) g.is h
 
 -- A seat that rests still does, behind the events of others,
@@ -53,7 +55,8 @@ pub still_rests : (c : Config) (seats : List Seat) (es fs : List Event) (s : Sea
     → Has seats s → Rests (left c es).now s → Rests (left c fs).now s
 still_rests c seats es fs s h g has rests =
     let whole = begins c seats es fs h g in
-    let kept = others_leave c es g.more s whole.within_limits whole.enabled (others_own seats s g.more has g.of_others) in
+    let kept = others_leave c es g.more s whole.within_limits whole.enabled (others_own seats s g.more has g.of_others)
+    in
     subst (λ (l : List Event). Rests (left c l).now s) (sym g.is)
     (record { call = kept.own.flight ∙ rests.call; out = kept.own.marker ∙ rests.out })
 
@@ -66,7 +69,8 @@ still_no_turn id c seats es fs h g has no_turn =
     let before = earlier_part_is_history c es g.more whole in
     let p : PassState = record { table = record { id = id; config = c }; seat = Host; seats = seats; seen = es } in
     let short = history_more p (step.Take None) before
-    (record { enabled = host_may_take c (left c es).now no_turn; admitted = λ e. cc; tidy = λ e. cc; home = λ e. cc }) in
+    (record { enabled = host_may_take c (left c es).now no_turn; admitted = λ e. cc; tidy = λ e. cc; home = λ e. cc })
+    in
     let long = longer_lists c es g.more take_of_host short whole (others_own seats Host g.more has g.of_others) in
     let on = last_enabled c (first_world c) (es ++ g.more) take_of_host long.history.enabled in
     let meets = enabled_meets c (left c (es ++ g.more)).now take_of_host on in

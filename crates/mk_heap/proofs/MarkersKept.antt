@@ -36,7 +36,8 @@ nothing_is x out idle =
     ∙ ap (λ (y : Option SeenHeader). record { presence = Out; scan = None; hand = None; seen = y }) none.seen
 
 -- A marker that is out is done.
-pub out_is_done : (p : PassState) → IsHistory p.table.config p.seen → p.seats ≡ p.seat ∷ [] → IsMarkers p → IsOut p → IsDone p
+pub out_is_done : (p : PassState) → IsHistory p.table.config p.seen → p.seats ≡ p.seat ∷ [] → IsMarkers p → IsOut p
+    → IsDone p
 out_is_done p h alone of out =
     let c : Config = p.table.config in
     let protocol = protocol_of c (left c p.seen).now (known_left c p.seen h.within_limits h.enabled) in
@@ -46,7 +47,8 @@ out_is_done p h alone of out =
       rests = record {
         call = ap (λ (s : Seat). flight_of (now_of p) s) of.seat;
         out = same
-            ∙ nothing_is (marker_of (now_of p) of.number) (subst (λ (x : MarkerState). is_out x.presence ≡ true) same out)
+            ∙ nothing_is (marker_of (now_of p) of.number)
+            (subst (λ (x : MarkerState). is_out x.presence ≡ true) same out)
             (protocol.idle of.number);
       };
     }

@@ -1,5 +1,6 @@
 -- The host's pass goes on: it waits for the turn, and makes steps of its own.
-use Rattle.std.proofs.Common.{◌≡◌, ◌⊎◌, Bool, true, false, not, ◌||◌, ◌&&◌, List, [], ◌∷◌, ◌++◌, refl, sym, ◌∙◌, ap, subst, inl, inr, append_assoc}
+use Rattle.std.proofs.Common.{◌≡◌, ◌⊎◌, Bool, true, false, not, ◌||◌, ◌&&◌, List, [], ◌∷◌, ◌++◌, refl, sym, ◌∙◌, ap}
+use Rattle.std.proofs.Common.{subst, inl, inr, append_assoc}
 use Rattle.std.specs.Prelude.{None}
 use Rattle.std.specs.List.{list_all}
 use Rattle.std.proofs.lemmas.Bool.{and_parts, not-true, or_cases, true≢false}
@@ -34,7 +35,8 @@ pub record MovesOn (p q : PassState) : Type 0 where
 
 pub moves_more : (p q r : PassState) (s : Step) → MovesOn p q → Makes q s r → MovesOn p r
 moves_more p q r s v m =
-    let others : AreOfOthers p.seats m.others = subst (λ (x : PassState). AreOfOthers x.seats m.others) v.is m.of_others in
+    let others : AreOfOthers p.seats m.others =
+    subst (λ (x : PassState). AreOfOthers x.seats m.others) v.is m.of_others in
     record {
       more = v.more ++ (m.others ++ event_of p s ∷ []);
       is = joined_lists p q r v.more s v.is m;
@@ -42,7 +44,8 @@ moves_more p q r s v m =
           others_append (x ∷ []) v.more (m.others ++ event_of p s ∷ []) (v.leaves x has other)
           (others_append (x ∷ []) m.others (event_of p s ∷ []) (others_own p.seats x m.others has others)
           (others_one (x ∷ []) (event_of p s)
-          (λ own. true≢false (sym (subst (λ (y : Seat). is_same_seat x y ≡ true) (sym (only_one x p.seat own)) (same_self x)) ∙ other))));
+          (λ own. true≢false (sym
+          (subst (λ (y : Seat). is_same_seat x y ≡ true) (sym (only_one x p.seat own)) (same_self x)) ∙ other))));
     }
 
 -- While it waits it makes no step but that.
@@ -57,7 +60,8 @@ waits_leave p x (e ∷ es) has other h =
       waits_leave p x es has other parts.1,
     )
   where
-    by : e.seat ≡ x → (not (is_one_of p.seats e.seat) ≡ true) ⊎ ((is_take e.step && is_same_seat e.seat p.seat) ≡ true) → ⊥
+    by : e.seat ≡ x → (not (is_one_of p.seats e.seat) ≡ true) ⊎ ((is_take e.step && is_same_seat e.seat p.seat) ≡ true)
+        → ⊥
     by same (inl out) =
         true≢false (sym (subst (λ (y : Seat). Has p.seats y) (sym same) has) ∙ not-true (is_one_of p.seats e.seat) out)
     by same (inr mine) =
@@ -146,10 +150,16 @@ moved_is_host h q is v history no_turn =
     whole : IsHistory h.pass.table.config (h.pass.seen ++ v.more)
     whole = subst (λ (r : PassState). IsHistory r.table.config r.seen) v.is history
 
-    by : (s : Seat) → Has h.pass.seats s → is_same_seat s Host ≡ false → Rests (left h.pass.table.config (h.pass.seen ++ v.more)).now s
+    by : (s : Seat) → Has h.pass.seats s → is_same_seat s Host ≡ false
+        → Rests (left h.pass.table.config (h.pass.seen ++ v.more)).now s
     by s has other =
         still_rests h.pass.table.config (s ∷ []) h.pass.seen (h.pass.seen ++ v.more) s whole
-        (record { more = v.more; is = refl; of_others = v.leaves s has (ap (λ (x : Seat). is_same_seat s x) is.seat ∙ other) })
+        (record {
+          more = v.more;
+          is = refl;
+          of_others = v.leaves s has (ap (λ (x : Seat). is_same_seat s x) is.seat
+              ∙ other);
+        })
         (ap (λ (b : Bool). b || false) (same_self s)) (is.rests s has)
 
     rests : (s : Seat) → Has h.pass.seats s → Rests (left h.pass.table.config (h.pass.seen ++ v.more)).now s

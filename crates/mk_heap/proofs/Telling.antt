@@ -22,15 +22,18 @@ use Rattle.mk_words.specs.TurnSteps.{Acts}
 use Rattle.mk_words.proofs.Tallies.{counts_tidy_more}
 
 -- No step of the host's decides a call.
-pub look_admitted : (p : PassState) (x : Word) → p.seat ≡ Host → IsHistory p.table.config p.seen → IsAdmittedTo p (step.Look x)
+pub look_admitted : (p : PassState) (x : Word) → p.seat ≡ Host → IsHistory p.table.config p.seen
+    → IsAdmittedTo p (step.Look x)
 look_admitted p x host h =
     let c : Config = p.table.config in
     subst (λ (s : Seat). AreAdmitted c.globals (never_first c)
     (asked (calls c (p.seen ++ record { seat = s; step = step.Look x } ∷ [])))) (sym host)
     (subst (λ (xs : List Decided). AreAdmitted c.globals (never_first c) (asked xs))
-    (sym (calls_more c (first_world c) p.seen (record { seat = Host; step = step.Look x }) ∙ append-nil (calls c p.seen))) h.admitted)
+    (sym (calls_more c (first_world c) p.seen (record { seat = Host; step = step.Look x })
+    ∙ append-nil (calls c p.seen))) h.admitted)
 
-look_counts_nothing : (c : Config) (w : World) (x : Word) → CountsNothing c w (record { seat = Host; step = step.Look x })
+look_counts_nothing : (c : Config) (w : World) (x : Word)
+    → CountsNothing c w (record { seat = Host; step = step.Look x })
 look_counts_nothing c w x =
     record {
       alike = record {
@@ -41,7 +44,8 @@ look_counts_nothing c w x =
       no_full = refl;
     }
 
-tidy_behind_others : (c : Config) (es fs : List Event) → steady_of (left c fs) ≡ steady_of (left c es) → CountsAreLeft c es fs
+tidy_behind_others : (c : Config) (es fs : List Event) → steady_of (left c fs) ≡ steady_of (left c es)
+    → CountsAreLeft c es fs
     → TalliesAreTidy c es → TalliesAreTidy c fs
 tidy_behind_others c es fs same counts t =
     record {
@@ -59,9 +63,11 @@ look_tidy p q x a host t =
     let fs : List Event = p.seen ++ a.makes.others in
     let e : Event = record { seat = Host; step = step.Look x } in
     let behind : TalliesAreTidy c (fs ++ e ∷ []) =
-    counts_tidy_more c fs e (look_counts_nothing c (left c fs) x) (tidy_behind_others c p.seen fs a.turn.steady a.counts t) in
+    counts_tidy_more c fs e (look_counts_nothing c (left c fs) x)
+    (tidy_behind_others c p.seen fs a.turn.steady a.counts t) in
     let seen_is : q.seen ≡ fs ++ e ∷ [] =
-    ap (λ (r : PassState). r.seen) a.makes.is ∙ ap (λ (s : Seat). fs ++ record { seat = s; step = step.Look x } ∷ []) host in
+    ap (λ (r : PassState). r.seen) a.makes.is
+    ∙ ap (λ (s : Seat). fs ++ record { seat = s; step = step.Look x } ∷ []) host in
     subst (λ (d : Config). TalliesAreTidy d q.seen) (sym (ap (λ (r : PassState). r.table.config) a.makes.is))
     (subst (λ (es : List Event). TalliesAreTidy c es) (sym seen_is) behind)
 

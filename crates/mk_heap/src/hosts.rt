@@ -9,7 +9,8 @@ ghost use Rattle.mk_core.specs.Ranges.{is_word};
 ghost use Rattle.mk_caller.specs.States.{at_home, IsIdleCaller};
 ghost use Rattle.mk_marker.specs.Markers.{IsMarkers, IsOut};
 ghost use Rattle.mk_turns.specs.Sweeping.{SweepsNothing};
-ghost use Rattle.mk_heap.specs.Hosts.{pass_for, with_caller_made, with_caller_out, with_marker_made, with_joined, with_seen};
+ghost use Rattle.mk_heap.specs.Hosts.{pass_for, with_caller_made, with_caller_out, with_marker_made, with_joined};
+ghost use Rattle.mk_heap.specs.Hosts.{with_seen};
 ghost use Rattle.mk_heap.specs.Turns.{is_register, Tells};
 
 use crate::heaps::Heap;

@@ -1,5 +1,6 @@
 -- What a step of a caller needs, from the groups.
-use Rattle.std.proofs.Common.{[], ◌≡◌, ◌≢◌, ℕ, ◌+◌, ◌/◌, ◌<◌, ◌≤◌, Bool, true, false, List, length, sym, ap, subst, ◌∙◌, inl, inr, arith}
+use Rattle.std.proofs.Common.{[], ◌≡◌, ◌≢◌, ℕ, ◌+◌, ◌/◌, ◌<◌, ◌≤◌, Bool, true, false, List, length, sym, ap, subst, ◌∙◌}
+use Rattle.std.proofs.Common.{inl, inr, arith}
 use Rattle.std.specs.Prelude.{nat_lt, ◌&&◌, Option, Some, None}
 use Rattle.std.proofs.lemmas.Bool.{cases_Bool}
 use Rattle.mk_never.specs.declared.types.Kind.{Kind}
@@ -35,7 +36,8 @@ first_in w None = 0
 
 module _ (c : Config) (w : World) (n : NeverState) (known : KnownWorld c w) (mirrors : Mirrors c w n) where
   -- an allocation of the heap that never reuses storage has the words of its type
-  pub words_are : (a : ℕ) → a < length w.allocations → length (words_of n a) ≡ length (kinds_of c.types (placed_at w.allocations a).ty)
+  pub words_are : (a : ℕ) → a < length w.allocations
+      → length (words_of n a) ≡ length (kinds_of c.types (placed_at w.allocations a).ty)
   words_are a lt =
       let count = mirrors.twins.count in
       let typed : IsTypedAllocation n (allocation_at n a) = mirrors.typed.allocations a (omega arith) in
@@ -46,21 +48,27 @@ module _ (c : Config) (w : World) (n : NeverState) (known : KnownWorld c w) (mir
   type_is a lt =
       let count = mirrors.twins.count in
       let typed : IsTypedAllocation n (allocation_at n a) = mirrors.typed.allocations a (omega arith) in
-      subst (λ (types : List (List Kind)). (placed_at w.allocations a).ty < length types) mirrors.types (subst (λ ty. ty < length n.types) (sym (mirrors.twins.ty a lt)) typed.ty)
+      subst (λ (types : List (List Kind)). (placed_at w.allocations a).ty < length types) mirrors.types
+      (subst (λ ty. ty < length n.types) (sym (mirrors.twins.ty a lt)) typed.ty)
 
-  pub words_fit : (a : ℕ) → a < length w.allocations → length (words_of n a) ≤ storage_words c (placed_at w.allocations a)
+  pub words_fit : (a : ℕ) → a < length w.allocations
+      → length (words_of n a) ≤ storage_words c (placed_at w.allocations a)
   words_fit a lt =
       let holds = (storage_holds c (placed_at w.allocations a) known.limits (type_is a lt)).0 in
       omega (arith, words_are a lt)
 
-  pub unmapped_is : (a : ℕ) → a < length w.allocations → is_unmapped (allocation_at n a) ≡ is_gone c (placed_at w.allocations a)
-  unmapped_is a lt = ap (λ b. b && is_large (words_of n a)) (sym (mirrors.twins.freed a lt)) ∙ ap (λ l. (placed_at w.allocations a).freed && nat_lt 32 l) (words_are a lt)
+  pub unmapped_is : (a : ℕ) → a < length w.allocations
+      → is_unmapped (allocation_at n a) ≡ is_gone c (placed_at w.allocations a)
+  unmapped_is a lt = ap (λ b. b && is_large (words_of n a)) (sym (mirrors.twins.freed a lt))
+      ∙ ap (λ l. (placed_at w.allocations a).freed && nat_lt 32 l) (words_are a lt)
 
-  pub storages_apart : Stands c w.now.words w.allocations → (a b i j : ℕ) → (placed_at w.allocations a).released ≡ false → (placed_at w.allocations b).released ≡ false
+  pub storages_apart : Stands c w.now.words w.allocations → (a b i j : ℕ) → (placed_at w.allocations a).released ≡ false
+      → (placed_at w.allocations b).released ≡ false
       → i < storage_words c (placed_at w.allocations a) → j < storage_words c (placed_at w.allocations b) → a ≢ b
       → (placed_at w.allocations a).base + i ≢ (placed_at w.allocations b).base + j
   storages_apart st a b i j ua ub li lj ne e =
-      let cells : Some (cell_of_allocation c (placed_at w.allocations a)) ≡ Some (cell_of_allocation c (placed_at w.allocations b)) =
+      let cells : Some (cell_of_allocation c (placed_at w.allocations a))
+      ≡ Some (cell_of_allocation c (placed_at w.allocations b)) =
       sym (st.cell a i ua li) ∙ ap (λ x. pointed_cell c.pages w.now.words.pages (address_of x)) e ∙ st.cell b j ub lj in
       st.apart a b ua ub ne (sym (st.first a ua) ∙ ap (first_in w.now.words) cells ∙ st.first b ub)
 
@@ -70,7 +78,8 @@ module _ (c : Config) (w : World) (n : NeverState) (known : KnownWorld c w) (mir
       let fb = words_fit b (exists_placed w.allocations b ub) in
       storages_apart st a b i j ua ub (omega arith) (omega arith) ne
 
-  pub ready_of : Stands c w.now.words w.allocations → (safe : ℕ → Bool) → IsSafeSet safe w.allocations n → Ready c.globals safe (scene_of w) n
+  pub ready_of : Stands c w.now.words w.allocations → (safe : ℕ → Bool) → IsSafeSet safe w.allocations n
+      → Ready c.globals safe (scene_of w) n
   ready_of st safe s =
       record {
         images = mirrors.images;
@@ -79,7 +88,8 @@ module _ (c : Config) (w : World) (n : NeverState) (known : KnownWorld c w) (mir
         count = mirrors.twins.count;
         apart = are_apart st;
         small = small_operands c w.now.seats.flights known.now.operands;
-        bound = λ a i u li. let f = words_fit a (exists_placed w.allocations a u) in let b = st.inside a u in omega (arith, known.lengths.heap);
+        bound = λ a i u li. let f = words_fit a (exists_placed w.allocations a u) in let b =
+            st.inside a u in omega (arith, known.lengths.heap);
         room = let p = known.limits.pages.1 in omega (arith, known.lengths.heap);
         full = λ ty lt. subst (λ (types : List (List Kind)). 0 < length (kinds_of types ty)) (sym mirrors.types)
             (known.limits.types ty [] (subst (λ (types : List (List Kind)). ty < length types) mirrors.types lt)).0.0;
@@ -87,7 +97,8 @@ module _ (c : Config) (w : World) (n : NeverState) (known : KnownWorld c w) (mir
 
   -- headers tell what is unmapped
   pub pages_show : Stands c w.now.words w.allocations
-      → ((a i : ℕ) → (placed_at w.allocations a).released ≡ false → is_gone c (placed_at w.allocations a) ≡ true → i < storage_words c (placed_at w.allocations a)
+      → ((a i : ℕ) → (placed_at w.allocations a).released ≡ false → is_gone c (placed_at w.allocations a) ≡ true
+      → i < storage_words c (placed_at w.allocations a)
       → is_unmapped_header (header_in w.now.words (((placed_at w.allocations a).base + i) / 64)) ≡ true)
       → PagesShow (header_at w.now.words) (scene_of w) n
   pages_show st un a i u li =

@@ -1,5 +1,6 @@
 -- The other kinds of a caller's call lead to what the images allow.
-use Rattle.std.proofs.Common.{◌≡◌, ℕ, ◌+◌, ◌-◌, ◌*◌, ◌/◌, ◌<◌, Bool, true, false, List, ◌++◌, length, refl, sym, ap, subst, ◌∙◌}
+use Rattle.std.proofs.Common.{◌≡◌, ℕ, ◌+◌, ◌-◌, ◌*◌, ◌/◌, ◌<◌, Bool, true, false, List, ◌++◌, length, refl, sym, ap}
+use Rattle.std.proofs.Common.{subst, ◌∙◌}
 use Rattle.std.specs.Prelude.{slice_index, slice_set, ◌==◌, Some, None, if◌then◌else◌}
 use Rattle.std.proofs.lemmas.List.{set-get_or}
 use Rattle.std.proofs.lemmas.Bool.{false≢true, true≢false}
@@ -10,7 +11,8 @@ use Rattle.mk_never.specs.declared.operations.Reply.TheVariants.{Done, Num as Nu
 use Rattle.mk_never.specs.declared.values.Value.{Value}
 use Rattle.mk_never.specs.declared.values.Value.TheVariants.{Null, Num, Ptr}
 use Rattle.mk_never.specs.declared.values.Target.TheVariants.{Unmapped}
-use Rattle.mk_never.specs.NeverHeap.{NeverState, register_at, global_at, allocation_at, words_of, word_at, is_unmapped, with_register, with_word, target_of, reply_at, left_at, number_of, bit, is_same}
+use Rattle.mk_never.specs.NeverHeap.{NeverState, register_at, global_at, allocation_at, words_of, word_at, is_unmapped}
+use Rattle.mk_never.specs.NeverHeap.{with_register, with_word, target_of, reply_at, left_at, number_of, bit, is_same}
 use Rattle.mk_never.specs.Admitted.{Meets, AccessIsAdmitted, IsAdmitted, IsNumber, IsPointer}
 use Rattle.mk_never.specs.Typed.{IsSound}
 use Rattle.mk_geom.specs.Headers.{header_of}
@@ -18,7 +20,8 @@ use Rattle.mk_core.specs.declared.events.Answer.TheVariants as answer
 use Rattle.mk_core.specs.declared.seats.Stage.{Stage}
 use Rattle.mk_core.specs.declared.seats.Stage.TheVariants as stage
 use Rattle.mk_core.specs.declared.seats.Flight.{Flight}
-use Rattle.mk_core.specs.Calls.{q_of, steps_of, stage_behind, refused, d_of, g_of, i_of, one_if, onward, progress_read, progress_cas, progress_getg, value_written}
+use Rattle.mk_core.specs.Calls.{q_of, steps_of, stage_behind, refused, d_of, g_of, i_of, one_if, onward, progress_read}
+use Rattle.mk_core.specs.Calls.{progress_cas, progress_getg, value_written}
 use Rattle.mk_core.specs.Cells.{is_unmapped_header}
 use Rattle.mk_core.specs.Image.{image_of, answer_of}
 use Rattle.mk_core.specs.Effects.{progress_probe}
@@ -31,7 +34,8 @@ use Rattle.mk_images.proofs.Moves.{Move, Decides, Owes, Shares, Writes}
 use Rattle.mk_images.proofs.Ready.{Ready, image_test, bit_is, LeadsBy, either_leads, one_right}
 use Rattle.mk_images.proofs.Refusals.{accesses, refuses, goes_bare, decides_nothing}
 use Rattle.mk_never.proofs.Soundness.{suited_is_sound}
-use Rattle.mk_images.proofs.Reached.{PagesShow, Reaches, reaches, unmapped_target, mapped_met, suits, sound_more, of_number}
+use Rattle.mk_images.proofs.Reached.{PagesShow, Reaches, reaches, unmapped_target, mapped_met, suits, sound_more}
+use Rattle.mk_images.proofs.Reached.{of_number}
 use Rattle.mk_images.proofs.RegMoves.{flight, flies_on}
 
 -- the access of an operation, at whatever kind of word
@@ -40,7 +44,8 @@ meets_some n Null i P h = tt
 meets_some n (Num m) i P h = tt
 meets_some n (Ptr a t o) i P h = (h.0, tt)
 
-access_meets : (n : NeverState) (k : ℕ) (o : Op) → accesses o ≡ true → AccessIsAdmitted n k o → Meets n (register_at n k (q_of o)) (i_of o) (λ kind. Unit {0})
+access_meets : (n : NeverState) (k : ℕ) (o : Op) → accesses o ≡ true → AccessIsAdmitted n k o
+    → Meets n (register_at n k (q_of o)) (i_of o) (λ kind. Unit {0})
 access_meets n k (op.GetNum q i) a h = meets_some n (register_at n k q) i IsNumber h
 access_meets n k (op.SetNum q i m) a h = meets_some n (register_at n k q) i IsNumber h
 access_meets n k (op.GetPtr d q i) a h = meets_some n (register_at n k q) i IsPointer h
@@ -56,7 +61,8 @@ record BehindProbe (s : Stage) (o : Op) : Type 0 where
   pub some_p : has_some_p s o ≡ false
   pub r : has_r s o ≡ has_r stage.Probe o
 
-at_probe : (o : Op) → is_astray (standing_at stage.Probe o) ≡ false → BehindProbe (stage_behind stage.Probe (steps_of o)) o
+at_probe : (o : Op) → is_astray (standing_at stage.Probe o) ≡ false
+    → BehindProbe (stage_behind stage.Probe (steps_of o)) o
 at_probe (op.GetNum q i) h = record { access = refl; put = refl; p = refl; some_p = refl; r = refl }
 at_probe (op.SetNum q i m) h = record { access = refl; put = refl; p = refl; some_p = refl; r = refl }
 at_probe (op.GetPtr d q i) h = record { access = refl; put = refl; p = refl; some_p = refl; r = refl }
@@ -64,7 +70,8 @@ at_probe (op.SetPtr q i p) h = record { access = refl; put = refl; p = refl; som
 at_probe (op.CasPtr q i p r) h = record { access = refl; put = refl; p = refl; some_p = refl; r = refl }
 at_probe _ h = absurd (true≢false h)
 
-module _ (listed : List ℕ) (safe : ℕ → Bool) (s : Scene) (n : NeverState) (k : ℕ) (h : Ready listed safe s n) (there : k < length s.flights) (long : 8 * k + 7 < length n.registers) where
+module _ (listed : List ℕ) (safe : ℕ → Bool) (s : Scene) (n : NeverState) (k : ℕ) (h : Ready listed safe s n)
+    (there : k < length s.flights) (long : 8 * k + 7 < length n.registers) where
   own_sound : (r : ℕ) → IsSound n (register_at n k r)
   own_sound r = h.typed.registers (8 * k + r)
 
@@ -72,9 +79,12 @@ module _ (listed : List ℕ) (safe : ℕ → Bool) (s : Scene) (n : NeverState) 
   own_safe r = h.set.registers (8 * k + r)
 
   -- an access goes on where its page is mapped, and is refused where it isn't
-  pub probe_leads : (header : ℕ → ℕ) → PagesShow header s n → (o : Op) (q p r l x : ℕ) → flight_among s.flights k ≡ flight stage.Probe o q p r l → d_of o < 8
-      → is_astray (standing_at stage.Probe o) ≡ false → CarriesOwn (bases_of s.allocations) n k (flight stage.Probe o q p r l)
-      → x ≡ header (((q - 65536) / 8 + i_of o) / 64) → (is_unmapped_header (header_of x) ≡ true → IsAdmitted listed n k o)
+  pub probe_leads : (header : ℕ → ℕ) → PagesShow header s n → (o : Op) (q p r l x : ℕ)
+      → flight_among s.flights k ≡ flight stage.Probe o q p r l → d_of o < 8
+      → is_astray (standing_at stage.Probe o) ≡ false
+      → CarriesOwn (bases_of s.allocations) n k (flight stage.Probe o q p r l)
+      → x ≡ header (((q - 65536) / 8 + i_of o) / 64)
+      → (is_unmapped_header (header_of x) ≡ true → IsAdmitted listed n k o)
       → LeadsBy safe s n k o s (progress_probe (flight stage.Probe o q p r l) x)
   probe_leads header show o q p r l x is ld a car e ad =
       let was = ap (λ (f : Flight). is_put f.stage) is in
@@ -82,9 +92,11 @@ module _ (listed : List ℕ) (safe : ℕ → Bool) (s : Scene) (n : NeverState) 
       let next = flight (stage_behind stage.Probe (steps_of o)) o q p r l in
       let v = register_at n k (q_of o) in
       let unmapped = ap (λ y. is_unmapped_header (header_of y)) (sym e) in
-      either_leads safe s n k o s (is_unmapped_header (header_of x)) (refused (flight stage.Probe o q p r l) answer.Fault) (onward (flight stage.Probe o q p r l) None)
+      either_leads safe s n k o s (is_unmapped_header (header_of x))
+      (refused (flight stage.Probe o q p r l) answer.Fault) (onward (flight stage.Probe o q p r l) None)
       (λ u. refuses safe s n k o q p r answer.Fault Unmapped table.access there long was ld refl
-      (unmapped_target listed safe s n h header show v q (i_of o) (λ kind. Unit {0}) (car.q refl) (car.some_q refl) (own_sound (q_of o)) (own_safe (q_of o))
+      (unmapped_target listed safe s n h header show v q (i_of o) (λ kind. Unit {0}) (car.q refl) (car.some_q refl)
+      (own_sound (q_of o)) (own_safe (q_of o))
       (access_meets n k o table.access (ad u).access) (unmapped ∙ u)) (λ bs. refl))
       (λ u. flies_on safe s n k o next was table.put
       (record {
@@ -94,119 +106,205 @@ module _ (listed : List ℕ) (safe : ℕ → Bool) (s : Scene) (n : NeverState) 
         some_p = λ y. absurd (false≢true (sym table.some_p ∙ y));
         r = λ y. car.r (sym table.r ∙ y);
       })
-      (λ y. mapped_met listed safe s n h header show v q (i_of o) (car.q refl) (car.some_q refl) (own_sound (q_of o)) (own_safe (q_of o)) (unmapped ∙ u)))
+      (λ y. mapped_met listed safe s n h header show v q (i_of o) (car.q refl) (car.some_q refl) (own_sound (q_of o))
+      (own_safe (q_of o)) (unmapped ∙ u)))
 
-  pub read_leads : (o : Op) (q p r l x : ℕ) → flight_among s.flights k ≡ flight stage.Read o q p r l → d_of o < 8 → is_astray (standing_at stage.Read o) ≡ false
-      → CarriesOwn (bases_of s.allocations) n k (flight stage.Read o q p r l) → ProbedOwn n k (flight stage.Read o q p r l) → x ≡ slice_index s.heap ((q - 65536) / 8 + i_of o)
+  pub read_leads : (o : Op) (q p r l x : ℕ) → flight_among s.flights k ≡ flight stage.Read o q p r l → d_of o < 8
+      → is_astray (standing_at stage.Read o) ≡ false
+      → CarriesOwn (bases_of s.allocations) n k (flight stage.Read o q p r l)
+      → ProbedOwn n k (flight stage.Read o q p r l) → x ≡ slice_index s.heap ((q - 65536) / 8 + i_of o)
       → IsAdmitted listed n k o
       → LeadsBy safe s n k o s (progress_read (flight stage.Read o q p r l) o x)
   read_leads (op.GetNum q' i) q p r l x is ld a car pro e ad =
-      let to = reaches listed safe s n h (register_at n k q') q i IsNumber (car.q refl) (car.some_q refl) (own_sound q') (own_safe q') (pro refl) ad.access in
+      let to = reaches listed safe s n h (register_at n k q') q i IsNumber (car.q refl) (car.some_q refl) (own_sound q')
+      (own_safe q') (pro refl) ad.access in
       let word = word_at n to.number to.place in
-      let value : x ≡ number_of word = e ∙ ap (slice_index s.heap) to.word ∙ h.images.heap to.number to.place to.unreleased to.mapped to.inside
-      ∙ of_number n (bases_of s.allocations) word _ to.kind (suits listed safe s n h to.number to.place to.exists to.inside) in
-      decides_nothing safe s n k (op.GetNum q' i) (flight stage.Leave (op.GetNum q' i) q p r l) (answer.Num x) refl (ap (λ (f : Flight). is_put f.stage) is) refl refl
-      (λ bs. ap answer.Num value ∙ ap (λ t. answer_of bs (reply_at t (λ a w. Number (number_of (word_at n a w))))) (sym to.target))
+      let value : x ≡ number_of word = e ∙ ap (slice_index s.heap) to.word
+      ∙ h.images.heap to.number to.place to.unreleased to.mapped to.inside
+      ∙ of_number n (bases_of s.allocations) word _ to.kind
+      (suits listed safe s n h to.number to.place to.exists to.inside) in
+      decides_nothing safe s n k (op.GetNum q' i) (flight stage.Leave (op.GetNum q' i) q p r l) (answer.Num x) refl
+      (ap (λ (f : Flight). is_put f.stage) is) refl refl
+      (λ bs. ap answer.Num value
+      ∙ ap (λ t. answer_of bs (reply_at t (λ a w. Number (number_of (word_at n a w))))) (sym to.target))
   read_leads (op.GetPtr d q' i) q p r l x is ld a car pro e ad =
-      let to = reaches listed safe s n h (register_at n k q') q i IsPointer (car.q refl) (car.some_q refl) (own_sound q') (own_safe q') (pro refl) ad.access in
+      let to = reaches listed safe s n h (register_at n k q') q i IsPointer (car.q refl) (car.some_q refl)
+      (own_sound q') (own_safe q') (pro refl) ad.access in
       let word = word_at n to.number to.place in
-      let value : x ≡ image_of (bases_of s.allocations) word = e ∙ ap (slice_index s.heap) to.word ∙ h.images.heap to.number to.place to.unreleased to.mapped to.inside in
+      let value : x ≡ image_of (bases_of s.allocations) word = e ∙ ap (slice_index s.heap) to.word
+      ∙ h.images.heap to.number to.place to.unreleased to.mapped to.inside in
       let sound = suited_is_sound n word _ to.kind (suits listed safe s n h to.number to.place to.exists to.inside) in (
-        subst (λ t. Move safe s n (record s { flights = slice_set s.flights k (flight stage.Put (op.GetPtr d q' i) q p r x) }) (left_at t (with_register n k d Null) (λ a w. with_register n k d (word_at n a w)))) (sym to.target)
-            (Owes k (flight stage.Put (op.GetPtr d q' i) q p r x) word there long (ap (λ (f : Flight). is_put f.stage) is) refl ld value (h.set.closed to.number to.place to.of_set to.mapped)),
+        subst (λ t. Move safe s n
+            (record s { flights = slice_set s.flights k (flight stage.Put (op.GetPtr d q' i) q p r x) })
+            (left_at t (with_register n k d Null) (λ a w. with_register n k d (word_at n a w)))) (sym to.target)
+            (Owes k (flight stage.Put (op.GetPtr d q' i) q p r x) word there long
+            (ap (λ (f : Flight). is_put f.stage) is) refl ld value
+            (h.set.closed to.number to.place to.of_set to.mapped)),
         λ more. one_right (bases_of s.allocations ++ more) (answer.Word x) n k (op.GetPtr d q' i)
-            (ap answer.Word (value ∙ sound_more listed safe s n h word more sound) ∙ ap (λ t. answer_of (bases_of s.allocations ++ more) (reply_at t (λ a w. Val (word_at n a w)))) (sym to.target)),
+            (ap answer.Word (value ∙ sound_more listed safe s n h word more sound)
+            ∙ ap (λ t. answer_of (bases_of s.allocations ++ more) (reply_at t (λ a w. Val (word_at n a w))))
+            (sym to.target)),
       )
   read_leads (op.New d ty full) q p r l x is ld a car pro e ad = cc
   read_leads _ q p r l x is ld a car pro e ad = cc
 
-  decides : (f : Flight) (st : Stage) (o : Op) (q p r l : ℕ) → flight_among s.flights k ≡ flight st o q p r l → is_put st ≡ false → Decides s n k (flight stage.Dirty o q p r l)
-  decides f st o q p r l is np = record { there = there; registers = long; was = ap (λ (f : Flight). is_put f.stage) is ∙ np; bare = refl }
+  decides : (f : Flight) (st : Stage) (o : Op) (q p r l : ℕ) → flight_among s.flights k ≡ flight st o q p r l
+      → is_put st ≡ false → Decides s n k (flight stage.Dirty o q p r l)
+  decides f st o q p r l is np = record {
+    there = there;
+    registers = long;
+    was = ap (λ (f : Flight). is_put f.stage) is
+        ∙ np;
+    bare = refl;
+  }
 
-  pub write_leads : (o : Op) (q p r l : ℕ) → flight_among s.flights k ≡ flight stage.Write o q p r l → is_astray (standing_at stage.Write o) ≡ false
-      → CarriesOwn (bases_of s.allocations) n k (flight stage.Write o q p r l) → ProbedOwn n k (flight stage.Write o q p r l) → IsAdmitted listed n k o
-      → LeadsBy safe s n k o (record s { heap = slice_set s.heap ((q - 65536) / 8 + i_of o) (value_written (flight stage.Write o q p r l) o) }) (onward (flight stage.Write o q p r l) (Some answer.Done))
+  pub write_leads : (o : Op) (q p r l : ℕ) → flight_among s.flights k ≡ flight stage.Write o q p r l
+      → is_astray (standing_at stage.Write o) ≡ false
+      → CarriesOwn (bases_of s.allocations) n k (flight stage.Write o q p r l)
+      → ProbedOwn n k (flight stage.Write o q p r l) → IsAdmitted listed n k o
+      → LeadsBy safe s n k o
+      (record s { heap = slice_set s.heap ((q - 65536) / 8 + i_of o) (value_written (flight stage.Write o q p r l) o) })
+      (onward (flight stage.Write o q p r l) (Some answer.Done))
   write_leads (op.SetNum q' i m) q p r l is a car pro ad =
-      let to = reaches listed safe s n h (register_at n k q') q i IsNumber (car.q refl) (car.some_q refl) (own_sound q') (own_safe q') (pro refl) ad.access in
+      let to = reaches listed safe s n h (register_at n k q') q i IsNumber (car.q refl) (car.some_q refl) (own_sound q')
+      (own_safe q') (pro refl) ad.access in
       let f = flight stage.Dirty (op.SetNum q' i m) q p r l in (
-        subst (λ x. Move safe s n (record s { heap = slice_set s.heap x m; flights = slice_set s.flights k f }) (left_at (target_of n (register_at n k q') i) n (λ a w. with_word n a w (Num m)))) (sym to.word)
-            (subst (λ t. Move safe s n (record s { heap = slice_set s.heap ((placed_at s.allocations to.number).base + to.place) m; flights = slice_set s.flights k f }) (left_at t n (λ a w. with_word n a w (Num m)))) (sym to.target)
-            (Writes k to.number to.place m f (Num m) (decides f stage.Write (op.SetNum q' i m) q p r l is refl) to.unreleased to.mapped to.inside (h.bound to.number to.place to.unreleased to.inside) refl tt)),
-        λ more. one_right (bases_of s.allocations ++ more) answer.Done n k (op.SetNum q' i m) (ap (λ t. answer_of (bases_of s.allocations ++ more) (reply_at t (λ a w. Done))) (sym to.target)),
+        subst (λ x. Move safe s n (record s { heap = slice_set s.heap x m; flights = slice_set s.flights k f })
+            (left_at (target_of n (register_at n k q') i) n (λ a w. with_word n a w (Num m)))) (sym to.word)
+            (subst (λ t. Move safe s n
+            (record s {
+              heap = slice_set s.heap ((placed_at s.allocations to.number).base + to.place) m;
+              flights = slice_set s.flights k f;
+            }) (left_at t n (λ a w. with_word n a w (Num m)))) (sym to.target)
+            (Writes k to.number to.place m f (Num m) (decides f stage.Write (op.SetNum q' i m) q p r l is refl)
+            to.unreleased to.mapped to.inside (h.bound to.number to.place to.unreleased to.inside) refl tt)),
+        λ more. one_right (bases_of s.allocations ++ more) answer.Done n k (op.SetNum q' i m)
+            (ap (λ t. answer_of (bases_of s.allocations ++ more) (reply_at t (λ a w. Done))) (sym to.target)),
       )
   write_leads (op.SetPtr q' i p') q p r l is a car pro ad =
-      let to = reaches listed safe s n h (register_at n k q') q i IsPointer (car.q refl) (car.some_q refl) (own_sound q') (own_safe q') (pro refl) ad.access in
+      let to = reaches listed safe s n h (register_at n k q') q i IsPointer (car.q refl) (car.some_q refl)
+      (own_sound q') (own_safe q') (pro refl) ad.access in
       let f = flight stage.Dirty (op.SetPtr q' i p') q p r l in (
-        subst (λ x. Move safe s n (record s { heap = slice_set s.heap x p; flights = slice_set s.flights k f }) (left_at (target_of n (register_at n k q') i) n (λ a w. with_word n a w (register_at n k p')))) (sym to.word)
-            (subst (λ t. Move safe s n (record s { heap = slice_set s.heap ((placed_at s.allocations to.number).base + to.place) p; flights = slice_set s.flights k f }) (left_at t n (λ a w. with_word n a w (register_at n k p')))) (sym to.target)
-            (Writes k to.number to.place p f (register_at n k p') (decides f stage.Write (op.SetPtr q' i p') q p r l is refl) to.unreleased to.mapped to.inside (h.bound to.number to.place to.unreleased to.inside) (car.p refl) (own_safe p'))),
-        λ more. one_right (bases_of s.allocations ++ more) answer.Done n k (op.SetPtr q' i p') (ap (λ t. answer_of (bases_of s.allocations ++ more) (reply_at t (λ a w. Done))) (sym to.target)),
+        subst (λ x. Move safe s n (record s { heap = slice_set s.heap x p; flights = slice_set s.flights k f })
+            (left_at (target_of n (register_at n k q') i) n (λ a w. with_word n a w (register_at n k p'))))
+            (sym to.word)
+            (subst (λ t. Move safe s n
+            (record s {
+              heap = slice_set s.heap ((placed_at s.allocations to.number).base + to.place) p;
+              flights = slice_set s.flights k f;
+            }) (left_at t n (λ a w. with_word n a w (register_at n k p'))))
+            (sym to.target)
+            (Writes k to.number to.place p f (register_at n k p')
+            (decides f stage.Write (op.SetPtr q' i p') q p r l is refl) to.unreleased to.mapped to.inside
+            (h.bound to.number to.place to.unreleased to.inside) (car.p refl) (own_safe p'))),
+        λ more. one_right (bases_of s.allocations ++ more) answer.Done n k (op.SetPtr q' i p')
+            (ap (λ t. answer_of (bases_of s.allocations ++ more) (reply_at t (λ a w. Done))) (sym to.target)),
       )
   write_leads (op.New d ty full) q p r l is a car pro ad = cc
   write_leads _ q p r l is a car pro ad = cc
 
-  cas_by : (b : Bool) (o : Op) (q p r l r' a i w x : ℕ) → w ≡ (placed_at s.allocations a).base + i → x ≡ slice_index s.heap w → (placed_at s.allocations a).released ≡ false
+  cas_by : (b : Bool) (o : Op) (q p r l r' a i w x : ℕ) → w ≡ (placed_at s.allocations a).base + i
+      → x ≡ slice_index s.heap w → (placed_at s.allocations a).released ≡ false
       → is_unmapped (allocation_at n a) ≡ false
-      → i < length (words_of n a) → r ≡ image_of (bases_of s.allocations) (register_at n k r') → Decides s n k (flight stage.Dirty o q p r l)
-      → Move safe s n (record s { heap = slice_set s.heap w (if b then r else x); flights = slice_set s.flights k (flight stage.Dirty o q p r l) }) (if b then with_word n a i (register_at n k r') else n)
+      → i < length (words_of n a) → r ≡ image_of (bases_of s.allocations) (register_at n k r')
+      → Decides s n k (flight stage.Dirty o q p r l)
+      → Move safe s n (record s {
+        heap = slice_set s.heap w (if b then r else x);
+        flights = slice_set s.flights k (flight stage.Dirty o q p r l);
+      }) (if b then with_word n a i (register_at n k r')
+      else n)
   cas_by true o q p r l r' a i w x ew ex u m inside er at =
-      subst (λ y. Move safe s n (record s { heap = slice_set s.heap y r; flights = slice_set s.flights k (flight stage.Dirty o q p r l) }) (with_word n a i (register_at n k r'))) (sym ew)
-      (Writes k a i r (flight stage.Dirty o q p r l) (register_at n k r') at u m inside (h.bound a i u inside) er (own_safe r'))
+      subst (λ y. Move safe s n
+      (record s { heap = slice_set s.heap y r; flights = slice_set s.flights k (flight stage.Dirty o q p r l) })
+      (with_word n a i (register_at n k r'))) (sym ew)
+      (Writes k a i r (flight stage.Dirty o q p r l) (register_at n k r') at u m inside (h.bound a i u inside) er
+      (own_safe r'))
   cas_by false o q p r l r' a i w x ew ex u m inside er at =
-      subst (λ (ys : List ℕ). Move safe s n (record s { heap = ys; flights = slice_set s.flights k (flight stage.Dirty o q p r l) }) n) (sym (ap (slice_set s.heap w) ex ∙ set-get_or s.heap w 0))
+      subst (λ (ys : List ℕ). Move safe s n
+      (record s { heap = ys; flights = slice_set s.flights k (flight stage.Dirty o q p r l) }) n)
+      (sym (ap (slice_set s.heap w) ex ∙ set-get_or s.heap w 0))
       (goes_bare safe s n k (flight stage.Dirty o q p r l) at.was refl)
 
   -- A compare and exchange reaches a word, and compares its value to that of its caller's register p.
-  pub cas_compares : (q' i p' r' q p r l x : ℕ) → CarriesOwn (bases_of s.allocations) n k (flight stage.Cas (op.CasPtr q' i p' r') q p r l)
+  pub cas_compares : (q' i p' r' q p r l x : ℕ)
+      → CarriesOwn (bases_of s.allocations) n k (flight stage.Cas (op.CasPtr q' i p' r') q p r l)
       → ProbedOwn n k (flight stage.Cas (op.CasPtr q' i p' r') q p r l)
       → x ≡ slice_index s.heap ((q - 65536) / 8 + i) → IsAdmitted listed n k (op.CasPtr q' i p' r')
-      → (to : Reaches safe s n (register_at n k q') q i IsPointer) × ((x == p) ≡ is_same (word_at n to.number to.place) (register_at n k p'))
+      → (to : Reaches safe s n (register_at n k q') q i IsPointer)
+      × ((x == p) ≡ is_same (word_at n to.number to.place) (register_at n k p'))
   cas_compares q' i p' r' q p r l x car pro e ad =
-      let to = reaches listed safe s n h (register_at n k q') q i IsPointer (car.q refl) (car.some_q refl) (own_sound q') (own_safe q') (pro refl) ad.access in
+      let to = reaches listed safe s n h (register_at n k q') q i IsPointer (car.q refl) (car.some_q refl)
+      (own_sound q') (own_safe q') (pro refl) ad.access in
       let word = word_at n to.number to.place in
-      let value : x ≡ image_of (bases_of s.allocations) word = e ∙ ap (slice_index s.heap) to.word ∙ h.images.heap to.number to.place to.unreleased to.mapped to.inside in
+      let value : x ≡ image_of (bases_of s.allocations) word = e ∙ ap (slice_index s.heap) to.word
+      ∙ h.images.heap to.number to.place to.unreleased to.mapped to.inside in
       let sound = suited_is_sound n word _ to.kind (suits listed safe s n h to.number to.place to.exists to.inside) in (
         to,
         ap (λ y. y == p) value ∙ ap (λ y. image_of (bases_of s.allocations) word == y) (car.p refl)
-            ∙ image_test listed safe s n h word (register_at n k p') sound (own_sound p') (h.set.closed to.number to.place to.of_set to.mapped) (own_safe p'),
+            ∙ image_test listed safe s n h word (register_at n k p') sound (own_sound p')
+            (h.set.closed to.number to.place to.of_set to.mapped) (own_safe p'),
       )
 
-  pub cas_leads : (o : Op) (q p r l x : ℕ) → flight_among s.flights k ≡ flight stage.Cas o q p r l → is_astray (standing_at stage.Cas o) ≡ false
-      → CarriesOwn (bases_of s.allocations) n k (flight stage.Cas o q p r l) → ProbedOwn n k (flight stage.Cas o q p r l) → x ≡ slice_index s.heap ((q - 65536) / 8 + i_of o)
+  pub cas_leads : (o : Op) (q p r l x : ℕ) → flight_among s.flights k ≡ flight stage.Cas o q p r l
+      → is_astray (standing_at stage.Cas o) ≡ false
+      → CarriesOwn (bases_of s.allocations) n k (flight stage.Cas o q p r l)
+      → ProbedOwn n k (flight stage.Cas o q p r l) → x ≡ slice_index s.heap ((q - 65536) / 8 + i_of o)
       → IsAdmitted listed n k o
-      → LeadsBy safe s n k o (record s { heap = slice_set s.heap ((q - 65536) / 8 + i_of o) (if x == p then r else x) }) (progress_cas (flight stage.Cas o q p r l) x)
+      → LeadsBy safe s n k o (record s { heap = slice_set s.heap ((q - 65536) / 8 + i_of o) (if x == p then r else x) })
+      (progress_cas (flight stage.Cas o q p r l) x)
   cas_leads (op.CasPtr q' i p' r') q p r l x is a car pro e ad =
       let compared = cas_compares q' i p' r' q p r l x car pro e ad in
       let to = compared.0 in
       let f = flight stage.Dirty (op.CasPtr q' i p' r') q p r l in
-      let at : ℕ → ℕ → NeverState = λ a w. if is_same (word_at n a w) (register_at n k p') then with_word n a w (register_at n k r') else n in (
-        subst (λ t. Move safe s n (record s { heap = slice_set s.heap ((q - 65536) / 8 + i) (if x == p then r else x); flights = slice_set s.flights k f }) (left_at t n at)) (sym to.target)
-            (subst (λ b. Move safe s n (record s { heap = slice_set s.heap ((q - 65536) / 8 + i) (if x == p then r else x); flights = slice_set s.flights k f }) (if b then with_word n to.number to.place (register_at n k r') else n)) compared.1
-            (cas_by (x == p) (op.CasPtr q' i p' r') q p r l r' to.number to.place ((q - 65536) / 8 + i) x to.word e to.unreleased to.mapped to.inside (car.r refl) (decides f stage.Cas (op.CasPtr q' i p' r') q p r l is refl))),
+      let at : ℕ → ℕ → NeverState = λ a w. if is_same (word_at n a w) (register_at n k p')
+      then with_word n a w (register_at n k r') else n in (
+        subst (λ t. Move safe s n
+            (record s {
+              heap = slice_set s.heap ((q - 65536) / 8 + i) (if x == p then r else x);
+              flights = slice_set s.flights k f;
+            }) (left_at t n at)) (sym to.target)
+            (subst (λ b. Move safe s n
+            (record s {
+              heap = slice_set s.heap ((q - 65536) / 8 + i) (if x == p then r else x);
+              flights = slice_set s.flights k f;
+            }) (if b then with_word n to.number to.place (register_at n k r')
+            else n)) compared.1
+            (cas_by (x == p) (op.CasPtr q' i p' r') q p r l r' to.number to.place ((q - 65536) / 8 + i) x to.word e
+            to.unreleased to.mapped to.inside (car.r refl)
+            (decides f stage.Cas (op.CasPtr q' i p' r') q p r l is refl))),
         λ more. one_right (bases_of s.allocations ++ more) (answer.Num (one_if (x == p))) n k (op.CasPtr q' i p' r')
-            (ap (λ b. answer.Num (one_if b)) compared.1 ∙ ap answer.Num (bit_is (is_same (word_at n to.number to.place) (register_at n k p')))
-            ∙ ap (λ t. answer_of (bases_of s.allocations ++ more) (reply_at t (λ a w. Number (bit (is_same (word_at n a w) (register_at n k p')))))) (sym to.target)),
+            (ap (λ b. answer.Num (one_if b)) compared.1
+            ∙ ap answer.Num (bit_is (is_same (word_at n to.number to.place) (register_at n k p')))
+            ∙ ap (λ t. answer_of (bases_of s.allocations ++ more)
+            (reply_at t (λ a w. Number (bit (is_same (word_at n a w) (register_at n k p')))))) (sym to.target)),
       )
   cas_leads (op.New d ty full) q p r l x is a car pro e ad = cc
   cas_leads _ q p r l x is a car pro e ad = cc
 
-  pub getg_leads : (o : Op) (q p r l x : ℕ) → flight_among s.flights k ≡ flight stage.Getg o q p r l → d_of o < 8 → is_astray (standing_at stage.Getg o) ≡ false
+  pub getg_leads : (o : Op) (q p r l x : ℕ) → flight_among s.flights k ≡ flight stage.Getg o q p r l → d_of o < 8
+      → is_astray (standing_at stage.Getg o) ≡ false
       → x ≡ slice_index s.globals (g_of o)
       → LeadsBy safe s n k o s (progress_getg (flight stage.Getg o q p r l) x)
   getg_leads (op.GetGlobal d g) q p r l x is ld a e =
       let value : x ≡ image_of (bases_of s.allocations) (global_at n g) = e ∙ h.images.globals g in (
-        Owes k (flight stage.Put (op.GetGlobal d g) q p r x) (global_at n g) there long (ap (λ (f : Flight). is_put f.stage) is) refl ld value (h.set.globals g),
-        λ more. one_right (bases_of s.allocations ++ more) (answer.Word x) n k (op.GetGlobal d g) (ap answer.Word (value ∙ sound_more listed safe s n h (global_at n g) more (h.typed.globals g))),
+        Owes k (flight stage.Put (op.GetGlobal d g) q p r x) (global_at n g) there long
+            (ap (λ (f : Flight). is_put f.stage) is) refl ld value (h.set.globals g),
+        λ more. one_right (bases_of s.allocations ++ more) (answer.Word x) n k (op.GetGlobal d g)
+            (ap answer.Word (value ∙ sound_more listed safe s n h (global_at n g) more (h.typed.globals g))),
       )
   getg_leads (op.New d ty full) q p r l x is ld a e = cc
   getg_leads _ q p r l x is ld a e = cc
 
-  pub setg_leads : (o : Op) (q p r l : ℕ) → flight_among s.flights k ≡ flight stage.Setg o q p r l → is_astray (standing_at stage.Setg o) ≡ false
+  pub setg_leads : (o : Op) (q p r l : ℕ) → flight_among s.flights k ≡ flight stage.Setg o q p r l
+      → is_astray (standing_at stage.Setg o) ≡ false
       → CarriesOwn (bases_of s.allocations) n k (flight stage.Setg o q p r l)
       → g_of o < length s.globals → g_of o < length n.globals
-      → LeadsBy safe s n k o (record s { globals = slice_set s.globals (g_of o) p }) (onward (flight stage.Setg o q p r l) (Some answer.Done))
+      → LeadsBy safe s n k o (record s { globals = slice_set s.globals (g_of o) p })
+      (onward (flight stage.Setg o q p r l) (Some answer.Done))
   setg_leads (op.SetGlobal g p') q p r l is a car lg ln = (
-    Shares k g p (flight stage.Leave (op.SetGlobal g p') q p r l) (register_at n k p') (record { there = there; registers = long; was = ap (λ (f : Flight). is_put f.stage) is; bare = refl }) lg ln (car.p refl) (own_safe p'),
+    Shares k g p (flight stage.Leave (op.SetGlobal g p') q p r l) (register_at n k p')
+        (record { there = there; registers = long; was = ap (λ (f : Flight). is_put f.stage) is; bare = refl }) lg ln
+        (car.p refl) (own_safe p'),
     λ more. refl,
   )
   setg_leads (op.New d ty full) q p r l is a car lg ln = cc

@@ -18,7 +18,8 @@ use Rattle.mk_core.specs.declared.seats.Stage.{Stage}
 use Rattle.mk_core.specs.declared.seats.Stage.TheVariants as stage
 use Rattle.mk_core.specs.declared.seats.Flight.{Flight}
 use Rattle.mk_core.specs.Words.{Words, header_at, register_word, accessed}
-use Rattle.mk_core.specs.Calls.{is_under_turn, d_of, g_of, word_met, page_met, value_written, at_rest, begun, still, onward, refused, progress_reg, progress_read, progress_cas, progress_getg}
+use Rattle.mk_core.specs.Calls.{is_under_turn, d_of, g_of, word_met, page_met, value_written, at_rest, begun, still}
+use Rattle.mk_core.specs.Calls.{onward, refused, progress_reg, progress_read, progress_cas, progress_getg}
 use Rattle.mk_core.specs.Moments.{flight_of}
 use Rattle.mk_core.specs.Accesses.{register_met, reg_access}
 use Rattle.mk_core.specs.Effects.{progress_probe, begins_where_free, answer_decided}
@@ -43,7 +44,9 @@ use Rattle.mk_images.proofs.CallMoves.{probe_leads, read_leads, write_leads, cas
 
 abbrev pub LeadsAt : Config → World → NeverState → (ℕ → Bool) → ℕ → Step → Type 0
 LeadsAt c w n safe k x =
-    Leads safe (scene_of w) n k (flight_of w.now (Caller k)).op (scene_of (world_behind c w (record { seat = Caller k; step = x }))) (answer_decided c w.now (record { seat = Caller k; step = x }))
+    Leads safe (scene_of w) n k (flight_of w.now (Caller k)).op
+    (scene_of (world_behind c w (record { seat = Caller k; step = x })))
+    (answer_decided c w.now (record { seat = Caller k; step = x }))
 
 abbrev pub AdmittedAt : Config → World → NeverState → ℕ → Step → Type 0
 AdmittedAt c w n k x = AreAdmitted c.globals n (asked (call_decided c w.now (record { seat = Caller k; step = x })))
@@ -56,7 +59,8 @@ flag_is (op.New d ty full) a h = cc
 flag_is _ a h = refl
 
 -- a call outside the turn
-pub call_outside : (o : Op) (s : Stage) → is_call_stage s ≡ true → is_astray (standing_at s o) ≡ false → is_under_turn o ≡ false
+pub call_outside : (o : Op) (s : Stage) → is_call_stage s ≡ true → is_astray (standing_at s o) ≡ false
+    → is_under_turn o ≡ false
 call_outside (op.GetNum q i) stage.Idle h a = cc
 call_outside (op.SetNum q i m) stage.Idle h a = cc
 call_outside (op.GetPtr d q i) stage.Idle h a = cc
@@ -73,7 +77,8 @@ call_outside (op.New d ty full) stage.Idle h a = cc
 call_outside (op.Free p) stage.Idle h a = cc
 call_outside _ _ h a = cc
 
-pub admitted_call : (listed : List ℕ) (n : NeverState) (k : ℕ) (o : Op) (a : Answer) → is_under_turn o ≡ false → AreAdmitted listed n (asked (entry_of k o (Some a)))
+pub admitted_call : (listed : List ℕ) (n : NeverState) (k : ℕ) (o : Op) (a : Answer) → is_under_turn o ≡ false
+    → AreAdmitted listed n (asked (entry_of k o (Some a)))
     → IsAdmitted listed n k o
 admitted_call listed n k o a out ad = subst (λ (x : Op). IsAdmitted listed n k x) (flag_is o a out) ad.0
 
@@ -82,7 +87,8 @@ read_admitted : (listed : List ℕ) (n : NeverState) (k : ℕ) (f : Flight) (o :
 read_admitted listed n k f (op.GetPtr d q i) x out ad = ad.0
 read_admitted listed n k f o x out ad = admitted_call listed n k o (answer.Num x) out (by o ad)
   where
-    by : (o : Op) → AreAdmitted listed n (asked (entry_of k o (progress_read f o x).answer)) → AreAdmitted listed n (asked (entry_of k o (Some (answer.Num x))))
+    by : (o : Op) → AreAdmitted listed n (asked (entry_of k o (progress_read f o x).answer))
+        → AreAdmitted listed n (asked (entry_of k o (Some (answer.Num x))))
     by (op.GetPtr d q i) ad = ad
     by _ ad = ad
 
@@ -91,24 +97,28 @@ literal f st e = ap (λ x. flight x f.op f.q f.p f.r f.loaded) e
 
 -- the words behind `reg`
 reg_registers : (w : Words) (k : ℕ) (f : Flight) (st : Stage)
-    → (accessed w (Named (word.Reg k (register_met f st))) (reg_access f st)).registers ≡ registers_behind w.registers k f st
+    → (accessed w (Named (word.Reg k (register_met f st))) (reg_access f st)).registers
+    ≡ registers_behind w.registers k f st
 reg_registers w k f stage.Store = refl
 reg_registers w k f stage.Put = refl
 reg_registers w k f _ = refl
 
-reg_globals : (w : Words) (k : ℕ) (f : Flight) (st : Stage) → (accessed w (Named (word.Reg k (register_met f st))) (reg_access f st)).globals ≡ w.globals
+reg_globals : (w : Words) (k : ℕ) (f : Flight) (st : Stage)
+    → (accessed w (Named (word.Reg k (register_met f st))) (reg_access f st)).globals ≡ w.globals
 reg_globals w k f stage.Store = refl
 reg_globals w k f stage.Put = refl
 reg_globals w k f _ = refl
 
-reg_heap : (w : Words) (k : ℕ) (f : Flight) (st : Stage) → (accessed w (Named (word.Reg k (register_met f st))) (reg_access f st)).heap ≡ w.heap
+reg_heap : (w : Words) (k : ℕ) (f : Flight) (st : Stage)
+    → (accessed w (Named (word.Reg k (register_met f st))) (reg_access f st)).heap ≡ w.heap
 reg_heap w k f stage.Store = refl
 reg_heap w k f stage.Put = refl
 reg_heap w k f _ = refl
 
 -- a begun call has loaded nothing
 begun_carries : (bs : List ℕ) (o : Op) (n : NeverState) (k : ℕ) → CarriesOwn bs n k (begun o)
-begun_carries bs (op.New d ty full) n k = record { q = λ e. cc; some_q = λ e. cc; p = λ e. cc; some_p = λ e. cc; r = λ e. cc }
+begun_carries bs (op.New d ty full) n k =
+    record { q = λ e. cc; some_q = λ e. cc; p = λ e. cc; some_p = λ e. cc; r = λ e. cc }
 begun_carries bs _ n k = record { q = λ e. cc; some_q = λ e. cc; p = λ e. cc; some_p = λ e. cc; r = λ e. cc }
 
 begun_unprobed : (o : Op) → is_past_probe (begun o).stage ≡ false
@@ -119,7 +129,8 @@ begun_not_put : (o : Op) → is_put (begun o).stage ≡ false
 begun_not_put (op.New d ty full) = refl
 begun_not_put _ = refl
 
-module _ (c : Config) (w : World) (n : NeverState) (known : KnownWorld c w) (mirrors : Mirrors c w n) (safe : ℕ → Bool) (ready : Ready c.globals safe (scene_of w) n) where
+module _ (c : Config) (w : World) (n : NeverState) (known : KnownWorld c w) (mirrors : Mirrors c w n) (safe : ℕ
+    → Bool) (ready : Ready c.globals safe (scene_of w) n) where
   pub there_is : (k : ℕ) → k < c.callers → k < length w.now.seats.flights
   there_is k lt = let e = known.now.orderly.flights in omega (arith, e)
 
@@ -139,19 +150,29 @@ module _ (c : Config) (w : World) (n : NeverState) (known : KnownWorld c w) (mir
   pub begins : (k : ℕ) (o next : Op) (x : ℕ) → is_put (flight_of w.now (Caller k)).stage ≡ false
       → LeadsBy safe (scene_of w) n k o (scene_of w) (begins_where_free (flight_of w.now (Caller k)) next x)
   begins k o next x was =
-      either_leads safe (scene_of w) n k o (scene_of w) (x == 0) (record { flight = begun next; answer = None }) (still (flight_of w.now (Caller k)))
-      (λ z. flies_on safe (scene_of w) n k o (begun next) was (begun_not_put next) (begun_carries _ next n k) (λ past. let y : false ≡ true = sym (begun_unprobed next) ∙ past in cc))
-      (λ z. flies_on safe (scene_of w) n k o (flight_of w.now (Caller k)) was was (ready.images.carried k) (ready.images.probed k))
+      either_leads safe (scene_of w) n k o (scene_of w) (x == 0) (record { flight = begun next; answer = None })
+      (still (flight_of w.now (Caller k)))
+      (λ z. flies_on safe (scene_of w) n k o (begun next) was (begun_not_put next) (begun_carries _ next n k)
+      (λ past. let y : false ≡ true = sym (begun_unprobed next) ∙ past in cc))
+      (λ z. flies_on safe (scene_of w) n k o (flight_of w.now (Caller k)) was was (ready.images.carried k)
+      (ready.images.probed k))
 
   -- a call that stays where it is
-  pub stays : (k : ℕ) (o : Op) → Leads safe (scene_of w) n k o (record (scene_of w) { flights = slice_set w.now.seats.flights k (flight_of w.now (Caller k)) }) None
-  stays k o = (Flies k (flight_of w.now (Caller k)) (λ r x. refl) (ready.images.carried k) (ready.images.probed k), λ more. refl)
+  pub stays : (k : ℕ) (o : Op)
+      → Leads safe (scene_of w) n k o
+      (record (scene_of w) { flights = slice_set w.now.seats.flights k (flight_of w.now (Caller k)) }) None
+  stays k o = (
+    Flies k (flight_of w.now (Caller k)) (λ r x. refl) (ready.images.carried k) (ready.images.probed k),
+    λ more. refl,
+  )
 
-  pub bare_on : (k : ℕ) (o : Op) (f : Flight) → is_put (flight_of w.now (Caller k)).stage ≡ false → is_bare f.stage ≡ true
+  pub bare_on : (k : ℕ) (o : Op) (f : Flight) → is_put (flight_of w.now (Caller k)).stage ≡ false
+      → is_bare f.stage ≡ true
       → Leads safe (scene_of w) n k o (record (scene_of w) { flights = slice_set w.now.seats.flights k f }) None
   bare_on k o f was bare = (goes_bare safe (scene_of w) n k f was bare, λ more. refl)
 
-  stage_put : (k : ℕ) (st : Stage) → (flight_of w.now (Caller k)).stage ≡ st → is_put st ≡ false → is_put (flight_of w.now (Caller k)).stage ≡ false
+  stage_put : (k : ℕ) (st : Stage) → (flight_of w.now (Caller k)).stage ≡ st → is_put st ≡ false
+      → is_put (flight_of w.now (Caller k)).stage ≡ false
   stage_put k st e h = ap is_put e ∙ h
 
   pub enter_leads : (k : ℕ) (o : Op) → Meets c w k (step.Enter o) → LeadsAt c w n safe k (step.Enter o)
@@ -160,21 +181,31 @@ module _ (c : Config) (w : World) (n : NeverState) (known : KnownWorld c w) (mir
       begins k f.op o _ (ap is_put (at_enter f.stage f.op o h.order).0)
 
   pub leave_leads : (k : ℕ) → Meets c w k step.Leave → LeadsAt c w n safe k step.Leave
-  leave_leads k h = let f = flight_of w.now (Caller k) in bare_on k f.op at_rest (stage_put k stage.Leave (at_its_stage f.stage f.op step.Leave refl h.order) refl) refl
+  leave_leads k h = let f =
+      flight_of w.now (Caller k) in bare_on k f.op at_rest
+      (stage_put k stage.Leave (at_its_stage f.stage f.op step.Leave refl h.order) refl) refl
 
   pub dirty_leads : (k : ℕ) → Meets c w k step.Dirty → LeadsAt c w n safe k step.Dirty
   dirty_leads k h =
       let f = flight_of w.now (Caller k) in
       let lt = ltb-true k c.callers h.seat in
       let e = literal f stage.Dirty (at_its_stage f.stage f.op step.Dirty refl h.order) in
-      subst (λ (g : Flight). Leads safe (scene_of w) n k g.op (record (scene_of w) { flights = slice_set w.now.seats.flights k (onward g None).flight }) None) (sym e)
-      (dirty_by f.op f.q f.p f.r f.loaded (subst (λ (g : Flight). is_astray (standing g) ≡ false) e (own_astray k lt)) (ap (λ (g : Flight). is_put g.stage) e))
+      subst (λ (g : Flight). Leads safe (scene_of w) n k g.op
+      (record (scene_of w) { flights = slice_set w.now.seats.flights k (onward g None).flight }) None) (sym e)
+      (dirty_by f.op f.q f.p f.r f.loaded (subst (λ (g : Flight). is_astray (standing g) ≡ false) e (own_astray k lt))
+      (ap (λ (g : Flight). is_put g.stage) e))
     where
-      dirty_by : (o : Op) (q p r l : ℕ) → is_astray (standing_at stage.Dirty o) ≡ false → is_put (flight_of w.now (Caller k)).stage ≡ false
-          → Leads safe (scene_of w) n k o (record (scene_of w) { flights = slice_set w.now.seats.flights k (onward (flight stage.Dirty o q p r l) None).flight }) None
-      dirty_by (op.SetNum q' i m) q p r l a was = bare_on k (op.SetNum q' i m) (flight stage.Leave (op.SetNum q' i m) q p r l) was refl
-      dirty_by (op.SetPtr q' i p') q p r l a was = bare_on k (op.SetPtr q' i p') (flight stage.Leave (op.SetPtr q' i p') q p r l) was refl
-      dirty_by (op.CasPtr q' i p' r') q p r l a was = bare_on k (op.CasPtr q' i p' r') (flight stage.Leave (op.CasPtr q' i p' r') q p r l) was refl
+      dirty_by : (o : Op) (q p r l : ℕ) → is_astray (standing_at stage.Dirty o) ≡ false
+          → is_put (flight_of w.now (Caller k)).stage ≡ false
+          → Leads safe (scene_of w) n k o
+          (record (scene_of w)
+          { flights = slice_set w.now.seats.flights k (onward (flight stage.Dirty o q p r l) None).flight }) None
+      dirty_by (op.SetNum q' i m) q p r l a was =
+          bare_on k (op.SetNum q' i m) (flight stage.Leave (op.SetNum q' i m) q p r l) was refl
+      dirty_by (op.SetPtr q' i p') q p r l a was =
+          bare_on k (op.SetPtr q' i p') (flight stage.Leave (op.SetPtr q' i p') q p r l) was refl
+      dirty_by (op.CasPtr q' i p' r') q p r l a was =
+          bare_on k (op.CasPtr q' i p' r') (flight stage.Leave (op.CasPtr q' i p' r') q p r l) was refl
       dirty_by (op.New d ty full) q p r l a was = cc
       dirty_by _ q p r l a was = cc
 
@@ -183,13 +214,38 @@ module _ (c : Config) (w : World) (n : NeverState) (known : KnownWorld c w) (mir
       let f = flight_of w.now (Caller k) in
       let lt = ltb-true k c.callers h.seat in
       let x = register_word w.now.words k (register_met f f.stage) in
-      subst (λ (rs : List ℕ). Leads safe (scene_of w) n k f.op (record { registers = rs; globals = (accessed w.now.words (Named (word.Reg k (register_met f f.stage))) (reg_access f f.stage)).globals; heap = (accessed w.now.words (Named (word.Reg k (register_met f f.stage))) (reg_access f f.stage)).heap; flights = slice_set w.now.seats.flights k (progress_reg f f.stage x).flight; allocations = w.allocations }) (progress_reg f f.stage x).answer)
+      subst (λ (rs : List ℕ). Leads safe (scene_of w) n k f.op
+      (record {
+        registers = rs;
+        globals = (accessed w.now.words (Named (word.Reg k (register_met f f.stage))) (reg_access f f.stage)).globals;
+        heap = (accessed w.now.words (Named (word.Reg k (register_met f f.stage))) (reg_access f f.stage)).heap;
+        flights = slice_set w.now.seats.flights k (progress_reg f f.stage x).flight;
+        allocations = w.allocations;
+      })
+      (progress_reg f f.stage x).answer)
       (sym (reg_registers w.now.words k f f.stage))
-      (subst (λ (gs : List ℕ). Leads safe (scene_of w) n k f.op (record { registers = registers_behind w.now.words.registers k f f.stage; globals = gs; heap = (accessed w.now.words (Named (word.Reg k (register_met f f.stage))) (reg_access f f.stage)).heap; flights = slice_set w.now.seats.flights k (progress_reg f f.stage x).flight; allocations = w.allocations }) (progress_reg f f.stage x).answer)
+      (subst (λ (gs : List ℕ). Leads safe (scene_of w) n k f.op
+      (record {
+        registers = registers_behind w.now.words.registers k f f.stage;
+        globals = gs;
+        heap = (accessed w.now.words (Named (word.Reg k (register_met f f.stage))) (reg_access f f.stage)).heap;
+        flights = slice_set w.now.seats.flights k (progress_reg f f.stage x).flight;
+        allocations = w.allocations;
+      })
+      (progress_reg f f.stage x).answer)
       (sym (reg_globals w.now.words k f f.stage))
-      (subst (λ (hs : List ℕ). Leads safe (scene_of w) n k f.op (record { registers = registers_behind w.now.words.registers k f f.stage; globals = w.now.words.globals; heap = hs; flights = slice_set w.now.seats.flights k (progress_reg f f.stage x).flight; allocations = w.allocations }) (progress_reg f f.stage x).answer)
+      (subst (λ (hs : List ℕ). Leads safe (scene_of w) n k f.op
+      (record {
+        registers = registers_behind w.now.words.registers k f f.stage;
+        globals = w.now.words.globals;
+        heap = hs;
+        flights = slice_set w.now.seats.flights k (progress_reg f f.stage x).flight;
+        allocations = w.allocations;
+      }) (progress_reg f f.stage x).answer)
       (sym (reg_heap w.now.words k f f.stage))
-      (reg_leads c.globals safe (scene_of w) n k ready (there_is k lt) (own_registers k lt) (own_words k lt) f.stage f.op f.q f.p f.r f.loaded x refl (own_d k) (at_reg f.stage f.op h.order) (own_astray k lt) (ready.images.carried k)
+      (reg_leads c.globals safe (scene_of w) n k ready (there_is k lt) (own_registers k lt) (own_words k lt) f.stage
+      f.op f.q f.p f.r f.loaded x refl (own_d k) (at_reg f.stage f.op h.order) (own_astray k lt)
+      (ready.images.carried k)
       (λ np. own_plain (scene_of w) n ready.images k (register_met f f.stage) (register_small_here k f.stage) np) ad)))
     where
       register_small_here : (k : ℕ) (s : Stage) → register_met (flight_of w.now (Caller k)) s < 8
@@ -198,18 +254,23 @@ module _ (c : Config) (w : World) (n : NeverState) (known : KnownWorld c w) (mir
       register_small_here k stage.LoadR = (ready.small k).2
       register_small_here k _ = (ready.small k).3
 
-  pub probe_leads_at : (k : ℕ) → PagesShow (header_at w.now.words) (scene_of w) n → Meets c w k step.Probe → AdmittedAt c w n k step.Probe → LeadsAt c w n safe k step.Probe
+  pub probe_leads_at : (k : ℕ) → PagesShow (header_at w.now.words) (scene_of w) n → Meets c w k step.Probe
+      → AdmittedAt c w n k step.Probe → LeadsAt c w n safe k step.Probe
   probe_leads_at k show h ad =
       let f = flight_of w.now (Caller k) in
       let lt = ltb-true k c.callers h.seat in
       let st = at_its_stage f.stage f.op step.Probe refl h.order in
       let e = literal f stage.Probe st in
       let out = call_outside f.op f.stage (ap is_call_stage st) (own_astray k lt) in
-      subst (λ (g : Flight). LeadsBy safe (scene_of w) n k g.op (scene_of w) (progress_probe g (header_at w.now.words (page_met f)))) (sym e)
-      (probe_leads c.globals safe (scene_of w) n k ready (there_is k lt) (own_registers k lt) (header_at w.now.words) show f.op f.q f.p f.r f.loaded (header_at w.now.words (page_met f)) e (own_d k)
-      (subst (λ (g : Flight). is_astray (standing g) ≡ false) e (own_astray k lt)) (subst (λ (g : Flight). CarriesOwn (bases_of w.allocations) n k g) e (ready.images.carried k)) refl
+      subst (λ (g : Flight). LeadsBy safe (scene_of w) n k g.op (scene_of w)
+      (progress_probe g (header_at w.now.words (page_met f)))) (sym e)
+      (probe_leads c.globals safe (scene_of w) n k ready (there_is k lt) (own_registers k lt)
+      (header_at w.now.words) show f.op f.q f.p f.r f.loaded (header_at w.now.words (page_met f)) e (own_d k)
+      (subst (λ (g : Flight). is_astray (standing g) ≡ false) e (own_astray k lt))
+      (subst (λ (g : Flight). CarriesOwn (bases_of w.allocations) n k g) e (ready.images.carried k)) refl
       (λ u. admitted_call c.globals n k f.op answer.Fault out
-      (subst (λ b. AreAdmitted c.globals n (asked (entry_of k f.op (if b then refused f answer.Fault else onward f None).answer))) u ad)))
+      (subst (λ b. AreAdmitted c.globals n
+      (asked (entry_of k f.op (if b then refused f answer.Fault else onward f None).answer))) u ad)))
 
   pub read_leads_at : (k : ℕ) → Meets c w k step.Read → AdmittedAt c w n k step.Read → LeadsAt c w n safe k step.Read
   read_leads_at k h ad =
@@ -220,21 +281,30 @@ module _ (c : Config) (w : World) (n : NeverState) (known : KnownWorld c w) (mir
       let out = call_outside f.op f.stage (ap is_call_stage st) (own_astray k lt) in
       let x = slice_index w.now.words.heap (word_met f) in
       subst (λ (g : Flight). LeadsBy safe (scene_of w) n k g.op (scene_of w) (progress_read g g.op x)) (sym e)
-      (read_leads c.globals safe (scene_of w) n k ready (there_is k lt) (own_registers k lt) f.op f.q f.p f.r f.loaded x e (own_d k)
-      (subst (λ (g : Flight). is_astray (standing g) ≡ false) e (own_astray k lt)) (subst (λ (g : Flight). CarriesOwn (bases_of w.allocations) n k g) e (ready.images.carried k))
-      (subst (λ (g : Flight). ProbedOwn n k g) e (ready.images.probed k)) refl (read_admitted c.globals n k f f.op x out ad))
+      (read_leads c.globals safe (scene_of w) n k ready (there_is k lt) (own_registers k lt) f.op f.q f.p f.r f.loaded x
+      e (own_d k)
+      (subst (λ (g : Flight). is_astray (standing g) ≡ false) e (own_astray k lt))
+      (subst (λ (g : Flight). CarriesOwn (bases_of w.allocations) n k g) e (ready.images.carried k))
+      (subst (λ (g : Flight). ProbedOwn n k g) e (ready.images.probed k)) refl
+      (read_admitted c.globals n k f f.op x out ad))
 
-  pub write_leads_at : (k : ℕ) → Meets c w k step.Write → AdmittedAt c w n k step.Write → LeadsAt c w n safe k step.Write
+  pub write_leads_at : (k : ℕ) → Meets c w k step.Write → AdmittedAt c w n k step.Write
+      → LeadsAt c w n safe k step.Write
   write_leads_at k h ad =
       let f = flight_of w.now (Caller k) in
       let lt = ltb-true k c.callers h.seat in
       let st = at_its_stage f.stage f.op step.Write refl h.order in
       let e = literal f stage.Write st in
       let out = call_outside f.op f.stage (ap is_call_stage st) (own_astray k lt) in
-      subst (λ (g : Flight). LeadsBy safe (scene_of w) n k g.op (record (scene_of w) { heap = slice_set w.now.words.heap (word_met g) (value_written g g.op) }) (onward g (Some answer.Done))) (sym e)
-      (write_leads c.globals safe (scene_of w) n k ready (there_is k lt) (own_registers k lt) f.op f.q f.p f.r f.loaded e
-      (subst (λ (g : Flight). is_astray (standing g) ≡ false) e (own_astray k lt)) (subst (λ (g : Flight). CarriesOwn (bases_of w.allocations) n k g) e (ready.images.carried k))
-      (subst (λ (g : Flight). ProbedOwn n k g) e (ready.images.probed k)) (admitted_call c.globals n k f.op answer.Done out ad))
+      subst (λ (g : Flight). LeadsBy safe (scene_of w) n k g.op
+      (record (scene_of w) { heap = slice_set w.now.words.heap (word_met g) (value_written g g.op) })
+      (onward g (Some answer.Done))) (sym e)
+      (write_leads c.globals safe (scene_of w) n k ready (there_is k lt) (own_registers k lt) f.op f.q f.p f.r f.loaded
+      e
+      (subst (λ (g : Flight). is_astray (standing g) ≡ false) e (own_astray k lt))
+      (subst (λ (g : Flight). CarriesOwn (bases_of w.allocations) n k g) e (ready.images.carried k))
+      (subst (λ (g : Flight). ProbedOwn n k g) e (ready.images.probed k))
+      (admitted_call c.globals n k f.op answer.Done out ad))
 
   pub cas_leads_at : (k : ℕ) → Meets c w k step.Cas → AdmittedAt c w n k step.Cas → LeadsAt c w n safe k step.Cas
   cas_leads_at k h ad =
@@ -244,10 +314,15 @@ module _ (c : Config) (w : World) (n : NeverState) (known : KnownWorld c w) (mir
       let e = literal f stage.Cas st in
       let out = call_outside f.op f.stage (ap is_call_stage st) (own_astray k lt) in
       let x = slice_index w.now.words.heap (word_met f) in
-      subst (λ (g : Flight). LeadsBy safe (scene_of w) n k g.op (record (scene_of w) { heap = slice_set w.now.words.heap (word_met g) (if x == g.p then g.r else x) }) (progress_cas g x)) (sym e)
-      (cas_leads c.globals safe (scene_of w) n k ready (there_is k lt) (own_registers k lt) f.op f.q f.p f.r f.loaded x e
-      (subst (λ (g : Flight). is_astray (standing g) ≡ false) e (own_astray k lt)) (subst (λ (g : Flight). CarriesOwn (bases_of w.allocations) n k g) e (ready.images.carried k))
-      (subst (λ (g : Flight). ProbedOwn n k g) e (ready.images.probed k)) refl (admitted_call c.globals n k f.op _ out ad))
+      subst (λ (g : Flight). LeadsBy safe (scene_of w) n k g.op
+      (record (scene_of w) { heap = slice_set w.now.words.heap (word_met g) (if x == g.p then g.r else x) })
+      (progress_cas g x)) (sym e)
+      (cas_leads c.globals safe (scene_of w) n k ready (there_is k lt) (own_registers k lt) f.op f.q f.p f.r f.loaded x
+      e
+      (subst (λ (g : Flight). is_astray (standing g) ≡ false) e (own_astray k lt))
+      (subst (λ (g : Flight). CarriesOwn (bases_of w.allocations) n k g) e (ready.images.carried k))
+      (subst (λ (g : Flight). ProbedOwn n k g) e (ready.images.probed k)) refl
+      (admitted_call c.globals n k f.op _ out ad))
 
   pub getg_leads_at : (k : ℕ) → Meets c w k step.Getg → LeadsAt c w n safe k step.Getg
   getg_leads_at k h =
@@ -256,7 +331,8 @@ module _ (c : Config) (w : World) (n : NeverState) (known : KnownWorld c w) (mir
       let e = literal f stage.Getg (at_its_stage f.stage f.op step.Getg refl h.order) in
       let x = slice_index w.now.words.globals (g_of f.op) in
       subst (λ (g : Flight). LeadsBy safe (scene_of w) n k g.op (scene_of w) (progress_getg g x)) (sym e)
-      (getg_leads c.globals safe (scene_of w) n k ready (there_is k lt) (own_registers k lt) f.op f.q f.p f.r f.loaded x e (own_d k) (subst (λ (g : Flight). is_astray (standing g) ≡ false) e (own_astray k lt)) refl)
+      (getg_leads c.globals safe (scene_of w) n k ready (there_is k lt) (own_registers k lt) f.op f.q f.p f.r f.loaded x
+      e (own_d k) (subst (λ (g : Flight). is_astray (standing g) ≡ false) e (own_astray k lt)) refl)
 
   pub setg_leads_at : (k : ℕ) → Meets c w k step.Setg → LeadsAt c w n safe k step.Setg
   setg_leads_at k h =
@@ -267,7 +343,10 @@ module _ (c : Config) (w : World) (n : NeverState) (known : KnownWorld c w) (mir
       let small = parts.g in
       let lg = known.lengths.globals in
       let ln = mirrors.global_count in
-      subst (λ (g : Flight). LeadsBy safe (scene_of w) n k g.op (record (scene_of w) { globals = slice_set w.now.words.globals (g_of g.op) g.p }) (onward g (Some answer.Done))) (sym e)
+      subst (λ (g : Flight). LeadsBy safe (scene_of w) n k g.op
+      (record (scene_of w) { globals = slice_set w.now.words.globals (g_of g.op) g.p })
+      (onward g (Some answer.Done))) (sym e)
       (setg_leads c.globals safe (scene_of w) n k ready (there_is k lt) (own_registers k lt) f.op f.q f.p f.r f.loaded e
-      (subst (λ (g : Flight). is_astray (standing g) ≡ false) e (own_astray k lt)) (subst (λ (g : Flight). CarriesOwn (bases_of w.allocations) n k g) e (ready.images.carried k))
+      (subst (λ (g : Flight). is_astray (standing g) ≡ false) e (own_astray k lt))
+      (subst (λ (g : Flight). CarriesOwn (bases_of w.allocations) n k g) e (ready.images.carried k))
       (omega arith) (omega arith))

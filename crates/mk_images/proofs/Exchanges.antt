@@ -1,4 +1,5 @@
--- A compare and exchange compares values: of two values that a program can get to, the images are equal only where they are.
+-- A compare and exchange compares values: of two values that a program can get to, the images are equal only where they
+-- are.
 use Rattle.std.proofs.Common.{◌≡◌, ◌↔◌, ℕ, Bool, true, false, List, ◌∷◌, ◌++◌, refl, sym, ap, subst, ◌∙◌}
 use Rattle.std.specs.Prelude.{slice_index, ◌==◌, Some}
 use Rattle.std.proofs.lemmas.Bool.{ltb-true}
@@ -23,7 +24,8 @@ use Rattle.mk_core.specs.Decided.{asked}
 use Rattle.mk_core.specs.Moments.{flight_of}
 use Rattle.mk_core.specs.Enabled.{MeetsAll}
 use Rattle.mk_core.specs.Effects.{answer_decided}
-use Rattle.mk_core.specs.History.{World, left, never_behind, call_decided, calls_from, bases_of, IsHistory, AreEnabledFrom}
+use Rattle.mk_core.specs.History.{World, left, never_behind, call_decided, calls_from, bases_of, IsHistory}
+use Rattle.mk_core.specs.History.{AreEnabledFrom}
 use Rattle.mk_core.proofs.Conditions.{enabled_meets}
 use Rattle.mk_core.proofs.HistoryParts.{enabled_in_parts, admitted_in_parts, earlier_part_is_history}
 use Rattle.mk_protocol.proofs.NextSteps.{at_its_stage}
@@ -44,7 +46,11 @@ word_of_target n (WordOf number place) = word_at n number place
 word_of_target n _ = Null
 
 told : (b : Bool) (u v : Value) → b ≡ is_same u v → (Some (answer.Num (one_if b)) ≡ Some (answer.Num 1)) ↔ (u ≡ v)
-told b u v is = (λ e. equal_from_same u v (sym is ∙ one b e), λ e. ap (λ (x : Bool). Some (answer.Num (one_if x))) (is ∙ same_from_equal u v e))
+told b u v is = (
+  λ e. equal_from_same u v (sym is ∙ one b e),
+  λ e. ap (λ (x : Bool). Some (answer.Num (one_if x))) (is
+      ∙ same_from_equal u v e),
+)
   where
     one : (b : Bool) → Some (answer.Num (one_if b)) ≡ Some (answer.Num 1) → b ≡ true
     one true e = refl
@@ -54,8 +60,10 @@ told b u v is = (λ e. equal_from_same u v (sym is ∙ one b e), λ e. ap (λ (x
 abbrev cas_of : ℕ → Event
 cas_of k = record { seat = Caller k; step = step.Cas }
 
-compares_values : (c : Config) (w : World) (n : NeverState) (k q i p r number place : ℕ) → KnownWorld c w → OthersSay c w → Mirrors c w n → MeetsAll c w.now (cas_of k)
-    → (flight_of w.now (Caller k)).op ≡ op.CasPtr q i p r → AreAdmitted c.globals n (asked (call_decided c w.now (cas_of k)))
+compares_values : (c : Config) (w : World) (n : NeverState) (k q i p r number place : ℕ) → KnownWorld c w
+    → OthersSay c w → Mirrors c w n → MeetsAll c w.now (cas_of k)
+    → (flight_of w.now (Caller k)).op ≡ op.CasPtr q i p r
+    → AreAdmitted c.globals n (asked (call_decided c w.now (cas_of k)))
     → target_of n (register_at n k q) i ≡ WordOf number place
     → (answer_decided c w.now (cas_of k) ≡ Some (answer.Num 1)) ↔ (word_at n number place ≡ register_at n k p)
 compares_values c w n k q i p r number place known others mirrors h is ad target =
@@ -66,22 +74,32 @@ compares_values c w n k q i p r number place known others mirrors h is ad target
     let lt = ltb-true k c.callers h.seat in
     let st = at_its_stage f.stage f.op step.Cas refl h.order in
     let o = op.CasPtr q i p r in
-    let lit : f ≡ flight stage.Cas o f.q f.p f.r f.loaded = ap (λ s. flight s f.op f.q f.p f.r f.loaded) st ∙ ap (λ (y : Op). flight stage.Cas y f.q f.p f.r f.loaded) is in
-    let admitted : IsAdmitted c.globals n k o = subst (λ (y : Op). IsAdmitted c.globals n k y) is (admitted_call c.globals n k f.op _ (ap is_under_turn is) ad) in
-    let compared = cas_compares c.globals safe.0 (scene_of w) n k ready (there_is c w n known mirrors safe.0 ready k lt) (own_registers c w n known mirrors safe.0 ready k lt) q i p r f.q f.p f.r f.loaded x
-    (subst (λ (g : Flight). CarriesOwn (bases_of w.allocations) n k g) lit (ready.images.carried k)) (subst (λ (g : Flight). ProbedOwn n k g) lit (ready.images.probed k))
+    let lit : f ≡ flight stage.Cas o f.q f.p f.r f.loaded = ap (λ s. flight s f.op f.q f.p f.r f.loaded) st
+    ∙ ap (λ (y : Op). flight stage.Cas y f.q f.p f.r f.loaded) is in
+    let admitted : IsAdmitted c.globals n k o =
+    subst (λ (y : Op). IsAdmitted c.globals n k y) is (admitted_call c.globals n k f.op _ (ap is_under_turn is) ad)
+    in
+    let compared = cas_compares c.globals safe.0 (scene_of w) n k ready (there_is c w n known mirrors safe.0 ready k lt)
+    (own_registers c w n known mirrors safe.0 ready k lt) q i p r f.q f.p f.r f.loaded x
+    (subst (λ (g : Flight). CarriesOwn (bases_of w.allocations) n k g) lit (ready.images.carried k))
+    (subst (λ (g : Flight). ProbedOwn n k g) lit (ready.images.probed k))
     (ap (λ (g : Flight). slice_index w.now.words.heap (word_met g)) lit) admitted in
-    let word : word_at n compared.0.number compared.0.place ≡ word_at n number place = ap (word_of_target n) (sym compared.0.target ∙ target) in
-    told (x == f.p) (word_at n number place) (register_at n k p) (compared.1 ∙ ap (λ (v : Value). is_same v (register_at n k p)) word)
+    let word : word_at n compared.0.number compared.0.place ≡ word_at n number place =
+    ap (word_of_target n) (sym compared.0.target ∙ target) in
+    told (x == f.p) (word_at n number place) (register_at n k p) (compared.1
+    ∙ ap (λ (v : Value). is_same v (register_at n k p)) word)
 
 pub histories_compare : HistoriesCompareValues
 unfolding AreEnabledFrom calls_from
 histories_compare c es h others before behind k q i p r number whole is place target =
     let parts : IsHistory c (before ++ cas_of k ∷ behind) = subst (λ (xs : List Event). IsHistory c xs) whole h in
-    let say : OthersSayAlong c (before ++ cas_of k ∷ behind) = subst (λ (xs : List Event). OthersSayAlong c xs) whole others in
+    let say : OthersSayAlong c (before ++ cas_of k ∷ behind) =
+    subst (λ (xs : List Event). OthersSayAlong c xs) whole others in
     let earlier = earlier_part_is_history c before (cas_of k ∷ behind) parts in
     let mirrors = histories_mirror c before earlier (say_along c before (cas_of k ∷ behind) say) in
     let on = ((enabled_in_parts c before (cas_of k ∷ behind)).0 parts.enabled).1.0 in
     let admitted = ((admitted_in_parts c before (cas_of k ∷ behind)).0 parts.admitted).1 in
-    compares_values c (left c before) (never_behind c before) k q i p r number place (known_world c before earlier.within_limits earlier.enabled)
-    (say before (cas_of k ∷ behind) refl) mirrors (enabled_meets c (left c before).now (cas_of k) on) is (admitted.0, tt) target
+    compares_values c (left c before) (never_behind c before) k q i p r number place
+    (known_world c before earlier.within_limits earlier.enabled)
+    (say before (cas_of k ∷ behind) refl) mirrors (enabled_meets c (left c before).now (cas_of k) on) is
+    (admitted.0, tt) target

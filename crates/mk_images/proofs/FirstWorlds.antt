@@ -21,7 +21,9 @@ others_at_first c =
       freed_run = λ run e. cc;
       gates = λ e. absurd (false≢true (sym e));
       shown = λ i u f. absurd (false≢true (sym u));
-      freed = λ cell h. absurd (false≢true (sym (bare_word cell.index) ∙ ap (λ x. has_bit x cell.index) (sym (at_first c.pages cell.page 0)) ∙ h));
+      freed = λ cell h. absurd
+          (false≢true (sym (bare_word cell.index) ∙ ap (λ x. has_bit x cell.index) (sym (at_first c.pages cell.page 0))
+          ∙ h));
       kept = λ i u. absurd (false≢true (sym u));
       zero_words = λ n ne. absurd (ne (at_first (64 * c.pages) n 0));
       marks = λ e. absurd (omega arith);

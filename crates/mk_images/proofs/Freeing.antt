@@ -28,14 +28,17 @@ new_is_undecided : (s : Stage) (o : Op) → is_new_at s o ≡ true → is_decide
 new_is_undecided stage.Give (op.Free p) new free = cc
 new_is_undecided _ _ new free = cc
 
-pub frees_run : (c : Config) (m : Moment) (k : ℕ) (run : RunPages) → Orderly c (view_of m) → HoldsTurn c (view_of m) (Caller k) → m.seats.holding.freed ≡ Some run
+pub frees_run : (c : Config) (m : Moment) (k : ℕ) (run : RunPages) → Orderly c (view_of m)
+    → HoldsTurn c (view_of m) (Caller k) → m.seats.holding.freed ≡ Some run
     → is_decided_free (flight_of m (Caller k)) ≡ true
 frees_run c m k run o hold e =
-    let freed : is_decided_free (flight_in (view_of m) (m.words.turn - 1)) ≡ true = o.served.freed (ap (λ (x : Option RunPages). is_some x) e) in
+    let freed : is_decided_free (flight_in (view_of m) (m.words.turn - 1)) ≡ true =
+    o.served.freed (ap (λ (x : Option RunPages). is_some x) e) in
     subst (λ (f : Flight). is_decided_free f ≡ true) (holders_flight c (view_of m) (Caller k) o hold) freed
 
 -- While a New is undecided no run is freed.
-pub new_frees_none : (c : Config) (m : Moment) (k : ℕ) (run : RunPages) → Orderly c (view_of m) → HoldsTurn c (view_of m) (Caller k)
+pub new_frees_none : (c : Config) (m : Moment) (k : ℕ) (run : RunPages) → Orderly c (view_of m)
+    → HoldsTurn c (view_of m) (Caller k)
     → is_undecided_new (flight_of m (Caller k)) ≡ true → m.seats.holding.freed ≢ Some run
 new_frees_none c m k run o hold new e =
     new_is_undecided (flight_of m (Caller k)).stage (flight_of m (Caller k)).op new (frees_run c m k run o hold e)

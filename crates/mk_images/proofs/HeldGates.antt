@@ -9,7 +9,8 @@ use Rattle.mk_core.specs.declared.seats.Stage.TheVariants as stage
 use Rattle.mk_core.specs.declared.seats.Flight.{Flight}
 use Rattle.mk_core.specs.Calls.{is_under_turn, at_rest}
 use Rattle.mk_protocol.specs.Protocol.{has_stage}
-use Rattle.mk_protocol.proofs.Standings.{Standing, Resting, InCall, UnderTurn, Astray, standing_in, standing_at, standing, Shows}
+use Rattle.mk_protocol.proofs.Standings.{Standing, Resting, InCall, UnderTurn, Astray, standing_in, standing_at}
+use Rattle.mk_protocol.proofs.Standings.{standing, Shows}
 use Rattle.mk_protocol.proofs.Views.{View, flight_in, gate_in}
 use Rattle.mk_protocol.proofs.Orderly.{Orderly}
 
@@ -28,9 +29,11 @@ held_resting t k InCall g e h = absurd (let x = h.0 in omega arith)
 held_resting t k UnderTurn g e h = absurd (let x = h.0 in omega arith)
 held_resting t k Astray g e h = absurd h
 
-pub held_idle : (c : Config) (v : View) (j : ℕ) → Orderly c v → j < c.callers → gate_in v j ≡ 2 → (flight_in v j).stage ≡ stage.Idle
+pub held_idle : (c : Config) (v : View) (j : ℕ) → Orderly c v → j < c.callers → gate_in v j ≡ 2
+    → (flight_in v j).stage ≡ stage.Idle
 held_idle c v j p lt e =
-    resting_idle (flight_in v j).op (flight_in v j).stage (held_resting v.turn j (standing (flight_in v j)) (gate_in v j) e (p.each j lt))
+    resting_idle (flight_in v j).op (flight_in v j).stage
+    (held_resting v.turn j (standing (flight_in v j)) (gate_in v j) e (p.each j lt))
 
 -- Where the gates of all others are held, all but one are idle.
 pub others_idle : (c : Config) (v : View) (k : ℕ) → Orderly c v → ((j : ℕ) → j < c.callers → k ≢ j → gate_in v j ≡ 2)

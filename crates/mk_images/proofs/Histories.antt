@@ -1,5 +1,6 @@
 -- All histories: the answers are the images of the replies, and what is reached isn't released.
-use Rattle.std.proofs.Common.{◌≡◌, ℕ, ◌*◌, ◌/◌, ◌%◌, Bool, true, false, List, [], ◌∷◌, ◌++◌, replicate, refl, sym, ap, subst, ◌∙◌, append-nil, append_assoc, arith}
+use Rattle.std.proofs.Common.{◌≡◌, ℕ, ◌*◌, ◌/◌, ◌%◌, Bool, true, false, List, [], ◌∷◌, ◌++◌, replicate, refl, sym, ap}
+use Rattle.std.proofs.Common.{subst, ◌∙◌, append-nil, append_assoc, arith}
 use Rattle.std.specs.Prelude.{slice_index, slice_index_or}
 use Rattle.std.proofs.lemmas.List.{map-append, length-replicate}
 use Rattle.mk_never.specs.declared.values.Value.{Value}
@@ -19,14 +20,16 @@ use Rattle.mk_core.specs.Calls.{at_rest}
 use Rattle.mk_core.specs.Enabled.{IsEnabled}
 use Rattle.mk_core.specs.Image.{image_of, answer_of, answers_of}
 use Rattle.mk_core.specs.Decided.{Decided, asked, answered}
-use Rattle.mk_core.specs.History.{World, first_world, world_behind, left_from, left, AreEnabledFrom, AreEnabled, call_decided, calls_from, never_first, never_behind, bases_of, IsHistory}
+use Rattle.mk_core.specs.History.{World, first_world, world_behind, left_from, left, AreEnabledFrom, AreEnabled}
+use Rattle.mk_core.specs.History.{call_decided, calls_from, never_first, never_behind, bases_of, IsHistory}
 use Rattle.mk_core.proofs.Histories.{left_more, enabled_more}
 use Rattle.mk_protocol.proofs.OrderlyLists.{at_first}
 use Rattle.mk_images.specs.Images.{shown, CarriesOwn, ProbedOwn}
 use Rattle.mk_images.specs.SafeSets.{IsSafe, HasSafeSet}
 use Rattle.mk_images.specs.OthersSay.{OthersSay}
 use Rattle.mk_images.specs.Mirrors.{Mirrors}
-use Rattle.mk_images.specs.Laws.{OthersSayAlong, HistoriesRefineNever, HistoriesMirrorNever, ReachedIsUnreleased, HistoriesTellOthers}
+use Rattle.mk_images.specs.Laws.{OthersSayAlong, HistoriesRefineNever, HistoriesMirrorNever, ReachedIsUnreleased}
+use Rattle.mk_images.specs.Laws.{HistoriesTellOthers}
 use Rattle.mk_images.proofs.KnownWorlds.{KnownWorld, known_world}
 use Rattle.mk_images.proofs.Pairs.{bare_carries}
 use Rattle.mk_images.proofs.OneEvent.{Follows, one_event}
@@ -38,7 +41,8 @@ use Rattle.mk_images.proofs.FreedRuns.{never_after}
 record FollowsAll (c : Config) (w : World) (n : NeverState) (es : List Event) : Type 0 where
   pub mirrors : Mirrors c (left_from c w es) (after_calls n (asked (calls_from c w es)))
   pub bases : IsLonger (bases_of w.allocations) (bases_of (left_from c w es).allocations)
-  pub right : answered (calls_from c w es) ≡ answers_of (bases_of (left_from c w es).allocations) (replies_of n (asked (calls_from c w es)))
+  pub right : answered (calls_from c w es)
+      ≡ answers_of (bases_of (left_from c w es).allocations) (replies_of n (asked (calls_from c w es)))
 
 abbrev call_of : Decided → Call
 call_of x = record { caller = x.caller; op = x.op }
@@ -46,40 +50,54 @@ call_of x = record { caller = x.caller; op = x.op }
 abbrev answer_in : Decided → Answer
 answer_in x = x.answer
 
-joined_right : (bs : List ℕ) (n : NeverState) (xs ys : List Decided) → answered xs ≡ answers_of bs (replies_of n (asked xs))
-    → answered ys ≡ answers_of bs (replies_of (after_calls n (asked xs)) (asked ys)) → answered (xs ++ ys) ≡ answers_of bs (replies_of n (asked (xs ++ ys)))
+joined_right : (bs : List ℕ) (n : NeverState) (xs ys : List Decided)
+    → answered xs ≡ answers_of bs (replies_of n (asked xs))
+    → answered ys ≡ answers_of bs (replies_of (after_calls n (asked xs)) (asked ys))
+    → answered (xs ++ ys) ≡ answers_of bs (replies_of n (asked (xs ++ ys)))
 joined_right bs n xs ys hx hy =
-    map-append answer_in xs ys ∙ ap (λ zs. zs ++ answered ys) hx ∙ ap (λ zs. answers_of bs (replies_of n (asked xs)) ++ zs) hy
+    map-append answer_in xs ys ∙ ap (λ zs. zs ++ answered ys) hx
+    ∙ ap (λ zs. answers_of bs (replies_of n (asked xs)) ++ zs) hy
     ∙ sym (map-append (answer_of bs) (replies_of n (asked xs)) (replies_of (after_calls n (asked xs)) (asked ys)))
-    ∙ ap (answers_of bs) (sym (replies_append n (asked xs) (asked ys)) ∙ ap (replies_of n) (sym (map-append call_of xs ys)))
+    ∙ ap (answers_of bs) (sym (replies_append n (asked xs) (asked ys))
+    ∙ ap (replies_of n) (sym (map-append call_of xs ys)))
 
 -- The list is in two parts: the events that are done, and those that come.
-follows_from : (c : Config) (whole done es : List Event) (w : World) (n : NeverState) → IsWithinLimits c → w ≡ left c done → AreEnabled c done → AreEnabledFrom c w es
-    → done ++ es ≡ whole → OthersSayAlong c whole → Mirrors c w n → AreAdmitted c.globals n (asked (calls_from c w es)) → FollowsAll c w n es
+follows_from : (c : Config) (whole done es : List Event) (w : World) (n : NeverState) → IsWithinLimits c
+    → w ≡ left c done → AreEnabled c done → AreEnabledFrom c w es
+    → done ++ es ≡ whole → OthersSayAlong c whole → Mirrors c w n → AreAdmitted c.globals n (asked (calls_from c w es))
+    → FollowsAll c w n es
 unfolding left_from AreEnabledFrom calls_from
-follows_from c whole done [] w n limits is was on e others mirrors ad = record { mirrors = mirrors; bases = record { more = []; is = sym (append-nil _) }; right = refl }
+follows_from c whole done [] w n limits is was on e others mirrors ad =
+    record { mirrors = mirrors; bases = record { more = []; is = sym (append-nil _) }; right = refl }
 follows_from c whole done (x ∷ es) w n limits is was on e others mirrors ad =
     let xs = call_decided c w.now x in
     let v = world_behind c w x in
     let ys = calls_from c v es in
     let split : asked (xs ++ ys) ≡ asked xs ++ asked ys = map-append call_of xs ys in
-    let admitted = admitted_split c.globals n (asked xs) (asked ys) (subst (λ (zs : List Call). AreAdmitted c.globals n zs) split ad) in
+    let admitted = admitted_split c.globals n (asked xs) (asked ys)
+    (subst (λ (zs : List Call). AreAdmitted c.globals n zs) split ad) in
     let known : KnownWorld c w = subst (λ (y : World). KnownWorld c y) (sym is) (known_world c done limits was) in
     let here : OthersSay c w = subst (λ (y : World). OthersSay c y) (sym is) (others done (x ∷ es) e) in
     let one : Follows c w n x = one_event c w n x known here mirrors on.0 admitted.0 in
-    let behind : v ≡ left c (done ++ x ∷ []) = ap (λ y. world_behind c y x) is ∙ sym (left_more c (first_world c) done x) in
-    let enabled : AreEnabled c (done ++ x ∷ []) = enabled_more c (first_world c) done x was (subst (λ (y : World). IsEnabled c y.now x) is on.0) in
+    let behind : v ≡ left c (done ++ x ∷ []) = ap (λ y. world_behind c y x) is
+    ∙ sym (left_more c (first_world c) done x) in
+    let enabled : AreEnabled c (done ++ x ∷ []) =
+    enabled_more c (first_world c) done x was (subst (λ (y : World). IsEnabled c y.now x) is on.0) in
     let rest : FollowsAll c v (never_after c w n x) es =
-    follows_from c whole (done ++ x ∷ []) es v (never_after c w n x) limits behind enabled on.1 (append_assoc done (x ∷ []) es ∙ e) others one.mirrors admitted.1 in
-    let after : after_calls n (asked (xs ++ ys)) ≡ after_calls (never_after c w n x) (asked ys) = ap (after_calls n) split ∙ after_append n (asked xs) (asked ys) in
+    follows_from c whole (done ++ x ∷ []) es v (never_after c w n x) limits behind enabled on.1
+    (append_assoc done (x ∷ []) es ∙ e) others one.mirrors admitted.1 in
+    let after : after_calls n (asked (xs ++ ys)) ≡ after_calls (never_after c w n x) (asked ys) =
+    ap (after_calls n) split ∙ after_append n (asked xs) (asked ys) in
     record {
       mirrors = subst (λ (m : NeverState). Mirrors c (left_from c v es) m) (sym after) rest.mirrors;
       bases = record {
         more = one.bases.more ++ rest.bases.more;
-        is = rest.bases.is ∙ ap (λ zs. zs ++ rest.bases.more) one.bases.is ∙ append_assoc (bases_of w.allocations) one.bases.more rest.bases.more;
+        is = rest.bases.is ∙ ap (λ zs. zs ++ rest.bases.more) one.bases.is
+            ∙ append_assoc (bases_of w.allocations) one.bases.more rest.bases.more;
       };
       right = joined_right (bases_of (left_from c v es).allocations) n xs ys
-          (subst (λ (bs : List ℕ). answered xs ≡ answers_of bs (replies_of n (asked xs))) (sym rest.bases.is) (one.right rest.bases.more)) rest.right;
+          (subst (λ (bs : List ℕ). answered xs ≡ answers_of bs (replies_of n (asked xs))) (sym rest.bases.is)
+          (one.right rest.bases.more)) rest.right;
     }
 
 -- the first world
@@ -103,20 +121,27 @@ first_mirrors c =
       typed = start_is_typed c.globals c.types c.callers;
       twins = record { count = refl; ty = λ a lt. absurd (omega arith); freed = λ a lt. absurd (omega arith) };
       images = record {
-        registers = λ k. subst (λ (f : Flight). shown f (k % 8) (slice_index (replicate 128 0) k) ≡ image_of [] (slice_index_or (replicate (8 * c.callers) Null) k Null)) (sym (at_first c.callers (k / 8) at_rest))
+        registers = λ k. subst (λ (f : Flight). shown f (k % 8) (slice_index (replicate 128 0) k)
+            ≡ image_of [] (slice_index_or (replicate (8 * c.callers) Null) k Null))
+            (sym (at_first c.callers (k / 8) at_rest))
             (at_first 128 k 0 ∙ sym (ap (image_of []) (at_first (8 * c.callers) k Null)));
         globals = λ g. at_first 64 g 0 ∙ sym (ap (image_of []) (at_first 64 g Null));
         heap = λ a i u m lt. absurd (omega arith);
-        carried = λ j. subst (λ (f : Flight). CarriesOwn [] (never_first c) j f) (sym (at_first c.callers j at_rest)) (bare_carries [] at_rest _ _ _ refl);
-        probed = λ j. subst (λ (f : Flight). ProbedOwn (never_first c) j f) (sym (at_first c.callers j at_rest)) (λ past. cc);
+        carried = λ j. subst (λ (f : Flight). CarriesOwn [] (never_first c) j f) (sym (at_first c.callers j at_rest))
+            (bare_carries [] at_rest _ _ _ refl);
+        probed = λ j. subst (λ (f : Flight). ProbedOwn (never_first c) j f) (sym (at_first c.callers j at_rest))
+            (λ past. cc);
       };
       freed_run = λ run e. cc;
       safe = first_safe c;
     }
 
-all_follow : (c : Config) (es : List Event) → IsHistory c es → OthersSayAlong c es → FollowsAll c (first_world c) (never_first c) es
+all_follow : (c : Config) (es : List Event) → IsHistory c es → OthersSayAlong c es
+    → FollowsAll c (first_world c) (never_first c) es
 unfolding left_from AreEnabledFrom
-all_follow c es h others = follows_from c es [] es (first_world c) (never_first c) h.within_limits refl tt h.enabled refl others (first_mirrors c) h.admitted
+all_follow c es h others =
+    follows_from c es [] es (first_world c) (never_first c) h.within_limits refl tt h.enabled refl others
+    (first_mirrors c) h.admitted
 
 pub histories_refine : HistoriesRefineNever
 histories_refine c es h others = (all_follow c es h others).right
@@ -126,7 +151,8 @@ histories_mirror c es h others = (all_follow c es h others).mirrors
 
 -- The premises hold along each front.
 pub say_along : (c : Config) (front rest : List Event) → OthersSayAlong c (front ++ rest) → OthersSayAlong c front
-say_along c front rest others xs ys e = others xs (ys ++ rest) (sym (append_assoc xs ys rest) ∙ ap (λ (zs : List Event). zs ++ rest) e)
+say_along c front rest others xs ys e = others xs (ys ++ rest) (sym (append_assoc xs ys rest)
+    ∙ ap (λ (zs : List Event). zs ++ rest) e)
 
 -- A list is the last of its own fronts.
 others_behind : (c : Config) (es : List Event) → OthersSayAlong c es → OthersSay c (left c es)
@@ -134,7 +160,8 @@ others_behind c es others = others es [] (append-nil es)
 
 pub histories_tell : HistoriesTellOthers
 histories_tell c es h others =
-    images_say c (left c es) (never_behind c es) (known_world c es h.within_limits h.enabled) (others_behind c es others) (histories_mirror c es h others)
+    images_say c (left c es) (never_behind c es) (known_world c es h.within_limits h.enabled)
+    (others_behind c es others) (histories_mirror c es h others)
 
 -- What is reached is in a safe set.
 safe_leads : (safe : ℕ → Bool) (v : Value) (number : ℕ) → IsSafe safe v → LeadsTo v number → safe number ≡ true

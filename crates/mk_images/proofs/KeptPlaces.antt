@@ -6,11 +6,14 @@ use Rattle.mk_core.specs.History.{bases_of}
 use Rattle.mk_core.proofs.ChangedAllocations.{LeavesPlaces, changed_at}
 use Rattle.mk_images.proofs.Moves.{SamePlaces}
 
-same_bases : (change : PlacedAllocation → PlacedAllocation) (xs : List PlacedAllocation) → LeavesPlaces change → bases_of (map change xs) ≡ bases_of xs
+same_bases : (change : PlacedAllocation → PlacedAllocation) (xs : List PlacedAllocation) → LeavesPlaces change
+    → bases_of (map change xs) ≡ bases_of xs
 same_bases change [] h = refl
-same_bases change (a ∷ xs) h = ap (λ b. b ∷ bases_of (map change xs)) (h.base a) ∙ ap (λ bs. a.base ∷ bs) (same_bases change xs h)
+same_bases change (a ∷ xs) h = ap (λ b. b ∷ bases_of (map change xs)) (h.base a)
+    ∙ ap (λ bs. a.base ∷ bs) (same_bases change xs h)
 
-pub same_places : (change : PlacedAllocation → PlacedAllocation) (xs : List PlacedAllocation) → LeavesPlaces change → SamePlaces xs (map change xs)
+pub same_places : (change : PlacedAllocation → PlacedAllocation) (xs : List PlacedAllocation) → LeavesPlaces change
+    → SamePlaces xs (map change xs)
 same_places change xs h =
     record {
       bases = same_bases change xs h;

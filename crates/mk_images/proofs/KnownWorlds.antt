@@ -14,4 +14,5 @@ pub record KnownWorld (c : Config) (w : World) : Type 0 where
   pub lengths : AreOfPages c.pages w.now.words
 
 pub known_world : (c : Config) (es : List Event) → IsWithinLimits c → AreEnabled c es → KnownWorld c (left c es)
-known_world c es limits on = record { limits = limits; now = known_left c es limits on; lengths = histories_keep_lengths c es }
+known_world c es limits on =
+    record { limits = limits; now = known_left c es limits on; lengths = histories_keep_lengths c es }

@@ -28,9 +28,12 @@ use Rattle.mk_images.proofs.EventSorts.{goes}
 pub record Follows (c : Config) (w : World) (n : NeverState) (e : Event) : Type 0 where
   pub mirrors : Mirrors c (world_behind c w e) (never_after c w n e)
   pub bases : IsLonger (bases_of w.allocations) (bases_of (world_behind c w e).allocations)
-  pub right : (later : List ℕ) → answered (call_decided c w.now e) ≡ answers_of (bases_of (world_behind c w e).allocations ++ later) (replies_of n (asked (call_decided c w.now e)))
+  pub right : (later : List ℕ)
+      → answered (call_decided c w.now e)
+      ≡ answers_of (bases_of (world_behind c w e).allocations ++ later) (replies_of n (asked (call_decided c w.now e)))
 
-pub one_event : (c : Config) (w : World) (n : NeverState) (e : Event) → KnownWorld c w → OthersSay c w → Mirrors c w n → IsEnabled c w.now e
+pub one_event : (c : Config) (w : World) (n : NeverState) (e : Event) → KnownWorld c w → OthersSay c w → Mirrors c w n
+    → IsEnabled c w.now e
     → AreAdmitted c.globals n (asked (call_decided c w.now e)) → Follows c w n e
 one_event c w n e known others mirrors on ad =
     let safe = mirrors.safe in
@@ -45,10 +48,13 @@ one_event c w n e known others mirrors on ad =
         register_count = stays.registers ∙ mirrors.register_count;
         global_count = stays.globals ∙ mirrors.global_count;
         typed = calls_keep c.globals n (asked (call_decided c w.now e)) mirrors.typed ad;
-        twins = twins_kept safe.0 (scene_of w) (scene_of (world_behind c w e)) n (never_after c w n e) mirrors.twins leads.0;
-        images = images_kept c.globals safe.0 (scene_of w) (scene_of (world_behind c w e)) n (never_after c w n e) mirrors.images ready.small mirrors.typed mirrors.twins.count ready.apart leads.0;
+        twins = twins_kept safe.0 (scene_of w) (scene_of (world_behind c w e)) n (never_after c w n e) mirrors.twins
+            leads.0;
+        images = images_kept c.globals safe.0 (scene_of w) (scene_of (world_behind c w e)) n
+            (never_after c w n e) mirrors.images ready.small mirrors.typed mirrors.twins.count ready.apart leads.0;
         freed_run = freed_run_stays c w n e known others mirrors (enabled_meets c w.now e on) grows ad;
-        safe = safe_kept safe.0 (scene_of w) (scene_of (world_behind c w e)) n (never_after c w n e) safe.1 mirrors.twins.count leads.0;
+        safe = safe_kept safe.0 (scene_of w) (scene_of (world_behind c w e)) n (never_after c w n e) safe.1
+            mirrors.twins.count leads.0;
       };
       bases = grows;
       right = leads.1;

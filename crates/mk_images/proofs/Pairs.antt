@@ -1,5 +1,6 @@
 -- Two lists that are changed at one place together, and facts on images under changes of what they read.
-use Rattle.std.proofs.Common.{◌≡◌, ◌≢◌, ℕ, ◌+◌, ◌<◌, true, false, List, ◌++◌, length, get_or, set, refl, sym, ap, subst, ◌∙◌, inl, inr, arith}
+use Rattle.std.proofs.Common.{◌≡◌, ◌≢◌, ℕ, ◌+◌, ◌<◌, true, false, List, ◌++◌, length, get_or, set, refl, sym, ap, subst}
+use Rattle.std.proofs.Common.{◌∙◌, inl, inr, arith}
 use Rattle.std.specs.Prelude.{if◌then◌else◌}
 use Rattle.std.proofs.lemmas.Bool.{cases_eq, eq-eqb, ne_eqb}
 use Rattle.std.proofs.lemmas.List.{get_or-set_same, get_or-set_other, get_or_append_left}
@@ -14,15 +15,20 @@ use Rattle.mk_core.specs.declared.seats.Flight.{Flight}
 use Rattle.mk_geom.specs.Addresses.{address_of}
 use Rattle.mk_core.specs.Image.{image_of}
 use Rattle.mk_core.specs.Calls.{d_of}
-use Rattle.mk_images.specs.Images.{has_q, has_some_q, has_p, has_some_p, has_r, is_put, owes, shown, is_past_probe, Carries, IsMet}
+use Rattle.mk_images.specs.Images.{has_q, has_some_q, has_p, has_some_p, has_r, is_put, owes, shown, is_past_probe}
+use Rattle.mk_images.specs.Images.{Carries, IsMet}
 use Rattle.mk_images.proofs.Moves.{is_bare}
 
-pub set_both : {A B : Type 0} (P : A → B → Type 0) (xs : List A) (ys : List B) (k i : ℕ) (x dx : A) (y dy : B) → k < length xs → k < length ys
-    → (i ≡ k → P x y) → (i ≢ k → P (get_or xs i dx) (get_or ys i dy)) → P (get_or (set xs k x) i dx) (get_or (set ys k y) i dy)
+pub set_both : {A B : Type 0} (P : A → B → Type 0) (xs : List A) (ys : List B) (k i : ℕ) (x dx : A) (y dy : B)
+    → k < length xs → k < length ys
+    → (i ≡ k → P x y) → (i ≢ k → P (get_or xs i dx) (get_or ys i dy))
+    → P (get_or (set xs k x) i dx) (get_or (set ys k y) i dy)
 set_both P xs ys k i x dx y dy lx ly new old = elim (cases_eq i k) [
   | inl e ↦ subst (λ (j : ℕ). P (get_or (set xs k x) j dx) (get_or (set ys k y) j dy)) (sym e)
-      (subst (λ a. P a (get_or (set ys k y) k dy)) (sym (get_or-set_same xs k x dx lx)) (subst (λ b. P x b) (sym (get_or-set_same ys k y dy ly)) (new e)))
-  | inr ne ↦ subst (λ a. P a (get_or (set ys k y) i dy)) (sym (get_or-set_other xs k i x dx ne)) (subst (λ b. P (get_or xs i dx) b) (sym (get_or-set_other ys k i y dy ne)) (old ne))
+      (subst (λ a. P a (get_or (set ys k y) k dy)) (sym (get_or-set_same xs k x dx lx))
+      (subst (λ b. P x b) (sym (get_or-set_same ys k y dy ly)) (new e)))
+  | inr ne ↦ subst (λ a. P a (get_or (set ys k y) i dy)) (sym (get_or-set_other xs k i x dx ne))
+      (subst (λ b. P (get_or xs i dx) b) (sym (get_or-set_other ys k i y dy ne)) (old ne))
 ]
 
 -- a stage that carries nothing
@@ -37,7 +43,9 @@ bare_carries bs f a b d h =
       r = λ e. let x : false ≡ true = sym n.4 ∙ e in cc;
     }
   where
-    none : (s : Stage) (o : Op) → is_bare s ≡ true → (has_q s o ≡ false) × (has_some_q s o ≡ false) × (has_p s o ≡ false) × (has_some_p s o ≡ false) × (has_r s o ≡ false)
+    none : (s : Stage) (o : Op) → is_bare s ≡ true
+        → (has_q s o ≡ false) × (has_some_q s o ≡ false) × (has_p s o ≡ false) × (has_some_p s o ≡ false)
+        × (has_r s o ≡ false)
     none stage.Idle o h = (refl, refl, refl, refl, refl)
     none stage.Getg o h = (refl, refl, refl, refl, refl)
     none stage.Dirty o h = (refl, refl, refl, refl, refl)
@@ -68,26 +76,39 @@ shows_plain f r x h = ap (λ b. if b then f.loaded else x) (none f.stage (d_of f
     none _ d r h = refl
 
 pub shows_owed : (f : Flight) (x : ℕ) → f.stage ≡ stage.Put → shown f (d_of f.op) x ≡ f.loaded
-shows_owed f x h = ap (λ (s : Stage). if owes s (d_of f.op) (d_of f.op) then f.loaded else x) h ∙ ap (λ b. if b then f.loaded else x) (eq-eqb (d_of f.op) (d_of f.op) refl)
+shows_owed f x h = ap (λ (s : Stage). if owes s (d_of f.op) (d_of f.op) then f.loaded else x) h
+    ∙ ap (λ b. if b then f.loaded else x) (eq-eqb (d_of f.op) (d_of f.op) refl)
 
 pub shows_other : (f : Flight) (r x : ℕ) → f.stage ≡ stage.Put → d_of f.op ≢ r → shown f r x ≡ x
-shows_other f r x h ne = ap (λ (s : Stage). if owes s (d_of f.op) r then f.loaded else x) h ∙ ap (λ b. if b then f.loaded else x) (ne_eqb (d_of f.op) r ne)
+shows_other f r x h ne = ap (λ (s : Stage). if owes s (d_of f.op) r then f.loaded else x) h
+    ∙ ap (λ b. if b then f.loaded else x) (ne_eqb (d_of f.op) r ne)
 
 pub bare_owes_nothing : (s : Stage) → is_bare s ≡ true → is_put s ≡ false
 bare_owes_nothing stage.Put h = cc
 bare_owes_nothing _ h = refl
 
 -- images with one more base
-pub image_more : (n : NeverState) (bs more : List ℕ) (v : Value) → length bs ≡ length n.allocations → IsSound n v → image_of (bs ++ more) v ≡ image_of bs v
+pub image_more : (n : NeverState) (bs more : List ℕ) (v : Value) → length bs ≡ length n.allocations → IsSound n v
+    → image_of (bs ++ more) v ≡ image_of bs v
 image_more n bs more Null e s = refl
 image_more n bs more (Num m) e s = refl
-image_more n bs more (Ptr a t o) e s = ap (λ x. address_of (x + o)) (get_or_append_left bs more 0 a (let lt : a < length n.allocations = s.0 in omega (arith, e)))
+image_more n bs more (Ptr a t o) e s =
+    ap (λ x. address_of (x + o))
+    (get_or_append_left bs more 0 a (let lt : a < length n.allocations = s.0 in omega (arith, e)))
 
 -- what is carried, where the values are others with the same images
-pub carries_same : (bs cs : List ℕ) (f : Flight) (a b d a2 b2 d2 : Value) → image_of cs a2 ≡ image_of bs a → image_of cs b2 ≡ image_of bs b → image_of cs d2 ≡ image_of bs d
+pub carries_same : (bs cs : List ℕ) (f : Flight) (a b d a2 b2 d2 : Value) → image_of cs a2 ≡ image_of bs a
+    → image_of cs b2 ≡ image_of bs b → image_of cs d2 ≡ image_of bs d
     → Carries bs f a b d → Carries cs f a2 b2 d2
 carries_same bs cs f a b d a2 b2 d2 ea eb ed h =
-    record { q = λ e. h.q e ∙ sym ea; some_q = h.some_q; p = λ e. h.p e ∙ sym eb; some_p = h.some_p; r = λ e. h.r e ∙ sym ed }
+    record {
+      q = λ e. h.q e ∙ sym ea;
+      some_q = h.some_q;
+      p = λ e. h.p e ∙ sym eb;
+      some_p = h.some_p;
+      r = λ e. h.r e
+          ∙ sym ed;
+    }
 
 -- an access that is met, where lengths and what is unmapped are the same
 pub met_same : (n m : NeverState) (v : Value) (i : ℕ) → ((a : ℕ) → length (words_of m a) ≡ length (words_of n a))

@@ -1,5 +1,6 @@
 -- The word that an access reaches: one of a mapped allocation.
-use Rattle.std.proofs.Common.{◌≡◌, ◌≢◌, ℕ, ◌+◌, ◌-◌, ◌/◌, ◌<◌, Bool, true, false, List, ◌++◌, length, refl, sym, ap, ◌∙◌, arith}
+use Rattle.std.proofs.Common.{◌≡◌, ◌≢◌, ℕ, ◌+◌, ◌-◌, ◌/◌, ◌<◌, Bool, true, false, List, ◌++◌, length, refl, sym, ap}
+use Rattle.std.proofs.Common.{◌∙◌, arith}
 use Rattle.std.specs.Prelude.{if◌then◌else◌}
 use Rattle.std.proofs.lemmas.Bool.{false≢true}
 use Rattle.std.proofs.lemmas.List.{length-map}
@@ -23,7 +24,8 @@ use Rattle.mk_images.proofs.Kept.{base_at}
 use Rattle.mk_images.proofs.Ready.{Ready}
 
 -- the access through the value, i words on, whose address is in q
-pub record Reaches (safe : ℕ → Bool) (s : Scene) (n : NeverState) (v : Value) (q i : ℕ) (P : Kind → Type 0) : Type 0 where
+pub record Reaches (safe : ℕ → Bool) (s : Scene) (n : NeverState) (v : Value) (q i : ℕ) (P : Kind
+    → Type 0) : Type 0 where
   pub number : ℕ
   pub place : ℕ
   pub target : target_of n v i ≡ WordOf number place
@@ -39,13 +41,16 @@ pub record Reaches (safe : ℕ → Bool) (s : Scene) (n : NeverState) (v : Value
 abbrev pub PagesShow : (ℕ → ℕ) → Scene → NeverState → Type 0
 PagesShow header s n =
     (a i : ℕ) → (placed_at s.allocations a).released ≡ false → i < length (words_of n a)
-    → is_unmapped_header (header_of (header (((placed_at s.allocations a).base + i) / 64))) ≡ is_unmapped (allocation_at n a)
+    → is_unmapped_header (header_of (header (((placed_at s.allocations a).base + i) / 64)))
+    ≡ is_unmapped (allocation_at n a)
 
 module _ (listed : List ℕ) (safe : ℕ → Bool) (s : Scene) (n : NeverState) (h : Ready listed safe s n) where
-  word_is : (a t o q i : ℕ) → q ≡ image_of (bases_of s.allocations) (Ptr a t o) → (q - 65536) / 8 + i ≡ (placed_at s.allocations a).base + (o + i)
+  word_is : (a t o q i : ℕ) → q ≡ image_of (bases_of s.allocations) (Ptr a t o)
+      → (q - 65536) / 8 + i ≡ (placed_at s.allocations a).base + (o + i)
   word_is a t o q i e = let b = base_at s.allocations a in omega arith
 
-  pub reaches : (v : Value) (q i : ℕ) (P : Kind → Type 0) → q ≡ image_of (bases_of s.allocations) v → q ≢ 0 → IsSound n v → IsSafe safe v → IsMet n v i → Meets n v i P
+  pub reaches : (v : Value) (q i : ℕ) (P : Kind → Type 0) → q ≡ image_of (bases_of s.allocations) v → q ≢ 0
+      → IsSound n v → IsSafe safe v → IsMet n v i → Meets n v i P
       → Reaches safe s n v q i P
   reaches Null q i P e ne sound is met meets = absurd (ne e)
   reaches (Num m) q i P e ne sound is met meets = absurd sound
@@ -65,31 +70,40 @@ module _ (listed : List ℕ) (safe : ℕ → Bool) (s : Scene) (n : NeverState) 
       }
 
   -- what `probe` tells
-  pub unmapped_target : (header : ℕ → ℕ) → PagesShow header s n → (v : Value) (q i : ℕ) (P : Kind → Type 0) → q ≡ image_of (bases_of s.allocations) v → q ≢ 0 → IsSound n v
+  pub unmapped_target : (header : ℕ → ℕ) → PagesShow header s n → (v : Value) (q i : ℕ) (P : Kind → Type 0)
+      → q ≡ image_of (bases_of s.allocations) v → q ≢ 0 → IsSound n v
       → IsSafe safe v → Meets n v i P
       → is_unmapped_header (header_of (header (((q - 65536) / 8 + i) / 64))) ≡ true → target_of n v i ≡ Unmapped
   unmapped_target header show Null q i P e ne sound is meets u = absurd (ne e)
   unmapped_target header show (Num m) q i P e ne sound is meets u = absurd sound
   unmapped_target header show (Ptr a t o) q i P e ne sound is meets u =
       let un : is_unmapped (allocation_at n a) ≡ true =
-      sym (show a (o + i) (h.set.unreleased a is) meets.0) ∙ ap (λ x. is_unmapped_header (header_of (header (x / 64)))) (sym (word_is a t o q i e)) ∙ u in
+      sym (show a (o + i) (h.set.unreleased a is) meets.0)
+      ∙ ap (λ x. is_unmapped_header (header_of (header (x / 64)))) (sym (word_is a t o q i e)) ∙ u in
       ap (λ b. if b then Unmapped else WordOf a (o + i)) un
 
-  pub mapped_met : (header : ℕ → ℕ) → PagesShow header s n → (v : Value) (q i : ℕ) → q ≡ image_of (bases_of s.allocations) v → q ≢ 0 → IsSound n v → IsSafe safe v
+  pub mapped_met : (header : ℕ → ℕ) → PagesShow header s n → (v : Value) (q i : ℕ)
+      → q ≡ image_of (bases_of s.allocations) v → q ≢ 0 → IsSound n v → IsSafe safe v
       → is_unmapped_header (header_of (header (((q - 65536) / 8 + i) / 64))) ≡ false → IsMet n v i
   mapped_met header show Null q i e ne sound is u = tt
   mapped_met header show (Num m) q i e ne sound is u = tt
   mapped_met header show (Ptr a t o) q i e ne sound is u = λ inside.
-      sym (show a (o + i) (h.set.unreleased a is) inside) ∙ ap (λ x. is_unmapped_header (header_of (header (x / 64)))) (sym (word_is a t o q i e)) ∙ u
+      sym (show a (o + i) (h.set.unreleased a is) inside)
+      ∙ ap (λ x. is_unmapped_header (header_of (header (x / 64)))) (sym (word_is a t o q i e)) ∙ u
 
   -- a word of a mapped allocation
-  pub suits : (a i : ℕ) → a < length n.allocations → i < length (words_of n a) → Suits n (word_at n a i) (kind_in n (allocation_at n a) i)
+  pub suits : (a i : ℕ) → a < length n.allocations → i < length (words_of n a)
+      → Suits n (word_at n a i) (kind_in n (allocation_at n a) i)
   suits a i la li = let t : IsTypedAllocation n (allocation_at n a) = h.typed.allocations a la in t.words i li
 
-  pub sound_more : (v : Value) (more : List ℕ) → IsSound n v → image_of (bases_of s.allocations) v ≡ image_of (bases_of s.allocations ++ more) v
-  sound_more v more sound = sym (image_more n (bases_of s.allocations) more v (length-map s.allocations (λ (x : PlacedAllocation). x.base) ∙ h.count) sound)
+  pub sound_more : (v : Value) (more : List ℕ) → IsSound n v
+      → image_of (bases_of s.allocations) v ≡ image_of (bases_of s.allocations ++ more) v
+  sound_more v more sound =
+      sym (image_more n (bases_of s.allocations) more v (length-map s.allocations (λ (x : PlacedAllocation). x.base)
+      ∙ h.count) sound)
 
-pub of_number : (n : NeverState) (bs : List ℕ) (v : Value) (kind : Kind) → IsNumber kind → Suits n v kind → image_of bs v ≡ number_of v
+pub of_number : (n : NeverState) (bs : List ℕ) (v : Value) (kind : Kind) → IsNumber kind → Suits n v kind
+    → image_of bs v ≡ number_of v
 of_number n bs (Num m) Number is su = refl
 of_number n bs Null Number is su = absurd su
 of_number n bs (Ptr a t o) Number is su = absurd su

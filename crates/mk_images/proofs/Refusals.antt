@@ -1,5 +1,6 @@
 -- A call that is decided and changes nothing, or is refused.
-use Rattle.std.proofs.Common.{◌≡◌, ℕ, ◌+◌, ◌*◌, ◌<◌, Bool, true, false, List, ◌++◌, length, refl, sym, ap, subst, ◌∙◌, arith}
+use Rattle.std.proofs.Common.{◌≡◌, ℕ, ◌+◌, ◌*◌, ◌<◌, Bool, true, false, List, ◌++◌, length, refl, sym, ap, subst, ◌∙◌}
+use Rattle.std.proofs.Common.{arith}
 use Rattle.std.specs.Prelude.{slice_set, Some, if◌then◌else◌}
 use Rattle.mk_never.specs.declared.operations.Op.{Op}
 use Rattle.mk_never.specs.declared.operations.Op.TheVariants as op
@@ -8,7 +9,8 @@ use Rattle.mk_never.specs.declared.operations.Reply.TheVariants.{Done, Num as Nu
 use Rattle.mk_never.specs.declared.values.Value.TheVariants.{Null, Num}
 use Rattle.mk_never.specs.declared.values.Target.{Target}
 use Rattle.mk_never.specs.declared.values.Target.TheVariants.{Nothing, Unmapped, WordOf}
-use Rattle.mk_never.specs.NeverHeap.{NeverState, register_at, with_register, number_of, bit, is_same, word_at, with_word, target_of, reply_at, left_at, reply_of, after_op}
+use Rattle.mk_never.specs.NeverHeap.{NeverState, register_at, with_register, number_of, bit, is_same, word_at}
+use Rattle.mk_never.specs.NeverHeap.{with_word, target_of, reply_at, left_at, reply_of, after_op}
 use Rattle.mk_core.specs.declared.events.Answer.{Answer}
 use Rattle.mk_core.specs.declared.seats.Stage.{Stage}
 use Rattle.mk_core.specs.declared.seats.Stage.TheVariants as stage
@@ -35,33 +37,44 @@ is_word (WordOf a i) = true
 is_word _ = false
 
 -- a flight that goes on, with nothing owed before or behind
-pub goes_bare : (safe : ℕ → Bool) (s : Scene) (n : NeverState) (k : ℕ) (f : Flight) → is_put (flight_among s.flights k).stage ≡ false → is_bare f.stage ≡ true
+pub goes_bare : (safe : ℕ → Bool) (s : Scene) (n : NeverState) (k : ℕ) (f : Flight)
+    → is_put (flight_among s.flights k).stage ≡ false → is_bare f.stage ≡ true
     → Move safe s n (record s { flights = slice_set s.flights k f }) n
 goes_bare safe s n k f was bare =
-    Flies k f (λ r x. shows_plain f r x (bare_owes_nothing f.stage bare) ∙ sym (shows_plain (flight_among s.flights k) r x was)) (bare_carries _ f _ _ _ bare)
+    Flies k f (λ r x. shows_plain f r x (bare_owes_nothing f.stage bare)
+    ∙ sym (shows_plain (flight_among s.flights k) r x was)) (bare_carries _ f _ _ _ bare)
     (λ past. let x : false ≡ true = sym (bare_unprobed f.stage bare) ∙ past in cc)
 
 -- a decided call that leaves the heap as it is
-pub decides_nothing : (safe : ℕ → Bool) (s : Scene) (n : NeverState) (k : ℕ) (o : Op) (f : Flight) (a : Answer) → flagged o a ≡ o
+pub decides_nothing : (safe : ℕ → Bool) (s : Scene) (n : NeverState) (k : ℕ) (o : Op) (f : Flight) (a : Answer)
+    → flagged o a ≡ o
     → is_put (flight_among s.flights k).stage ≡ false → is_bare f.stage ≡ true → after_op n k o ≡ n
-    → ((bs : List ℕ) → a ≡ answer_of bs (reply_of n k o)) → Leads safe s n k o (record s { flights = slice_set s.flights k f }) (Some a)
+    → ((bs : List ℕ) → a ≡ answer_of bs (reply_of n k o))
+    → Leads safe s n k o (record s { flights = slice_set s.flights k f }) (Some a)
 decides_nothing safe s n k o f a flag was bare stays is = (
-  subst (λ (m : NeverState). Move safe s n (record s { flights = slice_set s.flights k f }) m) (sym (ap (after_op n k) flag ∙ stays)) (goes_bare safe s n k f was bare),
-  λ more. one_right _ a n k o (is _ ∙ ap (λ (x : Op). answer_of (bases_of s.allocations ++ more) (reply_of n k x)) (sym flag)),
+  subst (λ (m : NeverState). Move safe s n (record s { flights = slice_set s.flights k f }) m)
+      (sym (ap (after_op n k) flag ∙ stays)) (goes_bare safe s n k f was bare),
+  λ more. one_right _ a n k o (is _
+      ∙ ap (λ (x : Op). answer_of (bases_of s.allocations ++ more) (reply_of n k x)) (sym flag)),
 )
 
 -- a refused call whose register becomes null, which is still to be stored
-pub owes_null : (safe : ℕ → Bool) (s : Scene) (n : NeverState) (k d : ℕ) (o : Op) (f : Flight) (a : Answer) → flagged o a ≡ o → k < length s.flights
+pub owes_null : (safe : ℕ → Bool) (s : Scene) (n : NeverState) (k d : ℕ) (o : Op) (f : Flight) (a : Answer)
+    → flagged o a ≡ o → k < length s.flights
     → 8 * k + 7 < length n.registers → is_put (flight_among s.flights k).stage ≡ false
     → f.stage ≡ stage.Put → d_of f.op ≡ d → d < 8 → f.loaded ≡ 0 → after_op n k o ≡ with_register n k d Null
-    → ((bs : List ℕ) → a ≡ answer_of bs (reply_of n k o)) → Leads safe s n k o (record s { flights = slice_set s.flights k f }) (Some a)
+    → ((bs : List ℕ) → a ≡ answer_of bs (reply_of n k o))
+    → Leads safe s n k o (record s { flights = slice_set s.flights k f }) (Some a)
 owes_null safe s n k d o f a flag there long was put isd ld zero stays is = (
-  subst (λ (m : NeverState). Move safe s n (record s { flights = slice_set s.flights k f }) m) (sym (ap (after_op n k) flag ∙ stays ∙ ap (λ x. with_register n k x Null) (sym isd)))
+  subst (λ (m : NeverState). Move safe s n (record s { flights = slice_set s.flights k f }) m)
+      (sym (ap (after_op n k) flag ∙ stays ∙ ap (λ x. with_register n k x Null) (sym isd)))
       (Owes k f Null there long was put (omega (arith, isd)) zero tt),
-  λ more. one_right _ a n k o (is _ ∙ ap (λ (x : Op). answer_of (bases_of s.allocations ++ more) (reply_of n k x)) (sym flag)),
+  λ more. one_right _ a n k o (is _
+      ∙ ap (λ (x : Op). answer_of (bases_of s.allocations ++ more) (reply_of n k x)) (sym flag)),
 )
 
-refused_reply : (x t : Target) (at : ℕ → ℕ → Reply) → x ≡ t → is_word t ≡ false → reply_at x at ≡ reply_at t (λ a w. Done)
+refused_reply : (x t : Target) (at : ℕ → ℕ → Reply) → x ≡ t → is_word t ≡ false
+    → reply_at x at ≡ reply_at t (λ a w. Done)
 refused_reply x t at e none = ap (λ (y : Target). reply_at y at) e ∙ by t none
   where
     by : (t : Target) → is_word t ≡ false → reply_at t at ≡ reply_at t (λ a w. Done)
@@ -69,7 +82,8 @@ refused_reply x t at e none = ap (λ (y : Target). reply_at y at) e ∙ by t non
     by Unmapped none = refl
     by (WordOf a i) none = cc
 
-refused_left : (x t : Target) (left : NeverState) (at : ℕ → ℕ → NeverState) → x ≡ t → is_word t ≡ false → left_at x left at ≡ left
+refused_left : (x t : Target) (left : NeverState) (at : ℕ → ℕ → NeverState) → x ≡ t → is_word t ≡ false
+    → left_at x left at ≡ left
 refused_left x t left at e none = ap (λ (y : Target). left_at y left at) e ∙ by t none
   where
     by : (t : Target) → is_word t ≡ false → left_at t left at ≡ left
@@ -85,26 +99,45 @@ abbrev flight : Stage → Op → ℕ → ℕ → ℕ → ℕ → Flight
 flight st o q p r l = record { stage = st; op = o; q = q; p = p; r = r; loaded = l }
 
 -- an access that reaches none word
-pub refuses : (safe : ℕ → Bool) (s : Scene) (n : NeverState) (k : ℕ) (o : Op) (q p r : ℕ) (a : Answer) (t : Target) → accesses o ≡ true → k < length s.flights
+pub refuses : (safe : ℕ → Bool) (s : Scene) (n : NeverState) (k : ℕ) (o : Op) (q p r : ℕ) (a : Answer) (t : Target)
+    → accesses o ≡ true → k < length s.flights
     → 8 * k + 7 < length n.registers
-    → is_put (flight_among s.flights k).stage ≡ false → d_of o < 8 → is_word t ≡ false → target_of n (register_at n k (q_of o)) (i_of o) ≡ t
+    → is_put (flight_among s.flights k).stage ≡ false → d_of o < 8 → is_word t ≡ false
+    → target_of n (register_at n k (q_of o)) (i_of o) ≡ t
     → ((bs : List ℕ) → a ≡ answer_of bs (reply_at t (λ a w. Done)))
-    → Leads safe s n k o (record s { flights = slice_set s.flights k (record { stage = stage_refused o; op = o; q = q; p = p; r = r; loaded = 0 }) }) (Some a)
+    → Leads safe s n k o
+    (record s {
+      flights = slice_set s.flights k
+          (record { stage = stage_refused o; op = o; q = q; p = p; r = r; loaded = 0 });
+    }) (Some a)
 refuses safe s n k (op.GetNum q' i) q p r a t is there long was ld none e answer =
     decides_nothing safe s n k (op.GetNum q' i) (flight stage.Leave (op.GetNum q' i) q p r 0) a refl was refl refl
-    (λ bs. answer bs ∙ ap (answer_of bs) (sym (refused_reply (target_of n (register_at n k q') i) t (λ a w. Number (number_of (word_at n a w))) e none)))
+    (λ bs. answer bs ∙ ap (answer_of bs)
+    (sym (refused_reply (target_of n (register_at n k q') i) t (λ a w. Number (number_of (word_at n a w))) e none)))
 refuses safe s n k (op.SetNum q' i m) q p r a t is there long was ld none e answer =
-    decides_nothing safe s n k (op.SetNum q' i m) (flight stage.Leave (op.SetNum q' i m) q p r 0) a refl was refl (refused_left (target_of n (register_at n k q') i) t n (λ a w. with_word n a w (Num m)) e none)
-    (λ bs. answer bs ∙ ap (answer_of bs) (sym (refused_reply (target_of n (register_at n k q') i) t (λ a w. Done) e none)))
+    decides_nothing safe s n k (op.SetNum q' i m) (flight stage.Leave (op.SetNum q' i m) q p r 0) a refl was refl
+    (refused_left (target_of n (register_at n k q') i) t n (λ a w. with_word n a w (Num m)) e none)
+    (λ bs. answer bs ∙ ap (answer_of bs)
+    (sym (refused_reply (target_of n (register_at n k q') i) t (λ a w. Done) e none)))
 refuses safe s n k (op.SetPtr q' i p') q p r a t is there long was ld none e answer =
-    decides_nothing safe s n k (op.SetPtr q' i p') (flight stage.Leave (op.SetPtr q' i p') q p r 0) a refl was refl (refused_left (target_of n (register_at n k q') i) t n (λ a w. with_word n a w (register_at n k p')) e none)
-    (λ bs. answer bs ∙ ap (answer_of bs) (sym (refused_reply (target_of n (register_at n k q') i) t (λ a w. Done) e none)))
+    decides_nothing safe s n k (op.SetPtr q' i p') (flight stage.Leave (op.SetPtr q' i p') q p r 0) a refl was refl
+    (refused_left (target_of n (register_at n k q') i) t n (λ a w. with_word n a w (register_at n k p')) e none)
+    (λ bs. answer bs ∙ ap (answer_of bs)
+    (sym (refused_reply (target_of n (register_at n k q') i) t (λ a w. Done) e none)))
 refuses safe s n k (op.CasPtr q' i p' r') q p r a t is there long was ld none e answer =
-    decides_nothing safe s n k (op.CasPtr q' i p' r') (flight stage.Leave (op.CasPtr q' i p' r') q p r 0) a refl was refl (refused_left (target_of n (register_at n k q') i) t n (λ a w. if is_same (word_at n a w) (register_at n k p') then with_word n a w (register_at n k r') else n) e none)
-    (λ bs. answer bs ∙ ap (answer_of bs) (sym (refused_reply (target_of n (register_at n k q') i) t (λ a w. Number (bit (is_same (word_at n a w) (register_at n k p')))) e none)))
+    decides_nothing safe s n k (op.CasPtr q' i p' r') (flight stage.Leave (op.CasPtr q' i p' r') q p r 0) a refl was
+    refl (refused_left (target_of n (register_at n k q') i) t n
+    (λ a w. if is_same (word_at n a w) (register_at n k p') then with_word n a w (register_at n k r')
+    else n) e none)
+    (λ bs. answer bs ∙ ap (answer_of bs)
+    (sym (refused_reply (target_of n (register_at n k q') i) t
+    (λ a w. Number (bit (is_same (word_at n a w) (register_at n k p')))) e none)))
 refuses safe s n k (op.GetPtr d q' i) q p r a t is there long was ld none e answer =
-    owes_null safe s n k d (op.GetPtr d q' i) (flight stage.Put (op.GetPtr d q' i) q p r 0) a refl there long was refl refl ld refl
-    (refused_left (target_of n (register_at n k q') i) t (with_register n k d Null) (λ a w. with_register n k d (word_at n a w)) e none)
-    (λ bs. answer bs ∙ ap (answer_of bs) (sym (refused_reply (target_of n (register_at n k q') i) t (λ a w. Val (word_at n a w)) e none)))
+    owes_null safe s n k d (op.GetPtr d q' i) (flight stage.Put (op.GetPtr d q' i) q p r 0) a refl there long was refl
+    refl ld refl
+    (refused_left (target_of n (register_at n k q') i) t (with_register n k d Null)
+    (λ a w. with_register n k d (word_at n a w)) e none)
+    (λ bs. answer bs ∙ ap (answer_of bs)
+    (sym (refused_reply (target_of n (register_at n k q') i) t (λ a w. Val (word_at n a w)) e none)))
 refuses safe s n k (op.New d' ty full) q p r a t is there long was ld none e answer = cc
 refuses safe s n k _ q p r a t is there long was ld none e answer = cc

@@ -1,5 +1,6 @@
 -- A release cuts the safe set to the marked allocations.
-use Rattle.std.proofs.Common.{◌≡◌, ℕ, ◌+◌, ◌/◌, ◌%◌, ◌<◌, Bool, true, false, List, length, map, refl, sym, ap, subst, ◌∙◌, inl, inr, arith}
+use Rattle.std.proofs.Common.{◌≡◌, ℕ, ◌+◌, ◌/◌, ◌%◌, ◌<◌, Bool, true, false, List, length, map, refl, sym, ap, subst}
+use Rattle.std.proofs.Common.{◌∙◌, inl, inr, arith}
 use Rattle.std.specs.Prelude.{slice_index, slice_index_or, ◌&&◌, ◌||◌, not, Option, Some}
 use Rattle.std.proofs.lemmas.Bool.{cases_Bool, cases_lt, and_parts, and_from}
 use Rattle.std.proofs.lemmas.List.{get_or_past}
@@ -49,12 +50,14 @@ is_number_kind : (kind : Kind) → is_number kind ≡ true → kind ≡ Number
 is_number_kind Number h = refl
 is_number_kind (To t o) h = cc
 
-module _ (c : Config) (w : World) (n : NeverState) (known : KnownWorld c w) (mirrors : Mirrors c w n) (safe : ℕ → Bool) (ready : Ready c.globals safe (scene_of w) n) (st : Stands c w.now.words w.allocations)
+module _ (c : Config) (w : World) (n : NeverState) (known : KnownWorld c w) (mirrors : Mirrors c w n) (safe : ℕ
+    → Bool) (ready : Ready c.globals safe (scene_of w) n) (st : Stands c w.now.words w.allocations)
     (marks : MarksAreClosed c w) (plain : (j : ℕ) → is_put (flight_among w.now.seats.flights j).stage ≡ false) where
   abbrev cut : ℕ → Bool
   cut a = safe a && is_marked w.now.words (cell_of_allocation c (placed_at w.allocations a))
 
-  value_cut : (v : Value) → IsSound n v → IsSafe safe v → points_well c.pages w.now.words (image_of (bases_of w.allocations) v) ≡ true → IsSafe cut v
+  value_cut : (v : Value) → IsSound n v → IsSafe safe v
+      → points_well c.pages w.now.words (image_of (bases_of w.allocations) v) ≡ true → IsSafe cut v
   value_cut Null sound is well = tt
   value_cut (Num m) sound is well = tt
   value_cut (Ptr a t o) sound is well =
@@ -62,11 +65,14 @@ module _ (c : Config) (w : World) (n : NeverState) (known : KnownWorld c w) (mir
       let lt = exists_placed w.allocations a u in
       let word = pointed_word c.globals safe (scene_of w) n ready a t o sound in
       let fits = words_fit c w n known mirrors a lt in
-      let cell = ap (λ b. pointed_cell c.pages w.now.words.pages (address_of (b + o))) (base_at w.allocations a) ∙ st.cell a o u (omega arith) in
-      and_from (safe a) (is_marked w.now.words (cell_of_allocation c (placed_at w.allocations a))) is (ap (λ (x : Option Cell). is_none_or (is_marked w.now.words) x) (sym cell) ∙ well)
+      let cell = ap (λ b. pointed_cell c.pages w.now.words.pages (address_of (b + o))) (base_at w.allocations a)
+      ∙ st.cell a o u (omega arith) in
+      and_from (safe a) (is_marked w.now.words (cell_of_allocation c (placed_at w.allocations a))) is
+      (ap (λ (x : Option Cell). is_none_or (is_marked w.now.words) x) (sym cell) ∙ well)
 
   -- a root that is the image of a value
-  root_cut : (x : ℕ) (v : Value) → points_well c.pages w.now.words x ≡ true → x ≡ image_of (bases_of w.allocations) v → IsSound n v → IsSafe safe v → IsSafe cut v
+  root_cut : (x : ℕ) (v : Value) → points_well c.pages w.now.words x ≡ true → x ≡ image_of (bases_of w.allocations) v
+      → IsSound n v → IsSafe safe v → IsSafe cut v
   root_cut x v well e sound is = value_cut v sound is (subst (λ y. points_well c.pages w.now.words y ≡ true) e well)
 
   some_words : (a : ℕ) → (placed_at w.allocations a).released ≡ false → 0 < storage_words c (placed_at w.allocations a)
@@ -76,12 +82,15 @@ module _ (c : Config) (w : World) (n : NeverState) (known : KnownWorld c w) (mir
       holds.1.0
 
   base_cell_is : (a : ℕ) → (placed_at w.allocations a).released ≡ false
-      → pointed_cell c.pages w.now.words.pages (address_of (placed_at w.allocations a).base) ≡ Some (cell_of_allocation c (placed_at w.allocations a))
+      → pointed_cell c.pages w.now.words.pages (address_of (placed_at w.allocations a).base)
+      ≡ Some (cell_of_allocation c (placed_at w.allocations a))
   base_cell_is a u =
-      let same : address_of (placed_at w.allocations a).base ≡ address_of ((placed_at w.allocations a).base + 0) = omega arith in
+      let same : address_of (placed_at w.allocations a).base ≡ address_of ((placed_at w.allocations a).base + 0) =
+      omega arith in
       ap (pointed_cell c.pages w.now.words.pages) same ∙ st.cell a 0 u (some_words a u)
 
-  word_cut : (a i : ℕ) → safe a ≡ true → is_marked w.now.words (cell_of_allocation c (placed_at w.allocations a)) ≡ true → is_unmapped (allocation_at n a) ≡ false
+  word_cut : (a i : ℕ) → safe a ≡ true → is_marked w.now.words (cell_of_allocation c (placed_at w.allocations a)) ≡ true
+      → is_unmapped (allocation_at n a) ≡ false
       → IsSafe cut (word_at n a i)
   word_cut a i sa marked mapped = elim (cases_lt i (length (words_of n a))) [
     | inr le ↦ subst (λ (x : Value). IsSafe cut x) (sym (get_or_past (words_of n a) i Null le)) tt
@@ -93,18 +102,24 @@ module _ (c : Config) (w : World) (n : NeverState) (known : KnownWorld c w) (mir
         let un = sym (unmapped_is c w n known mirrors a lt) ∙ mapped in
         elim (cases_Bool (is_leaf (kinds_of c.types (placed_at w.allocations a).ty))) [
           | inl leaf ↦ number_cut (word_at n a i) (kind_in n (allocation_at n a) i) (typed.words i li)
-              (is_number_kind _ (subst (λ (types : List (List Kind)). is_number (slice_index_or (kinds_of types (allocation_at n a).ty) i Number) ≡ true) (sym mirrors.types)
+              (is_number_kind _ (subst
+              (λ (types : List (List Kind)). is_number
+              (slice_index_or (kinds_of types (allocation_at n a).ty) i Number) ≡ true) (sym mirrors.types)
               (subst (λ ty. is_number (slice_index_or (kinds_of c.types ty) i Number) ≡ true) (mirrors.twins.ty a lt)
               (list_all-at is_number (kinds_of c.types (placed_at w.allocations a).ty) Number leaf refl i))))
           | inr pointers ↦
               let fits = words_fit c w n known mirrors a lt in
               let scanned : is_scanned_allocation c (placed_at w.allocations a) ≡ true =
-              ap (λ b. (not b && not (is_gone c (placed_at w.allocations a))) && not (is_leaf (kinds_of c.types (placed_at w.allocations a).ty))) u
-              ∙ ap (λ b. not b && not (is_leaf (kinds_of c.types (placed_at w.allocations a).ty))) un ∙ ap not pointers in
+              ap (λ b. (not b && not (is_gone c (placed_at w.allocations a)))
+              && not (is_leaf (kinds_of c.types (placed_at w.allocations a).ty))) u
+              ∙ ap (λ b. not b && not (is_leaf (kinds_of c.types (placed_at w.allocations a).ty))) un
+              ∙ ap not pointers in
               let is_marked_here : is_marked_allocation c w.now.words (placed_at w.allocations a) ≡ true =
               ap (λ (x : Option Cell). is_some_and (is_marked w.now.words) x) (base_cell_is a u) ∙ marked in
-              let well = marks.words a ((placed_at w.allocations a).base + i) scanned is_marked_here (omega arith, omega arith) in
-              suited_cut (word_at n a i) (kind_in n (allocation_at n a) i) (typed.words i li) (ready.set.closed a i sa mapped)
+              let well = marks.words a ((placed_at w.allocations a).base + i) scanned is_marked_here
+              (omega arith, omega arith) in
+              suited_cut (word_at n a i) (kind_in n (allocation_at n a) i) (typed.words i li)
+              (ready.set.closed a i sa mapped)
               (subst (λ x. points_well c.pages w.now.words x ≡ true) (ready.images.heap a i u mapped li) well)
         ]
   ]
@@ -115,7 +130,8 @@ module _ (c : Config) (w : World) (n : NeverState) (known : KnownWorld c w) (mir
       number_cut Null Number s e = tt
       number_cut (Ptr a t o) Number s e = absurd s
 
-      suited_cut : (v : Value) (kind : Kind) → Suits n v kind → IsSafe safe v → points_well c.pages w.now.words (image_of (bases_of w.allocations) v) ≡ true → IsSafe cut v
+      suited_cut : (v : Value) (kind : Kind) → Suits n v kind → IsSafe safe v
+          → points_well c.pages w.now.words (image_of (bases_of w.allocations) v) ≡ true → IsSafe cut v
       suited_cut (Num m) Number s is well = tt
       suited_cut Null Number s is well = tt
       suited_cut (Ptr a t o) Number s is well = absurd s
@@ -127,25 +143,39 @@ module _ (c : Config) (w : World) (n : NeverState) (known : KnownWorld c w) (mir
   cut_safe : IsSafeSet cut cut_allocations n
   cut_safe =
       record {
-        registers = λ k. root_cut (slice_index w.now.words.registers k) (slice_index_or n.registers k Null) (marks.registers k)
-            (sym (shows_plain (flight_among w.now.seats.flights (k / 8)) (k % 8) (slice_index w.now.words.registers k) (plain (k / 8))) ∙ ready.images.registers k)
+        registers = λ k. root_cut (slice_index w.now.words.registers k) (slice_index_or n.registers k Null)
+            (marks.registers k)
+            (sym (shows_plain (flight_among w.now.seats.flights (k / 8)) (k % 8) (slice_index w.now.words.registers k)
+            (plain (k / 8))) ∙ ready.images.registers k)
             (mirrors.typed.registers k) (ready.set.registers k);
-        globals = λ g. root_cut (slice_index w.now.words.globals g) (global_at n g) (marks.globals g) (ready.images.globals g) (mirrors.typed.globals g) (ready.set.globals g);
-        closed = λ a i ka mapped. let parts = and_parts (safe a) (is_marked w.now.words (cell_of_allocation c (placed_at w.allocations a))) ka in word_cut a i parts.0 parts.1 mapped;
+        globals = λ g. root_cut (slice_index w.now.words.globals g) (global_at n g) (marks.globals g)
+            (ready.images.globals g) (mirrors.typed.globals g) (ready.set.globals g);
+        closed = λ a i ka mapped. let parts =
+            and_parts (safe a) (is_marked w.now.words (cell_of_allocation c (placed_at w.allocations a))) ka in word_cut
+            a i parts.0 parts.1 mapped;
         unreleased = λ a ka.
-            let parts = and_parts (safe a) (is_marked w.now.words (cell_of_allocation c (placed_at w.allocations a))) ka in
+            let parts = and_parts (safe a) (is_marked w.now.words (cell_of_allocation c (placed_at w.allocations a))) ka
+            in
             let u = ready.set.unreleased a parts.0 in
             let x = placed_at w.allocations a in
             let cell = cell_of_allocation c x in
             ap (λ (y : PlacedAllocation). y.released) (changed_at (with_released c w.now.words) w.allocations a refl)
-            ∙ ap (λ b. b || is_some_and (is_left_unmarked w.now.words) (pointed_cell c.pages w.now.words.pages (address_of x.base))) u
+            ∙ ap (λ b. b || is_some_and (is_left_unmarked w.now.words)
+            (pointed_cell c.pages w.now.words.pages (address_of x.base))) u
             ∙ ap (λ (y : Option Cell). is_some_and (is_left_unmarked w.now.words) y) (base_cell_is a u)
-            ∙ has_bit_without (slice_index w.now.words.snapshot cell.page) (slice_index w.now.words.marks cell.page) cell.index
-            ∙ and_not (has_bit (slice_index w.now.words.snapshot cell.page) cell.index) (is_marked w.now.words cell) parts.1;
+            ∙ has_bit_without (slice_index w.now.words.snapshot cell.page) (slice_index w.now.words.marks cell.page)
+            cell.index
+            ∙ and_not (has_bit (slice_index w.now.words.snapshot cell.page) cell.index) (is_marked w.now.words cell)
+            parts.1;
       }
 
-  pub releases : Move safe (scene_of w) n (record (scene_of w) { allocations = map (with_released c w.now.words) w.allocations }) n
+  pub releases : Move safe (scene_of w) n
+      (record (scene_of w) { allocations = map (with_released c w.now.words) w.allocations }) n
   releases =
-      Releases (map (with_released c w.now.words) w.allocations) (same_places (with_released c w.now.words) w.allocations (released_leaves c w.now.words))
-      (λ a u. or_false (placed_at w.allocations a).released _ (ap (λ (y : PlacedAllocation). y.released) (sym (changed_at (with_released c w.now.words) w.allocations a refl)) ∙ u))
-      (λ a. ap (λ (y : PlacedAllocation). y.freed) (changed_at (with_released c w.now.words) w.allocations a refl)) cut cut_safe
+      Releases (map (with_released c w.now.words) w.allocations)
+      (same_places (with_released c w.now.words) w.allocations (released_leaves c w.now.words))
+      (λ a u. or_false (placed_at w.allocations a).released _
+      (ap (λ (y : PlacedAllocation). y.released)
+      (sym (changed_at (with_released c w.now.words) w.allocations a refl)) ∙ u))
+      (λ a. ap (λ (y : PlacedAllocation). y.freed) (changed_at (with_released c w.now.words) w.allocations a refl)) cut
+      cut_safe

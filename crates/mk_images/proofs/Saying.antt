@@ -1,5 +1,6 @@
 -- What the images tell the other groups.
-use Rattle.std.proofs.Common.{◌≡◌, ◌≢◌, ◌⊎◌, ℕ, ◌+◌, ◌-◌, ◌*◌, ◌/◌, true, false, refl, sym, ap, subst, ◌∙◌, inl, inr, arith}
+use Rattle.std.proofs.Common.{◌≡◌, ◌≢◌, ◌⊎◌, ℕ, ◌+◌, ◌-◌, ◌*◌, ◌/◌, true, false, refl, sym, ap, subst, ◌∙◌, inl, inr}
+use Rattle.std.proofs.Common.{arith}
 use Rattle.std.specs.Prelude.{◌&&◌, not, Option, Some}
 use Rattle.std.proofs.lemmas.Bool.{cases_eq, ltb-true, false≢true}
 use Rattle.mk_never.specs.declared.types.Kind.{Kind}
@@ -56,7 +57,8 @@ use Rattle.mk_images.proofs.Freeing.{decided_free_gives}
 use Rattle.mk_images.proofs.FreeMoves.{pointer_cell}
 use Rattle.mk_images.proofs.CallSorts.{call_outside, admitted_call, literal}
 
-module _ (c : Config) (w : World) (n : NeverState) (known : KnownWorld c w) (others : OthersSay c w) (mirrors : Mirrors c w n) where
+module _ (c : Config) (w : World) (n : NeverState) (known : KnownWorld c w) (others : OthersSay c w)
+    (mirrors : Mirrors c w n) where
   st : Stands c w.now.words w.allocations
   st = stands_of c w known.limits others
 
@@ -71,20 +73,25 @@ module _ (c : Config) (w : World) (n : NeverState) (known : KnownWorld c w) (oth
 
   -- The target of a Free
 
-  value_cell : (v : Value) (p : ℕ) (cell : Cell) → IsSound n v → IsSafe mirrors.safe.0 v → p ≡ image_of (bases_of w.allocations) v → p ≢ 0
+  value_cell : (v : Value) (p : ℕ) (cell : Cell) → IsSound n v → IsSafe mirrors.safe.0 v
+      → p ≡ image_of (bases_of w.allocations) v → p ≢ 0
       → pointed_cell c.pages w.now.words.pages p ≡ Some cell → IsCellOfUnreleased c w cell
   value_cell Null p cell sound is e ne points = absurd (ne e)
   value_cell (Num m) p cell sound is e ne points = absurd sound
   value_cell (Ptr a t o) p cell sound is e ne points =
-      let here : Some (cell_of_allocation c (placed_at w.allocations a)) ≡ Some cell = sym (pointer_cell c w n known mirrors mirrors.safe.0 ready st a t o p sound is e) ∙ points in
+      let here : Some (cell_of_allocation c (placed_at w.allocations a)) ≡ Some cell =
+      sym (pointer_cell c w n known mirrors mirrors.safe.0 ready st a t o p sound is e) ∙ points in
       record { number = a; unreleased = mirrors.safe.1.unreleased a is; cell = cc }
 
-  free_target : (k : ℕ) (s : Stage) (o : Op) (q p r l : ℕ) (cell : Cell) → is_undecided_free (flight s o q p r l) ≡ true → pointed_cell c.pages w.now.words.pages p ≡ Some cell
+  free_target : (k : ℕ) (s : Stage) (o : Op) (q p r l : ℕ) (cell : Cell) → is_undecided_free (flight s o q p r l) ≡ true
+      → pointed_cell c.pages w.now.words.pages p ≡ Some cell
       → CarriesOwn (bases_of w.allocations) n k (flight s o q p r l) → IsCellOfUnreleased c w cell
-  free_target k stage.Turn (op.Free p') q p r l cell undecided points car = value_cell (register_at n k p') p cell (own_sound k p') (own_safe k p') (car.p refl) (car.some_p refl) points
+  free_target k stage.Turn (op.Free p') q p r l cell undecided points car =
+      value_cell (register_at n k p') p cell (own_sound k p') (own_safe k p') (car.p refl) (car.some_p refl) points
   free_target k _ _ q p r l cell undecided points car = absurd (false≢true undecided)
 
-  target_cell : (seat : Seat) (cell : Cell) → target c.pages w.now.words (flight_of w.now seat) ≡ Some cell → IsCellOfUnreleased c w cell
+  target_cell : (seat : Seat) (cell : Cell) → target c.pages w.now.words (flight_of w.now seat) ≡ Some cell
+      → IsCellOfUnreleased c w cell
   target_cell (Caller k) cell e =
       let f = flight_of w.now (Caller k) in
       let is = target_is c.pages w.now.words f cell e in
@@ -94,7 +101,8 @@ module _ (c : Config) (w : World) (n : NeverState) (known : KnownWorld c w) (oth
 
   -- The run of a Free, at the end of a stop
 
-  run_marked : phase_of w.now.words ≡ 3 → (run : RunPages) → w.now.seats.holding.freed ≡ Some run → is_marked w.now.words (record { page = run.page; index = 0 }) ≡ true
+  run_marked : phase_of w.now.words ≡ 3 → (run : RunPages) → w.now.seats.holding.freed ≡ Some run
+      → is_marked w.now.words (record { page = run.page; index = 0 }) ≡ true
   run_marked phase run e =
       let who = (protocol_of c w.now known.now).freed run e in
       let k = who.caller in
@@ -106,24 +114,31 @@ module _ (c : Config) (w : World) (n : NeverState) (known : KnownWorld c w) (oth
       let sized = typed_size c x known.limits h.stands.typed in
       let start = (run_begins (object_placed c x) x.base owner.large h.stands.begins).1 in
       let page : run.page ≡ x.base / 64 = ap (λ (r : RunPages). r.page) owner.is in
-      let is : IsSafe mirrors.safe.0 (Ptr points.number points.ty points.offset) = subst (λ (v : Value). IsSafe mirrors.safe.0 v) points.is (own_safe k (p_of f.op)) in
-      let sound : IsSound n (Ptr points.number points.ty points.offset) = subst (λ (v : Value). IsSound n v) points.is (own_sound k (p_of f.op)) in
+      let is : IsSafe mirrors.safe.0 (Ptr points.number points.ty points.offset) =
+      subst (λ (v : Value). IsSafe mirrors.safe.0 v) points.is (own_safe k (p_of f.op)) in
+      let sound : IsSound n (Ptr points.number points.ty points.offset) =
+      subst (λ (v : Value). IsSound n v) points.is (own_sound k (p_of f.op)) in
       let there = mirrors.safe.1.unreleased points.number is in
       let one : points.number ≡ owner.number = elim (cases_eq points.number owner.number) [
         | inl same ↦ same
-        | inr ne ↦ absurd (others.apart points.number owner.number there owner.unreleased ne (let b = points.base in omega arith))
+        | inr ne ↦ absurd (others.apart points.number owner.number there owner.unreleased ne
+            (let b = points.base in omega arith))
       ] in
       let plain : is_put f.stage ≡ false = ap is_put (decided_free_gives f.stage f.op who.holds) in
-      let word = own_plain (scene_of w) n ready.images k (p_of f.op) (ready.small k).1 plain ∙ ap (image_of (bases_of w.allocations)) points.is in
-      let cell = pointer_cell c w n known mirrors mirrors.safe.0 ready st points.number points.ty points.offset _ sound is word in
+      let word = own_plain (scene_of w) n ready.images k (p_of f.op) (ready.small k).1 plain
+      ∙ ap (image_of (bases_of w.allocations)) points.is in
+      let cell = pointer_cell c w n known mirrors mirrors.safe.0 ready st points.number points.ty points.offset _ sound
+      is word in
       let well = (others.marks phase).registers (8 * k + p_of f.op) in
       subst (λ p. is_marked w.now.words (record { page = p; index = 0 }) ≡ true) (sym page)
-      (subst (λ (y : Cell). is_marked w.now.words y ≡ true) (ap (λ i. cell_of_allocation c (placed_at w.allocations i)) one ∙ run_cell c x sized owner.large)
+      (subst (λ (y : Cell). is_marked w.now.words y ≡ true)
+      (ap (λ i. cell_of_allocation c (placed_at w.allocations i)) one ∙ run_cell c x sized owner.large)
       (ap (λ (y : Option Cell). is_none_or (is_marked w.now.words) y) (sym cell) ∙ well))
 
   -- The word that a caller stores to
 
-  reached_word : (k i q : ℕ) (v : Value) (P : Kind → Type 0) → Reaches mirrors.safe.0 (scene_of w) n v q i P → IsMappedWord c w ((q - 65536) / 8 + i)
+  reached_word : (k i q : ℕ) (v : Value) (P : Kind → Type 0) → Reaches mirrors.safe.0 (scene_of w) n v q i P
+      → IsMappedWord c w ((q - 65536) / 8 + i)
   reached_word k i q v P to =
       let x = placed_at w.allocations to.number in
       let lt = exists_placed w.allocations to.number to.unreleased in
@@ -137,33 +152,44 @@ module _ (c : Config) (w : World) (n : NeverState) (known : KnownWorld c w) (oth
         word = (omega arith, omega arith);
       }
 
-  write_word : (k : ℕ) (o : Op) (q p r l : ℕ) → is_astray (standing_at stage.Write o) ≡ false → CarriesOwn (bases_of w.allocations) n k (flight stage.Write o q p r l)
+  write_word : (k : ℕ) (o : Op) (q p r l : ℕ) → is_astray (standing_at stage.Write o) ≡ false
+      → CarriesOwn (bases_of w.allocations) n k (flight stage.Write o q p r l)
       → ProbedOwn n k (flight stage.Write o q p r l)
       → IsAdmitted c.globals n k o → IsMappedWord c w ((q - 65536) / 8 + i_of o)
   write_word k (op.SetNum q' i m) q p r l a car pro ad =
-      reached_word k i q _ IsNumber (reaches c.globals mirrors.safe.0 (scene_of w) n ready (register_at n k q') q i IsNumber (car.q refl) (car.some_q refl) (own_sound k q') (own_safe k q') (pro refl) ad.access)
+      reached_word k i q _ IsNumber
+      (reaches c.globals mirrors.safe.0 (scene_of w) n ready (register_at n k q') q i IsNumber (car.q refl)
+      (car.some_q refl) (own_sound k q') (own_safe k q') (pro refl) ad.access)
   write_word k (op.SetPtr q' i p') q p r l a car pro ad =
-      reached_word k i q _ IsPointer (reaches c.globals mirrors.safe.0 (scene_of w) n ready (register_at n k q') q i IsPointer (car.q refl) (car.some_q refl) (own_sound k q') (own_safe k q') (pro refl) ad.access)
+      reached_word k i q _ IsPointer
+      (reaches c.globals mirrors.safe.0 (scene_of w) n ready (register_at n k q') q i IsPointer (car.q refl)
+      (car.some_q refl) (own_sound k q') (own_safe k q') (pro refl) ad.access)
   write_word k (op.New d ty full) q p r l a car pro ad = cc
   write_word k _ q p r l a car pro ad = cc
 
-  cas_word : (k : ℕ) (o : Op) (q p r l : ℕ) → is_astray (standing_at stage.Cas o) ≡ false → CarriesOwn (bases_of w.allocations) n k (flight stage.Cas o q p r l)
+  cas_word : (k : ℕ) (o : Op) (q p r l : ℕ) → is_astray (standing_at stage.Cas o) ≡ false
+      → CarriesOwn (bases_of w.allocations) n k (flight stage.Cas o q p r l)
       → ProbedOwn n k (flight stage.Cas o q p r l)
       → IsAdmitted c.globals n k o → IsMappedWord c w ((q - 65536) / 8 + i_of o)
   cas_word k (op.CasPtr q' i p' r') q p r l a car pro ad =
-      reached_word k i q _ IsPointer (reaches c.globals mirrors.safe.0 (scene_of w) n ready (register_at n k q') q i IsPointer (car.q refl) (car.some_q refl) (own_sound k q') (own_safe k q') (pro refl) ad.access)
+      reached_word k i q _ IsPointer
+      (reaches c.globals mirrors.safe.0 (scene_of w) n ready (register_at n k q') q i IsPointer (car.q refl)
+      (car.some_q refl) (own_sound k q') (own_safe k q') (pro refl) ad.access)
   cas_word k (op.New d ty full) q p r l a car pro ad = cc
   cas_word k _ q p r l a car pro ad = cc
 
-  stored_word : (k : ℕ) (x : Step) → (x ≡ step.Write) ⊎ (x ≡ step.Cas) → MeetsAll c w.now (record { seat = Caller k; step = x })
-      → AreAdmitted c.globals n (asked (call_decided c w.now (record { seat = Caller k; step = x }))) → IsMappedWord c w (word_met (flight_of w.now (Caller k)))
+  stored_word : (k : ℕ) (x : Step) → (x ≡ step.Write) ⊎ (x ≡ step.Cas)
+      → MeetsAll c w.now (record { seat = Caller k; step = x })
+      → AreAdmitted c.globals n (asked (call_decided c w.now (record { seat = Caller k; step = x })))
+      → IsMappedWord c w (word_met (flight_of w.now (Caller k)))
   stored_word k step.Write is h ad =
       let f = flight_of w.now (Caller k) in
       let at = at_its_stage f.stage f.op step.Write refl h.order in
       let a = not_astray c w.now known.now.orderly k (ltb-true k c.callers h.seat) in
       let lit = literal f stage.Write at in
       write_word k f.op f.q f.p f.r f.loaded (subst (λ (s : Stage). is_astray (standing_at s f.op) ≡ false) at a)
-      (subst (λ (g : Flight). CarriesOwn (bases_of w.allocations) n k g) lit (ready.images.carried k)) (subst (λ (g : Flight). ProbedOwn n k g) lit (ready.images.probed k))
+      (subst (λ (g : Flight). CarriesOwn (bases_of w.allocations) n k g) lit (ready.images.carried k))
+      (subst (λ (g : Flight). ProbedOwn n k g) lit (ready.images.probed k))
       (admitted_call c.globals n k f.op _ (call_outside f.op f.stage (ap is_call_stage at) a) ad)
   stored_word k step.Cas is h ad =
       let f = flight_of w.now (Caller k) in
@@ -171,7 +197,8 @@ module _ (c : Config) (w : World) (n : NeverState) (known : KnownWorld c w) (oth
       let a = not_astray c w.now known.now.orderly k (ltb-true k c.callers h.seat) in
       let lit = literal f stage.Cas at in
       cas_word k f.op f.q f.p f.r f.loaded (subst (λ (s : Stage). is_astray (standing_at s f.op) ≡ false) at a)
-      (subst (λ (g : Flight). CarriesOwn (bases_of w.allocations) n k g) lit (ready.images.carried k)) (subst (λ (g : Flight). ProbedOwn n k g) lit (ready.images.probed k))
+      (subst (λ (g : Flight). CarriesOwn (bases_of w.allocations) n k g) lit (ready.images.carried k))
+      (subst (λ (g : Flight). ProbedOwn n k g) lit (ready.images.probed k))
       (admitted_call c.globals n k f.op _ (call_outside f.op f.stage (ap is_call_stage at) a) ad)
   stored_word k _ (inl e) h ad = cc
   stored_word k _ (inr e) h ad = cc

@@ -1,5 +1,6 @@
 -- What stands where, as lookups show it.
-use Rattle.std.proofs.Common.{◌≡◌, ◌≢◌, ℕ, ◌+◌, ◌*◌, ◌/◌, ◌<◌, ◌≤◌, Bool, true, false, List, sym, ap, subst, ◌∙◌, inl, inr, arith}
+use Rattle.std.proofs.Common.{◌≡◌, ◌≢◌, ℕ, ◌+◌, ◌*◌, ◌/◌, ◌<◌, ◌≤◌, Bool, true, false, List, sym, ap, subst, ◌∙◌, inl}
+use Rattle.std.proofs.Common.{inr, arith}
 use Rattle.std.specs.Prelude.{◌&&◌, ◌==◌, not, Option, Some, None}
 use Rattle.std.proofs.lemmas.Bool.{cases_Bool, and_parts, and_from, eqb-true, eq-eqb, not-true, true≢false}
 use Rattle.mk_never.specs.Types.{kinds_of, is_large}
@@ -29,11 +30,16 @@ is_gone c a = a.freed && is_large (kinds_of c.types a.ty)
 -- of the unreleased allocations
 pub record Stands (c : Config) (w : Words) (xs : List PlacedAllocation) : Type 0 where
   pub cell : (a i : ℕ) → (placed_at xs a).released ≡ false → i < storage_words c (placed_at xs a)
-      → pointed_cell c.pages w.pages (address_of ((placed_at xs a).base + i)) ≡ Some (cell_of_allocation c (placed_at xs a))
-  pub first : (a : ℕ) → (placed_at xs a).released ≡ false → first_word w (cell_of_allocation c (placed_at xs a)) ≡ (placed_at xs a).base
-  pub inside : (a : ℕ) → (placed_at xs a).released ≡ false → (placed_at xs a).base + storage_words c (placed_at xs a) ≤ 64 * c.pages
-  pub apart : (a b : ℕ) → (placed_at xs a).released ≡ false → (placed_at xs b).released ≡ false → a ≢ b → (placed_at xs a).base ≢ (placed_at xs b).base
-  pub mapped : (a i : ℕ) → (placed_at xs a).released ≡ false → is_gone c (placed_at xs a) ≡ false → i < storage_words c (placed_at xs a)
+      → pointed_cell c.pages w.pages (address_of ((placed_at xs a).base + i))
+      ≡ Some (cell_of_allocation c (placed_at xs a))
+  pub first : (a : ℕ) → (placed_at xs a).released ≡ false
+      → first_word w (cell_of_allocation c (placed_at xs a)) ≡ (placed_at xs a).base
+  pub inside : (a : ℕ) → (placed_at xs a).released ≡ false
+      → (placed_at xs a).base + storage_words c (placed_at xs a) ≤ 64 * c.pages
+  pub apart : (a b : ℕ) → (placed_at xs a).released ≡ false → (placed_at xs b).released ≡ false → a ≢ b
+      → (placed_at xs a).base ≢ (placed_at xs b).base
+  pub mapped : (a i : ℕ) → (placed_at xs a).released ≡ false → is_gone c (placed_at xs a) ≡ false
+      → i < storage_words c (placed_at xs a)
       → is_unmapped_header (header_in w (((placed_at xs a).base + i) / 64)) ≡ false
   pub run : (a : ℕ) → (placed_at xs a).released ≡ false → is_large (kinds_of c.types (placed_at xs a).ty) ≡ true
       → heads_run (header_in w ((placed_at xs a).base / 64)) ≡ true
@@ -44,7 +50,8 @@ pub record PageOfWord (c : Config) (a : PlacedAllocation) (i : ℕ) : Type 0 whe
   pub page : (a.base + i) / 64 ≡ a.base / 64 + distance
   pub near : distance < pages_made (object_placed c a)
 
-pub page_of_word : (c : Config) (a : PlacedAllocation) (i : ℕ) → IsSized (object_placed c a) → BeginsAtCell (object_placed c a) a.base → i < storage_words c a
+pub page_of_word : (c : Config) (a : PlacedAllocation) (i : ℕ) → IsSized (object_placed c a)
+    → BeginsAtCell (object_placed c a) a.base → i < storage_words c a
     → PageOfWord c a i
 page_of_word c a i sized b lt = elim (cases_Bool (is_small_object (object_placed c a))) [
   | inl small ↦
@@ -61,15 +68,19 @@ page_of_word c a i sized b lt = elim (cases_Bool (is_small_object (object_placed
 mapped_is : (c : Config) (a : PlacedAllocation) → a.released ≡ false → is_mapped c a ≡ not (is_gone c a)
 mapped_is c a unreleased = ap (λ b. not b && not (is_gone c a)) unreleased
 
-pub large_object : (c : Config) (a : PlacedAllocation) → is_large (kinds_of c.types a.ty) ≡ true → is_small_object (object_placed c a) ≡ false
-large_object c a large = not-true (is_small_object (object_placed c a)) (sym (large_is_not_small (kinds_of c.types a.ty)) ∙ large)
+pub large_object : (c : Config) (a : PlacedAllocation) → is_large (kinds_of c.types a.ty) ≡ true
+    → is_small_object (object_placed c a) ≡ false
+large_object c a large =
+    not-true (is_small_object (object_placed c a)) (sym (large_is_not_small (kinds_of c.types a.ty)) ∙ large)
 
 pub stands_of : (c : Config) (w : World) → IsWithinLimits c → OthersSay c w → Stands c w.now.words w.allocations
 stands_of c w limits others =
     record {
       cell = λ a i u lt.
-          let h = others.laid_out a u in word_points c w.now.words (placed_at w.allocations a) limits h.stands h.headers ((placed_at w.allocations a).base + i) (omega arith, omega arith);
-      first = λ a u. let h = others.laid_out a u in (cells_begin c w.now.words (placed_at w.allocations a) limits h.stands h.headers).0;
+          let h = others.laid_out a u in word_points c w.now.words (placed_at w.allocations a) limits h.stands h.headers
+          ((placed_at w.allocations a).base + i) (omega arith, omega arith);
+      first = λ a u. let h =
+          others.laid_out a u in (cells_begin c w.now.words (placed_at w.allocations a) limits h.stands h.headers).0;
       inside = λ a u. (others.laid_out a u).stands.within;
       apart = others.apart;
       mapped = λ a i u un lt.
@@ -77,12 +88,14 @@ stands_of c w limits others =
           let sized = typed_size c (placed_at w.allocations a) limits h.stands.typed in
           let at = page_of_word c (placed_at w.allocations a) i sized h.stands.begins lt in
           ap (λ p. is_unmapped_header (header_in w.now.words p)) at.page
-          ∙ ap (λ x. is_unmapped_header (header_of x)) (h.mapped (mapped_is c (placed_at w.allocations a) u ∙ ap not un) at.distance at.near)
+          ∙ ap (λ x. is_unmapped_header (header_of x))
+          (h.mapped (mapped_is c (placed_at w.allocations a) u ∙ ap not un) at.distance at.near)
           ∙ made_is_mapped (object_placed c (placed_at w.allocations a)) at.distance sized at.near;
       run = λ a u large.
           let h = others.laid_out a u in
           part_heads_run (object_placed c (placed_at w.allocations a)) _
-          (first_page_shows c w.now.words (placed_at w.allocations a) (typed_size c (placed_at w.allocations a) limits h.stands.typed) h.headers)
+          (first_page_shows c w.now.words (placed_at w.allocations a)
+          (typed_size c (placed_at w.allocations a) limits h.stands.typed) h.headers)
           (large_object c (placed_at w.allocations a) large);
     }
 
@@ -99,10 +112,13 @@ count_in None = 0
 other_run : (r s : RunPages) → ((r.page == s.page) && (r.count == s.count)) ≡ false → Some r ≢ Some s
 other_run r s e is =
     true≢false
-    (sym (and_from (r.page == s.page) (r.count == s.count) (eq-eqb r.page s.page (ap page_in is)) (eq-eqb r.count s.count (ap count_in is))) ∙ e)
+    (sym (and_from (r.page == s.page) (r.count == s.count) (eq-eqb r.page s.page (ap page_in is))
+    (eq-eqb r.count s.count (ap count_in is))) ∙ e)
 
-gone_headers : (c : Config) (w : Words) (freed : Option RunPages) (a : PlacedAllocation) → IsLaidOut c w freed a → is_mapped c a ≡ false → is_run_gone w freed ≡ true
-    → (distance : ℕ) → distance < pages_made (object_placed c a) → header_at w (a.base / 64 + distance) ≡ unmapped_header (pages_made (object_placed c a)) distance
+gone_headers : (c : Config) (w : Words) (freed : Option RunPages) (a : PlacedAllocation) → IsLaidOut c w freed a
+    → is_mapped c a ≡ false → is_run_gone w freed ≡ true
+    → (distance : ℕ) → distance < pages_made (object_placed c a)
+    → header_at w (a.base / 64 + distance) ≡ unmapped_header (pages_made (object_placed c a)) distance
 gone_headers c w None a h un gone distance near = h.unmapped un (λ e. cc) distance near
 gone_headers c w (Some run) a h un gone distance near =
     elim (cases_Bool ((run.page == a.base / 64) && (run.count == pages_made (object_placed c a)))) [
@@ -118,8 +134,10 @@ gone_headers c w (Some run) a h un gone distance near =
           (all_below-at run.count distance (stands w run.page (unmapped_header run.count)) all (omega arith))))
     ]
 
-pub gone_shows : (c : Config) (w : World) → IsWithinLimits c → OthersSay c w → is_run_gone w.now.words w.now.seats.holding.freed ≡ true
-    → (a i : ℕ) → (placed_at w.allocations a).released ≡ false → is_gone c (placed_at w.allocations a) ≡ true → i < storage_words c (placed_at w.allocations a)
+pub gone_shows : (c : Config) (w : World) → IsWithinLimits c → OthersSay c w
+    → is_run_gone w.now.words w.now.seats.holding.freed ≡ true
+    → (a i : ℕ) → (placed_at w.allocations a).released ≡ false → is_gone c (placed_at w.allocations a) ≡ true
+    → i < storage_words c (placed_at w.allocations a)
     → is_unmapped_header (header_in w.now.words (((placed_at w.allocations a).base + i) / 64)) ≡ true
 gone_shows c w limits others gone a i u un lt =
     let x = placed_at w.allocations a in
@@ -128,5 +146,7 @@ gone_shows c w limits others gone a i u un lt =
     let at = page_of_word c x i sized h.stands.begins lt in
     let large = large_object c x (and_parts x.freed (is_large (kinds_of c.types x.ty)) un).1 in
     ap (λ p. is_unmapped_header (header_in w.now.words p)) at.page
-    ∙ ap (λ y. is_unmapped_header (header_of y)) (gone_headers c w.now.words w.now.seats.holding.freed x h (mapped_is c x u ∙ ap not un) gone at.distance at.near)
-    ∙ unmapped_is_unmapped (pages_made (object_placed c x)) at.distance (large_count (object_placed c x) sized large) at.near
+    ∙ ap (λ y. is_unmapped_header (header_of y))
+    (gone_headers c w.now.words w.now.seats.holding.freed x h (mapped_is c x u ∙ ap not un) gone at.distance at.near)
+    ∙ unmapped_is_unmapped (pages_made (object_placed c x)) at.distance (large_count (object_placed c x) sized large)
+    at.near

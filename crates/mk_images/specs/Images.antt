@@ -1,5 +1,6 @@
 -- What the words that callers read and write show of the heap that never reuses storage.
-use Rattle.std.specs.Prelude.{◌≡◌, ◌≢◌, ℕ, ◌+◌, ◌/◌, ◌%◌, ◌<◌, Bool, true, false, ◌==◌, List, length, slice_index, slice_index_or, if◌then◌else◌}
+use Rattle.std.specs.Prelude.{◌≡◌, ◌≢◌, ℕ, ◌+◌, ◌/◌, ◌%◌, ◌<◌, Bool, true, false, ◌==◌, List, length, slice_index}
+use Rattle.std.specs.Prelude.{slice_index_or, if◌then◌else◌}
 use Rattle.mk_never.specs.declared.operations.Op.{Op}
 use Rattle.mk_never.specs.declared.operations.Op.TheVariants as op
 use Rattle.mk_never.specs.declared.values.Value.{Value}
@@ -103,13 +104,15 @@ pub record Carries (bases : List ℕ) (f : Flight) (of_q of_p of_r : Value) : Ty
 
 -- They are the values of its caller's registers, as these are now.
 abbrev pub CarriesOwn : List ℕ → NeverState → ℕ → Flight → Type 0
-CarriesOwn bases n k f = Carries bases f (register_at n k (q_of f.op)) (register_at n k (p_of f.op)) (register_at n k (r_of f.op))
+CarriesOwn bases n k f = Carries bases f (register_at n k (q_of f.op)) (register_at n k (p_of f.op))
+    (register_at n k (r_of f.op))
 
 -- An access through the value, where it is inside its allocation, meets a mapped one.
 abbrev pub IsMet : NeverState → Value → ℕ → Type 0
 IsMet n Null i = Unit {0}
 IsMet n (Num m) i = Unit {0}
-IsMet n (Ptr number ty offset) i = offset + i < length (words_of n number) → is_unmapped (allocation_at n number) ≡ false
+IsMet n (Ptr number ty offset) i = offset + i < length (words_of n number)
+    → is_unmapped (allocation_at n number) ≡ false
 
 abbrev pub ProbedOwn : NeverState → ℕ → Flight → Type 0
 ProbedOwn n k f = is_past_probe f.stage ≡ true → IsMet n (register_at n k (q_of f.op)) (i_of f.op)
@@ -121,7 +124,8 @@ pub record AreImages (s : Scene) (n : NeverState) : Type 0 where
       (k : ℕ) → shown (flight_among s.flights (k / 8)) (k % 8) (slice_index s.registers k)
       ≡ image_of (bases_of s.allocations) (slice_index_or n.registers k Null)
   pub globals : (g : ℕ) → slice_index s.globals g ≡ image_of (bases_of s.allocations) (global_at n g)
-  pub heap : (a i : ℕ) → (placed_at s.allocations a).released ≡ false → is_unmapped (allocation_at n a) ≡ false → i < length (words_of n a)
+  pub heap : (a i : ℕ) → (placed_at s.allocations a).released ≡ false → is_unmapped (allocation_at n a) ≡ false
+      → i < length (words_of n a)
       → slice_index s.heap ((placed_at s.allocations a).base + i) ≡ image_of (bases_of s.allocations) (word_at n a i)
   pub carried : (j : ℕ) → CarriesOwn (bases_of s.allocations) n j (flight_among s.flights j)
   pub probed : (j : ℕ) → ProbedOwn n j (flight_among s.flights j)

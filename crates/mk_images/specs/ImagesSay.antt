@@ -40,7 +40,8 @@ pub record StoresNow (c : Config) (w : World) (n : NeverState) (k : ℕ) (x : St
 
 pub record ImagesSay (c : Config) (w : World) (n : NeverState) : Type 0 where
   -- What a Free's register points into is the cell of an unreleased allocation.
-  pub target : (seat : Seat) (cell : Cell) → target c.pages w.now.words (flight_of w.now seat) ≡ Some cell → IsCellOfUnreleased c w cell
+  pub target : (seat : Seat) (cell : Cell) → target c.pages w.now.words (flight_of w.now seat) ≡ Some cell
+      → IsCellOfUnreleased c w cell
   -- At the end of a stop the run that a Free unmaps is marked.
   pub marked : phase_of w.now.words ≡ 3 → (run : RunPages) → w.now.seats.holding.freed ≡ Some run
       → is_marked w.now.words (record { page = run.page; index = 0 }) ≡ true

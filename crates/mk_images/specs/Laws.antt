@@ -20,7 +20,8 @@ HistoriesRefineNever = (c : Config) (es : List Event) → IsHistory c es → Oth
 
 -- What words show is the image of the heap that never reuses storage.
 abbrev pub HistoriesMirrorNever : Type 0
-HistoriesMirrorNever = (c : Config) (es : List Event) → IsHistory c es → OthersSayAlong c es → Mirrors c (left c es) (never_behind c es)
+HistoriesMirrorNever = (c : Config) (es : List Event) → IsHistory c es → OthersSayAlong c es
+    → Mirrors c (left c es) (never_behind c es)
 
 -- What a program can get to isn't released.
 abbrev pub ReachedIsUnreleased : Type 0
@@ -30,8 +31,10 @@ ReachedIsUnreleased =
 
 -- A compare and exchange compares values, not addresses that were used before.
 abbrev pub HistoriesCompareValues : Type 0
-HistoriesCompareValues = (c : Config) (es : List Event) → IsHistory c es → OthersSayAlong c es → ExchangesCompareValues c es
+HistoriesCompareValues = (c : Config) (es : List Event) → IsHistory c es → OthersSayAlong c es
+    → ExchangesCompareValues c es
 
 -- What the images tell the other groups is so.
 abbrev pub HistoriesTellOthers : Type 0
-HistoriesTellOthers = (c : Config) (es : List Event) → IsHistory c es → OthersSayAlong c es → ImagesSay c (left c es) (never_behind c es)
+HistoriesTellOthers = (c : Config) (es : List Event) → IsHistory c es → OthersSayAlong c es
+    → ImagesSay c (left c es) (never_behind c es)

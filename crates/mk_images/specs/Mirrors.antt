@@ -25,7 +25,8 @@ pub record PointsAtRun (w : World) (n : NeverState) (k r : ℕ) (run : RunPages)
 -- A Free's register points into the run that the call unmaps.
 abbrev pub OwnsFreedRun : World → NeverState → Type 0
 OwnsFreedRun w n =
-    (run : RunPages) → w.now.seats.holding.freed ≡ Some run → (k : ℕ) → is_decided_free (flight_of w.now (Caller k)) ≡ true
+    (run : RunPages) → w.now.seats.holding.freed ≡ Some run → (k : ℕ)
+    → is_decided_free (flight_of w.now (Caller k)) ≡ true
     → PointsAtRun w n k (p_of (flight_of w.now (Caller k)).op) run
 
 pub record Mirrors (c : Config) (w : World) (n : NeverState) : Type 0 where

@@ -1,8 +1,9 @@
-//! Callers see the heap that never reuses storage, where the layout, the quarantine, the zero words and the marks are as
-//! they should be: facts alone, with no code.
+//! Callers see the heap that never reuses storage, where the layout, the quarantine, the zero words and the marks are
+//! as they should be: facts alone, with no code.
 #![tactic(auto)]
 
-ghost use Rattle.mk_images.specs.Laws.{HistoriesRefineNever, HistoriesMirrorNever, ReachedIsUnreleased, HistoriesCompareValues, HistoriesTellOthers};
+ghost use Rattle.mk_images.specs.Laws.{HistoriesRefineNever, HistoriesMirrorNever, ReachedIsUnreleased};
+ghost use Rattle.mk_images.specs.Laws.{HistoriesCompareValues, HistoriesTellOthers};
 
 /// All answers are the images of the replies.
 pub fn answers_are_images()

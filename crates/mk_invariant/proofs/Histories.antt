@@ -6,8 +6,10 @@ use Rattle.mk_never.specs.NeverHeap.{Call, NeverState, after_calls}
 use Rattle.mk_core.specs.declared.config.Config.{Config}
 use Rattle.mk_core.specs.declared.events.Event.{Event}
 use Rattle.mk_core.specs.Decided.{Decided, asked}
-use Rattle.mk_core.specs.History.{AreEnabledFrom, IsHistory, World, call_decided, calls_from, left, left_from, never_behind, world_behind}
-use Rattle.mk_core.proofs.HistoryParts.{admitted_in_parts, earlier_part_is_history, enabled_in_parts, left_in_parts, never_in_parts}
+use Rattle.mk_core.specs.History.{AreEnabledFrom, IsHistory, World, call_decided, calls_from, left, left_from}
+use Rattle.mk_core.specs.History.{never_behind, world_behind}
+use Rattle.mk_core.proofs.HistoryParts.{admitted_in_parts, earlier_part_is_history, enabled_in_parts, left_in_parts}
+use Rattle.mk_core.proofs.HistoryParts.{never_in_parts}
 use Rattle.mk_layout.proofs.Histories.{in_order_at_first}
 use Rattle.mk_images.proofs.FreedRuns.{never_after}
 use Rattle.mk_images.proofs.Histories.{first_mirrors}
@@ -19,7 +21,14 @@ use Rattle.mk_invariant.specs.Theorems.{EventsKeepTheInvariant, InvariantAtFirst
 use Rattle.mk_invariant.proofs.Joined.{invariant_behind}
 
 pub invariant_at_first : InvariantAtFirst
-invariant_at_first c = record { order = in_order_at_first c; zeros = zeros_at_first c; run_gates = λ off. absurd (true≢false off); mirrors = first_mirrors c; marks = marks_at_first c }
+invariant_at_first c =
+    record {
+      order = in_order_at_first c;
+      zeros = zeros_at_first c;
+      run_gates = λ off. absurd (true≢false off);
+      mirrors = first_mirrors c;
+      marks = marks_at_first c;
+    }
 
 -- One event of a history, in the words of the list.
 pub events_keep_the_invariant : EventsKeepTheInvariant
@@ -29,17 +38,20 @@ events_keep_the_invariant c es e h all =
     let w : World = left c es in
     let n : NeverState = never_behind c es in
     let xs : List Decided = call_decided c w.now e ++ [] in
-    let one : asked xs ≡ asked (call_decided c w.now e) = ap (λ (ys : List Decided). asked ys) (append-nil (call_decided c w.now e)) in
+    let one : asked xs ≡ asked (call_decided c w.now e) =
+    ap (λ (ys : List Decided). asked ys) (append-nil (call_decided c w.now e)) in
     let on = ((enabled_in_parts c es (e ∷ [])).0 h.enabled).1.0 in
     let admitted : AreAdmitted c.globals n (asked (call_decided c w.now e)) =
     subst (λ (ys : List Call). AreAdmitted c.globals n ys) one ((admitted_in_parts c es (e ∷ [])).0 h.admitted).1 in
     let behind = invariant_behind c w n e (known_world c es before.within_limits before.enabled) all on admitted in
-    let never : never_behind c (es ++ e ∷ []) ≡ never_after c w n e = never_in_parts c es (e ∷ []) ∙ ap (λ (ys : List Call). after_calls n ys) one in
+    let never : never_behind c (es ++ e ∷ []) ≡ never_after c w n e = never_in_parts c es (e ∷ [])
+    ∙ ap (λ (ys : List Call). after_calls n ys) one in
     subst (λ (v : World). Invariant c v (never_behind c (es ++ e ∷ []))) (sym (left_in_parts c es (e ∷ [])))
     (subst (λ (m : NeverState). Invariant c (world_behind c w e) m) (sym never) behind)
 
 -- The list is in two parts: the events that are done, and those that come.
-along : (c : Config) (done es : List Event) → IsHistory c (done ++ es) → KeepsTheInvariant c done → KeepsTheInvariant c (done ++ es)
+along : (c : Config) (done es : List Event) → IsHistory c (done ++ es) → KeepsTheInvariant c done
+    → KeepsTheInvariant c (done ++ es)
 along c done [] h all = subst (λ (xs : List Event). KeepsTheInvariant c xs) (sym (append-nil done)) all
 along c done (e ∷ es) h all =
     let split : done ++ e ∷ es ≡ (done ++ e ∷ []) ++ es = sym (append_assoc done (e ∷ []) es) in

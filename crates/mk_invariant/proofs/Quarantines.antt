@@ -17,7 +17,8 @@ pub pages_have_header_words : OfHistories PagesHaveHeaderWords
 pages_have_header_words c es h = (histories_keep_the_invariant c es h).order.words
 
 pub few_pages_are_resident : OfHistories FewPagesAreResident
-few_pages_are_resident c es h = resident_few c (left c es) (histories_keep_lengths c es).pages (histories_keep_the_invariant c es h).order.room
+few_pages_are_resident c es h =
+    resident_few c (left c es) (histories_keep_lengths c es).pages (histories_keep_the_invariant c es h).order.room
 
 -- The layout is told what it asks along a history.
 told_from : (c : Config) (done es : List Event) → IsHistory c (done ++ es) → OthersSayFrom c (left c done) es
@@ -26,8 +27,10 @@ told_from c done [] h = tt
 told_from c done (e ∷ es) h =
     let here = earlier_part_is_history c done (e ∷ es) h in
     let split : done ++ e ∷ es ≡ (done ++ e ∷ []) ++ es = sym (append_assoc done (e ∷ []) es) in (
-      told_to_layout c (left c done) _ (known_world c done here.within_limits here.enabled) (histories_keep_the_invariant c done here),
-      subst (λ (w : World). OthersSayFrom c w es) (left_in_parts c done (e ∷ [])) (told_from c (done ++ e ∷ []) es (subst (λ (xs : List Event). IsHistory c xs) split h)),
+      told_to_layout c (left c done) _ (known_world c done here.within_limits here.enabled)
+          (histories_keep_the_invariant c done here),
+      subst (λ (w : World). OthersSayFrom c w es) (left_in_parts c done (e ∷ []))
+          (told_from c (done ++ e ∷ []) es (subst (λ (xs : List Event). IsHistory c xs) split h)),
     )
 
 pub snapshot_is_the_cycles : OfHistories SnapshotIsTheCycles

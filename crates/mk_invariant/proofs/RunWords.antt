@@ -1,5 +1,6 @@
 -- A run that is unmapped and wiped stays so, up to the `give` of its call.
-use Rattle.std.proofs.Common.{Bool, ap, arith, false, inl, inr, length, refl, subst, suc, sym, true, zero, ℕ, ◌*◌, ◌+◌, ◌-◌, ◌/◌, ◌<◌, ◌∙◌, ◌≡◌, ◌≢◌}
+use Rattle.std.proofs.Common.{Bool, ap, arith, false, inl, inr, length, refl, subst, suc, sym, true, zero, ℕ, ◌*◌, ◌+◌}
+use Rattle.std.proofs.Common.{◌-◌, ◌/◌, ◌<◌, ◌∙◌, ◌≡◌, ◌≢◌}
 use Rattle.std.specs.Prelude.{List, Option, Some, slice_index, slice_set, ◌&&◌}
 use Rattle.std.proofs.lemmas.Bool.{and_parts, cases_eq, cases_lt, eq-eqb, eqb-true, true≢false}
 use Rattle.std.proofs.lemmas.List.{get_or-set_other, get_or-set_same, set_past}
@@ -45,16 +46,20 @@ use Rattle.mk_invariant.proofs.ForImages.{laid_out, run_of}
 all_below_from : (n : ℕ) (test : ℕ → Bool) → ((k : ℕ) → k < n → test k ≡ true) → all_below n test ≡ true
 all_below_from zero test h = all_below_zero_is test
 all_below_from (suc n) test h =
-    subst (λ k. all_below k test ≡ true) (omega arith) (all_below_more_is n test (all_below_from n test (λ k lt. h k (omega arith))) (h n (omega arith)))
+    subst (λ k. all_below k test ≡ true) (omega arith)
+    (all_below_more_is n test (all_below_from n test (λ k lt. h k (omega arith))) (h n (omega arith)))
 
 gone_from : (v : Words) (r : RunPages) → ((d : ℕ) → d < r.count → header_at v (r.page + d) ≡ unmapped_header r.count d)
     → ((i : ℕ) → i < 64 * r.count → slice_index v.heap (64 * r.page + i) ≡ 0) → is_run_gone v (Some r) ≡ true
 gone_from v r headers words =
-    let unmapped : is_run_unmapped v r ≡ true = all_below_from r.count (stands v r.page (unmapped_header r.count)) (λ d lt. eq-eqb _ _ (headers d lt)) in
-    let zeros : words_are_zero v (64 * r.page) (64 * r.count) ≡ true = all_below_from (64 * r.count) _ (λ i lt. eq-eqb _ _ (words i lt)) in
+    let unmapped : is_run_unmapped v r ≡ true = all_below_from r.count (stands v r.page (unmapped_header r.count))
+    (λ d lt. eq-eqb _ _ (headers d lt)) in
+    let zeros : words_are_zero v (64 * r.page) (64 * r.count) ≡ true =
+    all_below_from (64 * r.count) _ (λ i lt. eq-eqb _ _ (words i lt)) in
     ap (λ b. b && words_are_zero v (64 * r.page) (64 * r.count)) unmapped ∙ zeros
 
-module _ (c : Config) (w : World) (known : KnownWorld c w) (laid : IsLaidOut c w) (r : RunPages) (is : w.now.seats.holding.freed ≡ Some r)
+module _ (c : Config) (w : World) (known : KnownWorld c w) (laid : IsLaidOut c w) (r : RunPages)
+    (is : w.now.seats.holding.freed ≡ Some r)
     (gone : is_run_gone w.now.words w.now.seats.holding.freed ≡ true) where
   gone_parts : (is_run_unmapped w.now.words r ≡ true) × (words_are_zero w.now.words (64 * r.page) (64 * r.count) ≡ true)
   gone_parts =
@@ -62,7 +67,8 @@ module _ (c : Config) (w : World) (known : KnownWorld c w) (laid : IsLaidOut c w
       (ap (λ (x : Option RunPages). is_run_gone w.now.words x) (sym is) ∙ gone)
 
   headers_gone : (d : ℕ) → d < r.count → header_at w.now.words (r.page + d) ≡ unmapped_header r.count d
-  headers_gone d lt = eqb-true _ _ (all_below-at r.count d (stands w.now.words r.page (unmapped_header r.count)) gone_parts.0 lt)
+  headers_gone d lt = eqb-true _ _
+      (all_below-at r.count d (stands w.now.words r.page (unmapped_header r.count)) gone_parts.0 lt)
 
   words_gone : (i : ℕ) → i < 64 * r.count → slice_index w.now.words.heap (64 * r.page + i) ≡ 0
   words_gone i lt = eqb-true _ _ (all_below-at (64 * r.count) i _ gone_parts.1 lt)
@@ -74,21 +80,24 @@ module _ (c : Config) (w : World) (known : KnownWorld c w) (laid : IsLaidOut c w
       by : HeadStep c w.now (flight_of w.now seat) p n → ⊥
       by (ItCarves off x) =
           let new = (placed_now c w.now (flight_of w.now seat) x.place x.there).new in
-          no_run c w.now seat known.now (new_has_turn c w.now seat h.seat new) (undecided_new (flight_of w.now seat) new).stage r is
+          no_run c w.now seat known.now (new_has_turn c w.now seat h.seat new)
+          (undecided_new (flight_of w.now seat) new).stage r is
       by (ItUnmaps off x) =
           let both : Some x.run ≡ Some r = sym x.there ∙ is in
           let same : x.run ≡ r = cc in
           let next : IsNextHeader w.now.words r.page r.count (unmapped_header r.count) p n =
           subst (λ (y : RunPages). IsNextHeader w.now.words y.page y.count (unmapped_header y.count) p n) same x.next in
           let distance : p - r.page ≡ d = omega arith in
-          next.not_yet (ap (λ q. header_at w.now.words q) (sym at) ∙ headers_gone d lt ∙ ap (λ e. unmapped_header r.count e) (sym distance))
+          next.not_yet (ap (λ q. header_at w.now.words q) (sym at) ∙ headers_gone d lt
+          ∙ ap (λ e. unmapped_header r.count e) (sym distance))
       by (ItEmpties on x) =
           let y = run_of c w known laid r is in
           let shown = laid.scene.shown y.claim (own_claim c (object_now c w.now) (ground_of w) y.claim y.among) in
           let page = y.page in
           let count = y.count in
           let here : y.claim.page + d ≡ p = omega arith in
-          claimed_used w.now.words.pages y.claim d shown (omega arith) (subst (λ q. used_at w.now.words (head_page w.now.words q) ≡ 0) (sym here) x.unused)
+          claimed_used w.now.words.pages y.claim d shown (omega arith)
+          (subst (λ q. used_at w.now.words (head_page w.now.words q) ≡ 0) (sym here) x.unused)
 
   -- No word of it is one of a mapped allocation.
   not_mapped : (i : ℕ) → i < 64 * r.count → IsMappedWord c w.allocations (64 * r.page + i) → ⊥
@@ -111,21 +120,29 @@ module _ (c : Config) (w : World) (known : KnownWorld c w) (laid : IsLaidOut c w
       let count = y.count in
       let some : i / 64 < r.count = omega arith in
       true≢false (sym (unmapped_is_unmapped r.count (i / 64) (omega arith, omega arith) some)
-      ∙ ap (λ h. is_unmapped_header (header_of h)) (sym (headers_gone (i / 64) some) ∙ ap (λ q. header_at w.now.words q) (sym there) ∙ l.mapped m.mapped d near)
+      ∙ ap (λ h. is_unmapped_header (header_of h)) (sym (headers_gone (i / 64) some)
+      ∙ ap (λ q. header_at w.now.words q) (sym there) ∙ l.mapped m.mapped d near)
       ∙ made_is_mapped (object_placed c a) d sized near)
 
-  headers_behind : (seat : Seat) (x : Step) → Meets c w.now seat x → (d : ℕ) → d < r.count → header_at (Behind c w.now seat x).words (r.page + d) ≡ unmapped_header r.count d
+  headers_behind : (seat : Seat) (x : Step) → Meets c w.now seat x → (d : ℕ) → d < r.count
+      → header_at (Behind c w.now seat x).words (r.page + d) ≡ unmapped_header r.count d
   headers_behind seat (step.Head p n) h d lt =
-      ap (λ (y : Page). y.header) (get_or-set_other w.now.words.pages p (r.page + d) (record { header = n; used = used_at w.now.words p }) free_page (head_elsewhere seat p n h d lt)) ∙ headers_gone d lt
+      ap (λ (y : Page). y.header)
+      (get_or-set_other w.now.words.pages p (r.page + d) (record { header = n; used = used_at w.now.words p })
+      free_page (head_elsewhere seat p n h d lt)) ∙ headers_gone d lt
   headers_behind seat x h d lt = rest x refl
     where
-      rest : (x : Step) → is_head x ≡ false → header_at (Behind c w.now seat x).words (r.page + d) ≡ unmapped_header r.count d
+      rest : (x : Step) → is_head x ≡ false
+          → header_at (Behind c w.now seat x).words (r.page + d) ≡ unmapped_header r.count d
       rest x other = headers_kind c w.now seat x other (r.page + d) ∙ headers_gone d lt
 
-  words_behind : (seat : Seat) (x : Step) → Meets c w.now seat x → (stores x ≡ true → IsMappedWord c w.allocations (word_met (flight_of w.now seat)))
+  words_behind : (seat : Seat) (x : Step) → Meets c w.now seat x
+      → (stores x ≡ true → IsMappedWord c w.allocations (word_met (flight_of w.now seat)))
       → (i : ℕ) → i < 64 * r.count → slice_index (Behind c w.now seat x).words.heap (64 * r.page + i) ≡ 0
-  words_behind seat step.Reg h stored i lt = ap (λ (t : Table). slice_index t.heap (64 * r.page + i)) (reg_table c w.now seat) ∙ words_gone i lt
-  words_behind seat (step.Tally n v) h stored i lt = ap (λ (t : Table). slice_index t.heap (64 * r.page + i)) (tally_table w.now.words n v) ∙ words_gone i lt
+  words_behind seat step.Reg h stored i lt =
+      ap (λ (t : Table). slice_index t.heap (64 * r.page + i)) (reg_table c w.now seat) ∙ words_gone i lt
+  words_behind seat (step.Tally n v) h stored i lt =
+      ap (λ (t : Table). slice_index t.heap (64 * r.page + i)) (tally_table w.now.words n v) ∙ words_gone i lt
   words_behind seat step.Write h stored i lt =
       get_or-set_other w.now.words.heap (word_met (flight_of w.now seat)) (64 * r.page + i) _ 0
       (λ e. not_mapped i lt (subst (λ n. IsMappedWord c w.allocations n) (sym e) (stored refl)))
@@ -137,12 +154,16 @@ module _ (c : Config) (w : World) (known : KnownWorld c w) (laid : IsLaidOut c w
   words_behind seat (step.Wipe n) h stored i lt = elim (cases_eq (64 * r.page + i) n) [
     | inr ne ↦ get_or-set_other w.now.words.heap n (64 * r.page + i) 0 0 ne ∙ words_gone i lt
     | inl e ↦ elim (cases_lt n (length w.now.words.heap)) [
-      | inl near ↦ ap (λ k. slice_index (slice_set w.now.words.heap n 0) k) e ∙ get_or-set_same w.now.words.heap n 0 0 near
-      | inr past ↦ ap (λ (ys : List ℕ). slice_index ys (64 * r.page + i)) (set_past w.now.words.heap n 0 past) ∙ words_gone i lt
+      | inl near ↦ ap (λ k. slice_index (slice_set w.now.words.heap n 0) k) e
+          ∙ get_or-set_same w.now.words.heap n 0 0 near
+      | inr past ↦ ap (λ (ys : List ℕ). slice_index ys (64 * r.page + i)) (set_past w.now.words.heap n 0 past)
+          ∙ words_gone i lt
     ]
   ]
   words_behind seat _ h stored i lt = words_gone i lt
 
-  pub gone_behind : (seat : Seat) (x : Step) → Meets c w.now seat x → (stores x ≡ true → IsMappedWord c w.allocations (word_met (flight_of w.now seat)))
+  pub gone_behind : (seat : Seat) (x : Step) → Meets c w.now seat x
+      → (stores x ≡ true → IsMappedWord c w.allocations (word_met (flight_of w.now seat)))
       → is_run_gone (Behind c w.now seat x).words (Some r) ≡ true
-  gone_behind seat x h stored = gone_from (Behind c w.now seat x).words r (headers_behind seat x h) (words_behind seat x h stored)
+  gone_behind seat x h stored = gone_from (Behind c w.now seat x).words r (headers_behind seat x h)
+      (words_behind seat x h stored)

@@ -15,8 +15,10 @@ use Rattle.mk_images.proofs.Exchanges.{histories_compare}
 use Rattle.mk_images.proofs.Histories.{histories_refine, reached_is_unreleased}
 use Rattle.mk_images.proofs.KnownWorlds.{KnownWorld, known_world}
 use Rattle.mk_guard.proofs.Histories.{close_finds_marks_closed, marking_guards, stopped_marks_are_closed}
-use Rattle.mk_invariant.specs.Theorems.{AllocationsAreDisjoint, AllocationsStand, ClosesFindMarksClosed, FirstFitFindsThePlace}
-use Rattle.mk_invariant.specs.Theorems.{GuardsBlackCells, KeepsTheReach, MarksStayClosed, OfHistories, PagesShowTheStorage}
+use Rattle.mk_invariant.specs.Theorems.{AllocationsAreDisjoint, AllocationsStand, ClosesFindMarksClosed}
+use Rattle.mk_invariant.specs.Theorems.{FirstFitFindsThePlace}
+use Rattle.mk_invariant.specs.Theorems.{GuardsBlackCells, KeepsTheReach, MarksStayClosed, OfHistories}
+use Rattle.mk_invariant.specs.Theorems.{PagesShowTheStorage}
 use Rattle.mk_invariant.proofs.Histories.{histories_keep_the_invariant}
 use Rattle.mk_invariant.proofs.Joined.{told_to_guard, told_to_images}
 
@@ -45,17 +47,22 @@ pub allocations_are_disjoint : OfHistories AllocationsAreDisjoint
 allocations_are_disjoint c es h i j n u v one two =
     let si = allocations_stand c es h i u in
     let sj = allocations_stand c es h j v in
-    let both : Some (cell_of_allocation c (placed_at (left c es).allocations i)) ≡ Some (cell_of_allocation c (placed_at (left c es).allocations j)) =
-    sym (word_points c (left c es).now.words (placed_at (left c es).allocations i) h.within_limits si.stands si.headers n one)
-    ∙ word_points c (left c es).now.words (placed_at (left c es).allocations j) h.within_limits sj.stands sj.headers n two in
-    let cells : cell_of_allocation c (placed_at (left c es).allocations i) ≡ cell_of_allocation c (placed_at (left c es).allocations j) = cc in
+    let both : Some (cell_of_allocation c (placed_at (left c es).allocations i))
+    ≡ Some (cell_of_allocation c (placed_at (left c es).allocations j)) =
+    sym (word_points c (left c es).now.words (placed_at (left c es).allocations i) h.within_limits si.stands si.headers
+    n one)
+    ∙ word_points c (left c es).now.words (placed_at (left c es).allocations j) h.within_limits sj.stands sj.headers n
+    two in
+    let cells : cell_of_allocation c (placed_at (left c es).allocations i)
+    ≡ cell_of_allocation c (placed_at (left c es).allocations j) = cc in
     unreleased_are_apart c es (histories_keep_the_invariant c es h).order.laid i j u v cells
 
 pub pages_show_the_storage : OfHistories PagesShowTheStorage
 pages_show_the_storage c es h = headers_stand c es h.within_limits (histories_keep_the_invariant c es h).order.laid
 
 pub first_fit_finds_the_place : OfHistories FirstFitFindsThePlace
-first_fit_finds_the_place c es h o = first_fit_is_the_place c es o h.within_limits (histories_keep_the_invariant c es h).order.laid
+first_fit_finds_the_place c es h o =
+    first_fit_is_the_place c es o h.within_limits (histories_keep_the_invariant c es h).order.laid
 
 pub black_cells_are_guarded : OfHistories GuardsBlackCells
 black_cells_are_guarded c es h = marking_guards c (left c es).now (histories_keep_the_invariant c es h).marks
@@ -63,7 +70,8 @@ black_cells_are_guarded c es h = marking_guards c (left c es).now (histories_kee
 pub marks_stay_closed : OfHistories MarksStayClosed
 marks_stay_closed c es h =
     let all = histories_keep_the_invariant c es h in
-    stopped_marks_are_closed c (left c es) h.within_limits (told_to_guard c (left c es) _ (world_is_known c es h) all) all.marks
+    stopped_marks_are_closed c (left c es) h.within_limits (told_to_guard c (left c es) _ (world_is_known c es h) all)
+    all.marks
 
 pub closes_find_marks_closed : OfHistories ClosesFindMarksClosed
 unfolding AreEnabledFrom

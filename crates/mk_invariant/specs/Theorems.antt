@@ -41,17 +41,20 @@ KeepsTheInvariant c es = Invariant c (left c es) (never_behind c es)
 
 -- What a program can get to isn't released.
 abbrev pub KeepsTheReach : Config → List Event → Type 0
-KeepsTheReach c es = (number : ℕ) → IsReached (never_behind c es) number → (placed_at (left c es).allocations number).released ≡ false
+KeepsTheReach c es = (number : ℕ) → IsReached (never_behind c es) number
+    → (placed_at (left c es).allocations number).released ≡ false
 
 -- Each unreleased allocation stands on the heap, with its headers and its used bit,
 abbrev pub AllocationsStand : Config → List Event → Type 0
 AllocationsStand c es =
-    (i : ℕ) → (placed_at (left c es).allocations i).released ≡ false → StandsUsed c (left c es) (placed_at (left c es).allocations i)
+    (i : ℕ) → (placed_at (left c es).allocations i).released ≡ false
+    → StandsUsed c (left c es) (placed_at (left c es).allocations i)
 
 -- and no two have a word in common.
 abbrev pub AllocationsAreDisjoint : Config → List Event → Type 0
 AllocationsAreDisjoint c es =
-    (i j n : ℕ) → (placed_at (left c es).allocations i).released ≡ false → (placed_at (left c es).allocations j).released ≡ false
+    (i j n : ℕ) → (placed_at (left c es).allocations i).released ≡ false
+    → (placed_at (left c es).allocations j).released ≡ false
     → IsWordOf (storage_of c (placed_at (left c es).allocations i)) n
     → IsWordOf (storage_of c (placed_at (left c es).allocations j)) n → i ≡ j
 
@@ -64,7 +67,8 @@ PagesShowTheStorage c es =
 abbrev pub FirstFitFindsThePlace : Config → List Event → Type 0
 FirstFitFindsThePlace c es =
     (o : Object) → IsSettled (left c es)
-    → place_on_pages c.resident (left c es).now.words.pages o ≡ place_among_allocations c o.words o.leaf (left c es).allocations
+    → place_on_pages c.resident (left c es).now.words.pages o
+    ≡ place_among_allocations c o.words o.leaf (left c es).allocations
 
 -- While a cycle marks, the words of black cells are guarded.
 abbrev pub GuardsBlackCells : Config → List Event → Type 0
@@ -92,6 +96,7 @@ FewPagesAreResident c es = resident_pages (uses_of_pages (left c es).now.words.p
 abbrev pub SnapshotIsTheCycles : Config → List Event → Type 0
 SnapshotIsTheCycles c es =
     (begin : At is_begin es) → list_any (λ (e : Event). is_begin e.step) begin.behind ≡ false
-    → is_cycling (phase_of (left c es).now.words) ≡ true → (i : ℕ) → (placed_at (left c es).allocations i).released ≡ false
+    → is_cycling (phase_of (left c es).now.words) ≡ true → (i : ℕ)
+    → (placed_at (left c es).allocations i).released ≡ false
     → has_bit_of c (left c es).now.words.snapshot (placed_at (left c es).allocations i)
     ≡ is_quarantined (placed_at (left c begin.before).allocations i)

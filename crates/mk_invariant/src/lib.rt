@@ -3,9 +3,11 @@
 
 ghost use Rattle.mk_core.specs.Exchanges.{ExchangesCompareValues};
 ghost use Rattle.mk_core.specs.History.{RefinesNever};
-ghost use Rattle.mk_invariant.specs.Theorems.{AllocationsAreDisjoint, AllocationsStand, ClosesFindMarksClosed, EventsKeepTheInvariant, FirstFitFindsThePlace};
+ghost use Rattle.mk_invariant.specs.Theorems.{AllocationsAreDisjoint, AllocationsStand, ClosesFindMarksClosed};
+ghost use Rattle.mk_invariant.specs.Theorems.{EventsKeepTheInvariant, FirstFitFindsThePlace};
 ghost use Rattle.mk_invariant.specs.Theorems.{FewPagesAreResident, PagesHaveHeaderWords, SnapshotIsTheCycles};
-ghost use Rattle.mk_invariant.specs.Theorems.{GuardsBlackCells, InvariantAtFirst, KeepsTheInvariant, KeepsTheReach, MarksStayClosed, OfHistories, PagesShowTheStorage};
+ghost use Rattle.mk_invariant.specs.Theorems.{GuardsBlackCells, InvariantAtFirst, KeepsTheInvariant, KeepsTheReach};
+ghost use Rattle.mk_invariant.specs.Theorems.{MarksStayClosed, OfHistories, PagesShowTheStorage};
 
 /// The invariant holds at first, one event of a history keeps it, and so it holds behind each history.
 pub fn histories_keep_the_invariant()

@@ -1,5 +1,6 @@
 -- Calls one after another, at what a source or a sink tells.
-use Rattle.std.proofs.Common.{◌≡◌, ℕ, ◌+◌, ◌-◌, List, ◌++◌, length, take, drop, Some, None, refl, ap, subst, ◌∙◌, arith, length-append, length-take, append_assoc}
+use Rattle.std.proofs.Common.{◌≡◌, ℕ, ◌+◌, ◌-◌, List, ◌++◌, length, take, drop, Some, None, refl, ap, subst, ◌∙◌, arith}
+use Rattle.std.proofs.Common.{length-append, length-take, append_assoc}
 use Rattle.std.proofs.Math.Seq.{take-add}
 use Rattle.std.proofs.lemmas.List.{drop-drop, take_rest}
 use Rattle.std.specs.declared.option.Option.{Option}
@@ -30,7 +31,8 @@ Appends-append (Some taken) b c xs ys p q =
 
 -- the next n bytes of a list, after the first m
 pub Appends-next : (a b c : Option (List ℕ)) (bytes : List ℕ) (m n : ℕ) →
-    Appends a b (take m bytes) → Appends b c (take n (take (length bytes - m) (drop m bytes))) → Appends a c (take (m + n) bytes)
+    Appends a b (take m bytes) → Appends b c (take n (take (length bytes - m) (drop m bytes)))
+    → Appends a c (take (m + n) bytes)
 Appends-next a b c bytes m n p q =
     let tail : Appends b c (take n (drop m bytes)) = rw take_rest at q in
     rw take-add (Appends-append a b c (take m bytes) (take n (drop m bytes)) p tail)

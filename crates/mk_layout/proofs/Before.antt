@@ -30,7 +30,8 @@ pub record Before (c : Config) (w : World) : Type 0 where
   pub known : Known c w.now
   pub others : OthersSay c w
   -- no claim's cell is released
-  pub unreleased : is_phase w.now.words 4 ≡ true → (x : Claim) → Among x (claims_on c (object_now c w.now) (ground_of w))
+  pub unreleased : is_phase w.now.words 4 ≡ true → (x : Claim)
+      → Among x (claims_on c (object_now c w.now) (ground_of w))
       → is_released_in true w.now.words.snapshot w.now.words.marks x.page x.index ≡ false
 
 -- laid out as at that moment, but for the terrain
@@ -55,7 +56,8 @@ reg_leaves c w seat =
     let f : Flight = flight_of w.now seat in
     reg_keeps w.now.words (caller_number seat) (register_met f f.stage) (reg_access f f.stage)
 
-pub reg_leaves_ground : (c : Config) (w : World) (seat : Seat) → KeepsGround w.now.words (WorldBehind c w seat step.Reg).now.words
+pub reg_leaves_ground : (c : Config) (w : World) (seat : Seat)
+    → KeepsGround w.now.words (WorldBehind c w seat step.Reg).now.words
 reg_leaves_ground c w seat =
     let f : Flight = flight_of w.now seat in
     reg_ground w.now.words (caller_number seat) (register_met f f.stage) (reg_access f f.stage)

@@ -1,5 +1,6 @@
 -- One event: what stands on the pages behind it.
-use Rattle.std.proofs.Common.{Bool, List, ap, arith, false, inl, inr, refl, subst, sym, true, ℕ, ◌%◌, ◌+◌, ◌-◌, ◌^◌, ◌∙◌, ◌≡◌, ◌≢◌, ◌⊎◌}
+use Rattle.std.proofs.Common.{Bool, List, ap, arith, false, inl, inr, refl, subst, sym, true, ℕ, ◌%◌, ◌+◌, ◌-◌, ◌^◌}
+use Rattle.std.proofs.Common.{◌∙◌, ◌≡◌, ◌≢◌, ◌⊎◌}
 use Rattle.std.specs.Prelude.{None, Option, Some, if◌then◌else◌, is_some, ◌==◌}
 use Rattle.std.proofs.lemmas.Bool.{and_parts, cases_Bool, eq-eqb, eqb-true, ne_eqb}
 use Rattle.mk_core.specs.History.{World}
@@ -44,7 +45,8 @@ same_low : (n m : ℕ) → n % 8 ≡ m % 8 → (n % 8 == 4) ≡ (m % 8 == 4)
 same_low n m e = ap (λ k. k == 4) e
 
 pub over_phase : (c : Config) (w : World) (seat : Seat) → Meets c w.now seat step.Over → w.now.words.phase % 8 ≡ 0
-over_phase c w seat h = eqb-true (w.now.words.phase % 8) 0 (and_parts (host_has_turn c w.now) (is_phase w.now.words 0) h.holder).1
+over_phase c w seat h =
+    eqb-true (w.now.words.phase % 8) 0 (and_parts (host_has_turn c w.now) (is_phase w.now.words 0) h.holder).1
 
 pub phase_kind : (c : Config) (w : World) (seat : Seat) (x : Step) → Meets c w.now seat x
     → is_phase (WorldBehind c w seat x).now.words 4 ≡ is_releasing_behind x (is_phase w.now.words 4)
@@ -62,7 +64,8 @@ phase_kind c w seat step.Want h =
 phase_kind c w seat step.Close h =
     let e = eqb-true (w.now.words.phase % 8) 2 h.phase in
     not_four ((w.now.words.phase + 1) % 2 ^ 64) w.now.words.phase (λ x. omega arith) (λ x. omega arith)
-phase_kind c w seat step.Release h = let e = eqb-true (w.now.words.phase % 8) 3 h.phase in eq-eqb ((w.now.words.phase + 1) % 2 ^ 64 % 8) 4 (omega arith)
+phase_kind c w seat step.Release h = let e =
+    eqb-true (w.now.words.phase % 8) 3 h.phase in eq-eqb ((w.now.words.phase + 1) % 2 ^ 64 % 8) 4 (omega arith)
 phase_kind c w seat step.End h =
     let e = eqb-true (w.now.words.phase % 8) 4 h.phase in
     ne_eqb ((w.now.words.phase + (2 ^ 64 - 4)) % 2 ^ 64 % 8) 4 (λ x. omega arith)
@@ -74,42 +77,51 @@ phase_kind c w seat step.Over h =
 phase_kind c w seat _ h = refl
 
 -- While released cells are there, no mark changes: nobody marks then.
-seen_attends : (c : Config) (m : Moment) (seat : Seat) → Known c m → is_some (cell_seen c (marker_at m seat).seen (marker_at m seat).hand) ≡ true
+seen_attends : (c : Config) (m : Moment) (seat : Seat) → Known c m
+    → is_some (cell_seen c (marker_at m seat).seen (marker_at m seat).hand) ≡ true
     → (phase_of m.words ≡ 1) ⊎ (phase_of m.words ≡ 2)
 seen_attends c m (Marker k) known some = elim (cases_Bool (is_attending (marker_of m k).presence)) [
   | inl on ↦ known.orderly.attends k on
   | inr off ↦
       let none = (known.orderly.idle k off).seen in
-      let f : false ≡ true = ap (λ (x : Option SeenHeader). is_some (cell_seen c x (marker_of m k).hand)) (sym none) ∙ some in
+      let f : false ≡ true = ap (λ (x : Option SeenHeader). is_some (cell_seen c x (marker_of m k).hand)) (sym none)
+      ∙ some in
       cc
 ]
 seen_attends c m (Caller k) known some = cc
 seen_attends c m Host known some = cc
 
-marks_stay : (c : Config) (m : Moment) (seat : Seat) (y : Colours) → Known c m → phase_of m.words ≡ 4 → ColourStep c m seat y → y.marks ≡ m.words.marks
+marks_stay : (c : Config) (m : Moment) (seat : Seat) (y : Colours) → Known c m → phase_of m.words ≡ 4
+    → ColourStep c m seat y → y.marks ≡ m.words.marks
 marks_stay c m seat y known four (ClearsMarks p quiet) = absurd (omega arith)
-marks_stay c m seat y known four (AddsMarks p bits early may) = elim early [ inl e ↦ absurd (omega arith) | inr e ↦ absurd (omega arith) ]
+marks_stay c m seat y known four (AddsMarks p bits early may) =
+    elim early [ inl e ↦ absurd (omega arith) | inr e ↦ absurd (omega arith) ]
 marks_stay c m seat y known four (MarksSeen p bits some at is) =
     elim (seen_attends c m seat known some) [ inl e ↦ absurd (omega arith) | inr e ↦ absurd (omega arith) ]
 marks_stay c m seat y known four _ = refl
 
-pub releasing_marks : (c : Config) (w : World) (seat : Seat) (x : Step) → Known c w.now → Meets c w.now seat x → is_releasing_behind x (is_phase w.now.words 4) ≡ true
+pub releasing_marks : (c : Config) (w : World) (seat : Seat) (x : Step) → Known c w.now → Meets c w.now seat x
+    → is_releasing_behind x (is_phase w.now.words 4) ≡ true
     → (WorldBehind c w seat x).now.words.marks ≡ w.now.words.marks
 releasing_marks c w seat step.Release known h on = refl
 releasing_marks c w seat step.End known h on = refl
 releasing_marks c w seat x known h on = by x h on
   where
-    by : (x : Step) → Meets c w.now seat x → is_releasing_behind x (is_phase w.now.words 4) ≡ true → (WorldBehind c w seat x).now.words.marks ≡ w.now.words.marks
+    by : (x : Step) → Meets c w.now seat x → is_releasing_behind x (is_phase w.now.words 4) ≡ true
+        → (WorldBehind c w seat x).now.words.marks ≡ w.now.words.marks
     by step.Release h on = refl
     by step.End h on = refl
-    by x h on = marks_stay c w.now seat (colours_of (WorldBehind c w seat x).now) known (eqb-true (phase_of w.now.words) 4 on) (colour_step c w.now seat x h)
+    by x h on = marks_stay c w.now seat (colours_of (WorldBehind c w seat x).now) known
+        (eqb-true (phase_of w.now.words) 4 on) (colour_step c w.now seat x h)
 
 -- Where there is a place behind, the turn is the same,
-turn_kind : (c : Config) (w : World) (seat : Seat) (x : Step) → Meets c w.now seat x → has_place (WorldBehind c w seat x).now.seats.holding.placing ≡ true
+turn_kind : (c : Config) (w : World) (seat : Seat) (x : Step) → Meets c w.now seat x
+    → has_place (WorldBehind c w seat x).now.seats.holding.placing ≡ true
     → (WorldBehind c w seat x).now.words.turn ≡ w.now.words.turn
 turn_kind c w seat (step.Take o) h has = by (w.now.words.turn == 0) has
   where
-    by : (b : Bool) → has_place (if b then nothing_done else w.now.seats.holding).placing ≡ true → (if b then 1 + holder_number c seat else w.now.words.turn) ≡ w.now.words.turn
+    by : (b : Bool) → has_place (if b then nothing_done else w.now.seats.holding).placing ≡ true
+        → (if b then 1 + holder_number c seat else w.now.words.turn) ≡ w.now.words.turn
     by true has = cc
     by false has = refl
 turn_kind c w seat step.Give h has = cc
@@ -123,7 +135,8 @@ held_none : (p : Placing) → has_place p ≡ true → held_place p ≡ None →
 held_none (Chosen place) has none = let e : Some place ≡ None = none in cc
 held_none _ has none = cc
 
-pub object_kind : (c : Config) (w : World) (seat : Seat) (x : Step) → Known c w.now → Meets c w.now seat x → has_place (WorldBehind c w seat x).now.seats.holding.placing ≡ true
+pub object_kind : (c : Config) (w : World) (seat : Seat) (x : Step) → Known c w.now → Meets c w.now seat x
+    → has_place (WorldBehind c w seat x).now.seats.holding.placing ≡ true
     → object_now c (WorldBehind c w seat x).now ≡ object_now c w.now
 object_kind c w seat x known h has =
     let v : World = WorldBehind c w seat x in
@@ -133,26 +146,36 @@ object_kind c w seat x known h has =
     let new = orderly.served.placed has in
     let move = moves c w.now seat x (not_astray c w.now known.orderly) (actor_of c w.now seat x known.orderly h) h in
     elim (new_was c (view_of w.now) seat (view_of v.now) k move new) [
-      | inl same ↦ ap (λ (f : Flight). object_made c f.op) same ∙ ap (λ t. object_made c (flight_of w.now (Caller (t - 1))).op) turn
+      | inl same ↦ ap (λ (f : Flight). object_made c f.op) same
+          ∙ ap (λ t. object_made c (flight_of w.now (Caller (t - 1))).op) turn
       | inr none ↦ absurd (held_none v.now.seats.holding.placing has none)
     ]
 
 -- An enabled event: laid out before it, laid out behind it.
-pub layout_behind : (c : Config) (w : World) (seat : Seat) (x : Step) → Before c w → Meets c w.now seat x → IsLaidOut c w → IsLaidOut c (WorldBehind c w seat x)
+pub layout_behind : (c : Config) (w : World) (seat : Seat) (x : Step) → Before c w → Meets c w.now seat x
+    → IsLaidOut c w → IsLaidOut c (WorldBehind c w seat x)
 layout_behind c w seat x b h laid =
     let v : World = WorldBehind c w seat x in
     let kind = by_kind c w seat x b h laid in
     let phase = phase_kind c w seat x h in
     let marked : HasLayout c (object_now c w.now) (is_phase v.now.words 4) v.now.words.marks (ground_of v) =
-    subst (λ r. HasLayout c (object_now c w.now) r v.now.words.marks (ground_of v)) (sym phase) (marks (is_releasing_behind x (is_phase w.now.words 4)) refl kind) in
+    subst (λ r. HasLayout c (object_now c w.now) r v.now.words.marks (ground_of v)) (sym phase)
+    (marks (is_releasing_behind x (is_phase w.now.words 4)) refl kind) in
     elim (cases_Bool (has_place v.now.seats.holding.placing)) [
-      | inl has ↦ subst (λ (o : Object). HasLayout c o (is_phase v.now.words 4) v.now.words.marks (ground_of v)) (sym (object_kind c w seat x b.known h has)) marked
-      | inr none ↦ (placeless c (object_now c w.now) (object_now c v.now) (is_phase v.now.words 4) v.now.words.marks (ground_of v) v.now.seats.holding.placing refl none marked).0
+      | inl has ↦ subst (λ (o : Object). HasLayout c o (is_phase v.now.words 4) v.now.words.marks (ground_of v))
+          (sym (object_kind c w seat x b.known h has)) marked
+      | inr none ↦ (placeless c (object_now c w.now) (object_now c v.now) (is_phase v.now.words 4) v.now.words.marks
+          (ground_of v) v.now.seats.holding.placing refl none marked).0
     ]
   where
-    marks : (r : Bool) → is_releasing_behind x (is_phase w.now.words 4) ≡ r → HasLayout c (object_now c w.now) r w.now.words.marks (ground_of (WorldBehind c w seat x))
-        → HasLayout c (object_now c w.now) r (WorldBehind c w seat x).now.words.marks (ground_of (WorldBehind c w seat x))
-    marks true is st = subst (λ (xs : List ℕ). HasLayout c (object_now c w.now) true xs (ground_of (WorldBehind c w seat x))) (sym (releasing_marks c w seat x b.known h is)) st
+    marks : (r : Bool) → is_releasing_behind x (is_phase w.now.words 4) ≡ r
+        → HasLayout c (object_now c w.now) r w.now.words.marks (ground_of (WorldBehind c w seat x))
+        → HasLayout c (object_now c w.now) r (WorldBehind c w seat x).now.words.marks
+        (ground_of (WorldBehind c w seat x))
+    marks true is st = subst
+        (λ (xs : List ℕ). HasLayout c (object_now c w.now) true xs (ground_of (WorldBehind c w seat x)))
+        (sym (releasing_marks c w seat x b.known h is)) st
     marks false is st =
-        unreleasing c (object_now c w.now) w.now.words.marks (WorldBehind c w seat x).now.words.marks (ground_of (WorldBehind c w seat x))
+        unreleasing c (object_now c w.now) w.now.words.marks (WorldBehind c w seat x).now.words.marks
+        (ground_of (WorldBehind c w seat x))
         (WorldBehind c w seat x).now.words.freed (WorldBehind c w seat x).now.words.snapshot st

@@ -1,5 +1,6 @@
 -- Counts of the numbers below one that pass a test.
-use Rattle.std.proofs.Common.{Bool, List, ap, arith, false, length, min, refl, suc, sym, true, zero, ℕ, ◌+◌, ◌-◌, ◌<◌, ◌∙◌, ◌∷◌, ◌≡◌, ◌≤◌}
+use Rattle.std.proofs.Common.{Bool, List, ap, arith, false, length, min, refl, suc, sym, true, zero, ℕ, ◌+◌, ◌-◌, ◌<◌}
+use Rattle.std.proofs.Common.{◌∙◌, ◌∷◌, ◌≡◌, ◌≤◌}
 use Rattle.std.specs.Prelude.{cond, if◌then◌else◌, nat_le, nat_lt, slice_index_or, ◌&&◌, ◌||◌}
 use Rattle.std.proofs.lemmas.Bool.{leb-true, ltb-true, true≢false}
 use Rattle.std.proofs.lemmas.List.Recursion.{is_count_by}
@@ -7,7 +8,8 @@ use Rattle.std.specs.List.{count_by}
 use Rattle.mk_layout.specs.Room.{count_below}
 
 -- where fewer pass
-pub count_fewer : (n : ℕ) (test other : ℕ → Bool) → ((p : ℕ) → p < n → test p ≡ true → other p ≡ true) → count_below n test ≤ count_below n other
+pub count_fewer : (n : ℕ) (test other : ℕ → Bool) → ((p : ℕ) → p < n → test p ≡ true → other p ≡ true)
+    → count_below n test ≤ count_below n other
 unfolding count_below
 count_fewer zero test other fewer = omega arith
 count_fewer (suc n) test other fewer =
@@ -31,7 +33,8 @@ count_none (suc n) test none =
 
 -- with the numbers of a range besides
 in_range : (n first size : ℕ) (test : ℕ → Bool)
-    → count_below n (λ p. test p || (nat_le first p && nat_lt p (first + size))) ≤ count_below n test + min (n - first) size
+    → count_below n (λ p. test p || (nat_le first p && nat_lt p (first + size))) ≤ count_below n test
+    + min (n - first) size
 unfolding count_below
 in_range zero first size test = omega arith
 in_range (suc n) first size test =
@@ -46,7 +49,8 @@ in_range (suc n) first size test =
     by false true false low high = omega arith
     by false false b low high = omega arith
 
-pub count_range : (n first size : ℕ) (test : ℕ → Bool) → count_below n (λ p. test p || (nat_le first p && nat_lt p (first + size))) ≤ count_below n test + size
+pub count_range : (n first size : ℕ) (test : ℕ → Bool)
+    → count_below n (λ p. test p || (nat_le first p && nat_lt p (first + size))) ≤ count_below n test + size
 count_range n first size test = let r = in_range n first size test in omega arith
 
 no_numbers : (test : ℕ → Bool) → count_below 0 test ≡ 0
@@ -54,16 +58,19 @@ unfolding count_below
 no_numbers test = refl
 
 -- the first number alone
-count_front : (n : ℕ) (test : ℕ → Bool) → count_below (suc n) test ≡ (if test 0 then 1 else 0) + count_below n (λ p. test (suc p))
+count_front : (n : ℕ) (test : ℕ → Bool)
+    → count_below (suc n) test ≡ (if test 0 then 1 else 0) + count_below n (λ p. test (suc p))
 unfolding count_below
 count_front zero test = omega arith
 count_front (suc n) test = let rest = count_front n test in omega arith
 
 -- the count of the elements of a list that pass
-pub count_list : {A : Type 0} (xs : List A) (d : A) (test : A → Bool) → count_below (length xs) (λ p. test (slice_index_or xs p d)) ≡ count_by test xs
+pub count_list : {A : Type 0} (xs : List A) (d : A) (test : A → Bool)
+    → count_below (length xs) (λ p. test (slice_index_or xs p d)) ≡ count_by test xs
 count_list xs d test =
     is_count_by (λ ys. count_below (length ys) (λ p. test (slice_index_or ys p d))) test none
-    (λ x ys. count_front (length ys) (λ p. test (slice_index_or (x ∷ ys) p d)) ∙ by (test x) (count_below (length ys) (λ p. test (slice_index_or ys p d)))) xs
+    (λ x ys. count_front (length ys) (λ p. test (slice_index_or (x ∷ ys) p d))
+    ∙ by (test x) (count_below (length ys) (λ p. test (slice_index_or ys p d)))) xs
   where
     none : count_below 0 (λ p. test d) ≡ 0
     none = no_numbers (λ p. test d)

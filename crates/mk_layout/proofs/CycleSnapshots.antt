@@ -1,12 +1,14 @@
 -- Along a list without a `begin`, what was freed before the last one stays told by the flags.
-use Rattle.std.proofs.Common.{Bool, List, [], ap, arith, false, inl, inr, length, map, refl, subst, suc, sym, true, zero, ℕ, ◌++◌, ◌∙◌, ◌∷◌, ◌≡◌, ◌≤◌, ◌⊎◌}
+use Rattle.std.proofs.Common.{Bool, List, [], ap, arith, false, inl, inr, length, map, refl, subst, suc, sym, true}
+use Rattle.std.proofs.Common.{zero, ℕ, ◌++◌, ◌∙◌, ◌∷◌, ◌≡◌, ◌≤◌, ◌⊎◌}
 use Rattle.std.specs.Prelude.{None, Option, Some, if◌then◌else◌, not, slice_index, ◌&&◌, ◌||◌}
 use Rattle.std.proofs.lemmas.Bool.{false_from_ne_true, true≢false}
 use Rattle.std.proofs.lemmas.List.{get_or_past, length-append, length-map}
 use Rattle.std.specs.List.{list_any}
 use Rattle.mk_geom.specs.declared.addresses.Cell.{Cell}
 use Rattle.mk_core.specs.Accesses.{access, reached}
-use Rattle.mk_core.specs.Allocations.{PlacedAllocation, freed_where_it_stands, granted, never_granted, no_longer_fresh, placed_at, stands_in, with_released}
+use Rattle.mk_core.specs.Allocations.{PlacedAllocation, freed_where_it_stands, granted, never_granted, no_longer_fresh}
+use Rattle.mk_core.specs.Allocations.{placed_at, stands_in, with_released}
 use Rattle.mk_core.specs.Bits.{has_bit}
 use Rattle.mk_core.specs.Config.{IsWithinLimits}
 use Rattle.mk_core.specs.Cycles.{is_begin, is_quarantined}
@@ -45,63 +47,85 @@ is_freed_before a = a.freed && not a.fresh
 
 -- what one event does to the flags of an allocation that is unreleased behind it
 data FlagsStep (w v : World) (i : ℕ) : Type 0 where
-  Stays : (placed_at w.allocations i).released ≡ false → is_freed_before (placed_at v.allocations i) ≡ is_freed_before (placed_at w.allocations i) → FlagsStep w v i
+  Stays : (placed_at w.allocations i).released ≡ false
+      → is_freed_before (placed_at v.allocations i) ≡ is_freed_before (placed_at w.allocations i) → FlagsStep w v i
   IsNew : length w.allocations ≤ i → is_freed_before (placed_at v.allocations i) ≡ false → FlagsStep w v i
 
-pushed_new : (xs : List PlacedAllocation) (a : PlacedAllocation) (i : ℕ) → (placed_at (xs ++ a ∷ []) i ≡ placed_at xs i) ⊎ ((placed_at (xs ++ a ∷ []) i ≡ a) × (length xs ≤ i))
+pushed_new : (xs : List PlacedAllocation) (a : PlacedAllocation) (i : ℕ)
+    → (placed_at (xs ++ a ∷ []) i ≡ placed_at xs i) ⊎ ((placed_at (xs ++ a ∷ []) i ≡ a) × (length xs ≤ i))
 pushed_new [] a zero = inr (refl, omega arith)
 pushed_new [] a (suc i) = inl refl
 pushed_new (x ∷ xs) a zero = inl refl
-pushed_new (x ∷ xs) a (suc i) = elim (pushed_new xs a i) [ inl e ↦ inl e | inr e ↦ inr (e.0, let le = e.1 in omega arith) ]
+pushed_new (x ∷ xs) a (suc i) =
+    elim (pushed_new xs a i) [ inl e ↦ inl e | inr e ↦ inr (e.0, let le = e.1 in omega arith) ]
 
 -- `quar` (a): what stands in the cell wasn't freed
-freed_flags : (c : Config) (w : World) (cell : Cell) (n i : ℕ) → FreesHere c w cell n → IsQuarantined c w → (placed_at w.allocations i).released ≡ false → (b : Bool)
+freed_flags : (c : Config) (w : World) (cell : Cell) (n i : ℕ) → FreesHere c w cell n → IsQuarantined c w
+    → (placed_at w.allocations i).released ≡ false → (b : Bool)
     → stands_in w.now.words cell (placed_at w.allocations i) ≡ b
-    → is_freed_before (freed_where_it_stands w.now.words (Some cell) (placed_at w.allocations i)) ≡ is_freed_before (placed_at w.allocations i)
+    → is_freed_before (freed_where_it_stands w.now.words (Some cell) (placed_at w.allocations i))
+    ≡ is_freed_before (placed_at w.allocations i)
 freed_flags c w cell n i x q u true is =
     let a : PlacedAllocation = placed_at w.allocations i in
     let unfreed = false_from_ne_true a.freed (λ f.
-    true≢false (sym (q.shown i u f) ∙ ap (λ (y : Cell). has_bit (slice_index w.now.words.freed y.page) y.index) (x.others i u is) ∙ x.unset)) in
-    ap (λ b. is_freed_before (if b then record a { freed = true; fresh = true } else a)) is ∙ sym (ap (λ f. f && not a.fresh) unfreed)
+    true≢false (sym (q.shown i u f)
+    ∙ ap (λ (y : Cell). has_bit (slice_index w.now.words.freed y.page) y.index) (x.others i u is) ∙ x.unset)) in
+    ap (λ b. is_freed_before (if b then record a { freed = true; fresh = true } else a)) is
+    ∙ sym (ap (λ f. f && not a.fresh) unfreed)
 freed_flags c w cell n i x q u false is =
     let a : PlacedAllocation = placed_at w.allocations i in
     ap (λ b. is_freed_before (if b then record a { freed = true; fresh = true } else a)) is
 
-quar_flags : (c : Config) (w : World) (seat : Seat) (p n i : ℕ) → Before c w → Meets c w.now seat (step.Quar p n) → IsLaidOut c w → IsQuarantined c w
-    → (placed_at (WorldBehind c w seat (step.Quar p n)).allocations i).released ≡ false → FlagsStep w (WorldBehind c w seat (step.Quar p n)) i
+quar_flags : (c : Config) (w : World) (seat : Seat) (p n i : ℕ) → Before c w → Meets c w.now seat (step.Quar p n)
+    → IsLaidOut c w → IsQuarantined c w
+    → (placed_at (WorldBehind c w seat (step.Quar p n)).allocations i).released ≡ false
+    → FlagsStep w (WorldBehind c w seat (step.Quar p n)) i
 quar_flags c w seat p n i b h laid q u = by (cell_freed c.pages w.now.words (flight_of w.now seat) p n) refl
   where
-    by : (cell : Option Cell) → cell_freed c.pages w.now.words (flight_of w.now seat) p n ≡ cell → FlagsStep w (WorldBehind c w seat (step.Quar p n)) i
+    by : (cell : Option Cell) → cell_freed c.pages w.now.words (flight_of w.now seat) p n ≡ cell
+        → FlagsStep w (WorldBehind c w seat (step.Quar p n)) i
     by None is =
         let same : (WorldBehind c w seat (step.Quar p n)).allocations ≡ w.allocations =
-        ap (λ (x : Option Cell). map (freed_where_it_stands w.now.words x) w.allocations) is ∙ none_freed w.now.words w.allocations in
-        Stays (ap (λ (xs : List PlacedAllocation). (placed_at xs i).released) (sym same) ∙ u) (ap (λ (xs : List PlacedAllocation). is_freed_before (placed_at xs i)) same)
+        ap (λ (x : Option Cell). map (freed_where_it_stands w.now.words x) w.allocations) is
+        ∙ none_freed w.now.words w.allocations in
+        Stays (ap (λ (xs : List PlacedAllocation). (placed_at xs i).released) (sym same)
+        ∙ u) (ap (λ (xs : List PlacedAllocation). is_freed_before (placed_at xs i)) same)
     by (Some cell) is =
-        let same : (WorldBehind c w seat (step.Quar p n)).allocations ≡ map (freed_where_it_stands w.now.words (Some cell)) w.allocations =
+        let same : (WorldBehind c w seat (step.Quar p n)).allocations
+        ≡ map (freed_where_it_stands w.now.words (Some cell)) w.allocations =
         ap (λ (x : Option Cell). map (freed_where_it_stands w.now.words x) w.allocations) is in
-        let frees = frees_here c w seat p n cell b h laid (freed_cell c.pages w.now.words (flight_of w.now seat) p n cell is) in
-        let x = before_change c (freed_where_it_stands w.now.words (Some cell)) w.allocations i (freeing_leaves w.now.words (Some cell))
+        let frees = frees_here c w seat p n cell b h laid
+        (freed_cell c.pages w.now.words (flight_of w.now seat) p n cell is) in
+        let x = before_change c (freed_where_it_stands w.now.words (Some cell)) w.allocations i
+        (freeing_leaves w.now.words (Some cell))
         (ap (λ (xs : List PlacedAllocation). (placed_at xs i).released) (sym same) ∙ u) in
         Stays x.was
-        (ap (λ (xs : List PlacedAllocation). is_freed_before (placed_at xs i)) same ∙ ap (λ (a : PlacedAllocation). is_freed_before a) x.now
+        (ap (λ (xs : List PlacedAllocation). is_freed_before (placed_at xs i)) same
+        ∙ ap (λ (a : PlacedAllocation). is_freed_before a) x.now
         ∙ freed_flags c w cell n i frees q x.was (stands_in w.now.words cell (placed_at w.allocations i)) refl)
 
-flags_step : (c : Config) (w : World) (seat : Seat) (x : Step) (i : ℕ) → Before c w → Meets c w.now seat x → IsLaidOut c w → IsQuarantined c w → is_begin x ≡ false
+flags_step : (c : Config) (w : World) (seat : Seat) (x : Step) (i : ℕ) → Before c w → Meets c w.now seat x
+    → IsLaidOut c w → IsQuarantined c w → is_begin x ≡ false
     → (placed_at (WorldBehind c w seat x).allocations i).released ≡ false → FlagsStep w (WorldBehind c w seat x) i
 flags_step c w seat (step.Quar p n) i b h laid q out u = quar_flags c w seat p n i b h laid q u
 flags_step c w seat step.Begin i b h laid q out u = absurd (true≢false out)
-flags_step c w seat step.Grant i b h laid q out u = elim (pushed_new w.allocations (granted c w.now (flight_of w.now seat)) i) [
-  | inl old ↦ Stays (ap (λ (a : PlacedAllocation). a.released) (sym old) ∙ u) (ap (λ (a : PlacedAllocation). is_freed_before a) old)
-  | inr new ↦ IsNew new.1 (ap (λ (a : PlacedAllocation). is_freed_before a) new.0)
-]
+flags_step c w seat step.Grant i b h laid q out u =
+    elim (pushed_new w.allocations (granted c w.now (flight_of w.now seat)) i) [
+      | inl old ↦ Stays (ap (λ (a : PlacedAllocation). a.released) (sym old)
+          ∙ u) (ap (λ (a : PlacedAllocation). is_freed_before a) old)
+      | inr new ↦ IsNew new.1 (ap (λ (a : PlacedAllocation). is_freed_before a) new.0)
+    ]
 flags_step c w seat step.Release i b h laid q out u =
     let x = before_change c (with_released c w.now.words) w.allocations i (releasing_leaves c w.now.words) u in
     Stays x.was (ap (λ (a : PlacedAllocation). is_freed_before a) x.now)
 flags_step c w seat _ i b h laid q out u = Stays u refl
 
 -- allocations are never lost
-longer : (c : Config) (w : World) (seat : Seat) (x : Step) → length w.allocations ≤ length (WorldBehind c w seat x).allocations
-longer c w seat (step.Quar p n) = let e = length-map w.allocations (freed_where_it_stands w.now.words (cell_freed c.pages w.now.words (flight_of w.now seat) p n)) in omega arith
+longer : (c : Config) (w : World) (seat : Seat) (x : Step)
+    → length w.allocations ≤ length (WorldBehind c w seat x).allocations
+longer c w seat (step.Quar p n) = let e =
+    length-map w.allocations
+    (freed_where_it_stands w.now.words (cell_freed c.pages w.now.words (flight_of w.now seat) p n)) in omega arith
 longer c w seat step.Begin = let e = length-map w.allocations no_longer_fresh in omega arith
 longer c w seat step.Grant = omega (arith, length-append w.allocations (granted c w.now (flight_of w.now seat) ∷ []))
 longer c w seat step.Release = let e = length-map w.allocations (with_released c w.now.words) in omega arith
@@ -110,9 +134,11 @@ longer c w seat _ = omega arith
 -- what these allocations had in quarantine, another world's flags tell
 record Tells (xs : List PlacedAllocation) (w : World) : Type 0 where
   longer : length xs ≤ length w.allocations
-  flags : (i : ℕ) → (placed_at w.allocations i).released ≡ false → is_freed_before (placed_at w.allocations i) ≡ is_quarantined (placed_at xs i)
+  flags : (i : ℕ) → (placed_at w.allocations i).released ≡ false
+      → is_freed_before (placed_at w.allocations i) ≡ is_quarantined (placed_at xs i)
 
-tells_behind : (c : Config) (xs : List PlacedAllocation) (w : World) (seat : Seat) (x : Step) → Before c w → Meets c w.now seat x → IsLaidOut c w → IsQuarantined c w
+tells_behind : (c : Config) (xs : List PlacedAllocation) (w : World) (seat : Seat) (x : Step) → Before c w
+    → Meets c w.now seat x → IsLaidOut c w → IsQuarantined c w
     → is_begin x ≡ false
     → Tells xs w → Tells xs (WorldBehind c w seat x)
 tells_behind c xs w seat x b h laid q out t =
@@ -121,7 +147,8 @@ tells_behind c xs w seat x b h laid q out t =
       flags = λ i u. by i (flags_step c w seat x i b h laid q out u);
     }
   where
-    by : (i : ℕ) → FlagsStep w (WorldBehind c w seat x) i → is_freed_before (placed_at (WorldBehind c w seat x).allocations i) ≡ is_quarantined (placed_at xs i)
+    by : (i : ℕ) → FlagsStep w (WorldBehind c w seat x) i
+        → is_freed_before (placed_at (WorldBehind c w seat x).allocations i) ≡ is_quarantined (placed_at xs i)
     by i (Stays was same) = same ∙ t.flags i was
     by i (IsNew past none) =
         let m = t.longer in
@@ -151,7 +178,8 @@ record Along (c : Config) (w : World) (es : List Event) : Type 0 where
   others : OthersSayFrom c w es
   order : StandsInOrder c w
 
-along_next : (c : Config) (w : World) (e : Event) (es : List Event) → Along c w (e ∷ es) → Before c w × Meets c w.now e.seat e.step × Along c (world_behind c w e) es
+along_next : (c : Config) (w : World) (e : Event) (es : List Event) → Along c w (e ∷ es)
+    → Before c w × Meets c w.now e.seat e.step × Along c (world_behind c w e) es
 unfolding AreEnabledFrom OthersSayFrom
 along_next c w e es a = (
   known_before c w a.limits a.lengths a.known a.others.0 a.order.quarantined,
@@ -166,14 +194,16 @@ along_next c w e es a = (
   },
 )
 
-tells_from : (c : Config) (xs : List PlacedAllocation) (w : World) (es : List Event) → Along c w es → list_any (λ (e : Event). is_begin e.step) es ≡ false → Tells xs w
+tells_from : (c : Config) (xs : List PlacedAllocation) (w : World) (es : List Event) → Along c w es
+    → list_any (λ (e : Event). is_begin e.step) es ≡ false → Tells xs w
     → Tells xs (left_from c w es) × StandsInOrder c (left_from c w es)
 unfolding left_from
 tells_from c xs w [] a none t = (t, a.order)
 tells_from c xs w (e ∷ es) a none t =
     let n = along_next c w e es a in
     let parts = or_parts (is_begin e.step) (list_any (λ (x : Event). is_begin x.step) es) none in
-    tells_from c xs (world_behind c w e) es n.2 parts.1 (tells_behind c xs w e.seat e.step n.0 n.1 a.order.laid a.order.quarantined parts.0 t)
+    tells_from c xs (world_behind c w e) es n.2 parts.1
+    (tells_behind c xs w e.seat e.step n.0 n.1 a.order.laid a.order.quarantined parts.0 t)
   where
     or_parts : (a b : Bool) → (a || b) ≡ false → (a ≡ false) × (b ≡ false)
     or_parts false b h = (refl, h)
@@ -186,23 +216,35 @@ along_parts c w [] ys a = a
 along_parts c w (e ∷ xs) ys a = along_parts c (world_behind c w e) xs ys (along_next c w e (xs ++ ys) a).2
 
 after : (c : Config) (w : World) (e : Event) (behind : List Event) → Along c w (e ∷ behind) → is_begin e.step ≡ true
-    → list_any (λ (x : Event). is_begin x.step) behind ≡ false → Tells w.allocations (left_from c w (e ∷ behind)) × StandsInOrder c (left_from c w (e ∷ behind))
+    → list_any (λ (x : Event). is_begin x.step) behind ≡ false
+    → Tells w.allocations (left_from c w (e ∷ behind)) × StandsInOrder c (left_from c w (e ∷ behind))
 unfolding left_from
 after c w e behind a is none =
     let n = along_next c w e behind a in
     let t : Tells w.allocations (world_behind c w e) =
-    subst (λ (x : Step). Tells w.allocations (WorldBehind c w e.seat x)) (sym (begin_is e.step is)) (tells_at_begin c w e.seat) in
+    subst (λ (x : Step). Tells w.allocations (WorldBehind c w e.seat x)) (sym (begin_is e.step is))
+    (tells_at_begin c w e.seat) in
     tells_from c w.allocations (world_behind c w e) behind n.2 none t
 
 pub snapshots_are_of_cycles : SnapshotsAreOfCycles
 snapshots_are_of_cycles c es limits on others begin none cycling i u =
     let first : Along c (first_world c) es =
-    record { limits = limits; lengths = zero_lengths c.pages; known = known_at_first c limits; enabled = on; others = others; order = in_order_at_first c } in
-    let split : Along c (first_world c) (begin.before ++ begin.event ∷ begin.behind) = subst (λ (xs : List Event). Along c (first_world c) xs) begin.is first in
+    record {
+      limits = limits;
+      lengths = zero_lengths c.pages;
+      known = known_at_first c limits;
+      enabled = on;
+      others = others;
+      order = in_order_at_first c;
+    } in
+    let split : Along c (first_world c) (begin.before ++ begin.event ∷ begin.behind) =
+    subst (λ (xs : List Event). Along c (first_world c) xs) begin.is first in
     let w : World = left c begin.before in
-    let t = after c w begin.event begin.behind (along_parts c (first_world c) begin.before (begin.event ∷ begin.behind) split) begin.of_kind none in
+    let t = after c w begin.event begin.behind
+    (along_parts c (first_world c) begin.before (begin.event ∷ begin.behind) split) begin.of_kind none in
     let same : left c es ≡ left_from c w (begin.event ∷ begin.behind) =
-    ap (λ (xs : List Event). left c xs) begin.is ∙ left_append c (first_world c) begin.before (begin.event ∷ begin.behind) in
+    ap (λ (xs : List Event). left c xs) begin.is
+    ∙ left_append c (first_world c) begin.before (begin.event ∷ begin.behind) in
     let told : Tells w.allocations (left c es) = subst (λ (v : World). Tells w.allocations v) (sym same) t.0 in
     let order : StandsInOrder c (left c es) = subst (λ (v : World). StandsInOrder c v) (sym same) t.1 in
     order.snapshot.quarantined cycling i u ∙ told.flags i u

@@ -1,7 +1,8 @@
 -- `quar` (b) and (c), and `end`, on the terrain.
 use Rattle.std.proofs.Common.{Bool, List, ap, arith, false, inl, inr, length, sym, true, ℕ, ◌<◌, ◌∙◌, ◌≡◌, ◌≢◌, ◌⊎◌}
 use Rattle.std.specs.Prelude.{not, slice_index, slice_set, ◌&&◌, ◌==◌, ◌||◌}
-use Rattle.std.proofs.lemmas.Bool.{and_parts, cases_Bool, cases_eq, cases_lt, eqb-false, eqb-true, not-true, or_cases, true≢false}
+use Rattle.std.proofs.lemmas.Bool.{and_parts, cases_Bool, cases_eq, cases_lt, eqb-false, eqb-true, not-true, or_cases}
+use Rattle.std.proofs.lemmas.Bool.{true≢false}
 use Rattle.std.proofs.lemmas.List.{get_or-set_other, get_or-set_same, set_past}
 use Rattle.mk_core.specs.Bits.{has_bit}
 use Rattle.mk_core.specs.Cells.{head_page, left_unmarked, none_is_left_unmarked}
@@ -21,23 +22,33 @@ use Rattle.mk_layout.proofs.Releasing.{layout_ended}
 use Rattle.mk_layout.proofs.Serving.{Laid}
 
 -- While the phase isn't releasing, no cell is released, whatever the snapshot, the freed cells and the marks.
-pub unreleasing : (c : Config) (o : Object) (marks other : List ℕ) (t : Ground) (freed snapshot : List ℕ) → HasLayout c o false marks t
+pub unreleasing : (c : Config) (o : Object) (marks other : List ℕ) (t : Ground) (freed snapshot : List ℕ)
+    → HasLayout c o false marks t
     → HasLayout c o false other (record t { freed = freed; snapshot = snapshot })
 unreleasing c o marks other t freed snapshot st =
     record {
-      scene = let s = st.scene in record { shown = s.shown; apart = s.apart; used = s.used; plot = s.plot; occupied = s.occupied; later = s.later };
+      scene = let s = st.scene in record {
+        shown = s.shown;
+        apart = s.apart;
+        used = s.used;
+        plot = s.plot;
+        occupied = s.occupied;
+        later = s.later;
+      };
       gone = st.gone;
       first = st.first;
       cells = st.cells;
     }
 
 -- The freed cells aren't read at all.
-pub refreed : (c : Config) (o : Object) (releasing : Bool) (marks : List ℕ) (t : Ground) (freed : List ℕ) → HasLayout c o releasing marks t
+pub refreed : (c : Config) (o : Object) (releasing : Bool) (marks : List ℕ) (t : Ground) (freed : List ℕ)
+    → HasLayout c o releasing marks t
     → HasLayout c o releasing marks (record t { freed = freed })
 refreed c o releasing marks t freed st = record { scene = st.scene; gone = st.gone; first = st.first; cells = st.cells }
 
 -- `quar` (c): released cells that aren't used are dropped
-pub dropped : (c : Config) (o : Object) (w : World) (p freed n : ℕ) → Laid c o true w (ground_of w) → Drops w.now.words p freed n
+pub dropped : (c : Config) (o : Object) (w : World) (p freed n : ℕ) → Laid c o true w (ground_of w)
+    → Drops w.now.words p freed n
     → Laid c o true w (record (ground_of w) { snapshot = slice_set w.now.words.snapshot p n })
 dropped c o w p freed n st h =
     let s = st.scene in
@@ -63,7 +74,8 @@ dropped c o w p freed n st h =
         | inr past ↦ ap (λ (xs : List ℕ). has_bit (slice_index xs q) k) (set_past w.now.words.snapshot p n past) ∙ was
         | inl lt ↦
             let here : slice_index (slice_set w.now.words.snapshot p n) q ≡ n =
-            ap (λ i. slice_index (slice_set w.now.words.snapshot p n) i) e ∙ get_or-set_same w.now.words.snapshot p n 0 lt in
+            ap (λ i. slice_index (slice_set w.now.words.snapshot p n) i) e
+            ∙ get_or-set_same w.now.words.snapshot p n 0 lt in
             ap (λ v. has_bit v k) here ∙ elim (cases_Bool (has_bit n k)) [
               | inl is ↦ is
               | inr out ↦
@@ -74,11 +86,14 @@ dropped c o w p freed n st h =
     ]
 
     by : (q k : ℕ) → has_bit (used_at w.now.words q) k ≡ true
-        → IsClaimed (claims_on c o (ground_of w)) q k ⊎ (is_released_in true w.now.words.snapshot w.now.words.marks q k ≡ true)
-        → IsClaimed (claims_on c o (ground_of w)) q k ⊎ (is_released_in true (slice_set w.now.words.snapshot p n) w.now.words.marks q k ≡ true)
+        → IsClaimed (claims_on c o (ground_of w)) q k
+        ⊎ (is_released_in true w.now.words.snapshot w.now.words.marks q k ≡ true)
+        → IsClaimed (claims_on c o (ground_of w)) q k
+        ⊎ (is_released_in true (slice_set w.now.words.snapshot p n) w.now.words.marks q k ≡ true)
     by q k bit (inl own) = inl own
     by q k bit (inr r) =
-        let parts = and_parts (has_bit (slice_index w.now.words.snapshot q) k) (not (has_bit (slice_index w.now.words.marks q) k)) r in
+        let parts = and_parts (has_bit (slice_index w.now.words.snapshot q) k)
+        (not (has_bit (slice_index w.now.words.marks q) k)) r in
         inr (ap (λ b. b && not (has_bit (slice_index w.now.words.marks q) k)) (stays q k bit parts.0) ∙ parts.1)
 
 -- What `end` asks: no cell of a page is left, and one with a header has a used cell at its head.
@@ -91,7 +106,8 @@ settled_page w count p h lt =
     let occupied : Bool = (header_at w p == 0) || not (used_at w (head_page w p) == 0) in
     let parts = and_parts (none_is_left_unmarked w p) occupied (all_below-at count p (has_settled_page w) h lt) in
     record {
-      none = λ k. sym (has_bit_without (slice_index w.snapshot p) (slice_index w.marks p) k) ∙ no_bit (left_unmarked w p) k (eqb-true (left_unmarked w p) 0 parts.0);
+      none = λ k. sym (has_bit_without (slice_index w.snapshot p) (slice_index w.marks p) k)
+          ∙ no_bit (left_unmarked w p) k (eqb-true (left_unmarked w p) 0 parts.0);
       used = λ some empty. elim (or_cases (header_at w p == 0) (not (used_at w (head_page w p) == 0)) parts.1) [
         | inl z ↦ some (eqb-true (header_at w p) 0 z)
         | inr u ↦ eqb-false (used_at w (head_page w p)) 0 (not-true (used_at w (head_page w p) == 0) u) empty
@@ -99,7 +115,8 @@ settled_page w count p h lt =
     }
 
 -- `end`
-pub ended : (c : Config) (o : Object) (w : World) → length w.now.words.pages ≡ c.pages → Laid c o true w (ground_of w) → may_end c.pages w.now.words ≡ true
+pub ended : (c : Config) (o : Object) (w : World) → length w.now.words.pages ≡ c.pages → Laid c o true w (ground_of w)
+    → may_end c.pages w.now.words ≡ true
     → Laid c o false w (ground_of w)
 ended c o w len st h =
     record {

@@ -1,5 +1,6 @@
 -- What the place that first fit finds says of the pages, in words.
-use Rattle.std.proofs.Common.{Bool, List, ap, arith, false, inl, inr, length, refl, subst, sym, true, ℕ, ◌+◌, ◌<◌, ◌∙◌, ◌≡◌, ◌≤◌, ◌⊎◌}
+use Rattle.std.proofs.Common.{Bool, List, ap, arith, false, inl, inr, length, refl, subst, sym, true, ℕ, ◌+◌, ◌<◌, ◌∙◌}
+use Rattle.std.proofs.Common.{◌≡◌, ◌≤◌, ◌⊎◌}
 use Rattle.std.specs.Prelude.{None, Option, Some, slice_index_or}
 use Rattle.std.proofs.lemmas.Bool.{cases_Bool, leb-false, leb-true}
 use Rattle.std.proofs.lemmas.Option.{get_or_from_slice_get, slice_get_within}
@@ -50,7 +51,8 @@ free_header h (Some (LeafRun n)) u is free = cc
 free_header h (Some (Later d m)) u is free = cc
 
 -- a cell that may be taken is on a free page, or on one with the block's header
-taken_from : (h u class index : ℕ) (leaf : Bool) (x : Option Header) → header_of h ≡ x → MayTakeCell class leaf index (use_under x u)
+taken_from : (h u class index : ℕ) (leaf : Bool) (x : Option Header) → header_of h ≡ x
+    → MayTakeCell class leaf index (use_under x u)
     → (h ≡ 0) ⊎ ((h ≡ word_of (block_header class leaf)) × (index < cells_of class))
 taken_from h u class index leaf (Some Free) is may = inl (zero_word h is)
 taken_from h u class index leaf None is may = absurd may
@@ -59,19 +61,24 @@ taken_from h u class index leaf (Some (LeafRun n)) is may = absurd may
 taken_from h u class index leaf (Some (Later d m)) is may = absurd may
 taken_from h u class index leaf (Some (Block k)) is may =
     inr (
-      sym (word_of-header_of h (Block k) is).1 ∙ ap (λ n. word_of (Block n)) may.0 ∙ ap (λ b. word_of (block_header class b)) may.1,
-      subst (λ n. index < n) (length-bits_of (cells_of k) u ∙ ap cells_of may.0) (slice_get_within (bits_of (cells_of k) u) index false may.2),
+      sym (word_of-header_of h (Block k) is).1 ∙ ap (λ n. word_of (Block n)) may.0
+          ∙ ap (λ b. word_of (block_header class b)) may.1,
+      subst (λ n. index < n) (length-bits_of (cells_of k) u
+          ∙ ap cells_of may.0) (slice_get_within (bits_of (cells_of k) u) index false may.2),
     )
 taken_from h u class index leaf (Some (LeafBlock k)) is may =
     inr (
-      sym (word_of-header_of h (LeafBlock k) is).1 ∙ ap (λ n. word_of (LeafBlock n)) may.0 ∙ ap (λ b. word_of (block_header class b)) may.1,
-      subst (λ n. index < n) (length-bits_of (cells_of k) u ∙ ap cells_of may.0) (slice_get_within (bits_of (cells_of k) u) index false may.2),
+      sym (word_of-header_of h (LeafBlock k) is).1 ∙ ap (λ n. word_of (LeafBlock n)) may.0
+          ∙ ap (λ b. word_of (block_header class b)) may.1,
+      subst (λ n. index < n) (length-bits_of (cells_of k) u
+          ∙ ap cells_of may.0) (slice_get_within (bits_of (cells_of k) u) index false may.2),
     )
 
 free_use : (h u : ℕ) → h ≡ 0 → is_free_page (use_under (header_of h) u) ≡ true
 free_use h u z = ap (λ n. is_free_page (use_under (header_of n) u)) z
 
-pub fits : (limit : ℕ) (pages : List Page) (o : Object) (place : Place) → IsSized o → place_on_pages limit pages o ≡ Some place
+pub fits : (limit : ℕ) (pages : List Page) (o : Object) (place : Place) → IsSized o
+    → place_on_pages limit pages o ≡ Some place
     → FitsOnFreePages limit pages o place ⊎ FitsInBlock pages o place
 fits limit pages o place sized at = elim (cases_Bool (is_small_object o)) [ inl s ↦ small s | inr l ↦ inl (large l) ]
   where
@@ -86,7 +93,8 @@ fits limit pages o place sized at = elim (cases_Bool (is_small_object o)) [ inl 
           index = is.index;
           within = omega arith;
           free = λ d lt.
-              free_header (header_on pages (place.page + d)) (shows_on pages (place.page + d)) (used_on pages (place.page + d)) refl
+              free_header (header_on pages (place.page + d)) (shows_on pages (place.page + d))
+              (used_on pages (place.page + d)) refl
               (is.free.free (place.page + d) free_page (omega arith) (omega arith));
         }
 
@@ -94,10 +102,12 @@ fits limit pages o place sized at = elim (cases_Bool (is_small_object o)) [ inl 
     small s =
         let class_is = class_for_small o.words sized.0 (leb-true o.words 32 s) in
         let is = cell_place_is limit o.words (class_made o) o.leaf pages place class_is at in
-        let page : slice_index_or pages place.page free_page ≡ is.page = get_or_from_slice_get pages place.page is.page free_page is.at in
+        let page : slice_index_or pages place.page free_page ≡ is.page =
+        get_or_from_slice_get pages place.page is.page free_page is.at in
         let one = small_pages o s in
         let inside = slice_get_within pages place.page is.page is.at in
-        elim (taken_from is.page.header is.page.used (class_made o) place.index o.leaf (header_of is.page.header) refl is.may_take) [
+        elim (taken_from is.page.header is.page.used (class_made o) place.index o.leaf (header_of is.page.header) refl
+        is.may_take) [
           | inl z ↦ inl (record {
             room = let room = is.has_room (is.carves ∙ free_use is.page.header is.page.used z) in omega arith;
             index = is.carves_first (is.carves ∙ free_use is.page.header is.page.used z);

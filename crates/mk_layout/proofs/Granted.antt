@@ -1,5 +1,6 @@
 -- `grant` on the terrain: what is granted is the claim of its place.
-use Rattle.std.proofs.Common.{Bool, List, [], ap, append-nil, false, inl, inr, length, refl, subst, suc, sym, true, zero, ℕ, ◌++◌, ◌/◌, ◌<◌, ◌∙◌, ◌∷◌, ◌≡◌, ◌⊎◌}
+use Rattle.std.proofs.Common.{Bool, List, [], ap, append-nil, false, inl, inr, length, refl, subst, suc, sym, true}
+use Rattle.std.proofs.Common.{zero, ℕ, ◌++◌, ◌/◌, ◌<◌, ◌∙◌, ◌∷◌, ◌≡◌, ◌⊎◌}
 use Rattle.std.specs.Prelude.{None, Option, Some, if◌then◌else◌, not, ◌&&◌}
 use Rattle.std.proofs.lemmas.Bool.{cond-false, true≢false}
 use Rattle.mk_geom.specs.declared.pages.Place.{Place}
@@ -13,38 +14,46 @@ use Rattle.mk_core.specs.declared.seats.RunPages.{RunPages}
 use Rattle.mk_core.proofs.StandingAllocations.{made_begins}
 use Rattle.mk_layout.specs.Scene.{Among, Claim, IsLaidOn, IsShown, NoPlot}
 use Rattle.mk_protocol.specs.Ground.{Ground}
-use Rattle.mk_layout.specs.Terrain.{HasLayout, IsAtCell, RunStands, claim_of, claims_of, is_unmapping, mode_of, place_claim, scene_of}
+use Rattle.mk_layout.specs.Terrain.{HasLayout, IsAtCell, RunStands, claim_of, claims_of, is_unmapping, mode_of}
+use Rattle.mk_layout.specs.Terrain.{place_claim, scene_of}
 use Rattle.mk_layout.proofs.Joined.{among_back, among_front}
 use Rattle.mk_layout.proofs.StandingClaims.{place_index}
 
 -- An allocation behind a `grant` is one from before, or the new one.
-pub pushed_at : (xs : List PlacedAllocation) (a : PlacedAllocation) (i : ℕ) → (placed_at (xs ++ a ∷ []) i).released ≡ false
-    → (((placed_at xs i).released ≡ false) × (placed_at (xs ++ a ∷ []) i ≡ placed_at xs i)) ⊎ (placed_at (xs ++ a ∷ []) i ≡ a)
+pub pushed_at : (xs : List PlacedAllocation) (a : PlacedAllocation) (i : ℕ)
+    → (placed_at (xs ++ a ∷ []) i).released ≡ false
+    → (((placed_at xs i).released ≡ false) × (placed_at (xs ++ a ∷ []) i ≡ placed_at xs i))
+    ⊎ (placed_at (xs ++ a ∷ []) i ≡ a)
 pushed_at [] a zero u = inr refl
 pushed_at [] a (suc i) u = absurd (true≢false u)
 pushed_at (x ∷ xs) a zero u = inl (u, refl)
 pushed_at (x ∷ xs) a (suc i) u = pushed_at xs a i u
 
-pub pushed_any : (xs : List PlacedAllocation) (a : PlacedAllocation) (i : ℕ) → (placed_at (xs ++ a ∷ []) i ≡ placed_at xs i) ⊎ (placed_at (xs ++ a ∷ []) i ≡ a)
+pub pushed_any : (xs : List PlacedAllocation) (a : PlacedAllocation) (i : ℕ)
+    → (placed_at (xs ++ a ∷ []) i ≡ placed_at xs i) ⊎ (placed_at (xs ++ a ∷ []) i ≡ a)
 pushed_any [] a zero = inr refl
 pushed_any [] a (suc i) = inl refl
 pushed_any (x ∷ xs) a zero = inl refl
 pushed_any (x ∷ xs) a (suc i) = pushed_any xs a i
 
 -- One that was there is.
-pub still_at : (xs : List PlacedAllocation) (a : PlacedAllocation) (i : ℕ) → (placed_at xs i).released ≡ false → placed_at (xs ++ a ∷ []) i ≡ placed_at xs i
+pub still_at : (xs : List PlacedAllocation) (a : PlacedAllocation) (i : ℕ) → (placed_at xs i).released ≡ false
+    → placed_at (xs ++ a ∷ []) i ≡ placed_at xs i
 still_at [] a i u = absurd (true≢false u)
 still_at (x ∷ xs) a zero u = refl
 still_at (x ∷ xs) a (suc i) u = still_at xs a i u
 
-pub pushed_claims : (c : Config) (run : Option RunPages) (xs : List PlacedAllocation) (a : PlacedAllocation) → a.released ≡ false
+pub pushed_claims : (c : Config) (run : Option RunPages) (xs : List PlacedAllocation) (a : PlacedAllocation)
+    → a.released ≡ false
     → claims_of c run (xs ++ a ∷ []) ≡ claims_of c run xs ++ claim_of c run a ∷ []
 pushed_claims c run [] a u = cond-false a.released [] (claim_of c run a ∷ []) u
 pushed_claims c run (x ∷ xs) a u =
-    ap (λ (ys : List Claim). if x.released then ys else claim_of c run x ∷ ys) (pushed_claims c run xs a u) ∙ by x.released
+    ap (λ (ys : List Claim). if x.released then ys else claim_of c run x ∷ ys) (pushed_claims c run xs a u)
+    ∙ by x.released
   where
     by : (b : Bool)
-        → (if b then claims_of c run xs ++ claim_of c run a ∷ [] else claim_of c run x ∷ (claims_of c run xs ++ claim_of c run a ∷ []))
+        → (if b then claims_of c run xs ++ claim_of c run a ∷ []
+        else claim_of c run x ∷ (claims_of c run xs ++ claim_of c run a ∷ []))
         ≡ (if b then claims_of c run xs else claim_of c run x ∷ claims_of c run xs) ++ claim_of c run a ∷ []
     by true = refl
     by false = refl
@@ -56,28 +65,35 @@ pub record IsGrantedAt (c : Config) (a : PlacedAllocation) (place : Place) : Typ
   pub freed : a.freed ≡ false
   pub unreleased : a.released ≡ false
 
-pub granted_terrain : (c : Config) (releasing : Bool) (marks : List ℕ) (t : Ground) (place : Place) (a : PlacedAllocation) → t.placing ≡ Used place → IsGrantedAt c a place
+pub granted_terrain : (c : Config) (releasing : Bool) (marks : List ℕ) (t : Ground) (place : Place)
+    (a : PlacedAllocation) → t.placing ≡ Used place → IsGrantedAt c a place
     → HasLayout c (object_placed c a) releasing marks t
-    → HasLayout c (object_placed c a) releasing marks (record t { placing = Granted; allocations = t.allocations ++ a ∷ [] })
+    → HasLayout c (object_placed c a) releasing marks
+    (record t { placing = Granted; allocations = t.allocations ++ a ∷ [] })
 granted_terrain c releasing marks t place a used is st =
     record {
-      scene = subst (λ (cs : List Claim). IsLaidOn (record (scene_of c (object_placed c a) releasing marks t) { claims = cs; plot = NoPlot })) claims was;
+      scene = subst (λ (cs : List Claim). IsLaidOn
+          (record (scene_of c (object_placed c a) releasing marks t) { claims = cs; plot = NoPlot })) claims was;
       gone = gone t.run st.gone;
       first = tt;
       cells = λ i u. elim (pushed_at t.allocations a i u) [
         | inl old ↦ subst (λ (x : PlacedAllocation). IsAtCell c x) (sym old.1) (st.cells i old.0)
-        | inr new ↦ subst (λ (x : PlacedAllocation). IsAtCell c x) (sym new) (record { typed = is.typed; begins = begins })
+        | inr new ↦ subst (λ (x : PlacedAllocation). IsAtCell c x) (sym new)
+            (record { typed = is.typed; begins = begins })
       ];
     }
   where
-    was : IsLaidOn (record (scene_of c (object_placed c a) releasing marks t) { claims = claims_of c t.run t.allocations ++ place_claim (object_placed c a) place ∷ []; plot = NoPlot })
-    was = subst (λ (p : Placing). IsLaidOn (scene_of c (object_placed c a) releasing marks (record t { placing = p }))) used st.scene
+    was : IsLaidOn (record (scene_of c (object_placed c a) releasing marks t)
+        { claims = claims_of c t.run t.allocations ++ place_claim (object_placed c a) place ∷ []; plot = NoPlot })
+    was = subst (λ (p : Placing). IsLaidOn (scene_of c (object_placed c a) releasing marks (record t { placing = p })))
+        used st.scene
 
     shown : IsShown t.pages (place_claim (object_placed c a) place)
     shown =
         let s = was in
         s.shown (place_claim (object_placed c a) place)
-        (among_back (claims_of c t.run t.allocations) (place_claim (object_placed c a) place ∷ []) (place_claim (object_placed c a) place) (inl refl))
+        (among_back (claims_of c t.run t.allocations) (place_claim (object_placed c a) place ∷ [])
+        (place_claim (object_placed c a) place) (inl refl))
 
     begins : BeginsAtCell (object_placed c a) a.base
     begins =
@@ -89,16 +105,35 @@ granted_terrain c releasing marks t place a used is st =
 
     claim : claim_of c t.run a ≡ place_claim (object_placed c a) place
     claim =
-        ap (λ p. record { page = p; index = (cell_of_allocation c a).index; object = object_placed c a; mode = mode_of (a.freed && not (is_small_object (object_placed c a))) (is_unmapping t.run (a.base / 64)) }) at.0
-        ∙ ap (λ i. record { page = place.page; index = i; object = object_placed c a; mode = mode_of (a.freed && not (is_small_object (object_placed c a))) (is_unmapping t.run (a.base / 64)) }) at.1
-        ∙ ap (λ b. record { page = place.page; index = place.index; object = object_placed c a; mode = mode_of (b && not (is_small_object (object_placed c a))) (is_unmapping t.run (a.base / 64)) }) is.freed
+        ap (λ p. record {
+          page = p;
+          index = (cell_of_allocation c a).index;
+          object = object_placed c a;
+          mode = mode_of (a.freed && not (is_small_object (object_placed c a))) (is_unmapping t.run (a.base / 64));
+        })
+        at.0
+        ∙ ap (λ i. record {
+          page = place.page;
+          index = i;
+          object = object_placed c a;
+          mode = mode_of (a.freed && not (is_small_object (object_placed c a))) (is_unmapping t.run (a.base / 64));
+        }) at.1
+        ∙ ap (λ b. record {
+          page = place.page;
+          index = place.index;
+          object = object_placed c a;
+          mode = mode_of (b && not (is_small_object (object_placed c a))) (is_unmapping t.run (a.base / 64));
+        }) is.freed
 
-    claims : claims_of c t.run t.allocations ++ place_claim (object_placed c a) place ∷ [] ≡ claims_of c t.run (t.allocations ++ a ∷ []) ++ []
+    claims : claims_of c t.run t.allocations ++ place_claim (object_placed c a) place ∷ []
+        ≡ claims_of c t.run (t.allocations ++ a ∷ []) ++ []
     claims =
-        ap (λ (x : Claim). claims_of c t.run t.allocations ++ x ∷ []) (sym claim) ∙ sym (pushed_claims c t.run t.allocations a is.unreleased)
+        ap (λ (x : Claim). claims_of c t.run t.allocations ++ x ∷ []) (sym claim)
+        ∙ sym (pushed_claims c t.run t.allocations a is.unreleased)
         ∙ sym (append-nil (claims_of c t.run (t.allocations ++ a ∷ [])))
 
-    gone : (r : Option RunPages) → RunStands (claims_of c t.run t.allocations) r → RunStands (claims_of c t.run (t.allocations ++ a ∷ [])) r
+    gone : (r : Option RunPages) → RunStands (claims_of c t.run t.allocations) r
+        → RunStands (claims_of c t.run (t.allocations ++ a ∷ [])) r
     gone None x = tt
     gone (Some r) x =
         record {

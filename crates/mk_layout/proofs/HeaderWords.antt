@@ -39,29 +39,35 @@ part_is o d x (OfLeafRun f s l) = refl
 part_is o d x (OfLater m f s) = refl
 
 -- the header that a `head` stores
-stored_word : (c : Config) (w : World) (seat : Seat) (p n : ℕ) → Before c w → seat_exists c seat ≡ true → IsLaidOut c w → HeadStep c w.now (flight_of w.now seat) p n
+stored_word : (c : Config) (w : World) (seat : Seat) (p n : ℕ) → Before c w → seat_exists c seat ≡ true → IsLaidOut c w
+    → HeadStep c w.now (flight_of w.now seat) p n
     → IsHeaderWord n
 stored_word c w seat p n b there laid (ItCarves off x) =
     let placed = placed_now c w.now (flight_of w.now seat) x.place x.there in
     let sized = made_sized c w.now seat b.limits b.known placed.new in
     let o : Object = object_made c (flight_of w.now seat).op in
     subst (λ v. IsHeaderWord v) (sym x.next.is)
-    (part_is o (p - x.place.page) (header_of (header_made o (p - x.place.page))) (made_shows o (p - x.place.page) sized x.next.near))
+    (part_is o (p - x.place.page) (header_of (header_made o (p - x.place.page)))
+    (made_shows o (p - x.place.page) sized x.next.near))
 stored_word c w seat p n b there laid (ItUnmaps off x) =
     let r : IsClaimedRun (claims_of c w.now.seats.holding.freed w.allocations) x.run =
-    subst (λ (y : Option RunPages). RunStands (claims_of c w.now.seats.holding.freed w.allocations) y) x.there laid.gone in
+    subst (λ (y : Option RunPages). RunStands (claims_of c w.now.seats.holding.freed w.allocations) y) x.there laid.gone
+    in
     let o : Object = r.claim.object in
     let sized = (laid.scene.shown r.claim (own_claim c (object_now c w.now) (ground_of w) r.claim r.among)).sized in
     let near : p - x.run.page < pages_made o = (let count = r.count in let lt = x.next.near in omega arith) in
-    let value : unmapped_header (pages_made o) (p - x.run.page) ≡ n = ap (λ k. unmapped_header k (p - x.run.page)) r.count ∙ sym x.next.is in
+    let value : unmapped_header (pages_made o) (p - x.run.page) ≡ n =
+    ap (λ k. unmapped_header k (p - x.run.page)) r.count ∙ sym x.next.is in
     subst (λ v. IsHeaderWord v) value
-    (part_is o (p - x.run.page) (header_of (unmapped_header (pages_made o) (p - x.run.page))) (unmapped_shows o (p - x.run.page) sized near r.large))
+    (part_is o (p - x.run.page) (header_of (unmapped_header (pages_made o) (p - x.run.page)))
+    (unmapped_shows o (p - x.run.page) sized near r.large))
 stored_word c w seat p n b there laid (ItEmpties on x) = subst (λ v. IsHeaderWord v) (sym x.is) refl
 
 abbrev HaveWords : List Page → Type 0
 HaveWords pages = (p : ℕ) → IsHeaderWord (header_on pages p)
 
-pub words_behind : (c : Config) (w : World) (seat : Seat) (x : Step) → Before c w → Meets c w.now seat x → IsLaidOut c w → HasHeaderWords w
+pub words_behind : (c : Config) (w : World) (seat : Seat) (x : Step) → Before c w → Meets c w.now seat x → IsLaidOut c w
+    → HasHeaderWords w
     → HasHeaderWords (WorldBehind c w seat x)
 words_behind c w seat (step.Head p n) b h laid words = λ q. elim (cases_eq q p) [
   | inl e ↦
@@ -70,9 +76,11 @@ words_behind c w seat (step.Head p n) b h laid words = λ q. elim (cases_eq q p)
       (stored_word c w seat p n b h.seat laid (head_step c w.now (flight_of w.now seat) p n h.holder)))
   | inr ne ↦ subst (λ v. IsHeaderWord v) (sym (headed_other w.now.words.pages p n q ne)) (words q)
 ]
-words_behind c w seat (step.Used p n) b h laid words = λ q. subst (λ v. IsHeaderWord v) (sym (used_header w.now.words.pages p n q (page_within c w p b h.range))) (words q)
+words_behind c w seat (step.Used p n) b h laid words =
+    λ q. subst (λ v. IsHeaderWord v) (sym (used_header w.now.words.pages p n q (page_within c w p b h.range))) (words q)
 words_behind c w seat step.Reg b h laid words =
     subst (λ (ps : List Page). HaveWords ps)
     (sym (reg_leaves_ground c w seat).pages) words
-words_behind c w seat (step.Tally n v) b h laid words = subst (λ (ps : List Page). HaveWords ps) (sym (tally_ground w.now.words n v).pages) words
+words_behind c w seat (step.Tally n v) b h laid words =
+    subst (λ (ps : List Page). HaveWords ps) (sym (tally_ground w.now.words n v).pages) words
 words_behind c w seat _ b h laid words = words

@@ -26,7 +26,8 @@ use Rattle.mk_protocol.proofs.Actors.{Meets}
 use Rattle.mk_protocol.proofs.Known.{Known, known_at_first, known_behind, known_left}
 use Rattle.mk_protocol.proofs.OthersMoves.{WorldBehind}
 use Rattle.mk_protocol.proofs.OrderlyLists.{at_first}
-use Rattle.mk_layout.specs.LayoutLaws.{EventsKeepTheLayout, FewPagesAreResident, HistoriesAreLaidOut, OthersSay, OthersSayFrom, PagesHaveHeaderWords, StandsInOrder}
+use Rattle.mk_layout.specs.LayoutLaws.{EventsKeepTheLayout, FewPagesAreResident, HistoriesAreLaidOut, OthersSay}
+use Rattle.mk_layout.specs.LayoutLaws.{OthersSayFrom, PagesHaveHeaderWords, StandsInOrder}
 use Rattle.mk_layout.specs.Quarantine.{HasQuarantine, IsQuarantined}
 use Rattle.mk_layout.specs.Room.{is_taken_page}
 use Rattle.mk_layout.specs.Scene.{NoPlot}
@@ -51,10 +52,13 @@ laid_at_first c =
       scene = record {
         shown = λ x i. absurd i;
         apart = tt;
-        used = λ p k h. absurd (none_set (slice_index_or (replicate c.pages free_page) p free_page).used k (ap (λ (x : Page). x.used) (free p)) h);
+        used = λ p k h. absurd
+            (none_set (slice_index_or (replicate c.pages free_page) p free_page).used k
+            (ap (λ (x : Page). x.used) (free p)) h);
         plot = tt;
         occupied = λ p some empty. absurd (some (ap (λ (x : Page). x.header) (free p)));
-        later = λ p d m is. let e : header_of 0 ≡ Some (Later d m) = sym (ap (λ (x : Page). header_of x.header) (free p))
+        later = λ p d m is. let e : header_of 0 ≡ Some (Later d m) =
+            sym (ap (λ (x : Page). header_of x.header) (free p))
             ∙ is in let y : true ≡ false = cc in absurd (true≢false y);
       };
       gone = tt;
@@ -85,39 +89,52 @@ in_order_at_first c =
       laid = laid_at_first c;
       quarantined = quarantined_at_first c;
       known = λ p k h. absurd (none_set (slice_index (replicate c.pages 0) p) k (at_first c.pages p 0) h);
-      snapshot = record { fresh = λ i f. absurd (true≢false (sym f)); quarantined = λ on. absurd (true≢false (sym on)) };
+      snapshot = record {
+        fresh = λ i f. absurd (true≢false (sym f));
+        quarantined = λ on. absurd (true≢false (sym on));
+      };
       words = λ p. subst (λ (x : Page). IsHeaderWord x.header) (sym (at_first c.pages p free_page)) refl;
-      runs = λ p h. absurd (true≢false (sym h ∙ ap (λ (x : Page). heads_run (header_of x.header)) (at_first c.pages p free_page)));
-      room = let none = count_none c.pages (is_taken_page (replicate c.pages free_page) NoPlot) (λ p. free p) in omega arith;
+      runs = λ p h. absurd
+          (true≢false (sym h ∙ ap (λ (x : Page). heads_run (header_of x.header)) (at_first c.pages p free_page)));
+      room = let none = count_none c.pages (is_taken_page (replicate c.pages free_page) NoPlot)
+          (λ p. free p) in omega arith;
     }
   where
     free : (p : ℕ) → is_taken_page (replicate c.pages free_page) NoPlot p ≡ false
     free p = ap (λ (x : Page). is_resident_page (use_of_page x) || false) (at_first c.pages p free_page)
 
-pub known_before : (c : Config) (w : World) → IsWithinLimits c → AreOfPages c.pages w.now.words → Known c w.now → OthersSay c w → IsQuarantined c w → Before c w
+pub known_before : (c : Config) (w : World) → IsWithinLimits c → AreOfPages c.pages w.now.words → Known c w.now
+    → OthersSay c w → IsQuarantined c w → Before c w
 known_before c w limits lengths known others q =
     record {
       limits = limits;
       lengths = lengths;
       known = known;
       others = others;
-      unreleased = λ four. none_released c (object_now c w.now) w.now.words.marks (ground_of w) (subst (λ b. HasQuarantine c b w.now.words.marks (ground_of w)) four q);
+      unreleased = λ four. none_released c (object_now c w.now) w.now.words.marks (ground_of w)
+          (subst (λ b. HasQuarantine c b w.now.words.marks (ground_of w)) four q);
     }
 
-quarantine_behind : (c : Config) (w : World) (seat : Seat) (x : Step) → Before c w → Meets c w.now seat x → IsLaidOut c w → IsQuarantined c w
+quarantine_behind : (c : Config) (w : World) (seat : Seat) (x : Step) → Before c w → Meets c w.now seat x
+    → IsLaidOut c w → IsQuarantined c w
     → IsQuarantined c (WorldBehind c w seat x)
 quarantine_behind c w seat x b h laid q =
     let v : World = WorldBehind c w seat x in
     let kind = quarantine_by_kind c w seat x b h laid q in
-    subst (λ r. HasQuarantine c r v.now.words.marks (ground_of v)) (sym (phase_kind c w seat x h)) (marks (is_releasing_behind x (is_phase w.now.words 4)) refl kind)
+    subst (λ r. HasQuarantine c r v.now.words.marks (ground_of v)) (sym (phase_kind c w seat x h))
+    (marks (is_releasing_behind x (is_phase w.now.words 4)) refl kind)
   where
-    marks : (r : Bool) → is_releasing_behind x (is_phase w.now.words 4) ≡ r → HasQuarantine c r w.now.words.marks (ground_of (WorldBehind c w seat x))
+    marks : (r : Bool) → is_releasing_behind x (is_phase w.now.words 4) ≡ r
+        → HasQuarantine c r w.now.words.marks (ground_of (WorldBehind c w seat x))
         → HasQuarantine c r (WorldBehind c w seat x).now.words.marks (ground_of (WorldBehind c w seat x))
-    marks true is q = subst (λ (xs : List ℕ). HasQuarantine c true xs (ground_of (WorldBehind c w seat x))) (sym (releasing_marks c w seat x b.known h is)) q
-    marks false is q = unmarked c w.now.words.marks (WorldBehind c w seat x).now.words.marks (ground_of (WorldBehind c w seat x)) q
+    marks true is q = subst (λ (xs : List ℕ). HasQuarantine c true xs (ground_of (WorldBehind c w seat x)))
+        (sym (releasing_marks c w seat x b.known h is)) q
+    marks false is q = unmarked c w.now.words.marks (WorldBehind c w seat x).now.words.marks
+        (ground_of (WorldBehind c w seat x)) q
 
 -- One event, from the world before it.
-pub order_behind : (c : Config) (w : World) (e : Event) → IsWithinLimits c → AreOfPages c.pages w.now.words → Known c w.now → IsEnabled c w.now e → OthersSay c w
+pub order_behind : (c : Config) (w : World) (e : Event) → IsWithinLimits c → AreOfPages c.pages w.now.words
+    → Known c w.now → IsEnabled c w.now e → OthersSay c w
     → StandsInOrder c w → StandsInOrder c (world_behind c w e)
 order_behind c w e limits lengths known on others all =
     let h = enabled_meets c w.now e on in
@@ -138,18 +155,21 @@ pub events_keep_the_layout : EventsKeepTheLayout
 events_keep_the_layout c es e limits on enabled others both =
     order_behind c (left c es) e limits (histories_keep_lengths c es) (known_left c es limits on) enabled others both
 
-order_from : (c : Config) (w : World) (es : List Event) → IsWithinLimits c → AreOfPages c.pages w.now.words → Known c w.now → AreEnabledFrom c w es → OthersSayFrom c w es
+order_from : (c : Config) (w : World) (es : List Event) → IsWithinLimits c → AreOfPages c.pages w.now.words
+    → Known c w.now → AreEnabledFrom c w es → OthersSayFrom c w es
     → StandsInOrder c w → StandsInOrder c (left_from c w es)
 unfolding left_from AreEnabledFrom OthersSayFrom
 order_from c w [] limits lengths known on others both = both
 order_from c w (e ∷ es) limits lengths known on others both =
-    order_from c (world_behind c w e) es limits (accessed_lengths c.pages w.now.words (reached c w.now e) (access c w.now e) lengths)
+    order_from c (world_behind c w e) es limits
+    (accessed_lengths c.pages w.now.words (reached c w.now e) (access c w.now e) lengths)
     (known_behind c w.now e known on.0) on.1 others.1
     (order_behind c w e limits lengths known on.0 others.0 both)
 
 pub histories_are_laid_out : HistoriesAreLaidOut
 histories_are_laid_out c es limits on others =
-    order_from c (first_world c) es limits (zero_lengths c.pages) (known_at_first c limits) on others (in_order_at_first c)
+    order_from c (first_world c) es limits (zero_lengths c.pages) (known_at_first c limits) on others
+    (in_order_at_first c)
 
 pub pages_have_header_words : PagesHaveHeaderWords
 pages_have_header_words c es limits on others = (histories_are_laid_out c es limits on others).words

@@ -24,13 +24,19 @@ pub apart_right : (xs ys : List Claim) → AreApart (xs ++ ys) → AreApart ys
 apart_right [] ys apart = apart
 apart_right (z ∷ zs) ys apart = apart_right zs ys apart.1
 
-pub apart_across : (xs ys : List Claim) (x y : Claim) → AreApart (xs ++ ys) → Among x xs → Among y ys → IsOfOneCell x y → ⊥
+pub apart_across : (xs ys : List Claim) (x y : Claim) → AreApart (xs ++ ys) → Among x xs → Among y ys → IsOfOneCell x y
+    → ⊥
 apart_across [] ys x y apart ix iy same = ix
 apart_across (z ∷ zs) ys x y apart (inl e) iy same =
-    apart.0 y (among_back zs ys y iy) (ap (λ (q : Claim). q.page) (sym e) ∙ same.0, ap (λ (q : Claim). q.index) (sym e) ∙ same.1)
+    apart.0 y (among_back zs ys y iy) (
+      ap (λ (q : Claim). q.page) (sym e) ∙ same.0,
+      ap (λ (q : Claim). q.index) (sym e)
+          ∙ same.1,
+    )
 apart_across (z ∷ zs) ys x y apart (inr i) iy same = apart_across zs ys x y apart.1 i iy same
 
-pub apart_joined : (xs ys : List Claim) → AreApart xs → AreApart ys → ((x y : Claim) → Among x xs → Among y ys → IsOfOneCell x y → ⊥) → AreApart (xs ++ ys)
+pub apart_joined : (xs ys : List Claim) → AreApart xs → AreApart ys
+    → ((x y : Claim) → Among x xs → Among y ys → IsOfOneCell x y → ⊥) → AreApart (xs ++ ys)
 apart_joined [] ys ax ay across = ay
 apart_joined (z ∷ zs) ys ax ay across = (
   λ y i same. elim (among_parts zs ys y i) [ inl j ↦ ax.0 y j same | inr j ↦ across z y (inl refl) j same ],

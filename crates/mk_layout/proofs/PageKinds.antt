@@ -22,7 +22,9 @@ use Rattle.mk_core.specs.declared.seats.Placing.{Placing}
 use Rattle.mk_core.specs.declared.seats.Placing.TheVariants.{Unplaced, Used}
 use Rattle.mk_core.specs.declared.seats.RunPages.{RunPages}
 use Rattle.mk_core.proofs.ChangedAllocations.{none_freed}
-use Rattle.mk_core.proofs.PageSteps.{HeadStep, ItCarves, ItDrops, ItEmpties, ItFrees, ItGivesBack, ItTakes, ItTakesSnapshot, ItUnmaps, QuarantineStep, UsedStep, head_step, quarantine_step, used_step}
+use Rattle.mk_core.proofs.PageSteps.{HeadStep, ItCarves, ItDrops, ItEmpties, ItFrees, ItGivesBack, ItTakes}
+use Rattle.mk_core.proofs.PageSteps.{ItTakesSnapshot, ItUnmaps, QuarantineStep, UsedStep, head_step, quarantine_step}
+use Rattle.mk_core.proofs.PageSteps.{used_step}
 use Rattle.mk_core.proofs.PlacesNow.{freed_cell, placed_now, undecided_free, undecided_new}
 use Rattle.mk_protocol.proofs.Actors.{Meets}
 use Rattle.mk_protocol.proofs.OthersMoves.{WorldBehind}
@@ -31,7 +33,8 @@ use Rattle.mk_layout.specs.Terrain.{IsLaidOut, object_now}
 use Rattle.mk_layout.proofs.Before.{Before, LaidNow, page_within}
 use Rattle.mk_layout.proofs.Dropped.{dropped, refreed, unreleasing}
 use Rattle.mk_layout.proofs.Freed.{freed_terrain}
-use Rattle.mk_layout.proofs.Holders.{first_header, free_has_turn, holding_object, made_sized, new_has_turn, no_run, none_on_its_way}
+use Rattle.mk_layout.proofs.Holders.{first_header, free_has_turn, holding_object, made_sized, new_has_turn, no_run}
+use Rattle.mk_layout.proofs.Holders.{none_on_its_way}
 use Rattle.mk_layout.proofs.PageSets.{with_header_on, with_used_on}
 use Rattle.mk_layout.proofs.Serving.{Laid, head_carves, head_empties, head_unmaps, used_gives_back, used_takes}
 
@@ -48,8 +51,10 @@ HeadBehind c w p n four place =
       placing = if four then w.now.seats.holding.placing else chosen w.now.seats.holding.placing place;
     })
 
-head_by : (c : Config) (w : World) (seat : Seat) (p n : ℕ) → Before c w → seat_exists c seat ≡ true → p < length w.now.words.pages → IsLaidOut c w
-    → HeadStep c w.now (flight_of w.now seat) p n → HeadBehind c w p n (is_phase w.now.words 4) (place_now c w.now (flight_of w.now seat))
+head_by : (c : Config) (w : World) (seat : Seat) (p n : ℕ) → Before c w → seat_exists c seat ≡ true
+    → p < length w.now.words.pages → IsLaidOut c w
+    → HeadStep c w.now (flight_of w.now seat) p n
+    → HeadBehind c w p n (is_phase w.now.words 4) (place_now c w.now (flight_of w.now seat))
 head_by c w seat p n b there lt laid (ItCarves off x) =
     let placed = placed_now c w.now (flight_of w.now seat) x.place x.there in
     let turn = new_has_turn c w.now seat there placed.new in
@@ -58,12 +63,18 @@ head_by c w seat p n b there lt laid (ItCarves off x) =
     subst (λ four. HeadBehind c w p n four (place_now c w.now (flight_of w.now seat))) (sym off)
     (subst (λ (place : Option Place). HeadBehind c w p n false place) (sym x.there)
     (subst
-    (λ (o : Object). Laid c o false w (record (ground_of w) { pages = with_header_on w.now.words.pages p n; placing = chosen w.now.seats.holding.placing (Some x.place) }))
+    (λ (o : Object). Laid c o false w
+    (record (ground_of w) {
+      pages = with_header_on w.now.words.pages p n;
+      placing = chosen w.now.seats.holding.placing (Some x.place);
+    }))
     (sym own)
-    (head_carves c (object_made c (flight_of w.now seat).op) w x.place p n (subst (λ (o : Object). Laid c o false w (ground_of w)) own was)
+    (head_carves c (object_made c (flight_of w.now seat).op) w x.place p n
+    (subst (λ (o : Object). Laid c o false w (ground_of w)) own was)
     (made_sized c w.now seat b.limits b.known placed.new) placed.placed x.next)))
 head_by c w seat p n b there lt laid (ItUnmaps off x) =
-    subst (λ four. HeadBehind c w p n four (place_now c w.now (flight_of w.now seat))) (sym off) (by (place_now c w.now (flight_of w.now seat)) refl)
+    subst (λ four. HeadBehind c w p n four (place_now c w.now (flight_of w.now seat))) (sym off)
+    (by (place_now c w.now (flight_of w.now seat)) refl)
   where
     by : (place : Option Place) → place_now c w.now (flight_of w.now seat) ≡ place → HeadBehind c w p n false place
     by (Some place) at =
@@ -71,16 +82,22 @@ head_by c w seat p n b there lt laid (ItUnmaps off x) =
         let turn = new_has_turn c w.now seat there placed.new in
         absurd (no_run c w.now seat b.known turn (undecided_new (flight_of w.now seat) placed.new).stage x.run x.there)
     by None at =
-        subst (λ (y : Placing). Laid c (object_now c w.now) false w (record (ground_of w) { pages = with_header_on w.now.words.pages p n; placing = y }))
+        subst (λ (y : Placing). Laid c (object_now c w.now) false w
+        (record (ground_of w) { pages = with_header_on w.now.words.pages p n; placing = y }))
         (sym (none_chosen w.now.seats.holding.placing))
-        (head_unmaps c (object_now c w.now) false w p n (subst (λ four. Laid c (object_now c w.now) four w (ground_of w)) off laid) x)
+        (head_unmaps c (object_now c w.now) false w p n
+        (subst (λ four. Laid c (object_now c w.now) four w (ground_of w)) off laid) x)
 head_by c w seat p n b there lt laid (ItEmpties on x) =
     subst (λ four. HeadBehind c w p n four (place_now c w.now (flight_of w.now seat))) (sym on)
-    (head_empties c (object_now c w.now) w p n lt (subst (λ four. Laid c (object_now c w.now) four w (ground_of w)) on laid) x)
+    (head_empties c (object_now c w.now) w p n lt
+    (subst (λ four. Laid c (object_now c w.now) four w (ground_of w)) on laid) x)
 
-pub head_kind : (c : Config) (w : World) (seat : Seat) (p n : ℕ) → Before c w → Meets c w.now seat (step.Head p n) → IsLaidOut c w
+pub head_kind : (c : Config) (w : World) (seat : Seat) (p n : ℕ) → Before c w → Meets c w.now seat (step.Head p n)
+    → IsLaidOut c w
     → LaidNow c w (ground_of (WorldBehind c w seat (step.Head p n)))
-head_kind c w seat p n b h laid = head_by c w seat p n b h.seat (page_within c w p b h.range) laid (head_step c w.now (flight_of w.now seat) p n h.holder)
+head_kind c w seat p n b h laid =
+    head_by c w seat p n b h.seat (page_within c w p b h.range) laid
+    (head_step c w.now (flight_of w.now seat) p n h.holder)
 
 -- `used`
 abbrev UsedBehind : Config → World → ℕ → ℕ → Bool → Option Place → Type 0
@@ -91,8 +108,10 @@ UsedBehind c w p n four place =
       placing = if four then w.now.seats.holding.placing else taken w.now.seats.holding.placing place;
     })
 
-used_by : (c : Config) (w : World) (seat : Seat) (p n : ℕ) → Before c w → seat_exists c seat ≡ true → p < length w.now.words.pages → IsLaidOut c w
-    → UsedStep c w.now (flight_of w.now seat) p n → UsedBehind c w p n (is_phase w.now.words 4) (place_now c w.now (flight_of w.now seat))
+used_by : (c : Config) (w : World) (seat : Seat) (p n : ℕ) → Before c w → seat_exists c seat ≡ true
+    → p < length w.now.words.pages → IsLaidOut c w
+    → UsedStep c w.now (flight_of w.now seat) p n
+    → UsedBehind c w p n (is_phase w.now.words 4) (place_now c w.now (flight_of w.now seat))
 used_by c w seat p n b there lt laid (ItTakes off once x) =
     let placed = placed_now c w.now (flight_of w.now seat) x.place x.there in
     let turn = new_has_turn c w.now seat there placed.new in
@@ -101,16 +120,22 @@ used_by c w seat p n b there lt laid (ItTakes off once x) =
     let was = subst (λ four. Laid c (object_now c w.now) four w (ground_of w)) off laid in
     subst (λ four. UsedBehind c w p n four (place_now c w.now (flight_of w.now seat))) (sym off)
     (subst (λ (place : Option Place). UsedBehind c w p n false place) (sym x.there)
-    (subst (λ (o : Object). Laid c o false w (record (ground_of w) { pages = with_used_on w.now.words.pages p n; placing = Used x.place })) (sym own)
-    (used_takes c (object_made c (flight_of w.now seat).op) false w x.place p n (subst (λ (o : Object). Laid c o false w (ground_of w)) own was) sized
+    (subst (λ (o : Object). Laid c o false w
+    (record (ground_of w) { pages = with_used_on w.now.words.pages p n; placing = Used x.place })) (sym own)
+    (used_takes c (object_made c (flight_of w.now seat).op) false w x.place p n
+    (subst (λ (o : Object). Laid c o false w (ground_of w)) own was) sized
     (first_header (object_made c (flight_of w.now seat).op) sized) once placed.placed x.taken)))
 used_by c w seat p n b there lt laid (ItGivesBack on x) =
     subst (λ four. UsedBehind c w p n four (place_now c w.now (flight_of w.now seat))) (sym on)
-    (used_gives_back c (object_now c w.now) w p n lt (subst (λ four. Laid c (object_now c w.now) four w (ground_of w)) on laid) x (b.unreleased on))
+    (used_gives_back c (object_now c w.now) w p n lt
+    (subst (λ four. Laid c (object_now c w.now) four w (ground_of w)) on laid) x (b.unreleased on))
 
-pub used_kind : (c : Config) (w : World) (seat : Seat) (p n : ℕ) → Before c w → Meets c w.now seat (step.Used p n) → IsLaidOut c w
+pub used_kind : (c : Config) (w : World) (seat : Seat) (p n : ℕ) → Before c w → Meets c w.now seat (step.Used p n)
+    → IsLaidOut c w
     → LaidNow c w (ground_of (WorldBehind c w seat (step.Used p n)))
-used_kind c w seat p n b h laid = used_by c w seat p n b h.seat (page_within c w p b h.range) laid (used_step c w.now (flight_of w.now seat) p n h.holder)
+used_kind c w seat p n b h laid =
+    used_by c w seat p n b h.seat (page_within c w p b h.range) laid
+    (used_step c w.now (flight_of w.now seat) p n h.holder)
 
 -- `quar`
 abbrev pub Quarantined : World → ℕ → ℕ → Option Cell → Ground
@@ -125,7 +150,10 @@ Quarantined w p n cell =
 -- with another quarantine word of a page
 abbrev pub with_halves : World → ℕ → ℕ → Ground
 with_halves w p n =
-    record (ground_of w) { freed = slice_set w.now.words.freed p (n % 2 ^ 32); snapshot = slice_set w.now.words.snapshot p (n / 2 ^ 32) }
+    record (ground_of w) {
+      freed = slice_set w.now.words.freed p (n % 2 ^ 32);
+      snapshot = slice_set w.now.words.snapshot p (n / 2 ^ 32);
+    }
 
 first_of_two : {A : Type 0} (x y : Option A) → y ≡ None → x ≡ or_else x y
 first_of_two None y e = sym e
@@ -142,7 +170,8 @@ left_by c w f p n laid step = by step
         subst
         (λ four. Laid c (object_now c w.now) four w (with_halves w p n))
         (sym off)
-        (unreleasing c (object_now c w.now) w.now.words.marks w.now.words.marks (ground_of w) (slice_set w.now.words.freed p (n % 2 ^ 32)) (slice_set w.now.words.snapshot p (n / 2 ^ 32))
+        (unreleasing c (object_now c w.now) w.now.words.marks w.now.words.marks (ground_of w)
+        (slice_set w.now.words.freed p (n % 2 ^ 32)) (slice_set w.now.words.snapshot p (n / 2 ^ 32))
         (subst (λ four. Laid c (object_now c w.now) four w (ground_of w)) off laid))
 
     by : QuarantineStep c w.now f p n
@@ -155,14 +184,19 @@ left_by c w f p n laid step = by step
         subst
         (λ four. Laid c (object_now c w.now) four w (with_halves w p n))
         (sym on)
-        (refreed c (object_now c w.now) true w.now.words.marks (record (ground_of w) { snapshot = slice_set w.now.words.snapshot p (n / 2 ^ 32) }) (slice_set w.now.words.freed p (n % 2 ^ 32))
-        (dropped c (object_now c w.now) w p (n % 2 ^ 32) (n / 2 ^ 32) (subst (λ four. Laid c (object_now c w.now) four w (ground_of w)) on laid) x))
+        (refreed c (object_now c w.now) true w.now.words.marks
+        (record (ground_of w) { snapshot = slice_set w.now.words.snapshot p (n / 2 ^ 32) })
+        (slice_set w.now.words.freed p (n % 2 ^ 32))
+        (dropped c (object_now c w.now) w p (n % 2 ^ 32) (n / 2 ^ 32)
+        (subst (λ four. Laid c (object_now c w.now) four w (ground_of w)) on laid) x))
 
-pub quar_kind : (c : Config) (w : World) (seat : Seat) (p n : ℕ) → Before c w → Meets c w.now seat (step.Quar p n) → IsLaidOut c w
+pub quar_kind : (c : Config) (w : World) (seat : Seat) (p n : ℕ) → Before c w → Meets c w.now seat (step.Quar p n)
+    → IsLaidOut c w
     → LaidNow c w (ground_of (WorldBehind c w seat (step.Quar p n)))
 quar_kind c w seat p n b h laid = by (cell_freed c.pages w.now.words (flight_of w.now seat) p n) refl
   where
-    by : (cell : Option Cell) → cell_freed c.pages w.now.words (flight_of w.now seat) p n ≡ cell → LaidNow c w (Quarantined w p n cell)
+    by : (cell : Option Cell) → cell_freed c.pages w.now.words (flight_of w.now seat) p n ≡ cell
+        → LaidNow c w (Quarantined w p n cell)
     by None is =
         subst
         (λ (xs : List PlacedAllocation). LaidNow c w (record (with_halves w p n) { allocations = xs }))
@@ -172,10 +206,18 @@ quar_kind c w seat p n b h laid = by (cell_freed c.pages w.now.words (flight_of 
         let frees = freed_cell c.pages w.now.words (flight_of w.now seat) p n cell is in
         let turn = free_has_turn c w.now seat h.seat frees.free in
         let none = none_on_its_way c w.now seat b.known turn (undecided_free (flight_of w.now seat) frees.free).stage in
-        let was : Laid c (object_now c w.now) false w (ground_of w) = subst (λ four. Laid c (object_now c w.now) four w (ground_of w)) frees.phase laid in
-        let t : Ground = record (ground_of w) { run = run_of_cell w.now.words (Some cell); allocations = map (freed_where_it_stands w.now.words (Some cell)) w.allocations } in
-        let now : Laid c (object_now c w.now) false w t = freed_terrain c (object_now c w.now) w cell b.limits b.lengths.pages none (b.others.target seat cell frees.at) was in
+        let was : Laid c (object_now c w.now) false w (ground_of w) =
+        subst (λ four. Laid c (object_now c w.now) four w (ground_of w)) frees.phase laid in
+        let t : Ground = record (ground_of w) {
+          run = run_of_cell w.now.words (Some cell);
+          allocations = map (freed_where_it_stands w.now.words (Some cell)) w.allocations;
+        } in
+        let now : Laid c (object_now c w.now) false w t =
+        freed_terrain c (object_now c w.now) w cell b.limits b.lengths.pages none
+        (b.others.target seat cell frees.at) was in
         subst (λ four. Laid c (object_now c w.now) four w (Quarantined w p n (Some cell))) (sym frees.phase)
-        (subst (λ (r : Option RunPages). Laid c (object_now c w.now) false w (record (Quarantined w p n (Some cell)) { run = r }))
+        (subst (λ (r : Option RunPages). Laid c (object_now c w.now) false w
+        (record (Quarantined w p n (Some cell)) { run = r }))
         (first_of_two (run_of_cell w.now.words (Some cell)) w.now.seats.holding.freed none)
-        (unreleasing c (object_now c w.now) w.now.words.marks w.now.words.marks t (slice_set w.now.words.freed p (n % 2 ^ 32)) (slice_set w.now.words.snapshot p (n / 2 ^ 32)) now))
+        (unreleasing c (object_now c w.now) w.now.words.marks w.now.words.marks t
+        (slice_set w.now.words.freed p (n % 2 ^ 32)) (slice_set w.now.words.snapshot p (n / 2 ^ 32)) now))

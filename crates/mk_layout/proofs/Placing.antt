@@ -1,5 +1,6 @@
 -- The steps of a New: its place is chosen, its pages get their headers one by one, and its cell is taken.
-use Rattle.std.proofs.Common.{Bool, List, [], ap, arith, false, inl, inr, length, length-set, refl, subst, sym, true, ℕ, ◌++◌, ◌+◌, ◌-◌, ◌<◌, ◌^◌, ◌∙◌, ◌∷◌, ◌≡◌, ◌≢◌, ◌≤◌, ◌⊎◌}
+use Rattle.std.proofs.Common.{Bool, List, [], ap, arith, false, inl, inr, length, length-set, refl, subst, sym, true, ℕ}
+use Rattle.std.proofs.Common.{◌++◌, ◌+◌, ◌-◌, ◌<◌, ◌^◌, ◌∙◌, ◌∷◌, ◌≡◌, ◌≢◌, ◌≤◌, ◌⊎◌}
 use Rattle.std.specs.Prelude.{Some}
 use Rattle.std.proofs.lemmas.Bool.{cases_eq, true≢false}
 use Rattle.mk_geom.specs.Addresses.{head_page_under}
@@ -13,8 +14,11 @@ use Rattle.mk_core.specs.declared.seats.Object.{Object}
 use Rattle.mk_core.proofs.ObjectHeaders.{made_shows, part_cells, shown_later}
 use Rattle.mk_core.proofs.Sizes.{pages_some}
 use Rattle.mk_core.proofs.WordBits.{added_here, added_other}
-use Rattle.mk_layout.specs.Scene.{Among, AreApart, Claim, HasHeader, HasItsHead, InPlot, IsClaimed, IsLaidOn, IsOfOneCell, IsPlotShown, IsShown, IsTakenCell, Mapped, NoPlot, Plot, PlotStands, Plotted, Scene, head_on, header_on, is_released_on, run_count, shows_on, used_on}
-use Rattle.mk_layout.proofs.PageSets.{headed_here, headed_other, headed_used, used_header, used_here, used_other, with_header_on, with_used_on}
+use Rattle.mk_layout.specs.Scene.{Among, AreApart, Claim, HasHeader, HasItsHead, InPlot, IsClaimed, IsLaidOn}
+use Rattle.mk_layout.specs.Scene.{IsOfOneCell, IsPlotShown, IsShown, IsTakenCell, Mapped, NoPlot, Plot, PlotStands}
+use Rattle.mk_layout.specs.Scene.{Plotted, Scene, head_on, header_on, is_released_on, run_count, shows_on, used_on}
+use Rattle.mk_layout.proofs.PageSets.{headed_here, headed_other, headed_used, used_header, used_here, used_other}
+use Rattle.mk_layout.proofs.PageSets.{with_header_on, with_used_on}
 use Rattle.mk_layout.proofs.Readings.{claimed_head, claimed_some, free_unused, none_set, zero_where_none}
 use Rattle.mk_layout.proofs.Releasing.{head_of_other, shown_beside}
 use Rattle.mk_layout.proofs.RunCounts.{part_count}
@@ -23,15 +27,24 @@ use Rattle.mk_layout.proofs.RunCounts.{part_count}
 abbrev pub ChosenAt : Scene → ℕ → Object → Scene
 ChosenAt s first o = record s { plot = Plotted first o }
 
-pub layout_chosen : (s : Scene) (first : ℕ) (o : Object) → IsLaidOn s → s.plot ≡ NoPlot → IsSized o → first + pages_made o ≤ length s.pages
+pub layout_chosen : (s : Scene) (first : ℕ) (o : Object) → IsLaidOn s → s.plot ≡ NoPlot → IsSized o
+    → first + pages_made o ≤ length s.pages
     → ((d : ℕ) → d < pages_made o → header_on s.pages (first + d) ≡ 0) → IsLaidOn (ChosenAt s first o)
 layout_chosen s first o laid none sized within free =
     record {
       shown = laid.shown;
       apart = laid.apart;
       used = laid.used;
-      plot = record { sized = sized; within = within; headers = λ d lt. inl (free d lt); used = λ d lt. free_unused s (first + d) laid (free d lt) };
-      occupied = λ p some empty. elim (laid.occupied p some empty) [ inl on ↦ inl on | inr here ↦ absurd (subst (λ (x : Plot). InPlot x p) none here) ];
+      plot = record {
+        sized = sized;
+        within = within;
+        headers = λ d lt. inl (free d lt);
+        used = λ d lt. free_unused s (first + d) laid (free d lt);
+      };
+      occupied = λ p some empty. elim (laid.occupied p some empty) [
+        | inl on ↦ inl on
+        | inr here ↦ absurd (subst (λ (x : Plot). InPlot x p) none here)
+      ];
       later = laid.later;
     }
 
@@ -44,28 +57,40 @@ pub record Carves (s : Scene) (first : ℕ) (o : Object) (d : ℕ) : Type 0 wher
   pub not_yet : header_on s.pages (first + d) ≢ header_made o d
   pub before : (e : ℕ) → e < d → header_on s.pages (first + e) ≡ header_made o e
 
-pub layout_carved : (s : Scene) (first : ℕ) (o : Object) (d : ℕ) → IsLaidOn s → s.plot ≡ Plotted first o → s.releasing ≡ false → Carves s first o d → IsLaidOn (Carved s first o d)
+pub layout_carved : (s : Scene) (first : ℕ) (o : Object) (d : ℕ) → IsLaidOn s → s.plot ≡ Plotted first o
+    → s.releasing ≡ false → Carves s first o d → IsLaidOn (Carved s first o d)
 layout_carved s first o d laid plotted off next =
     record {
-      shown = λ x among. shown_beside s.pages p n x lt (laid.shown x among) (λ e le at. claimed_some s.pages x e (laid.shown x among) le (ap (λ q. header_on s.pages q) at ∙ was));
+      shown = λ x among. shown_beside s.pages p n x lt (laid.shown x among)
+          (λ e le at. claimed_some s.pages x e (laid.shown x among) le (ap (λ q. header_on s.pages q) at ∙ was));
       apart = laid.apart;
       used = λ q k h. elim (cases_eq q p) [
-        | inl e ↦ absurd (none_set (used_on s.pages p) k (free_unused s p laid was) (ap (λ i. has_bit (used_on s.pages i) k) (sym e) ∙ old q k h))
-        | inr ne ↦ let t = laid.used q k (old q k h) in (subst (λ c. k < c) (ap (λ h. cells_under (header_of h)) (sym (headed_other s.pages p n q ne))) t.0, t.1)
+        | inl e ↦ absurd (none_set (used_on s.pages p) k (free_unused s p laid was)
+            (ap (λ i. has_bit (used_on s.pages i) k) (sym e) ∙ old q k h))
+        | inr ne ↦ let t = laid.used q k
+            (old q k h) in (
+              subst (λ c. k < c)
+                  (ap (λ h. cells_under (header_of h)) (sym (headed_other s.pages p n q ne))) t.0,
+              t.1,
+            )
       ];
       plot = record {
         sized = plot.sized;
-        within = let len = length-set s.pages p (record { header = n; used = used_on s.pages p }) in let w = plot.within in omega arith;
+        within = let len = length-set s.pages p (record { header = n; used = used_on s.pages p }) in let w =
+            plot.within in omega arith;
         headers = λ e le. elim (cases_eq e d) [
-          | inl same ↦ inr (ap (λ i. header_on (with_header_on s.pages p n) (first + i)) same ∙ headed_here s.pages p n lt ∙ ap (λ i. header_made o i) (sym same))
-          | inr other ↦ subst (λ h. (h ≡ 0) ⊎ (h ≡ header_made o e)) (sym (headed_other s.pages p n (first + e) (λ x. other (omega arith)))) (plot.headers e le)
+          | inl same ↦ inr (ap (λ i. header_on (with_header_on s.pages p n) (first + i)) same
+              ∙ headed_here s.pages p n lt ∙ ap (λ i. header_made o i) (sym same))
+          | inr other ↦ subst (λ h. (h ≡ 0) ⊎ (h ≡ header_made o e))
+              (sym (headed_other s.pages p n (first + e) (λ x. other (omega arith)))) (plot.headers e le)
         ];
         used = λ e le. headed_used s.pages p n (first + e) lt ∙ plot.used e le;
       };
       occupied = λ q some empty. elim (cases_eq q p) [
         | inl e ↦ let w = next.within in inr (omega arith, omega arith)
         | inr ne ↦ elim (laid.occupied q (λ z. some (headed_other s.pages p n q ne ∙ z))
-            (ap (λ i. used_on s.pages i) (sym (head_of_other s.pages p n q ne)) ∙ sym (headed_used s.pages p n (head_on (with_header_on s.pages p n) q) lt) ∙ empty)) [
+            (ap (λ i. used_on s.pages i) (sym (head_of_other s.pages p n q ne))
+            ∙ sym (headed_used s.pages p n (head_on (with_header_on s.pages p n) q) lt) ∙ empty)) [
               | inl on ↦ inl on
               | inr here ↦ inr (subst (λ (x : Plot). InPlot x q) plotted here)
             ]
@@ -76,8 +101,11 @@ layout_carved s first o d laid plotted off next =
             let l = laid.later q e m (ap (λ h. header_of h) (sym (headed_other s.pages p n q ne)) ∙ is) in (
               l.0,
               elim (cases_eq (q - e) p) [
-                | inl at ↦ absurd (not_headed e (subst (λ i. (e < run_count (shows_on s.pages i)) ⊎ ((s.releasing ≡ true) × (header_on s.pages i ≡ 0))) at l.1))
-                | inr other ↦ subst (λ h. (e < run_count (header_of h)) ⊎ ((s.releasing ≡ true) × (h ≡ 0))) (sym (headed_other s.pages p n (q - e) other)) l.1
+                | inl at ↦ absurd (not_headed e
+                    (subst (λ i. (e < run_count (shows_on s.pages i))
+                    ⊎ ((s.releasing ≡ true) × (header_on s.pages i ≡ 0))) at l.1))
+                | inr other ↦ subst (λ h. (e < run_count (header_of h)) ⊎ ((s.releasing ≡ true) × (h ≡ 0)))
+                    (sym (headed_other s.pages p n (q - e) other)) l.1
               ],
             )
       ];
@@ -98,30 +126,42 @@ layout_carved s first o d laid plotted off next =
     was : header_on s.pages (first + d) ≡ 0
     was = elim (plot.headers d next.within) [ inl z ↦ z | inr stands ↦ absurd (next.not_yet stands) ]
 
-    old : (q k : ℕ) → has_bit (used_on (with_header_on s.pages (first + d) (header_made o d)) q) k ≡ true → has_bit (used_on s.pages q) k ≡ true
+    old : (q k : ℕ) → has_bit (used_on (with_header_on s.pages (first + d) (header_made o d)) q) k ≡ true
+        → has_bit (used_on s.pages q) k ≡ true
     old q k h = ap (λ u. has_bit u k) (sym (headed_used s.pages (first + d) (header_made o d) q lt)) ∙ h
 
-    not_headed : (e : ℕ) → (e < run_count (shows_on s.pages (first + d))) ⊎ ((s.releasing ≡ true) × (header_on s.pages (first + d) ≡ 0)) → ⊥
-    not_headed e (inl less) = let none : run_count (shows_on s.pages (first + d)) ≡ 0 = ap (λ h. run_count (header_of h)) was in omega arith
+    not_headed : (e : ℕ)
+        → (e < run_count (shows_on s.pages (first + d))) ⊎ ((s.releasing ≡ true) × (header_on s.pages (first + d) ≡ 0))
+        → ⊥
+    not_headed e (inl less) = let none : run_count (shows_on s.pages (first + d)) ≡ 0 =
+        ap (λ h. run_count (header_of h)) was in omega arith
     not_headed e (inr on) = true≢false (sym on.0 ∙ off)
 
     part : ShowsPart o d (header_of (header_made o d))
     part = made_shows o d plot.sized next.within
 
-    headed_later : (q e : ℕ) (m : Bool) → q ≡ first + d → shows_on (with_header_on s.pages (first + d) (header_made o d)) q ≡ Some (Later e m)
+    headed_later : (q e : ℕ) (m : Bool) → q ≡ first + d
+        → shows_on (with_header_on s.pages (first + d) (header_made o d)) q ≡ Some (Later e m)
         → HasItsHead (with_header_on s.pages (first + d) (header_made o d)) s.releasing q e
     headed_later q e m same is =
         let at =
-        shown_later o d e m (header_of (header_made o d)) part (ap (λ h. header_of h) (sym (headed_here s.pages (first + d) (header_made o d) lt)) ∙ ap (λ i. shows_on (with_header_on s.pages (first + d) (header_made o d)) i) (sym same) ∙ is) in
+        shown_later o d e m (header_of (header_made o d)) part
+        (ap (λ h. header_of h) (sym (headed_here s.pages (first + d) (header_made o d) lt))
+        ∙ ap (λ i. shows_on (with_header_on s.pages (first + d) (header_made o d)) i) (sym same) ∙ is) in
         let e_is : e ≡ d = at.0 in
         let some : 1 ≤ d = at.1 in
         let back : q - e ≡ first = omega arith in
         let zero : first + 0 ≡ first = omega arith in
         let w = next.within in
         let head : header_on (with_header_on s.pages (first + d) (header_made o d)) (q - e) ≡ header_made o 0 =
-        ap (λ i. header_on (with_header_on s.pages (first + d) (header_made o d)) i) back ∙ headed_other s.pages (first + d) (header_made o d) first (λ x. omega arith)
-        ∙ ap (λ i. header_on s.pages i) (sym zero) ∙ next.before 0 (omega arith) in
-        (omega arith, inl (subst (λ h. e < run_count (header_of h)) (sym head) (let count = part_count o (header_of (header_made o 0)) (made_shows o 0 plot.sized (omega arith)) at.2 in omega arith)))
+        ap (λ i. header_on (with_header_on s.pages (first + d) (header_made o d)) i) back
+        ∙ headed_other s.pages (first + d) (header_made o d) first (λ x. omega arith)
+        ∙ ap (λ i. header_on s.pages i) (sym zero) ∙ next.before 0 (omega arith) in (
+          omega arith,
+          inl (subst (λ h. e < run_count (header_of h)) (sym head)
+              (let count = part_count o (header_of (header_made o 0)) (made_shows o 0 plot.sized (omega arith)) at.2
+              in omega arith)),
+        )
 
 -- `used` (a): the cell of the place is taken, behind all its headers
 abbrev pub Taken : Scene → Claim → ℕ → Scene
@@ -152,10 +192,14 @@ pub among_last : (xs : List Claim) (x : Claim) → Among x (xs ++ x ∷ [])
 among_last [] x = inl refl
 among_last (z ∷ zs) x = inr (among_last zs x)
 
-apart_push : (xs : List Claim) (x : Claim) → AreApart xs → ((y : Claim) → Among y xs → IsOfOneCell y x → ⊥) → AreApart (xs ++ x ∷ [])
+apart_push : (xs : List Claim) (x : Claim) → AreApart xs → ((y : Claim) → Among y xs → IsOfOneCell y x → ⊥)
+    → AreApart (xs ++ x ∷ [])
 apart_push [] x apart new = (λ y i. absurd i, tt)
 apart_push (z ∷ zs) x apart new = (
-  λ y i same. elim (among_push zs x y i) [ inl j ↦ apart.0 y j same | inr e ↦ new z (inl refl) (same.0 ∙ ap (λ (c : Claim). c.page) e, same.1 ∙ ap (λ (c : Claim). c.index) e) ],
+  λ y i same. elim (among_push zs x y i) [
+    | inl j ↦ apart.0 y j same
+    | inr e ↦ new z (inl refl) (same.0 ∙ ap (λ (c : Claim). c.page) e, same.1 ∙ ap (λ (c : Claim). c.index) e)
+  ],
   apart_push zs x apart.1 (λ y i. new y (inr i)),
 )
 
@@ -168,16 +212,21 @@ layout_taken s x n laid t =
       ];
       apart =
           apart_push s.claims x laid.apart
-          (λ y i same. true≢false (sym (laid.shown y i).used ∙ ap (λ p. has_bit (used_on s.pages p) y.index) same.0 ∙ ap (λ k. has_bit (used_on s.pages x.page) k) same.1 ∙ t.unset));
+          (λ y i same. true≢false (sym (laid.shown y i).used ∙ ap (λ p. has_bit (used_on s.pages p) y.index) same.0
+          ∙ ap (λ k. has_bit (used_on s.pages x.page) k) same.1 ∙ t.unset));
       used = used;
       plot = tt;
-      occupied = λ q some empty. elim (laid.occupied q (λ z. some (used_header s.pages x.page n q lt ∙ z)) (unused q empty)) [
-        | inl on ↦ inl on
-        | inr here ↦ absurd (full q (t.plot q here) empty)
-      ];
+      occupied = λ q some empty. elim
+          (laid.occupied q (λ z. some (used_header s.pages x.page n q lt ∙ z)) (unused q empty)) [
+            | inl on ↦ inl on
+            | inr here ↦ absurd (full q (t.plot q here) empty)
+          ];
       later = λ q d m is.
-          let l = laid.later q d m (ap (λ h. header_of h) (sym (used_header s.pages x.page n q lt)) ∙ is) in
-          (l.0, subst (λ h. (d < run_count (header_of h)) ⊎ ((s.releasing ≡ true) × (h ≡ 0))) (sym (used_header s.pages x.page n (q - d) lt)) l.1);
+          let l = laid.later q d m (ap (λ h. header_of h) (sym (used_header s.pages x.page n q lt)) ∙ is) in (
+            l.0,
+            subst (λ h. (d < run_count (header_of h)) ⊎ ((s.releasing ≡ true) × (h ≡ 0)))
+                (sym (used_header s.pages x.page n (q - d) lt)) l.1,
+          );
     }
   where
     some_pages : 1 ≤ pages_made x.object
@@ -190,17 +239,23 @@ layout_taken s x n laid t =
     len = length-set s.pages x.page (record { header = header_on s.pages x.page; used = n })
 
     here_set : has_bit (used_on (with_used_on s.pages x.page n) x.page) x.index ≡ true
-    here_set = ap (λ u. has_bit u x.index) (used_here s.pages x.page n lt ∙ t.value) ∙ added_here (used_on s.pages x.page) x.index t.unset
+    here_set = ap (λ u. has_bit u x.index) (used_here s.pages x.page n lt ∙ t.value)
+        ∙ added_here (used_on s.pages x.page) x.index t.unset
 
-    same_bit : (q k : ℕ) → (q ≡ x.page → k ≢ x.index) → has_bit (used_on (with_used_on s.pages x.page n) q) k ≡ has_bit (used_on s.pages q) k
+    same_bit : (q k : ℕ) → (q ≡ x.page → k ≢ x.index)
+        → has_bit (used_on (with_used_on s.pages x.page n) q) k ≡ has_bit (used_on s.pages q) k
     same_bit q k other = elim (cases_eq q x.page) [
       | inr ne ↦ ap (λ u. has_bit u k) (used_other s.pages x.page n q ne)
-      | inl e ↦ ap (λ i. has_bit (used_on (with_used_on s.pages x.page n) i) k) e ∙ ap (λ u. has_bit u k) (used_here s.pages x.page n lt ∙ t.value)
-          ∙ added_other (used_on s.pages x.page) x.index k t.unset (other e) ∙ ap (λ i. has_bit (used_on s.pages i) k) (sym e)
+      | inl e ↦ ap (λ i. has_bit (used_on (with_used_on s.pages x.page n) i) k) e
+          ∙ ap (λ u. has_bit u k) (used_here s.pages x.page n lt ∙ t.value)
+          ∙ added_other (used_on s.pages x.page) x.index k t.unset (other e)
+          ∙ ap (λ i. has_bit (used_on s.pages i) k) (sym e)
     ]
 
-    grow : (q k : ℕ) → has_bit (used_on s.pages q) k ≡ true → has_bit (used_on (with_used_on s.pages x.page n) q) k ≡ true
-    grow q k h = same_bit q k (λ e ek. true≢false (sym h ∙ ap (λ i. has_bit (used_on s.pages i) k) e ∙ ap (λ j. has_bit (used_on s.pages x.page) j) ek ∙ t.unset)) ∙ h
+    grow : (q k : ℕ) → has_bit (used_on s.pages q) k ≡ true
+        → has_bit (used_on (with_used_on s.pages x.page n) q) k ≡ true
+    grow q k h = same_bit q k (λ e ek. true≢false (sym h ∙ ap (λ i. has_bit (used_on s.pages i) k) e
+        ∙ ap (λ j. has_bit (used_on s.pages x.page) j) ek ∙ t.unset)) ∙ h
 
     grown : (y : Claim) → IsShown s.pages y → IsShown (with_used_on s.pages x.page n) y
     grown y was =
@@ -208,7 +263,8 @@ layout_taken s x n laid t =
           sized = was.sized;
           known = was.known;
           within = let l = len in let w = was.within in omega arith;
-          headers = λ d ld. subst (λ h. HasHeader y.mode y.object d h) (sym (used_header s.pages x.page n (y.page + d) lt)) (was.headers d ld);
+          headers = λ d ld. subst (λ h. HasHeader y.mode y.object d h)
+              (sym (used_header s.pages x.page n (y.page + d) lt)) (was.headers d ld);
           used = grow y.page y.index was.used;
         }
 
@@ -219,7 +275,8 @@ layout_taken s x n laid t =
           known = t.index;
           within = let l = len in let w = t.within in omega arith;
           headers =
-              λ d ld. subst (λ m. HasHeader m x.object d (header_on (with_used_on s.pages x.page n) (x.page + d))) (sym t.mapped)
+              λ d ld. subst (λ m. HasHeader m x.object d (header_on (with_used_on s.pages x.page n) (x.page + d)))
+              (sym t.mapped)
               (used_header s.pages x.page n (x.page + d) lt ∙ t.headers d ld);
           used = here_set;
         }
@@ -228,7 +285,8 @@ layout_taken s x n laid t =
     cells_here =
         let zero : x.page + 0 ≡ x.page = omega arith in
         let o = some_pages in
-        ap (λ p. cells_under (shows_on s.pages p)) (sym zero) ∙ ap (λ h. cells_under (header_of h)) (t.headers 0 (omega arith))
+        ap (λ p. cells_under (shows_on s.pages p)) (sym zero)
+        ∙ ap (λ h. cells_under (header_of h)) (t.headers 0 (omega arith))
         ∙ part_cells x.object (header_of (header_made x.object 0)) (made_shows x.object 0 t.sized (omega arith))
 
     used : (p k : ℕ) → has_bit (used_on (with_used_on s.pages x.page n) p) k ≡ true → IsTakenCell (Taken s x n) p k
@@ -236,36 +294,48 @@ layout_taken s x n laid t =
       | inl at ↦
           let inside = t.index in
           let cells = cells_here in (
-            subst (λ c. k < c) (sym (ap (λ h. cells_under (header_of h)) (used_header s.pages x.page n p lt) ∙ ap (λ i. cells_under (shows_on s.pages i)) at.0 ∙ cells))
+            subst (λ c. k < c) (sym (ap (λ h. cells_under (header_of h)) (used_header s.pages x.page n p lt)
+                ∙ ap (λ i. cells_under (shows_on s.pages i)) at.0 ∙ cells))
                 (let e = at.1 in omega arith),
             inl (record { claim = x; among = among_last s.claims x; page = sym at.0; index = sym at.1 }),
           )
       | inr other ↦
-          let was = laid.used p k (sym (same_bit p k other) ∙ h) in
-          (subst (λ c. k < c) (sym (ap (λ h. cells_under (header_of h)) (used_header s.pages x.page n p lt))) was.0, owner p k was.1)
+          let was = laid.used p k (sym (same_bit p k other) ∙ h) in (
+            subst (λ c. k < c) (sym (ap (λ h. cells_under (header_of h)) (used_header s.pages x.page n p lt))) was.0,
+            owner p k was.1,
+          )
     ]
       where
-        both : (p ≡ x.page) ⊎ (p ≢ x.page) → (k ≡ x.index) ⊎ (k ≢ x.index) → ((p ≡ x.page) × (k ≡ x.index)) ⊎ (p ≡ x.page → k ≢ x.index)
+        both : (p ≡ x.page) ⊎ (p ≢ x.page) → (k ≡ x.index) ⊎ (k ≢ x.index)
+            → ((p ≡ x.page) × (k ≡ x.index)) ⊎ (p ≡ x.page → k ≢ x.index)
         both (inl ep) (inl ek) = inl (ep, ek)
         both (inl ep) (inr nk) = inr (λ e. nk)
         both (inr np) any = inr (λ e. absurd (np e))
 
-        owner : (p k : ℕ) → IsClaimed s.claims p k ⊎ (is_released_on s p k ≡ true) → IsClaimed (s.claims ++ x ∷ []) p k ⊎ (is_released_on s p k ≡ true)
+        owner : (p k : ℕ) → IsClaimed s.claims p k ⊎ (is_released_on s p k ≡ true)
+            → IsClaimed (s.claims ++ x ∷ []) p k ⊎ (is_released_on s p k ≡ true)
         owner p k (inr r) = inr r
-        owner p k (inl o) = inl (record { claim = o.claim; among = among_left s.claims x o.claim o.among; page = o.page; index = o.index })
+        owner p k (inl o) = inl
+            (record { claim = o.claim; among = among_left s.claims x o.claim o.among; page = o.page; index = o.index })
 
-    unused : (q : ℕ) → used_on (with_used_on s.pages x.page n) (head_on (with_used_on s.pages x.page n) q) ≡ 0 → used_on s.pages (head_on s.pages q) ≡ 0
+    unused : (q : ℕ) → used_on (with_used_on s.pages x.page n) (head_on (with_used_on s.pages x.page n) q) ≡ 0
+        → used_on s.pages (head_on s.pages q) ≡ 0
     unused q empty =
-        let head : head_on (with_used_on s.pages x.page n) q ≡ head_on s.pages q = ap (λ h. head_page_under (header_of h) q) (used_header s.pages x.page n q lt) in
+        let head : head_on (with_used_on s.pages x.page n) q ≡ head_on s.pages q =
+        ap (λ h. head_page_under (header_of h) q) (used_header s.pages x.page n q lt) in
         zero_where_none (used_on s.pages (head_on s.pages q))
-        (λ k h. none_set (used_on (with_used_on s.pages x.page n) (head_on s.pages q)) k (ap (λ i. used_on (with_used_on s.pages x.page n) i) (sym head) ∙ empty) (grow (head_on s.pages q) k h))
+        (λ k h. none_set (used_on (with_used_on s.pages x.page n) (head_on s.pages q)) k
+        (ap (λ i. used_on (with_used_on s.pages x.page n) i) (sym head) ∙ empty) (grow (head_on s.pages q) k h))
 
     -- a page of the place has its head's bit now
-    full : (q : ℕ) → InPlot (Plotted x.page x.object) q → used_on (with_used_on s.pages x.page n) (head_on (with_used_on s.pages x.page n) q) ≡ 0 → ⊥
+    full : (q : ℕ) → InPlot (Plotted x.page x.object) q
+        → used_on (with_used_on s.pages x.page n) (head_on (with_used_on s.pages x.page n) q) ≡ 0 → ⊥
     full q here empty =
         let low = here.0 in
         let high = here.1 in
         let at : x.page + (q - x.page) ≡ q = omega arith in
         let head : head_on (with_used_on s.pages x.page n) q ≡ x.page =
-        ap (λ i. head_on (with_used_on s.pages x.page n) i) (sym at) ∙ claimed_head (with_used_on s.pages x.page n) x (q - x.page) own (omega arith) in
-        none_set (used_on (with_used_on s.pages x.page n) x.page) x.index (ap (λ i. used_on (with_used_on s.pages x.page n) i) (sym head) ∙ empty) here_set
+        ap (λ i. head_on (with_used_on s.pages x.page n) i) (sym at)
+        ∙ claimed_head (with_used_on s.pages x.page n) x (q - x.page) own (omega arith) in
+        none_set (used_on (with_used_on s.pages x.page n) x.page) x.index
+        (ap (λ i. used_on (with_used_on s.pages x.page n) i) (sym head) ∙ empty) here_set

@@ -1,7 +1,9 @@
 -- What each kind of event makes of the quarantine.
-use Rattle.std.proofs.Common.{Bool, List, [], ap, arith, false, inl, inr, length, refl, subst, sym, true, ℕ, ◌%◌, ◌++◌, ◌+◌, ◌/◌, ◌<◌, ◌^◌, ◌∙◌, ◌∷◌, ◌≡◌}
+use Rattle.std.proofs.Common.{Bool, List, [], ap, arith, false, inl, inr, length, refl, subst, sym, true, ℕ, ◌%◌, ◌++◌}
+use Rattle.std.proofs.Common.{◌+◌, ◌/◌, ◌<◌, ◌^◌, ◌∙◌, ◌∷◌, ◌≡◌}
 use Rattle.std.specs.Prelude.{None, Option, Some, if◌then◌else◌, not, slice_index, slice_set, ◌&&◌, ◌==◌, ◌||◌}
-use Rattle.std.proofs.lemmas.Bool.{and_from, cases_lt, cond-true, eqb-true, false_from_ne_true, ltb-true, or_cases, true≢false}
+use Rattle.std.proofs.lemmas.Bool.{and_from, cases_lt, cond-true, eqb-true, false_from_ne_true, ltb-true, or_cases}
+use Rattle.std.proofs.lemmas.Bool.{true≢false}
 use Rattle.std.proofs.lemmas.List.{get_or_past, set-get_or}
 use Rattle.mk_never.specs.declared.operations.Op.TheVariants as op
 use Rattle.mk_geom.specs.PageUses.{or_else}
@@ -30,7 +32,8 @@ use Rattle.mk_core.specs.declared.seats.Placing.TheVariants.{Granted, Unplaced, 
 use Rattle.mk_core.proofs.CellsOfAllocations.{stands_in_its_cell}
 use Rattle.mk_core.proofs.ChangedAllocations.{none_freed}
 use Rattle.mk_core.proofs.EvaluatedPlaces.{full}
-use Rattle.mk_core.proofs.PageSteps.{ItDrops, ItFrees, ItGivesBack, ItTakes, ItTakesSnapshot, QuarantineStep, UsedStep, quarantine_step, used_step}
+use Rattle.mk_core.proofs.PageSteps.{ItDrops, ItFrees, ItGivesBack, ItTakes, ItTakesSnapshot, QuarantineStep, UsedStep}
+use Rattle.mk_core.proofs.PageSteps.{quarantine_step, used_step}
 use Rattle.mk_core.proofs.PlacesNow.{FreesCell, chosen_used, freed_cell, undecided_free, undecided_new}
 use Rattle.mk_protocol.specs.Protocol.{has_place}
 use Rattle.mk_protocol.proofs.Actors.{Meets}
@@ -64,15 +67,19 @@ pub shown_at : (c : Config) (w : World) (i : ℕ) → IsLaidOut c w → (placed_
     → IsShown w.now.words.pages (claim_of c w.now.seats.holding.freed (placed_at w.allocations i))
 shown_at c w i laid u =
     let x : Claim = claim_of c w.now.seats.holding.freed (placed_at w.allocations i) in
-    laid.scene.shown x (own_claim c (object_now c w.now) (ground_of w) x (claim_among c w.now.seats.holding.freed w.allocations i u))
+    laid.scene.shown x (own_claim c (object_now c w.now) (ground_of w) x
+    (claim_among c w.now.seats.holding.freed w.allocations i u))
 
 -- `quar`
 
 -- a step that frees, frees a cell
-pub frees_some : (pages : ℕ) (w : Words) (f : Flight) (p n : ℕ) → is_phase w 4 ≡ false → frees w (target pages w f) p n ≡ true → cell_freed pages w f p n ≡ None → ⊥
+pub frees_some : (pages : ℕ) (w : Words) (f : Flight) (p n : ℕ) → is_phase w 4 ≡ false
+    → frees w (target pages w f) p n ≡ true → cell_freed pages w f p n ≡ None → ⊥
 frees_some pages w f p n off h none =
-    let both : (not (is_phase w 4) && frees w (target pages w f) p n) ≡ true = and_from (not (is_phase w 4)) (frees w (target pages w f) p n) (ap not off) h in
-    let at : target pages w f ≡ None = sym (cond-true (not (is_phase w 4) && frees w (target pages w f) p n) (target pages w f) None both) ∙ none in
+    let both : (not (is_phase w 4) && frees w (target pages w f) p n) ≡ true =
+    and_from (not (is_phase w 4)) (frees w (target pages w f) p n) (ap not off) h in
+    let at : target pages w f ≡ None =
+    sym (cond-true (not (is_phase w 4) && frees w (target pages w f) p n) (target pages w f) None both) ∙ none in
     let e : true ≡ false = sym h ∙ ap (λ (x : Option Cell). frees w x p n) at in
     true≢false e
 
@@ -87,7 +94,8 @@ not_both f new free =
     apart : (d ty : ℕ) (full : Bool) (p : ℕ) → op.New d ty full ≡ op.Free p → ⊥
     apart d ty full p e = cc
 
-quar_none : (c : Config) (w : World) (f : Flight) (p n : ℕ) → p < length w.now.words.freed → p < length w.now.words.snapshot → cell_freed c.pages w.now.words f p n ≡ None
+quar_none : (c : Config) (w : World) (f : Flight) (p n : ℕ) → p < length w.now.words.freed
+    → p < length w.now.words.snapshot → cell_freed c.pages w.now.words f p n ≡ None
     → QuarantineStep c w.now f p n → IsQuarantined c w
     → QuarantinedNow c w (with_halves w p n)
 quar_none c w f p n lf ls none (ItFrees off x) q = absurd (frees_some c.pages w.now.words f p n off x none)
@@ -99,23 +107,30 @@ quar_none c w f p n lf ls none (ItTakesSnapshot x) q =
     let small = (q.small p).0 in
     let low : n % 2 ^ 32 ≡ slice_index w.now.words.freed p = omega arith in
     let high : n / 2 ^ 32 ≡ slice_index w.now.words.freed p = omega arith in
-    let same : slice_set w.now.words.freed p (n % 2 ^ 32) ≡ w.now.words.freed = ap (λ v. slice_set w.now.words.freed p v) low ∙ set-get_or w.now.words.freed p 0 in
+    let same : slice_set w.now.words.freed p (n % 2 ^ 32) ≡ w.now.words.freed =
+    ap (λ v. slice_set w.now.words.freed p v) low ∙ set-get_or w.now.words.freed p 0 in
     let off = off_at w 0 x.phase (λ e. absurd (omega arith)) in
     subst (λ four. QuarantinedAs c four w (with_halves w p n)) (sym off)
-    (subst (λ (fs : List ℕ). QuarantinedAs c false w (record (ground_of w) { freed = fs; snapshot = slice_set w.now.words.snapshot p (n / 2 ^ 32) })) (sym same)
-    (subst (λ v. QuarantinedAs c false w (record (ground_of w) { snapshot = slice_set w.now.words.snapshot p v })) (sym high)
-    (snapshot_kept c w.now.words.marks (ground_of w) p ls (subst (λ four. QuarantinedAs c four w (ground_of w)) off q))))
+    (subst (λ (fs : List ℕ). QuarantinedAs c false w
+    (record (ground_of w) { freed = fs; snapshot = slice_set w.now.words.snapshot p (n / 2 ^ 32) })) (sym same)
+    (subst (λ v. QuarantinedAs c false w (record (ground_of w) { snapshot = slice_set w.now.words.snapshot p v }))
+    (sym high)
+    (snapshot_kept c w.now.words.marks (ground_of w) p ls
+    (subst (λ four. QuarantinedAs c four w (ground_of w)) off q))))
 
 -- what a step that frees finds
-pub frees_here : (c : Config) (w : World) (seat : Seat) (p n : ℕ) (cell : Cell) → Before c w → Meets c w.now seat (step.Quar p n) → IsLaidOut c w
+pub frees_here : (c : Config) (w : World) (seat : Seat) (p n : ℕ) (cell : Cell) → Before c w
+    → Meets c w.now seat (step.Quar p n) → IsLaidOut c w
     → FreesCell c.pages w.now.words (flight_of w.now seat) p n cell → FreesHere c w cell n
 frees_here c w seat p n cell b h laid x =
     let own = b.others.target seat cell x.at in
     let a : PlacedAllocation = placed_at w.allocations own.number in
-    let off : Laid c (object_now c w.now) false w (ground_of w) = subst (λ four. Laid c (object_now c w.now) four w (ground_of w)) x.phase laid in
+    let off : Laid c (object_now c w.now) false w (ground_of w) =
+    subst (λ four. Laid c (object_now c w.now) four w (ground_of w)) x.phase laid in
     let s = all_stand c (object_now c w.now) false w b.lengths.pages off own.number own.unreleased in
     let shown = shown_at c w own.number laid own.unreleased in
-    let known : (cell_of_allocation c a).index < 32 = index_small (object_placed c a) (cell_of_allocation c a).index shown.sized shown.known in
+    let known : (cell_of_allocation c a).index < 32 =
+    index_small (object_placed c a) (cell_of_allocation c a).index shown.sized shown.known in
     let index : (cell_of_allocation c a).index ≡ cell.index = ap (λ (y : Cell). y.index) own.is in
     let page = x.page in
     let lt = ltb-true p c.pages h.range in
@@ -127,14 +142,19 @@ frees_here c w seat p n cell b h laid x =
       in_snapshot = omega arith;
       index = omega arith;
       own = own;
-      stands = ap (λ (y : Cell). stands_in w.now.words y a) (sym own.is) ∙ stands_in_its_cell c w.now.words a b.limits s.stands s.headers;
+      stands = ap (λ (y : Cell). stands_in w.now.words y a) (sym own.is)
+          ∙ stands_in_its_cell c w.now.words a b.limits s.stands s.headers;
       others = standing_cell c (object_now c w.now) w cell b.lengths.pages own off;
       unset = x.unfreed;
-      value = x.value ∙ ap (λ i. quarantine_word (slice_index w.now.words.freed i + 2 ^ cell.index) (slice_index w.now.words.snapshot i)) page;
-      unplaced = false_from_ne_true (has_place w.now.seats.holding.placing) (λ has. not_both (flight_of w.now seat) (placed_undecided c w.now seat b.known turn has) x.free);
+      value = x.value ∙ ap
+          (λ i. quarantine_word (slice_index w.now.words.freed i + 2 ^ cell.index) (slice_index w.now.words.snapshot i))
+          page;
+      unplaced = false_from_ne_true (has_place w.now.seats.holding.placing)
+          (λ has. not_both (flight_of w.now seat) (placed_undecided c w.now seat b.known turn has) x.free);
     }
 
-quar_kept : (c : Config) (w : World) (seat : Seat) (p n : ℕ) → Before c w → Meets c w.now seat (step.Quar p n) → IsLaidOut c w → IsQuarantined c w
+quar_kept : (c : Config) (w : World) (seat : Seat) (p n : ℕ) → Before c w → Meets c w.now seat (step.Quar p n)
+    → IsLaidOut c w → IsQuarantined c w
     → QuarantinedNow c w (ground_of (WorldBehind c w seat (step.Quar p n)))
 quar_kept c w seat p n b h laid q = by (cell_freed c.pages w.now.words (flight_of w.now seat) p n) refl
   where
@@ -144,42 +164,59 @@ quar_kept c w seat p n b h laid q = by (cell_freed c.pages w.now.words (flight_o
     ls : p < length w.now.words.snapshot
     ls = let lt = ltb-true p c.pages h.range in let len = b.lengths.snapshot in omega arith
 
-    by : (cell : Option Cell) → cell_freed c.pages w.now.words (flight_of w.now seat) p n ≡ cell → QuarantinedNow c w (Quarantined w p n cell)
+    by : (cell : Option Cell) → cell_freed c.pages w.now.words (flight_of w.now seat) p n ≡ cell
+        → QuarantinedNow c w (Quarantined w p n cell)
     by None is =
         subst
         (λ (xs : List PlacedAllocation). QuarantinedNow c w (record (with_halves w p n) { allocations = xs }))
         (sym (none_freed w.now.words w.allocations))
-        (quar_none c w (flight_of w.now seat) p n lf ls is (quarantine_step c w.now (flight_of w.now seat) p n h.holder) q)
+        (quar_none c w (flight_of w.now seat) p n lf ls is (quarantine_step c w.now (flight_of w.now seat) p n h.holder)
+        q)
     by (Some cell) is =
         let x = freed_cell c.pages w.now.words (flight_of w.now seat) p n cell is in
         subst (λ four. QuarantinedAs c four w (Quarantined w p n (Some cell))) (sym x.phase)
         (subst
-        (λ i. QuarantinedAs c false w (record (Quarantined w p n (Some cell)) { freed = slice_set w.now.words.freed i (n % 2 ^ 32); snapshot = slice_set w.now.words.snapshot i (n / 2 ^ 32) }))
+        (λ i. QuarantinedAs c false w
+        (record (Quarantined w p n (Some cell)) {
+          freed = slice_set w.now.words.freed i (n % 2 ^ 32);
+          snapshot = slice_set w.now.words.snapshot i (n / 2 ^ 32);
+        }))
         (sym x.page)
-        (free_kept c w cell (or_else (run_of_cell w.now.words (Some cell)) w.now.seats.holding.freed) n (frees_here c w seat p n cell b h laid x) (subst (λ four. QuarantinedAs c four w (ground_of w)) x.phase q)))
+        (free_kept c w cell (or_else (run_of_cell w.now.words (Some cell)) w.now.seats.holding.freed) n
+        (frees_here c w seat p n cell b h laid x) (subst (λ four. QuarantinedAs c four w (ground_of w)) x.phase q)))
 
 -- `head` and `used`
-head_from : (four : Bool) (placing : Placing) (found : Option Place) (place : Place) → (if four then placing else chosen placing found) ≡ Used place → placing ≡ Used place
+head_from : (four : Bool) (placing : Placing) (found : Option Place) (place : Place)
+    → (if four then placing else chosen placing found) ≡ Used place → placing ≡ Used place
 head_from true placing found place e = e
 head_from false placing found place e = chosen_used placing found place e
 
 abbrev UsedAs : Config → World → List Page → Bool → Option Place → Type 0
 UsedAs c w pages four found =
-    QuarantinedAs c four w (record (ground_of w) { pages = pages; placing = if four then w.now.seats.holding.placing else taken w.now.seats.holding.placing found })
+    QuarantinedAs c four w
+    (record (ground_of w) {
+      pages = pages;
+      placing = if four then w.now.seats.holding.placing
+          else taken w.now.seats.holding.placing found;
+    })
 
-used_kept : (c : Config) (w : World) (seat : Seat) (p n : ℕ) (pages : List Page) → IsLaidOut c w → IsQuarantined c w → UsedStep c w.now (flight_of w.now seat) p n
+used_kept : (c : Config) (w : World) (seat : Seat) (p n : ℕ) (pages : List Page) → IsLaidOut c w → IsQuarantined c w
+    → UsedStep c w.now (flight_of w.now seat) p n
     → UsedAs c w pages (is_phase w.now.words 4) (place_now c w.now (flight_of w.now seat))
 used_kept c w seat p n pages laid q (ItTakes off once x) =
     subst (λ four. UsedAs c w pages four (place_now c w.now (flight_of w.now seat))) (sym off)
     (subst (λ (found : Option Place). UsedAs c w pages false found) (sym x.there)
     (take_kept c w.now.words.marks (ground_of w) pages x.place (λ i u. (shown_at c w i laid u).used)
-    (ap (λ i. has_bit (used_at w.now.words i) x.place.index) (sym x.taken.at) ∙ x.taken.unused) (subst (λ four. QuarantinedAs c four w (ground_of w)) off q)))
+    (ap (λ i. has_bit (used_at w.now.words i) x.place.index) (sym x.taken.at)
+    ∙ x.taken.unused) (subst (λ four. QuarantinedAs c four w (ground_of w)) off q)))
 used_kept c w seat p n pages laid q (ItGivesBack on x) =
     subst (λ four. UsedAs c w pages four (place_now c w.now (flight_of w.now seat))) (sym on)
-    (replaced c true w.now.words.marks (ground_of w) pages w.now.seats.holding.placing w.now.seats.holding.freed (λ place e. e) (subst (λ four. QuarantinedAs c four w (ground_of w)) on q))
+    (replaced c true w.now.words.marks (ground_of w) pages w.now.seats.holding.placing w.now.seats.holding.freed
+    (λ place e. e) (subst (λ four. QuarantinedAs c four w (ground_of w)) on q))
 
 -- `mark`
-mark_from : (t : Bool) (placing : Placing) (found : Option Place) (place : Place) → (if t then chosen placing found else placing) ≡ Used place → placing ≡ Used place
+mark_from : (t : Bool) (placing : Placing) (found : Option Place) (place : Place)
+    → (if t then chosen placing found else placing) ≡ Used place → placing ≡ Used place
 mark_from false placing found place e = e
 mark_from true placing found place e = chosen_used placing found place e
 
@@ -187,61 +224,84 @@ mark_from true placing found place e = chosen_used placing found place e
 kept_ground : (c : Config) (w : World) (x : Words) → KeepsGround w.now.words x → IsQuarantined c w
     → QuarantinedNow c w (record (ground_of w) { pages = x.pages; freed = x.freed; snapshot = x.snapshot })
 kept_ground c w x g q =
-    subst (λ (ps : List Page). QuarantinedNow c w (record (ground_of w) { pages = ps; freed = x.freed; snapshot = x.snapshot })) (sym g.pages)
-    (subst (λ (fs : List ℕ). QuarantinedNow c w (record (ground_of w) { freed = fs; snapshot = x.snapshot })) (sym g.freed)
+    subst (λ (ps : List Page). QuarantinedNow c w
+    (record (ground_of w) { pages = ps; freed = x.freed; snapshot = x.snapshot })) (sym g.pages)
+    (subst (λ (fs : List ℕ). QuarantinedNow c w (record (ground_of w) { freed = fs; snapshot = x.snapshot }))
+    (sym g.freed)
     (subst (λ (ss : List ℕ). QuarantinedNow c w (record (ground_of w) { snapshot = ss })) (sym g.snapshot) q))
 
 -- `grant` and `end`
-pub grants_early : (w : World) → ((phase_of w.now.words == 0) || (phase_of w.now.words == 1)) ≡ true → is_phase w.now.words 4 ≡ false
+pub grants_early : (w : World) → ((phase_of w.now.words == 0) || (phase_of w.now.words == 1)) ≡ true
+    → is_phase w.now.words 4 ≡ false
 grants_early w h = elim (or_cases (phase_of w.now.words == 0) (phase_of w.now.words == 1) h) [
   | inl e ↦ off_at w 0 e (λ x. absurd (omega arith))
   | inr e ↦ off_at w 1 e (λ x. absurd (omega arith))
 ]
 
-none_left : (c : Config) (w : World) → Before c w → may_end c.pages w.now.words ≡ true → (p k : ℕ) → is_released_in true w.now.words.snapshot w.now.words.marks p k ≡ false
+none_left : (c : Config) (w : World) → Before c w → may_end c.pages w.now.words ≡ true → (p k : ℕ)
+    → is_released_in true w.now.words.snapshot w.now.words.marks p k ≡ false
 none_left c w b own p k = elim (cases_lt p c.pages) [
   | inl lt ↦ (settled_page w.now.words c.pages p own lt).none k
   | inr past ↦ false_from_ne_true (is_released_in true w.now.words.snapshot w.now.words.marks p k) (λ r.
       let bits = released_bits w.now.words.snapshot w.now.words.marks p k r in
-      none_set (slice_index w.now.words.snapshot p) k (get_or_past w.now.words.snapshot p 0 (let len = b.lengths.snapshot in omega arith)) bits.0)
+      none_set (slice_index w.now.words.snapshot p) k
+      (get_or_past w.now.words.snapshot p 0 (let len = b.lengths.snapshot in omega arith)) bits.0)
 ]
 
 -- each kind of event, whatever the seat
-pub quarantine_by_kind : (c : Config) (w : World) (seat : Seat) (x : Step) → Before c w → Meets c w.now seat x → IsLaidOut c w → IsQuarantined c w
+pub quarantine_by_kind : (c : Config) (w : World) (seat : Seat) (x : Step) → Before c w → Meets c w.now seat x
+    → IsLaidOut c w → IsQuarantined c w
     → QuarantinedAs c (is_releasing_behind x (is_phase w.now.words 4)) w (ground_of (WorldBehind c w seat x))
 quarantine_by_kind c w seat (step.Take o) b h laid q = by (w.now.words.turn == 0) refl
   where
     by : (t : Bool) → (w.now.words.turn == 0) ≡ t
-        → QuarantinedNow c w (record (ground_of w) { placing = (if t then nothing_done else w.now.seats.holding).placing; run = (if t then nothing_done else w.now.seats.holding).freed })
+        → QuarantinedNow c w
+        (record (ground_of w) {
+          placing = (if t then nothing_done else w.now.seats.holding).placing;
+          run = (if t then nothing_done else w.now.seats.holding).freed;
+        })
     by false is = q
     by true is =
-        subst (λ (y : Holding). QuarantinedNow c w (record (ground_of w) { placing = y.placing; run = y.freed })) (b.known.orderly.free (eqb-true w.now.words.turn 0 is)) q
+        subst (λ (y : Holding). QuarantinedNow c w (record (ground_of w) { placing = y.placing; run = y.freed }))
+        (b.known.orderly.free (eqb-true w.now.words.turn 0 is)) q
 quarantine_by_kind c w seat step.Give b h laid q =
-    replaced c (is_phase w.now.words 4) w.now.words.marks (ground_of w) w.now.words.pages Unplaced None (λ place e. cc) q
+    replaced c (is_phase w.now.words 4) w.now.words.marks (ground_of w) w.now.words.pages Unplaced None
+    (λ place e. cc) q
 quarantine_by_kind c w seat step.Reg b h laid q =
     kept_ground c w _
     (reg_leaves_ground c w seat) q
 quarantine_by_kind c w seat (step.Tally n v) b h laid q = kept_ground c w _ (tally_ground w.now.words n v) q
 quarantine_by_kind c w seat (step.Head p n) b h laid q =
     replaced c (is_phase w.now.words 4) w.now.words.marks (ground_of w) _ _ w.now.seats.holding.freed
-    (λ place e. head_from (is_phase w.now.words 4) w.now.seats.holding.placing (place_now c w.now (flight_of w.now seat)) place e) q
-quarantine_by_kind c w seat (step.Used p n) b h laid q = used_kept c w seat p n _ laid q (used_step c w.now (flight_of w.now seat) p n h.holder)
+    (λ place e. head_from (is_phase w.now.words 4) w.now.seats.holding.placing
+    (place_now c w.now (flight_of w.now seat)) place e) q
+quarantine_by_kind c w seat (step.Used p n) b h laid q =
+    used_kept c w seat p n _ laid q (used_step c w.now (flight_of w.now seat) p n h.holder)
 quarantine_by_kind c w seat (step.Quar p n) b h laid q = quar_kept c w seat p n b h laid q
 quarantine_by_kind c w seat step.Grant b h laid q =
     let off = grants_early w h.phase in
-    subst (λ four. QuarantinedAs c four w (record (ground_of w) { placing = Granted; allocations = w.allocations ++ granted c w.now (flight_of w.now seat) ∷ [] })) (sym off)
-    (grant_kept c w.now.words.marks (ground_of w) (granted c w.now (flight_of w.now seat)) refl (subst (λ four. QuarantinedAs c four w (ground_of w)) off q))
+    subst (λ four. QuarantinedAs c four w
+    (record (ground_of w) {
+      placing = Granted;
+      allocations = w.allocations ++ granted c w.now (flight_of w.now seat) ∷ [];
+    })) (sym off)
+    (grant_kept c w.now.words.marks (ground_of w) (granted c w.now (flight_of w.now seat)) refl
+    (subst (λ four. QuarantinedAs c four w (ground_of w)) off q))
 quarantine_by_kind c w seat (step.Mark p n) b h laid q =
     replaced c (is_phase w.now.words 4) w.now.words.marks (ground_of w) _ _ w.now.seats.holding.freed
     (λ place e.
-    mark_from (marks_place w.now.words (object_made c (flight_of w.now seat).op) (place_now c w.now (flight_of w.now seat)) p n) w.now.seats.holding.placing
+    mark_from (marks_place w.now.words (object_made c (flight_of w.now seat).op)
+    (place_now c w.now (flight_of w.now seat)) p n) w.now.seats.holding.placing
     (place_now c w.now (flight_of w.now seat)) place e) q
-quarantine_by_kind c w seat step.Begin b h laid q = begin_kept c (is_phase w.now.words 4) w.now.words.marks (ground_of w) q
+quarantine_by_kind c w seat step.Begin b h laid q =
+    begin_kept c (is_phase w.now.words 4) w.now.words.marks (ground_of w) q
 quarantine_by_kind c w seat step.Release b h laid q =
     let off = off_at w 3 h.phase (λ e. absurd (omega arith)) in
     release_kept c w b.limits
-    (all_stand c (object_now c w.now) false w b.lengths.pages (subst (λ four. Laid c (object_now c w.now) four w (ground_of w)) off laid))
+    (all_stand c (object_now c w.now) false w b.lengths.pages
+    (subst (λ four. Laid c (object_now c w.now) four w (ground_of w)) off laid))
     (subst (λ four. QuarantinedAs c four w (ground_of w)) off q)
 quarantine_by_kind c w seat step.End b h laid q =
-    end_kept c w.now.words.marks (ground_of w) (none_left c w b h.holder) (subst (λ four. QuarantinedAs c four w (ground_of w)) h.phase q)
+    end_kept c w.now.words.marks (ground_of w) (none_left c w b h.holder)
+    (subst (λ four. QuarantinedAs c four w (ground_of w)) h.phase q)
 quarantine_by_kind c w seat _ b h laid q = q

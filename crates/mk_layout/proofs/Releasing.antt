@@ -1,5 +1,6 @@
 -- The steps that release: `release`, cells given back, pages freed in any order, and `end`.
-use Rattle.std.proofs.Common.{Bool, List, ap, arith, false, inl, inr, length, length-set, refl, subst, sym, true, ℕ, ◌+◌, ◌-◌, ◌<◌, ◌∙◌, ◌≡◌, ◌≢◌, ◌⊎◌}
+use Rattle.std.proofs.Common.{Bool, List, ap, arith, false, inl, inr, length, length-set, refl, subst, sym, true, ℕ}
+use Rattle.std.proofs.Common.{◌+◌, ◌-◌, ◌<◌, ◌∙◌, ◌≡◌, ◌≢◌, ◌⊎◌}
 use Rattle.std.specs.Prelude.{Option, Some}
 use Rattle.std.proofs.lemmas.Bool.{cases_Bool, cases_eq, cases_lt, true≢false}
 use Rattle.std.proofs.lemmas.List.{get_or_past}
@@ -14,25 +15,32 @@ use Rattle.mk_core.specs.Cells.{cells_under}
 use Rattle.mk_core.specs.Counts.{ends}
 use Rattle.mk_core.specs.NewPlaces.{header_made, pages_made, stands}
 use Rattle.mk_protocol.proofs.Kept.{kept}
-use Rattle.mk_layout.specs.Scene.{Among, AreApart, Claim, HasHeader, IsClaimed, IsLaidOn, IsShown, NoPlot, Plot, PlotStands, Plotted, Scene, head_on, header_on, is_released_in, is_released_on, run_count, shows_on, used_on}
-use Rattle.mk_layout.proofs.PageSets.{headed_here, headed_other, headed_used, used_header, used_here, used_other, with_header_on, with_used_on}
+use Rattle.mk_layout.specs.Scene.{Among, AreApart, Claim, HasHeader, IsClaimed, IsLaidOn, IsShown, NoPlot, Plot}
+use Rattle.mk_layout.specs.Scene.{PlotStands, Plotted, Scene, head_on, header_on, is_released_in, is_released_on}
+use Rattle.mk_layout.specs.Scene.{run_count, shows_on, used_on}
+use Rattle.mk_layout.proofs.PageSets.{headed_here, headed_other, headed_used, used_header, used_here, used_other}
+use Rattle.mk_layout.proofs.PageSets.{with_header_on, with_used_on}
 use Rattle.mk_layout.proofs.Readings.{cellless_unused, claimed_used, free_unused, none_set, zero_where_none}
 
 -- a page with nothing on it is on no claim's pages
-unclaimed : (s : Scene) (p : ℕ) → IsLaidOn s → used_on s.pages (head_on s.pages p) ≡ 0 → (x : Claim) → Among x s.claims → (distance : ℕ) → distance < pages_made x.object
+unclaimed : (s : Scene) (p : ℕ) → IsLaidOn s → used_on s.pages (head_on s.pages p) ≡ 0 → (x : Claim) → Among x s.claims
+    → (distance : ℕ) → distance < pages_made x.object
     → x.page + distance ≢ p
 unclaimed s p laid z x among distance lt e =
     claimed_used s.pages x distance (laid.shown x among) lt (ap (λ q. used_on s.pages (head_on s.pages q)) e ∙ z)
 
 -- the pages of a claim are others
-pub shown_beside : (pages : List Page) (p n : ℕ) (x : Claim) → p < length pages → IsShown pages x → ((distance : ℕ) → distance < pages_made x.object → x.page + distance ≢ p)
+pub shown_beside : (pages : List Page) (p n : ℕ) (x : Claim) → p < length pages → IsShown pages x
+    → ((distance : ℕ) → distance < pages_made x.object → x.page + distance ≢ p)
     → IsShown (with_header_on pages p n) x
 shown_beside pages p n x lt shown apart =
     record {
       sized = shown.sized;
       known = shown.known;
-      within = let len = length-set pages p (record { header = n; used = used_on pages p }) in let w = shown.within in omega arith;
-      headers = λ d ld. subst (λ h. HasHeader x.mode x.object d h) (sym (headed_other pages p n (x.page + d) (apart d ld))) (shown.headers d ld);
+      within = let len = length-set pages p (record { header = n; used = used_on pages p }) in let w =
+          shown.within in omega arith;
+      headers = λ d ld. subst (λ h. HasHeader x.mode x.object d h)
+          (sym (headed_other pages p n (x.page + d) (apart d ld))) (shown.headers d ld);
       used = ap (λ u. has_bit u x.index) (headed_used pages p n x.page lt) ∙ shown.used;
     }
 
@@ -43,28 +51,38 @@ head_of_other pages p n q ne = ap (λ h. head_page_under (header_of h) q) (heade
 abbrev Emptied : Scene → ℕ → Scene
 Emptied s p = record s { pages = with_header_on s.pages p 0 }
 
-plot_emptied : (pages : List Page) (p : ℕ) (plot : Plot) → p < length pages → PlotStands pages plot → PlotStands (with_header_on pages p 0) plot
+plot_emptied : (pages : List Page) (p : ℕ) (plot : Plot) → p < length pages → PlotStands pages plot
+    → PlotStands (with_header_on pages p 0) plot
 plot_emptied pages p NoPlot lt stands = stands
 plot_emptied pages p (Plotted first o) lt stands =
     record {
       sized = stands.sized;
-      within = let len = length-set pages p (record { header = 0; used = used_on pages p }) in let w = stands.within in omega arith;
+      within = let len = length-set pages p (record { header = 0; used = used_on pages p }) in let w =
+          stands.within in omega arith;
       headers = λ d ld. elim (cases_eq (first + d) p) [
         | inl e ↦ inl (ap (λ q. header_on (with_header_on pages p 0) q) e ∙ headed_here pages p 0 lt)
-        | inr ne ↦ subst (λ h. (h ≡ 0) ⊎ (h ≡ header_made o d)) (sym (headed_other pages p 0 (first + d) ne)) (stands.headers d ld)
+        | inr ne ↦ subst (λ h. (h ≡ 0) ⊎ (h ≡ header_made o d)) (sym (headed_other pages p 0 (first + d) ne))
+            (stands.headers d ld)
       ];
       used = λ d ld. headed_used pages p 0 (first + d) lt ∙ stands.used d ld;
     }
 
 -- `head` (d): a page of which nothing is left is free
-pub layout_emptied : (s : Scene) (p : ℕ) → IsLaidOn s → p < length s.pages → s.releasing ≡ true → used_on s.pages (head_on s.pages p) ≡ 0 → IsLaidOn (Emptied s p)
+pub layout_emptied : (s : Scene) (p : ℕ) → IsLaidOn s → p < length s.pages → s.releasing ≡ true
+    → used_on s.pages (head_on s.pages p) ≡ 0 → IsLaidOn (Emptied s p)
 layout_emptied s p laid lt on z =
     record {
       shown = λ x among. shown_beside s.pages p 0 x lt (laid.shown x among) (unclaimed s p laid z x among);
       apart = laid.apart;
       used = λ q k h. elim (cases_eq q p) [
-        | inl e ↦ absurd (none_set (used_on s.pages p) k unused (ap (λ i. has_bit (used_on s.pages i) k) (sym e) ∙ old q k h))
-        | inr ne ↦ let t = laid.used q k (old q k h) in (subst (λ c. k < c) (ap (λ h. cells_under (header_of h)) (sym (headed_other s.pages p 0 q ne))) t.0, t.1)
+        | inl e ↦ absurd (none_set (used_on s.pages p) k unused (ap (λ i. has_bit (used_on s.pages i) k) (sym e)
+            ∙ old q k h))
+        | inr ne ↦ let t = laid.used q k
+            (old q k h) in (
+              subst (λ c. k < c)
+                  (ap (λ h. cells_under (header_of h)) (sym (headed_other s.pages p 0 q ne))) t.0,
+              t.1,
+            )
       ];
       plot = plot_emptied s.pages p s.plot lt laid.plot;
       occupied = λ q some empty. inl on;
@@ -75,7 +93,8 @@ layout_emptied s p laid lt on z =
               l.0,
               elim (cases_eq (q - d) p) [
                 | inl e ↦ inr (on, ap (λ i. header_on (with_header_on s.pages p 0) i) e ∙ headed_here s.pages p 0 lt)
-                | inr other ↦ subst (λ h. (d < run_count (header_of h)) ⊎ ((s.releasing ≡ true) × (h ≡ 0))) (sym (headed_other s.pages p 0 (q - d) other)) l.1
+                | inr other ↦ subst (λ h. (d < run_count (header_of h)) ⊎ ((s.releasing ≡ true) × (h ≡ 0)))
+                    (sym (headed_other s.pages p 0 (q - d) other)) l.1
               ],
             )
       ];
@@ -85,7 +104,8 @@ layout_emptied s p laid lt on z =
     old q k h = ap (λ u. has_bit u k) (sym (headed_used s.pages p 0 q lt)) ∙ h
 
     -- a later page has no bit, and another is its own head
-    unused_by : (x : Option Header) → shows_on s.pages p ≡ x → used_on s.pages (head_page_under x p) ≡ 0 → used_on s.pages p ≡ 0
+    unused_by : (x : Option Header) → shows_on s.pages p ≡ x → used_on s.pages (head_page_under x p) ≡ 0
+        → used_on s.pages p ≡ 0
     unused_by (Some (Later d m)) is z = cellless_unused s p laid (ap cells_under is)
     unused_by _ is z = z
 
@@ -93,7 +113,8 @@ layout_emptied s p laid lt on z =
     unused = unused_by (shows_on s.pages p) refl z
 
     not_later : (m : Bool) (d : ℕ) → shows_on (with_header_on s.pages p 0) p ≡ Some (Later d m) → ⊥
-    not_later m d is = let e : header_of 0 ≡ Some (Later d m) = ap header_of (sym (headed_here s.pages p 0 lt)) ∙ is in true≢false (let y : true ≡ false = cc in y)
+    not_later m d is = let e : header_of 0 ≡ Some (Later d m) = ap header_of (sym (headed_here s.pages p 0 lt))
+        ∙ is in true≢false (let y : true ≡ false = cc in y)
 
 -- `used` (b): bits of released cells go
 abbrev GivenBack : Scene → ℕ → ℕ → Scene
@@ -109,12 +130,17 @@ layout_given_back s p n laid lt on gives kept =
     record {
       shown = λ x among. shown x among (laid.shown x among);
       apart = laid.apart;
-      used = λ q k h. let t = laid.used q k (fewer q k h) in (subst (λ c. k < c) (ap (λ h. cells_under (header_of h)) (sym (used_header s.pages p n q lt))) t.0, t.1);
+      used = λ q k h. let t =
+          laid.used q k (fewer q k h)
+          in (subst (λ c. k < c) (ap (λ h. cells_under (header_of h)) (sym (used_header s.pages p n q lt))) t.0, t.1);
       plot = plot s.plot laid.plot;
       occupied = λ q some empty. inl on;
       later = λ q d m is.
-          let l = laid.later q d m (ap (λ h. header_of h) (sym (used_header s.pages p n q lt)) ∙ is) in
-          (l.0, subst (λ h. (d < run_count (header_of h)) ⊎ ((s.releasing ≡ true) × (h ≡ 0))) (sym (used_header s.pages p n (q - d) lt)) l.1);
+          let l = laid.later q d m (ap (λ h. header_of h) (sym (used_header s.pages p n q lt)) ∙ is) in (
+            l.0,
+            subst (λ h. (d < run_count (header_of h)) ⊎ ((s.releasing ≡ true) × (h ≡ 0)))
+                (sym (used_header s.pages p n (q - d) lt)) l.1,
+          );
     }
   where
     len : length (with_used_on s.pages p n) ≡ length s.pages
@@ -123,17 +149,22 @@ layout_given_back s p n laid lt on gives kept =
     fewer : (q k : ℕ) → has_bit (used_on (with_used_on s.pages p n) q) k ≡ true → has_bit (used_on s.pages q) k ≡ true
     fewer q k h = elim (cases_eq q p) [
       | inl e ↦ ap (λ i. has_bit (used_on s.pages i) k) e
-          ∙ gives.fewer k (ap (λ u. has_bit u k) (sym (used_here s.pages p n lt)) ∙ ap (λ i. has_bit (used_on (with_used_on s.pages p n) i) k) (sym e) ∙ h)
+          ∙ gives.fewer k (ap (λ u. has_bit u k) (sym (used_here s.pages p n lt))
+          ∙ ap (λ i. has_bit (used_on (with_used_on s.pages p n) i) k) (sym e) ∙ h)
       | inr ne ↦ ap (λ u. has_bit u k) (sym (used_other s.pages p n q ne)) ∙ h
     ]
 
-    bit : (x : Claim) → Among x s.claims → has_bit (used_on s.pages x.page) x.index ≡ true → has_bit (used_on (with_used_on s.pages p n) x.page) x.index ≡ true
+    bit : (x : Claim) → Among x s.claims → has_bit (used_on s.pages x.page) x.index ≡ true
+        → has_bit (used_on (with_used_on s.pages p n) x.page) x.index ≡ true
     bit x among was = elim (cases_eq x.page p) [
       | inr ne ↦ ap (λ u. has_bit u x.index) (used_other s.pages p n x.page ne) ∙ was
-      | inl e ↦ ap (λ i. has_bit (used_on (with_used_on s.pages p n) i) x.index) e ∙ ap (λ u. has_bit u x.index) (used_here s.pages p n lt)
+      | inl e ↦ ap (λ i. has_bit (used_on (with_used_on s.pages p n) i) x.index) e
+          ∙ ap (λ u. has_bit u x.index) (used_here s.pages p n lt)
           ∙ elim (cases_Bool (has_bit n x.index)) [
             | inl stays ↦ stays
-            | inr goes ↦ absurd (true≢false (sym (gives.gone x.index (ap (λ i. has_bit (used_on s.pages i) x.index) (sym e) ∙ was) goes) ∙ ap (λ i. is_released_on s i x.index) (sym e) ∙ kept x among))
+            | inr goes ↦ absurd (true≢false
+                (sym (gives.gone x.index (ap (λ i. has_bit (used_on s.pages i) x.index) (sym e) ∙ was) goes)
+                ∙ ap (λ i. is_released_on s i x.index) (sym e) ∙ kept x among))
           ]
     ]
 
@@ -143,7 +174,8 @@ layout_given_back s p n laid lt on gives kept =
           sized = was.sized;
           known = was.known;
           within = let l = len in let w = was.within in omega arith;
-          headers = λ d ld. subst (λ h. HasHeader x.mode x.object d h) (sym (used_header s.pages p n (x.page + d) lt)) (was.headers d ld);
+          headers = λ d ld. subst (λ h. HasHeader x.mode x.object d h) (sym (used_header s.pages p n (x.page + d) lt))
+              (was.headers d ld);
           used = bit x among was.used;
         }
 
@@ -153,9 +185,11 @@ layout_given_back s p n laid lt on gives kept =
         record {
           sized = stands.sized;
           within = let l = len in let w = stands.within in omega arith;
-          headers = λ d ld. subst (λ h. (h ≡ 0) ⊎ (h ≡ header_made o d)) (sym (used_header s.pages p n (first + d) lt)) (stands.headers d ld);
+          headers = λ d ld. subst (λ h. (h ≡ 0) ⊎ (h ≡ header_made o d)) (sym (used_header s.pages p n (first + d) lt))
+              (stands.headers d ld);
           used =
-              λ d ld. zero_where_none (used_on (with_used_on s.pages p n) (first + d)) (λ k h. none_set (used_on s.pages (first + d)) k (stands.used d ld) (fewer (first + d) k h));
+              λ d ld. zero_where_none (used_on (with_used_on s.pages p n) (first + d))
+              (λ k h. none_set (used_on s.pages (first + d)) k (stands.used d ld) (fewer (first + d) k h));
         }
 
 -- `release`: some claims go, and their cells are released
@@ -165,9 +199,11 @@ Released s claims = record s { claims = claims; releasing = true }
 pub record Releases (s : Scene) (claims : List Claim) : Type 0 where
   pub fewer : (x : Claim) → Among x claims → Among x s.claims
   pub apart : AreApart claims
-  pub gone : (x : Claim) → Among x s.claims → Among x claims ⊎ (is_released_in true s.snapshot s.marks x.page x.index ≡ true)
+  pub gone : (x : Claim) → Among x s.claims
+      → Among x claims ⊎ (is_released_in true s.snapshot s.marks x.page x.index ≡ true)
 
-pub layout_released : (s : Scene) (claims : List Claim) → IsLaidOn s → s.releasing ≡ false → Releases s claims → IsLaidOn (Released s claims)
+pub layout_released : (s : Scene) (claims : List Claim) → IsLaidOn s → s.releasing ≡ false → Releases s claims
+    → IsLaidOn (Released s claims)
 layout_released s claims laid off r =
     record {
       shown = λ x among. laid.shown x (r.fewer x among);
@@ -175,14 +211,20 @@ layout_released s claims laid off r =
       used = λ p k h. let t = laid.used p k h in (t.0, by p k t.1);
       plot = laid.plot;
       occupied = λ p some empty. inl refl;
-      later = λ p d m is. let l = laid.later p d m is in (l.0, elim l.1 [ inl head ↦ inl head | inr lost ↦ absurd (true≢false (sym lost.0 ∙ off)) ]);
+      later = λ p d m is. let l =
+          laid.later p d m is in (
+            l.0,
+            elim l.1 [ inl head ↦ inl head | inr lost ↦ absurd (true≢false (sym lost.0 ∙ off)) ],
+          );
     }
   where
-    by : (p k : ℕ) → IsClaimed s.claims p k ⊎ (is_released_on s p k ≡ true) → IsClaimed claims p k ⊎ (is_released_in true s.snapshot s.marks p k ≡ true)
+    by : (p k : ℕ) → IsClaimed s.claims p k ⊎ (is_released_on s p k ≡ true)
+        → IsClaimed claims p k ⊎ (is_released_in true s.snapshot s.marks p k ≡ true)
     by p k (inr was) = absurd (true≢false (sym was ∙ ap (λ b. is_released_in b s.snapshot s.marks p k) off))
     by p k (inl o) = elim (r.gone o.claim o.among) [
       | inl stays ↦ inl (record { claim = o.claim; among = stays; page = o.page; index = o.index })
-      | inr goes ↦ inr (ap (λ i. is_released_in true s.snapshot s.marks p i) (sym o.index) ∙ ap (λ i. is_released_in true s.snapshot s.marks i o.claim.index) (sym o.page) ∙ goes)
+      | inr goes ↦ inr (ap (λ i. is_released_in true s.snapshot s.marks p i) (sym o.index)
+          ∙ ap (λ i. is_released_in true s.snapshot s.marks i o.claim.index) (sym o.page) ∙ goes)
     ]
 
 -- `end`: nothing released is left, and no page without a used cell
@@ -201,24 +243,38 @@ layout_ended s laid ends =
       used = λ p k h. let t = laid.used p k h in (t.0, inl (by p k h t.1));
       plot = laid.plot;
       occupied = λ p some empty. absurd (ends.settled p (inside p some) some empty);
-      later = λ p d m is. let l = laid.later p d m is in (l.0, inl (elim l.1 [ inl head ↦ head | inr lost ↦ absurd (headless p d m is lost.1) ]));
+      later = λ p d m is. let l =
+          laid.later p d m is in (
+            l.0,
+            inl (elim l.1 [ inl head ↦ head | inr lost ↦ absurd (headless p d m is lost.1) ]),
+          );
     }
   where
     inside : (p : ℕ) → header_on s.pages p ≢ 0 → p < length s.pages
-    inside p some = elim (cases_lt p (length s.pages)) [ inl lt ↦ lt | inr ge ↦ absurd (some (ap (λ (x : Page). x.header) (get_or_past s.pages p free_page ge))) ]
+    inside p some = elim (cases_lt p (length s.pages)) [
+      | inl lt ↦ lt
+      | inr ge ↦ absurd (some (ap (λ (x : Page). x.header) (get_or_past s.pages p free_page ge)))
+    ]
 
     with_bit : (p k : ℕ) → has_bit (used_on s.pages p) k ≡ true → p < length s.pages
     with_bit p k h =
-        elim (cases_lt p (length s.pages)) [ inl lt ↦ lt | inr ge ↦ absurd (none_set (used_on s.pages p) k (ap (λ (x : Page). x.used) (get_or_past s.pages p free_page ge)) h) ]
+        elim (cases_lt p (length s.pages)) [
+          | inl lt ↦ lt
+          | inr ge ↦ absurd (none_set (used_on s.pages p) k
+              (ap (λ (x : Page). x.used) (get_or_past s.pages p free_page ge)) h)
+        ]
 
-    by : (p k : ℕ) → has_bit (used_on s.pages p) k ≡ true → IsClaimed s.claims p k ⊎ (is_released_on s p k ≡ true) → IsClaimed s.claims p k
+    by : (p k : ℕ) → has_bit (used_on s.pages p) k ≡ true → IsClaimed s.claims p k ⊎ (is_released_on s p k ≡ true)
+        → IsClaimed s.claims p k
     by p k h (inl o) = o
     by p k h (inr r) = absurd (true≢false (sym r ∙ ends.none p k (with_bit p k h)))
 
     not_free : (d : ℕ) (m : Bool) (p : ℕ) → shows_on s.pages p ≡ Some (Later d m) → header_on s.pages p ≢ 0
-    not_free d m p is z = let e : header_of 0 ≡ Some (Later d m) = ap header_of (sym z) ∙ is in true≢false (let y : true ≡ false = cc in y)
+    not_free d m p is z = let e : header_of 0 ≡ Some (Later d m) = ap header_of (sym z)
+        ∙ is in true≢false (let y : true ≡ false = cc in y)
 
     headless : (p d : ℕ) (m : Bool) → shows_on s.pages p ≡ Some (Later d m) → header_on s.pages (p - d) ≡ 0 → ⊥
     headless p d m is z =
         let some = not_free d m p is in
-        ends.settled p (inside p some) some (ap (λ x. used_on s.pages (head_page_under x p)) is ∙ free_unused s (p - d) laid z)
+        ends.settled p (inside p some) some (ap (λ x. used_on s.pages (head_page_under x p)) is
+        ∙ free_unused s (p - d) laid z)

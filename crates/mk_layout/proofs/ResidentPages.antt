@@ -1,5 +1,6 @@
 -- How many pages are resident or in a plot, where few change.
-use Rattle.std.proofs.Common.{Bool, List, ap, arith, false, inl, inr, length, refl, sym, true, ℕ, ◌<◌, ◌∙◌, ◌≡◌, ◌≢◌, ◌≤◌}
+use Rattle.std.proofs.Common.{Bool, List, ap, arith, false, inl, inr, length, refl, sym, true, ℕ, ◌<◌, ◌∙◌, ◌≡◌, ◌≢◌}
+use Rattle.std.proofs.Common.{◌≤◌}
 use Rattle.std.specs.Prelude.{None, Option, Some, ◌||◌}
 use Rattle.std.proofs.lemmas.Bool.{cases_eq, cases_lt, or_cases, true≢false}
 use Rattle.std.proofs.lemmas.List.{get_or-set_other, get_or-set_same, set_past}
@@ -31,10 +32,12 @@ is_resident pages p = is_resident_page (use_of_page (page_in pages p))
 
 -- as few pages are taken as before
 pub room_fewer : (c : Config) (o u : Object) (pages others : List Page) (placing other : Placing)
-    → ((q : ℕ) → q < c.pages → is_taken_page others (plot_of u other) q ≡ true → is_taken_page pages (plot_of o placing) q ≡ true)
+    → ((q : ℕ) → q < c.pages → is_taken_page others (plot_of u other) q ≡ true
+    → is_taken_page pages (plot_of o placing) q ≡ true)
     → RoomOn c o pages placing → RoomOn c u others other
 room_fewer c o u pages others placing other fewer room =
-    let less = count_fewer c.pages (is_taken_page others (plot_of u other)) (is_taken_page pages (plot_of o placing)) fewer in
+    let less = count_fewer c.pages (is_taken_page others (plot_of u other)) (is_taken_page pages (plot_of o placing))
+    fewer in
     omega arith
 
 pub or_left : (a b : Bool) → a ≡ true → (a || b) ≡ true
@@ -45,8 +48,10 @@ or_right true b h = refl
 or_right false b h = h
 
 -- without a plot fewer are
-pub room_unplaced : (c : Config) (o u : Object) (pages others : List Page) (placing other : Placing) → plot_of u other ≡ NoPlot
-    → ((q : ℕ) → q < c.pages → is_resident others q ≡ true → is_resident pages q ≡ true) → RoomOn c o pages placing → RoomOn c u others other
+pub room_unplaced : (c : Config) (o u : Object) (pages others : List Page) (placing other : Placing)
+    → plot_of u other ≡ NoPlot
+    → ((q : ℕ) → q < c.pages → is_resident others q ≡ true → is_resident pages q ≡ true) → RoomOn c o pages placing
+    → RoomOn c u others other
 room_unplaced c o u pages others placing other none fewer room =
     room_fewer c o u pages others placing other
     (λ q lt t. or_left (is_resident pages q) (in_plot (plot_of o placing) q)
@@ -87,42 +92,56 @@ unmapped_use (Some (LeafRun n)) u h = cc
 unmapped_use (Some (Later d true)) u h = cc
 unmapped_use (Some (Later d false)) u h = refl
 
-pub resident_used : (pages : List Page) (p n q : ℕ) → is_resident (with_used_on pages p n) q ≡ true → is_resident pages q ≡ true
+pub resident_used : (pages : List Page) (p n q : ℕ) → is_resident (with_used_on pages p n) q ≡ true
+    → is_resident pages q ≡ true
 resident_used pages p n q h = elim (cases_eq q p) [
-  | inr ne ↦ ap (λ (x : Page). is_resident_page (use_of_page x)) (sym (get_or-set_other pages p q (record { header = header_on pages p; used = n }) free_page ne)) ∙ h
+  | inr ne ↦ ap (λ (x : Page). is_resident_page (use_of_page x))
+      (sym (get_or-set_other pages p q (record { header = header_on pages p; used = n }) free_page ne)) ∙ h
   | inl e ↦ elim (cases_lt p (length pages)) [
     | inl lt ↦
         let page : page_in (with_used_on pages p n) q ≡ record { header = header_on pages p; used = n } =
-        ap (λ i. page_in (with_used_on pages p n) i) e ∙ get_or-set_same pages p (record { header = header_on pages p; used = n }) free_page lt in
-        ap (λ i. is_resident pages i) e ∙ resident_use (shows_on pages p) (used_on pages p) n ∙ ap (λ (x : Page). is_resident_page (use_of_page x)) (sym page) ∙ h
-    | inr past ↦ ap (λ (xs : List Page). is_resident xs q) (sym (set_past pages p (record { header = header_on pages p; used = n }) past)) ∙ h
+        ap (λ i. page_in (with_used_on pages p n) i) e
+        ∙ get_or-set_same pages p (record { header = header_on pages p; used = n }) free_page lt in
+        ap (λ i. is_resident pages i) e ∙ resident_use (shows_on pages p) (used_on pages p) n
+        ∙ ap (λ (x : Page). is_resident_page (use_of_page x)) (sym page) ∙ h
+    | inr past ↦ ap (λ (xs : List Page). is_resident xs q)
+        (sym (set_past pages p (record { header = header_on pages p; used = n }) past)) ∙ h
   ]
 ]
 
 -- another page than the one whose header changes
-pub resident_other : (pages : List Page) (p n q : ℕ) → q ≢ p → is_resident (with_header_on pages p n) q ≡ true → is_resident pages q ≡ true
+pub resident_other : (pages : List Page) (p n q : ℕ) → q ≢ p → is_resident (with_header_on pages p n) q ≡ true
+    → is_resident pages q ≡ true
 resident_other pages p n q ne h =
-    ap (λ (x : Page). is_resident_page (use_of_page x)) (sym (get_or-set_other pages p q (record { header = n; used = used_on pages p }) free_page ne)) ∙ h
+    ap (λ (x : Page). is_resident_page (use_of_page x))
+    (sym (get_or-set_other pages p q (record { header = n; used = used_on pages p }) free_page ne)) ∙ h
 
 -- where the header that it gets isn't that of a resident page
-pub resident_gone : (pages : List Page) (p n q : ℕ) → p < length pages → is_resident_page (use_under (header_of n) (used_on pages p)) ≡ false
+pub resident_gone : (pages : List Page) (p n q : ℕ) → p < length pages
+    → is_resident_page (use_under (header_of n) (used_on pages p)) ≡ false
     → is_resident (with_header_on pages p n) q ≡ true → is_resident pages q ≡ true
 resident_gone pages p n q lt out h = elim (cases_eq q p) [
   | inr ne ↦ resident_other pages p n q ne h
   | inl e ↦
       let page : page_in (with_header_on pages p n) q ≡ record { header = n; used = used_on pages p } =
-      ap (λ i. page_in (with_header_on pages p n) i) e ∙ get_or-set_same pages p (record { header = n; used = used_on pages p }) free_page lt in
+      ap (λ i. page_in (with_header_on pages p n) i) e
+      ∙ get_or-set_same pages p (record { header = n; used = used_on pages p }) free_page lt in
       absurd (true≢false (sym h ∙ ap (λ (x : Page). is_resident_page (use_of_page x)) page ∙ out))
 ]
 
-pub resident_count : (pages : List Page) → count_below (length pages) (is_resident pages) ≡ resident_pages (uses_of_pages pages)
-resident_count pages = count_list pages free_page (λ (x : Page). is_resident_page (use_of_page x)) ∙ sym (count_by-map is_resident_page use_of_page pages)
+pub resident_count : (pages : List Page)
+    → count_below (length pages) (is_resident pages) ≡ resident_pages (uses_of_pages pages)
+resident_count pages = count_list pages free_page (λ (x : Page). is_resident_page (use_of_page x))
+    ∙ sym (count_by-map is_resident_page use_of_page pages)
 
 -- Fewer are resident than are taken.
-pub resident_few : (c : Config) (w : World) → length w.now.words.pages ≡ c.pages → HasRoom c w → resident_pages (uses_of_pages w.now.words.pages) ≤ c.resident
+pub resident_few : (c : Config) (w : World) → length w.now.words.pages ≡ c.pages → HasRoom c w
+    → resident_pages (uses_of_pages w.now.words.pages) ≤ c.resident
 resident_few c w len room =
     let pages : List Page = w.now.words.pages in
     let plot : Plot = plot_of (object_now c w.now) w.now.seats.holding.placing in
-    let less = count_fewer c.pages (is_resident pages) (is_taken_page pages plot) (λ q lt r. or_left (is_resident pages q) (in_plot plot q) r) in
-    let count : count_below c.pages (is_resident pages) ≡ resident_pages (uses_of_pages pages) = ap (λ n. count_below n (is_resident pages)) (sym len) ∙ resident_count pages in
+    let less = count_fewer c.pages (is_resident pages) (is_taken_page pages plot)
+    (λ q lt r. or_left (is_resident pages q) (in_plot plot q) r) in
+    let count : count_below c.pages (is_resident pages) ≡ resident_pages (uses_of_pages pages) =
+    ap (λ n. count_below n (is_resident pages)) (sym len) ∙ resident_count pages in
     omega arith

@@ -9,7 +9,8 @@ use Rattle.mk_core.specs.ObjectHeaders.{ShowsPart, OfBlock, OfLeafBlock, OfRun, 
 use Rattle.mk_layout.specs.Scene.{run_count}
 
 -- the head of a large object's run has its pages,
-pub part_count : (o : Object) (x : Option Header) → ShowsPart o 0 x → is_small_object o ≡ false → run_count x ≡ pages_made o
+pub part_count : (o : Object) (x : Option Header) → ShowsPart o 0 x → is_small_object o ≡ false
+    → run_count x ≡ pages_made o
 part_count o x (OfBlock first small leaf) large = absurd (true≢false (sym small ∙ large))
 part_count o x (OfLeafBlock first small leaf) large = absurd (true≢false (sym small ∙ large))
 part_count o x (OfRun mapped first l leaf) large = refl
@@ -31,7 +32,8 @@ small_count o x (OfRun mapped first l leaf) is = absurd (true≢false (sym is �
 small_count o x (OfLeafRun first l leaf) is = absurd (true≢false (sym is ∙ l))
 small_count o x (OfLater mapped some l) is = refl
 
-pub same_count : (o : Object) (distance : ℕ) (x y : Option Header) → ShowsPart o distance x → ShowsPart o distance y → is_small_object o ≡ false
+pub same_count : (o : Object) (distance : ℕ) (x y : Option Header) → ShowsPart o distance x → ShowsPart o distance y
+    → is_small_object o ≡ false
     → run_count x ≡ run_count y
 same_count o distance x y px py large = elim (cases_eq distance 0) [
   | inl z ↦

@@ -1,4 +1,5 @@
--- What a laid out world says of its allocations; where nothing is on its way, its pages stand for the unreleased storage.
+-- What a laid out world says of its allocations; where nothing is on its way, its pages stand for the unreleased
+-- storage.
 use Rattle.std.proofs.Common.{List, ap, append-nil, false, length, refl, subst, sym, true, ◌*◌, ◌++◌, ◌∙◌, ◌≡◌}
 use Rattle.std.specs.Prelude.{None, Option, Some}
 use Rattle.std.proofs.lemmas.Bool.{and_parts}
@@ -18,7 +19,8 @@ use Rattle.mk_core.specs.declared.seats.RunPages.{RunPages}
 use Rattle.mk_core.proofs.Lengths.{histories_keep_lengths}
 use Rattle.mk_protocol.specs.Protocol.{has_place}
 use Rattle.mk_layout.specs.Scene.{Claim, IsLaidOn, NoPlot, Plot}
-use Rattle.mk_layout.specs.SettledPages.{FirstFitIsThePlace, HeadersStand, IsSettled, UnreleasedAreApart, UnreleasedStand}
+use Rattle.mk_layout.specs.SettledPages.{FirstFitIsThePlace, HeadersStand, IsSettled, UnreleasedAreApart}
+use Rattle.mk_layout.specs.SettledPages.{UnreleasedStand}
 use Rattle.mk_protocol.specs.Ground.{ground_of}
 use Rattle.mk_layout.specs.Terrain.{IsLaidOut, claim_of, claims_of, claims_placed, object_now, plot_of}
 use Rattle.mk_layout.proofs.Apart.{Rests, quiet_scene}
@@ -36,45 +38,62 @@ unreleased_stand c es limits laid i u =
     let a : PlacedAllocation = placed_at w.allocations i in
     let x : Claim = claim_of c w.now.seats.holding.freed a in
     let s = all_stand c (object_now c w.now) (is_phase w.now.words 4) w (histories_keep_lengths c es).pages laid i u in
-    let shown = laid.scene.shown x (own_claim c (object_now c w.now) (ground_of w) x (claim_among c w.now.seats.holding.freed w.allocations i u)) in
+    let shown = laid.scene.shown x
+    (own_claim c (object_now c w.now) (ground_of w) x (claim_among c w.now.seats.holding.freed w.allocations i u))
+    in
     record { stands = s.stands; headers = s.headers; used = shown.used }
 
 pub unreleased_are_apart : UnreleasedAreApart
 unreleased_are_apart c es laid i j u v same =
     let w : World = left c es in
     numbers_apart c w.now.seats.holding.freed w.allocations i j
-    (apart_left (claims_of c w.now.seats.holding.freed w.allocations) (claims_placed (object_now c w.now) w.now.seats.holding.placing) laid.scene.apart) u v
+    (apart_left (claims_of c w.now.seats.holding.freed w.allocations)
+    (claims_placed (object_now c w.now) w.now.seats.holding.placing) laid.scene.apart) u v
     (ap (λ (x : Cell). x.page) same, ap (λ (x : Cell). x.index) same)
 
-settled_rests : (c : Config) (w : World) → IsWithinLimits c → length w.now.words.pages ≡ c.pages → IsLaidOut c w → IsSettled w → Rests c w.now.words w.allocations
+settled_rests : (c : Config) (w : World) → IsWithinLimits c → length w.now.words.pages ≡ c.pages → IsLaidOut c w
+    → IsSettled w → Rests c w.now.words w.allocations
 settled_rests c w limits len laid s = by w.now.seats.holding.placing refl s.placing
   where
-    gone : (x : Option RunPages) {run : RunPages} → x ≡ Some run → is_run_gone w.now.words x ≡ true → is_run_unmapped w.now.words run ≡ true
+    gone : (x : Option RunPages) {run : RunPages} → x ≡ Some run → is_run_gone w.now.words x ≡ true
+        → is_run_unmapped w.now.words run ≡ true
     gone x {run} is k =
-        let there : is_run_gone w.now.words (Some run) ≡ true = ap (λ (y : Option RunPages). is_run_gone w.now.words y) (sym is) ∙ k in
-        (and_parts (is_run_unmapped w.now.words run) (words_are_zero w.now.words (64 * run.page) (64 * run.count)) there).0
+        let there : is_run_gone w.now.words (Some run) ≡ true =
+        ap (λ (y : Option RunPages). is_run_gone w.now.words y) (sym is) ∙ k in
+        (and_parts (is_run_unmapped w.now.words run) (words_are_zero w.now.words (64 * run.page) (64 * run.count))
+        there).0
 
     rested : Laid c (object_now c w.now) false w (record (ground_of w) { run = None })
     rested =
         gone_terrain c (object_now c w.now) false w (λ run is. gone w.now.seats.holding.freed is s.gone)
         (subst (λ b. Laid c (object_now c w.now) b w (ground_of w)) s.releasing laid)
 
-    rests : (placing : Placing) → Laid c (object_now c w.now) false w (record (ground_of w) { run = None; placing = placing })
-        → plot_of (object_now c w.now) placing ≡ NoPlot → claims_of c None w.allocations ++ claims_placed (object_now c w.now) placing ≡ claims_of c None w.allocations
+    rests : (placing : Placing)
+        → Laid c (object_now c w.now) false w (record (ground_of w) { run = None; placing = placing })
+        → plot_of (object_now c w.now) placing ≡ NoPlot
+        → claims_of c None w.allocations ++ claims_placed (object_now c w.now) placing ≡ claims_of c None w.allocations
         → Rests c w.now.words w.allocations
     rests placing st plot claims =
         record {
           limits = limits;
           lengths = len;
-          laid = subst (λ (xs : List Claim). IsLaidOn (record (quiet_scene c w.now.words w.allocations) { claims = xs })) claims
-              (subst (λ (p : Plot). IsLaidOn (record (quiet_scene c w.now.words w.allocations) { claims = claims_of c None w.allocations ++ claims_placed (object_now c w.now) placing; plot = p })) plot st.scene);
+          laid = subst (λ (xs : List Claim). IsLaidOn
+              (record (quiet_scene c w.now.words w.allocations) { claims = xs })) claims
+              (subst (λ (p : Plot). IsLaidOn
+              (record (quiet_scene c w.now.words w.allocations)
+              { claims = claims_of c None w.allocations ++ claims_placed (object_now c w.now) placing; plot = p }))
+              plot st.scene);
           cells = st.cells;
         }
 
-    at : (placing : Placing) → w.now.seats.holding.placing ≡ placing → Laid c (object_now c w.now) false w (record (ground_of w) { run = None; placing = placing })
-    at placing is = subst (λ (x : Placing). Laid c (object_now c w.now) false w (record (ground_of w) { run = None; placing = x })) is rested
+    at : (placing : Placing) → w.now.seats.holding.placing ≡ placing
+        → Laid c (object_now c w.now) false w (record (ground_of w) { run = None; placing = placing })
+    at placing is = subst
+        (λ (x : Placing). Laid c (object_now c w.now) false w (record (ground_of w) { run = None; placing = x })) is
+        rested
 
-    by : (placing : Placing) → w.now.seats.holding.placing ≡ placing → has_place placing ≡ false → Rests c w.now.words w.allocations
+    by : (placing : Placing) → w.now.seats.holding.placing ≡ placing → has_place placing ≡ false
+        → Rests c w.now.words w.allocations
     by Unplaced is out = rests Unplaced (at Unplaced is) refl (append-nil (claims_of c None w.allocations))
     by Granted is out = rests Granted (at Granted is) refl (append-nil (claims_of c None w.allocations))
     by (Chosen place) is out = cc
@@ -82,9 +101,12 @@ settled_rests c w limits len laid s = by w.now.seats.holding.placing refl s.plac
 
 pub headers_stand : HeadersStand
 headers_stand c es limits laid s =
-    pages_stand c (left c es).now.words (left c es).allocations (settled_rests c (left c es) limits (histories_keep_lengths c es).pages laid s)
+    pages_stand c (left c es).now.words (left c es).allocations
+    (settled_rests c (left c es) limits (histories_keep_lengths c es).pages laid s)
 
 pub first_fit_is_the_place : FirstFitIsThePlace
 first_fit_is_the_place c es o limits laid s =
-    same_places (left c es).now.words.pages (unreleased_storage c (left c es).allocations) c.resident o.words o.leaf (headers_stand c es limits laid s)
-    ∙ ap (λ n. place_of n c.resident o.words o.leaf (unreleased_storage c (left c es).allocations)) (histories_keep_lengths c es).pages
+    same_places (left c es).now.words.pages (unreleased_storage c (left c es).allocations) c.resident o.words o.leaf
+    (headers_stand c es limits laid s)
+    ∙ ap (λ n. place_of n c.resident o.words o.leaf (unreleased_storage c (left c es).allocations))
+    (histories_keep_lengths c es).pages

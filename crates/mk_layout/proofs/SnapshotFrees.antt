@@ -1,5 +1,6 @@
 -- What is fresh and what is in the snapshot, behind a `quar`.
-use Rattle.std.proofs.Common.{Bool, List, ap, arith, false, inl, inr, length, map, refl, subst, sym, true, ℕ, ◌%◌, ◌/◌, ◌<◌, ◌^◌, ◌∙◌, ◌≡◌, ◌⊎◌}
+use Rattle.std.proofs.Common.{Bool, List, ap, arith, false, inl, inr, length, map, refl, subst, sym, true, ℕ, ◌%◌, ◌/◌}
+use Rattle.std.proofs.Common.{◌<◌, ◌^◌, ◌∙◌, ◌≡◌, ◌⊎◌}
 use Rattle.std.specs.Prelude.{None, Option, Some, if◌then◌else◌, not, slice_index, slice_set, ◌&&◌, ◌==◌}
 use Rattle.std.proofs.lemmas.Bool.{and_parts, cases_Bool, eqb-true, false_from_ne_true, ltb-true, not-true, true≢false}
 use Rattle.std.proofs.lemmas.List.{set-get_or}
@@ -31,26 +32,34 @@ use Rattle.mk_layout.proofs.QuarantineChanges.{FreesHere, before_change, free_ha
 use Rattle.mk_layout.proofs.QuarantineSteps.{and_both, bit_cases}
 
 -- the snapshot's bit of an allocation whose freed bit isn't set
-pub unset_in_snapshot : (c : Config) (releasing : Bool) (marks : List ℕ) (t : Ground) (p k : ℕ) → HasQuarantine c releasing marks t → has_bit (slice_index t.freed p) k ≡ false
+pub unset_in_snapshot : (c : Config) (releasing : Bool) (marks : List ℕ) (t : Ground) (p k : ℕ)
+    → HasQuarantine c releasing marks t → has_bit (slice_index t.freed p) k ≡ false
     → has_bit (slice_index t.snapshot p) k ≡ false
-unset_in_snapshot c releasing marks t p k q out = false_from_ne_true (has_bit (slice_index t.snapshot p) k) (λ h. true≢false (sym (q.within p k h) ∙ out))
+unset_in_snapshot c releasing marks t p k q out =
+    false_from_ne_true (has_bit (slice_index t.snapshot p) k) (λ h. true≢false (sym (q.within p k h) ∙ out))
 
 -- `quar` (c): no unreleased allocation's bit goes
-dropped_bits : (c : Config) (w : World) (p f n i : ℕ) → p < length w.now.words.snapshot → HasQuarantine c true w.now.words.marks (ground_of w) → Drops w.now.words p f n
+dropped_bits : (c : Config) (w : World) (p f n i : ℕ) → p < length w.now.words.snapshot
+    → HasQuarantine c true w.now.words.marks (ground_of w) → Drops w.now.words p f n
     → (placed_at w.allocations i).released ≡ false
-    → has_bit_of c (slice_set w.now.words.snapshot p n) (placed_at w.allocations i) ≡ has_bit_of c w.now.words.snapshot (placed_at w.allocations i)
+    → has_bit_of c (slice_set w.now.words.snapshot p n) (placed_at w.allocations i)
+    ≡ has_bit_of c w.now.words.snapshot (placed_at w.allocations i)
 dropped_bits c w p f n i ls q d u = elim (bit_cases w.now.words.snapshot p n x.page x.index ls) [
   | inr other ↦ other.1
-  | inl here ↦ here.1 ∙ same here.0 (cases_Bool (has_bit n x.index)) (cases_Bool (has_bit (slice_index w.now.words.snapshot x.page) x.index))
+  | inl here ↦ here.1 ∙ same here.0 (cases_Bool (has_bit n x.index))
+      (cases_Bool (has_bit (slice_index w.now.words.snapshot x.page) x.index))
 ]
   where
     x : Cell
     x = cell_of_allocation c (placed_at w.allocations i)
 
     same : (cell_of_allocation c (placed_at w.allocations i)).page ≡ p
-        → (has_bit n (cell_of_allocation c (placed_at w.allocations i)).index ≡ true) ⊎ (has_bit n (cell_of_allocation c (placed_at w.allocations i)).index ≡ false)
-        → (has_bit_of c w.now.words.snapshot (placed_at w.allocations i) ≡ true) ⊎ (has_bit_of c w.now.words.snapshot (placed_at w.allocations i) ≡ false)
-        → has_bit n (cell_of_allocation c (placed_at w.allocations i)).index ≡ has_bit_of c w.now.words.snapshot (placed_at w.allocations i)
+        → (has_bit n (cell_of_allocation c (placed_at w.allocations i)).index ≡ true)
+        ⊎ (has_bit n (cell_of_allocation c (placed_at w.allocations i)).index ≡ false)
+        → (has_bit_of c w.now.words.snapshot (placed_at w.allocations i) ≡ true)
+        ⊎ (has_bit_of c w.now.words.snapshot (placed_at w.allocations i) ≡ false)
+        → has_bit n (cell_of_allocation c (placed_at w.allocations i)).index
+        ≡ has_bit_of c w.now.words.snapshot (placed_at w.allocations i)
     same at (inl a) (inl b) = a ∙ sym b
     same at (inr a) (inr b) = a ∙ sym b
     same at (inl a) (inr b) =
@@ -58,14 +67,17 @@ dropped_bits c w p f n i ls q d u = elim (bit_cases w.now.words.snapshot p n x.p
         absurd (true≢false (sym (ap (λ j. has_bit (slice_index w.now.words.snapshot j) x.index) at ∙ was) ∙ b))
     same at (inr a) (inl b) =
         let lost = d.gone x.index (ap (λ j. has_bit (slice_index w.now.words.snapshot j) x.index) (sym at) ∙ b) a in
-        let released = and_both (has_bit (slice_index w.now.words.snapshot x.page) x.index) (has_bit (slice_index w.now.words.marks x.page) x.index) b
+        let released = and_both (has_bit (slice_index w.now.words.snapshot x.page) x.index)
+        (has_bit (slice_index w.now.words.marks x.page) x.index) b
         (ap (λ j. has_bit (slice_index w.now.words.marks j) x.index) at ∙ lost.0) in
         absurd (true≢false (sym released ∙ q.kept refl i u))
 
-cycling_at : (w : World) (n : ℕ) → is_phase w.now.words n ≡ true → is_cycling n ≡ false → is_cycling (phase_of w.now.words) ≡ true → ⊥
+cycling_at : (w : World) (n : ℕ) → is_phase w.now.words n ≡ true → is_cycling n ≡ false
+    → is_cycling (phase_of w.now.words) ≡ true → ⊥
 cycling_at w n at none on = true≢false (sym on ∙ ap (λ k. is_cycling k) (eqb-true (phase_of w.now.words) n at) ∙ none)
 
-quar_none : (c : Config) (w : World) (f : Flight) (p n : ℕ) → p < length w.now.words.snapshot → cell_freed c.pages w.now.words f p n ≡ None → QuarantineStep c w.now f p n
+quar_none : (c : Config) (w : World) (f : Flight) (p n : ℕ) → p < length w.now.words.snapshot
+    → cell_freed c.pages w.now.words f p n ≡ None → QuarantineStep c w.now f p n
     → IsQuarantined c w → KeepsSnapshot c w
     → HasSnapshot c (is_cycling (phase_of w.now.words)) (slice_set w.now.words.snapshot p (n / 2 ^ 32)) w.allocations
 quar_none c w f p n ls none (ItFrees off x) q s = absurd (frees_some c.pages w.now.words f p n off x none)
@@ -75,13 +87,17 @@ quar_none c w f p n ls none (ItDrops four x) q s =
     record {
       fresh = s.fresh;
       quarantined = λ on i u.
-          dropped_bits c w p (n % 2 ^ 32) (n / 2 ^ 32) i ls (subst (λ b. QuarantinedAs c b w (ground_of w)) four q) x u ∙ s.quarantined on i u;
+          dropped_bits c w p (n % 2 ^ 32) (n / 2 ^ 32) i ls (subst (λ b. QuarantinedAs c b w (ground_of w)) four q) x u
+          ∙ s.quarantined on i u;
     }
 
-quar_frees : (c : Config) (w : World) (cell : Cell) (n : ℕ) → FreesHere c w cell n → HasQuarantine c false w.now.words.marks (ground_of w) → KeepsSnapshot c w
-    → HasSnapshot c (is_cycling (phase_of w.now.words)) (slice_set w.now.words.snapshot cell.page (n / 2 ^ 32)) (map (freed_where_it_stands w.now.words (Some cell)) w.allocations)
+quar_frees : (c : Config) (w : World) (cell : Cell) (n : ℕ) → FreesHere c w cell n
+    → HasQuarantine c false w.now.words.marks (ground_of w) → KeepsSnapshot c w
+    → HasSnapshot c (is_cycling (phase_of w.now.words)) (slice_set w.now.words.snapshot cell.page (n / 2 ^ 32))
+    (map (freed_where_it_stands w.now.words (Some cell)) w.allocations)
 quar_frees c w cell n x q s =
-    subst (λ (ss : List ℕ). HasSnapshot c (is_cycling (phase_of w.now.words)) ss (map (freed_where_it_stands w.now.words (Some cell)) w.allocations)) (sym same)
+    subst (λ (ss : List ℕ). HasSnapshot c (is_cycling (phase_of w.now.words)) ss
+    (map (freed_where_it_stands w.now.words (Some cell)) w.allocations)) (sym same)
     (record {
       fresh = λ i f. fresh i (stands_in w.now.words cell (placed_at w.allocations i)) refl f;
       quarantined = λ on i u.
@@ -95,14 +111,19 @@ quar_frees c w cell n x q s =
     leaves = freeing_leaves w.now.words (Some cell)
 
     same : slice_set w.now.words.snapshot cell.page (n / 2 ^ 32) ≡ w.now.words.snapshot
-    same = ap (λ v. slice_set w.now.words.snapshot cell.page v) (free_halves c w cell n x q).1 ∙ set-get_or w.now.words.snapshot cell.page 0
+    same = ap (λ v. slice_set w.now.words.snapshot cell.page v) (free_halves c w cell n x q).1
+        ∙ set-get_or w.now.words.snapshot cell.page 0
 
-    at : (i : ℕ) → placed_at (map (freed_where_it_stands w.now.words (Some cell)) w.allocations) i ≡ freed_where_it_stands w.now.words (Some cell) (placed_at w.allocations i)
-    at i = changed_at (freed_where_it_stands w.now.words (Some cell)) w.allocations i (freed_leaves w.now.words (Some cell)).none
+    at : (i : ℕ) → placed_at (map (freed_where_it_stands w.now.words (Some cell)) w.allocations) i
+        ≡ freed_where_it_stands w.now.words (Some cell) (placed_at w.allocations i)
+    at i = changed_at (freed_where_it_stands w.now.words (Some cell)) w.allocations i
+        (freed_leaves w.now.words (Some cell)).none
 
-    fresh_by : (b : Bool) (a : PlacedAllocation) → (b ≡ true → a.released ≡ false) → (a.fresh ≡ true → (a.freed ≡ true) × (a.released ≡ false))
+    fresh_by : (b : Bool) (a : PlacedAllocation) → (b ≡ true → a.released ≡ false)
+        → (a.fresh ≡ true → (a.freed ≡ true) × (a.released ≡ false))
         → (if b then record a { freed = true; fresh = true } else a).fresh ≡ true
-        → ((if b then record a { freed = true; fresh = true } else a).freed ≡ true) × ((if b then record a { freed = true; fresh = true } else a).released ≡ false)
+        → ((if b then record a { freed = true; fresh = true } else a).freed ≡ true)
+        × ((if b then record a { freed = true; fresh = true } else a).released ≡ false)
     fresh_by true a u was f = (refl, u refl)
     fresh_by false a u was f = was f
 
@@ -120,18 +141,22 @@ quar_frees c w cell n x q s =
     bit : is_cycling (phase_of w.now.words) ≡ true → (i : ℕ) → (placed_at w.allocations i).released ≡ false → (b : Bool)
         → stands_in w.now.words cell (placed_at w.allocations i) ≡ b
         → has_bit_of c w.now.words.snapshot (placed_at w.allocations i)
-        ≡ ((freed_where_it_stands w.now.words (Some cell) (placed_at w.allocations i)).freed && not (freed_where_it_stands w.now.words (Some cell) (placed_at w.allocations i)).fresh)
+        ≡ ((freed_where_it_stands w.now.words (Some cell) (placed_at w.allocations i)).freed
+        && not (freed_where_it_stands w.now.words (Some cell) (placed_at w.allocations i)).fresh)
     bit on i u true is =
         let a : PlacedAllocation = placed_at w.allocations i in
         ap (λ (y : Cell). has_bit (slice_index w.now.words.snapshot y.page) y.index) (x.others i u is)
         ∙ unset_in_snapshot c false w.now.words.marks (ground_of w) cell.page cell.index q x.unset
-        ∙ sym (ap (λ b. (if b then record a { freed = true; fresh = true } else a).freed && not (if b then record a { freed = true; fresh = true } else a).fresh) is)
+        ∙ sym (ap (λ b. (if b then record a { freed = true; fresh = true } else a).freed
+        && not (if b then record a { freed = true; fresh = true } else a).fresh) is)
     bit on i u false is =
         let a : PlacedAllocation = placed_at w.allocations i in
         s.quarantined on i u
-        ∙ sym (ap (λ b. (if b then record a { freed = true; fresh = true } else a).freed && not (if b then record a { freed = true; fresh = true } else a).fresh) is)
+        ∙ sym (ap (λ b. (if b then record a { freed = true; fresh = true } else a).freed
+        && not (if b then record a { freed = true; fresh = true } else a).fresh) is)
 
-pub snapshot_of_quar : (c : Config) (w : World) (seat : Seat) (p n : ℕ) → Before c w → Meets c w.now seat (step.Quar p n) → IsLaidOut c w → IsQuarantined c w → KeepsSnapshot c w
+pub snapshot_of_quar : (c : Config) (w : World) (seat : Seat) (p n : ℕ) → Before c w
+    → Meets c w.now seat (step.Quar p n) → IsLaidOut c w → IsQuarantined c w → KeepsSnapshot c w
     → HasSnapshot c (is_cycling (phase_of w.now.words)) (slice_set w.now.words.snapshot p (n / 2 ^ 32))
     (map (freed_where_it_stands w.now.words (cell_freed c.pages w.now.words (flight_of w.now seat) p n)) w.allocations)
 snapshot_of_quar c w seat p n b h laid q s = by (cell_freed c.pages w.now.words (flight_of w.now seat) p n) refl
@@ -140,12 +165,17 @@ snapshot_of_quar c w seat p n b h laid q s = by (cell_freed c.pages w.now.words 
     ls = let lt = ltb-true p c.pages h.range in let len = b.lengths.snapshot in omega arith
 
     by : (cell : Option Cell) → cell_freed c.pages w.now.words (flight_of w.now seat) p n ≡ cell
-        → HasSnapshot c (is_cycling (phase_of w.now.words)) (slice_set w.now.words.snapshot p (n / 2 ^ 32)) (map (freed_where_it_stands w.now.words cell) w.allocations)
+        → HasSnapshot c (is_cycling (phase_of w.now.words)) (slice_set w.now.words.snapshot p (n / 2 ^ 32))
+        (map (freed_where_it_stands w.now.words cell) w.allocations)
     by None is =
-        subst (λ (xs : List PlacedAllocation). HasSnapshot c (is_cycling (phase_of w.now.words)) (slice_set w.now.words.snapshot p (n / 2 ^ 32)) xs)
+        subst (λ (xs : List PlacedAllocation). HasSnapshot c (is_cycling (phase_of w.now.words))
+        (slice_set w.now.words.snapshot p (n / 2 ^ 32)) xs)
         (sym (none_freed w.now.words w.allocations))
-        (quar_none c w (flight_of w.now seat) p n ls is (quarantine_step c w.now (flight_of w.now seat) p n h.holder) q s)
+        (quar_none c w (flight_of w.now seat) p n ls is (quarantine_step c w.now (flight_of w.now seat) p n h.holder) q
+        s)
     by (Some cell) is =
         let x = freed_cell c.pages w.now.words (flight_of w.now seat) p n cell is in
-        subst (λ i. HasSnapshot c (is_cycling (phase_of w.now.words)) (slice_set w.now.words.snapshot i (n / 2 ^ 32)) (map (freed_where_it_stands w.now.words (Some cell)) w.allocations)) (sym x.page)
-        (quar_frees c w cell n (frees_here c w seat p n cell b h laid x) (subst (λ four. QuarantinedAs c four w (ground_of w)) x.phase q) s)
+        subst (λ i. HasSnapshot c (is_cycling (phase_of w.now.words)) (slice_set w.now.words.snapshot i (n / 2 ^ 32))
+        (map (freed_where_it_stands w.now.words (Some cell)) w.allocations)) (sym x.page)
+        (quar_frees c w cell n (frees_here c w seat p n cell b h laid x)
+        (subst (λ four. QuarantinedAs c four w (ground_of w)) x.phase q) s)

@@ -1,9 +1,11 @@
 -- What is fresh and what is in the snapshot, behind each kind of event.
-use Rattle.std.proofs.Common.{Bool, List, [], ap, arith, false, inl, inr, length, map, refl, subst, sym, true, ℕ, ◌++◌, ◌+◌, ◌/◌, ◌<◌, ◌∙◌, ◌∷◌, ◌≡◌, ◌≤◌, ◌⊎◌}
+use Rattle.std.proofs.Common.{Bool, List, [], ap, arith, false, inl, inr, length, map, refl, subst, sym, true, ℕ, ◌++◌}
+use Rattle.std.proofs.Common.{◌+◌, ◌/◌, ◌<◌, ◌∙◌, ◌∷◌, ◌≡◌, ◌≤◌, ◌⊎◌}
 use Rattle.std.specs.Prelude.{not, slice_index, ◌&&◌, ◌==◌}
 use Rattle.std.proofs.lemmas.Bool.{and_parts, cases_Bool, eqb-true, false_from_ne_true, true≢false}
 use Rattle.mk_geom.specs.declared.addresses.Cell.{Cell}
-use Rattle.mk_core.specs.Allocations.{PlacedAllocation, cell_of_allocation, granted, no_longer_fresh, placed_at, with_released}
+use Rattle.mk_core.specs.Allocations.{PlacedAllocation, cell_of_allocation, granted, no_longer_fresh, placed_at}
+use Rattle.mk_core.specs.Allocations.{with_released}
 use Rattle.mk_core.specs.Bits.{has_bit}
 use Rattle.mk_core.specs.Bounded.{all_below}
 use Rattle.mk_core.specs.History.{World}
@@ -47,7 +49,8 @@ use Rattle.mk_layout.proofs.SnapshotFrees.{snapshot_of_quar, unset_in_snapshot}
 use Rattle.mk_layout.proofs.StandingClaims.{place_index}
 
 -- `begin`: what is freed is in the snapshot, and nothing is fresh
-begin_kind : (c : Config) (w : World) → Before c w → is_phase w.now.words 0 ≡ true → may_begin c.pages w.now.words ≡ true → IsLaidOut c w → IsQuarantined c w
+begin_kind : (c : Config) (w : World) → Before c w → is_phase w.now.words 0 ≡ true
+    → may_begin c.pages w.now.words ≡ true → IsLaidOut c w → IsQuarantined c w
     → HasSnapshot c true w.now.words.snapshot (map no_longer_fresh w.allocations)
 begin_kind c w b quiet own laid q =
     record {
@@ -67,9 +70,11 @@ begin_kind c w b quiet own laid q =
         let clean : Bool = (slice_index w.now.words.marks p == 0) && (slice_index w.now.words.blacks p == 0) in
         let all = (and_parts (all_below c.pages (has_clean_page w.now.words)) (w.now.words.fresh == 0) own).0 in
         eqb-true (slice_index w.now.words.freed p) (slice_index w.now.words.snapshot p)
-        (and_parts clean (slice_index w.now.words.freed p == slice_index w.now.words.snapshot p) (all_below-at c.pages p (has_clean_page w.now.words) all lt)).1
+        (and_parts clean (slice_index w.now.words.freed p == slice_index w.now.words.snapshot p)
+        (all_below-at c.pages p (has_clean_page w.now.words) all lt)).1
 
-    bit : (i : ℕ) → (placed_at w.allocations i).released ≡ false → ((placed_at w.allocations i).freed ≡ true) ⊎ ((placed_at w.allocations i).freed ≡ false)
+    bit : (i : ℕ) → (placed_at w.allocations i).released ≡ false
+        → ((placed_at w.allocations i).freed ≡ true) ⊎ ((placed_at w.allocations i).freed ≡ false)
         → has_bit_of c w.now.words.snapshot (placed_at w.allocations i) ≡ ((placed_at w.allocations i).freed && true)
     bit i u (inl f) =
         let a : PlacedAllocation = placed_at w.allocations i in
@@ -78,23 +83,30 @@ begin_kind c w b quiet own laid q =
         let within : a.base / 64 + pages_made (object_placed c a) ≤ length w.now.words.pages = shown.within in
         let len = b.lengths.pages in
         let page : (cell_of_allocation c a).page < c.pages = (let lt : a.base / 64 < c.pages = omega arith in lt) in
-        ap (λ v. has_bit v (cell_of_allocation c a).index) (sym (taken (cell_of_allocation c a).page page)) ∙ q.shown i u f ∙ sym (ap (λ x. x && true) f)
+        ap (λ v. has_bit v (cell_of_allocation c a).index) (sym (taken (cell_of_allocation c a).page page))
+        ∙ q.shown i u f ∙ sym (ap (λ x. x && true) f)
     bit i u (inr f) =
         let a : PlacedAllocation = placed_at w.allocations i in
         let x : Cell = cell_of_allocation c a in
-        false_from_ne_true (has_bit (slice_index w.now.words.snapshot x.page) x.index) (λ h. elim (q.owned x.page x.index (q.within x.page x.index h)) [
-          | inr r ↦ true≢false (sym r ∙ ap (λ four. is_released_in four w.now.words.snapshot w.now.words.marks x.page x.index) (off_at w 0 quiet (λ e. absurd (omega arith))))
+        false_from_ne_true (has_bit (slice_index w.now.words.snapshot x.page) x.index)
+        (λ h. elim (q.owned x.page x.index (q.within x.page x.index h)) [
+          | inr r ↦ true≢false (sym r
+              ∙ ap (λ four. is_released_in four w.now.words.snapshot w.now.words.marks x.page x.index)
+              (off_at w 0 quiet (λ e. absurd (omega arith))))
           | inl o ↦
               let one =
               numbers_apart c w.now.seats.holding.freed w.allocations o.number i
-              (apart_left (claims_of c w.now.seats.holding.freed w.allocations) (claims_placed (object_now c w.now) w.now.seats.holding.placing) laid.scene.apart)
+              (apart_left (claims_of c w.now.seats.holding.freed w.allocations)
+              (claims_placed (object_now c w.now) w.now.seats.holding.placing) laid.scene.apart)
               o.unreleased u (ap (λ (y : Cell). y.page) o.cell, ap (λ (y : Cell). y.index) o.cell) in
               true≢false (sym o.freed ∙ ap (λ j. (placed_at w.allocations j).freed) one ∙ f)
         ]) ∙ sym (ap (λ y. y && true) f)
 
 -- `grant`: the new cell isn't in the snapshot
-grant_kind : (c : Config) (w : World) (seat : Seat) → Before c w → Meets c w.now seat step.Grant → IsLaidOut c w → IsQuarantined c w → KeepsSnapshot c w
-    → HasSnapshot c (is_cycling (phase_of w.now.words)) w.now.words.snapshot (w.allocations ++ granted c w.now (flight_of w.now seat) ∷ [])
+grant_kind : (c : Config) (w : World) (seat : Seat) → Before c w → Meets c w.now seat step.Grant → IsLaidOut c w
+    → IsQuarantined c w → KeepsSnapshot c w
+    → HasSnapshot c (is_cycling (phase_of w.now.words)) w.now.words.snapshot
+    (w.allocations ++ granted c w.now (flight_of w.now seat) ∷ [])
 grant_kind c w seat b h laid q s =
     record {
       fresh = λ i f. elim (pushed_any w.allocations a i) [
@@ -108,7 +120,8 @@ grant_kind c w seat b h laid q s =
             ap (λ (x : PlacedAllocation). has_bit_of c w.now.words.snapshot x) old.1 ∙ s.quarantined on i old.0
             ∙ sym (ap (λ (x : PlacedAllocation). x.freed && not x.fresh) old.1)
         | inr new ↦
-            ap (λ (x : PlacedAllocation). has_bit_of c w.now.words.snapshot x) new ∙ outside w.now.seats.holding.placing refl h.holder
+            ap (λ (x : PlacedAllocation). has_bit_of c w.now.words.snapshot x) new
+            ∙ outside w.now.seats.holding.placing refl h.holder
             ∙ sym (ap (λ (x : PlacedAllocation). x.freed && not x.fresh) new)
       ];
     }
@@ -128,65 +141,84 @@ grant_kind c w seat b h laid q s =
         let f : Flight = flight_of w.now seat in
         let o : Object = object_placed c a in
         let made = granted_object c w.now f new in
-        let own : object_now c w.now ≡ o = holding_object c w.now seat b.known (new_has_turn c w.now seat h.seat new) ∙ sym made in
-        let base = granted_base_is c f w.now.seats.holding.placing place is ∙ ap (λ (y : Object). base_made y place) (sym made) in
+        let own : object_now c w.now ≡ o = holding_object c w.now seat b.known (new_has_turn c w.now seat h.seat new)
+        ∙ sym made in
+        let base = granted_base_is c f w.now.seats.holding.placing place is
+        ∙ ap (λ (y : Object). base_made y place) (sym made) in
         let there : Among (place_claim o place) (claims_placed o w.now.seats.holding.placing) =
         subst (λ (x : Placing). Among (place_claim o place) (claims_placed o x)) (sym is) (inl refl) in
         let shown =
-        (subst (λ (y : Object). Laid c y (is_phase w.now.words 4) w (ground_of w)) own laid).scene.shown (place_claim o place) (placed_claim c o (ground_of w) (place_claim o place) there) in
+        (subst (λ (y : Object). Laid c y (is_phase w.now.words 4) w (ground_of w)) own laid).scene.shown
+        (place_claim o place) (placed_claim c o (ground_of w) (place_claim o place) there) in
         let cell = place_index c a place shown.sized base shown.known in
         ap (λ p. has_bit (slice_index w.now.words.snapshot p) (cell_of_allocation c a).index) cell.0
         ∙ ap (λ k. has_bit (slice_index w.now.words.snapshot place.page) k) cell.1
-        ∙ unset_in_snapshot c (is_phase w.now.words 4) w.now.words.marks (ground_of w) place.page place.index q (q.taken place is)
+        ∙ unset_in_snapshot c (is_phase w.now.words 4) w.now.words.marks (ground_of w) place.page place.index q
+        (q.taken place is)
 
 -- `release`: what is fresh isn't released
 release_kind : (c : Config) (w : World) → Before c w → is_phase w.now.words 3 ≡ true → IsLaidOut c w → KeepsSnapshot c w
-    → HasSnapshot c (is_cycling (phase_of w.now.words)) w.now.words.snapshot (map (with_released c w.now.words) w.allocations)
+    → HasSnapshot c (is_cycling (phase_of w.now.words)) w.now.words.snapshot
+    (map (with_released c w.now.words) w.allocations)
 release_kind c w b three laid s =
     record {
       fresh = λ i f.
           let g : PlacedAllocation = with_released c w.now.words (placed_at w.allocations i) in
-          let was = s.fresh i (ap (λ (x : PlacedAllocation). x.fresh) (sym (at i)) ∙ f) in
-          (ap (λ (x : PlacedAllocation). x.freed) (at i) ∙ was.0, ap (λ (x : PlacedAllocation). x.released) (at i) ∙ stays i was.0 was.1 (ap (λ (x : PlacedAllocation). x.fresh) (sym (at i)) ∙ f));
+          let was = s.fresh i (ap (λ (x : PlacedAllocation). x.fresh) (sym (at i)) ∙ f) in (
+            ap (λ (x : PlacedAllocation). x.freed) (at i) ∙ was.0,
+            ap (λ (x : PlacedAllocation). x.released) (at i)
+                ∙ stays i was.0 was.1 (ap (λ (x : PlacedAllocation). x.fresh) (sym (at i)) ∙ f),
+          );
       quarantined = λ on i u.
           let x = before_change c (with_released c w.now.words) w.allocations i (releasing_leaves c w.now.words) u in
           ap (λ (y : Cell). has_bit (slice_index w.now.words.snapshot y.page) y.index) x.cell ∙ s.quarantined on i x.was
           ∙ sym (ap (λ (y : PlacedAllocation). y.freed && not y.fresh) (at i));
     }
   where
-    at : (i : ℕ) → placed_at (map (with_released c w.now.words) w.allocations) i ≡ with_released c w.now.words (placed_at w.allocations i)
+    at : (i : ℕ) → placed_at (map (with_released c w.now.words) w.allocations) i
+        ≡ with_released c w.now.words (placed_at w.allocations i)
     at i = changed_at (with_released c w.now.words) w.allocations i (released_leaves c w.now.words).none
 
     none_of : (f g : Bool) → f ≡ true → g ≡ true → (f && not g) ≡ false
     none_of f g ef eg = ap (λ x. x && not g) ef ∙ ap not eg
 
-    stays : (i : ℕ) → (placed_at w.allocations i).freed ≡ true → (placed_at w.allocations i).released ≡ false → (placed_at w.allocations i).fresh ≡ true
+    stays : (i : ℕ) → (placed_at w.allocations i).freed ≡ true → (placed_at w.allocations i).released ≡ false
+        → (placed_at w.allocations i).fresh ≡ true
         → (with_released c w.now.words (placed_at w.allocations i)).released ≡ false
     stays i f u fresh =
         let a : PlacedAllocation = placed_at w.allocations i in
         let x : Cell = cell_of_allocation c a in
-        let off = subst (λ four. Laid c (object_now c w.now) four w (ground_of w)) (off_at w 3 three (λ e. absurd (omega arith))) laid in
-        let on : is_cycling (phase_of w.now.words) ≡ true = ap (λ k. is_cycling k) (eqb-true (phase_of w.now.words) 3 three) in
+        let off = subst (λ four. Laid c (object_now c w.now) four w (ground_of w))
+        (off_at w 3 three (λ e. absurd (omega arith))) laid in
+        let on : is_cycling (phase_of w.now.words) ≡ true =
+        ap (λ k. is_cycling k) (eqb-true (phase_of w.now.words) 3 three) in
         left_is c w.now.words a b.limits (all_stand c (object_now c w.now) false w b.lengths.pages off i u)
-        ∙ ap (λ y. y && not (has_bit (slice_index w.now.words.marks x.page) x.index)) (s.quarantined on i u ∙ none_of a.freed a.fresh f fresh)
+        ∙ ap (λ y. y && not (has_bit (slice_index w.now.words.marks x.page) x.index)) (s.quarantined on i u
+        ∙ none_of a.freed a.fresh f fresh)
 
 -- each kind of event, whatever the seat
-pub snapshot_by_kind : (c : Config) (w : World) (seat : Seat) (x : Step) → Before c w → Meets c w.now seat x → IsLaidOut c w → IsQuarantined c w → KeepsSnapshot c w
-    → HasSnapshot c (is_cycling_behind x (is_cycling (phase_of w.now.words))) (WorldBehind c w seat x).now.words.snapshot (WorldBehind c w seat x).allocations
+pub snapshot_by_kind : (c : Config) (w : World) (seat : Seat) (x : Step) → Before c w → Meets c w.now seat x
+    → IsLaidOut c w → IsQuarantined c w → KeepsSnapshot c w
+    → HasSnapshot c (is_cycling_behind x (is_cycling (phase_of w.now.words)))
+    (WorldBehind c w seat x).now.words.snapshot (WorldBehind c w seat x).allocations
 snapshot_by_kind c w seat step.Reg b h laid q s =
     subst (λ (ss : List ℕ). HasSnapshot c (is_cycling (phase_of w.now.words)) ss w.allocations)
     (sym (reg_leaves_ground c w seat).snapshot) s
 snapshot_by_kind c w seat (step.Tally n v) b h laid q s =
-    subst (λ (ss : List ℕ). HasSnapshot c (is_cycling (phase_of w.now.words)) ss w.allocations) (sym (tally_ground w.now.words n v).snapshot) s
+    subst (λ (ss : List ℕ). HasSnapshot c (is_cycling (phase_of w.now.words)) ss w.allocations)
+    (sym (tally_ground w.now.words n v).snapshot) s
 snapshot_by_kind c w seat (step.Quar p n) b h laid q s = snapshot_of_quar c w seat p n b h laid q s
 snapshot_by_kind c w seat step.Begin b h laid q s = begin_kind c w b h.phase h.holder laid q
 snapshot_by_kind c w seat step.Grant b h laid q s = grant_kind c w seat b h laid q s
 snapshot_by_kind c w seat step.Release b h laid q s = release_kind c w b h.phase laid s
-snapshot_by_kind c w seat step.End b h laid q s = record { fresh = s.fresh; quarantined = λ on. absurd (true≢false (sym on)) }
+snapshot_by_kind c w seat step.End b h laid q s =
+    record { fresh = s.fresh; quarantined = λ on. absurd (true≢false (sym on)) }
 snapshot_by_kind c w seat _ b h laid q s = s
 
-pub snapshot_behind : (c : Config) (w : World) (seat : Seat) (x : Step) → Before c w → Meets c w.now seat x → IsLaidOut c w → IsQuarantined c w → KeepsSnapshot c w
+pub snapshot_behind : (c : Config) (w : World) (seat : Seat) (x : Step) → Before c w → Meets c w.now seat x
+    → IsLaidOut c w → IsQuarantined c w → KeepsSnapshot c w
     → KeepsSnapshot c (WorldBehind c w seat x)
 snapshot_behind c w seat x b h laid q s =
-    subst (λ on. HasSnapshot c on (WorldBehind c w seat x).now.words.snapshot (WorldBehind c w seat x).allocations) (sym (cycle_kind c w seat x h))
+    subst (λ on. HasSnapshot c on (WorldBehind c w seat x).now.words.snapshot (WorldBehind c w seat x).allocations)
+    (sym (cycle_kind c w seat x h))
     (snapshot_by_kind c w seat x b h laid q s)

@@ -20,7 +20,8 @@ use Rattle.mk_layout.specs.Terrain.{IsAtCell, claim_of}
 use Rattle.mk_layout.proofs.Readings.{header_of_mode}
 
 -- The words of an object end with its pages.
-pub ends_on_pages : (o : Object) (base : ℕ) → IsSized o → BeginsAtCell o base → base + words_made o ≤ 64 * (base / 64 + pages_made o)
+pub ends_on_pages : (o : Object) (base : ℕ) → IsSized o → BeginsAtCell o base
+    → base + words_made o ≤ 64 * (base / 64 + pages_made o)
 ends_on_pages o base sized b = elim (cases_Bool (is_small_object o)) [
   | inl small ↦
       let ends = cell_ends_within o base sized small b in
@@ -38,7 +39,8 @@ pub record IsStanding (c : Config) (w : Words) (a : PlacedAllocation) : Type 0 w
   pub stands : StandsOnHeap c a
   pub headers : HasItsHeaders c w a
 
-pub stands_there : (c : Config) (run : Option RunPages) (w : Words) (a : PlacedAllocation) → length w.pages ≡ c.pages → IsShown w.pages (claim_of c run a)
+pub stands_there : (c : Config) (run : Option RunPages) (w : Words) (a : PlacedAllocation) → length w.pages ≡ c.pages
+    → IsShown w.pages (claim_of c run a)
     → a.released ≡ false → IsAtCell c a → IsStanding c w a
 stands_there c run w a len shown u at =
     record {
@@ -52,15 +54,18 @@ stands_there c run w a len shown u at =
             let words : storage_words c a ≡ words_made (object_placed c a) = refl in
             omega arith;
       };
-      headers = λ d lt. header_of_mode (claim_of c run a).mode (object_placed c a) d (header_at w (a.base / 64 + d)) (shown.headers d lt);
+      headers = λ d lt. header_of_mode (claim_of c run a).mode (object_placed c a) d (header_at w (a.base / 64 + d))
+          (shown.headers d lt);
     }
 
 -- The index of its cell, where it is large.
-pub large_index : (c : Config) (a : PlacedAllocation) → IsSized (object_placed c a) → is_small_object (object_placed c a) ≡ false → (cell_of_allocation c a).index ≡ 0
+pub large_index : (c : Config) (a : PlacedAllocation) → IsSized (object_placed c a)
+    → is_small_object (object_placed c a) ≡ false → (cell_of_allocation c a).index ≡ 0
 large_index c a sized large = ap (λ (x : Cell). x.index) (run_cell c a sized large)
 
 -- Its cell has the place's page and index, where it has the place's base.
-pub place_index : (c : Config) (a : PlacedAllocation) (place : Place) → IsSized (object_placed c a) → a.base ≡ base_made (object_placed c a) place
+pub place_index : (c : Config) (a : PlacedAllocation) (place : Place) → IsSized (object_placed c a)
+    → a.base ≡ base_made (object_placed c a) place
     → place.index < cells_made (object_placed c a)
     → (a.base / 64 ≡ place.page) × ((cell_of_allocation c a).index ≡ place.index)
 place_index c a place sized base lt =

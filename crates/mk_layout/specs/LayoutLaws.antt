@@ -20,7 +20,8 @@ use Rattle.mk_layout.specs.WholeRuns.{RunsAreWhole}
 -- what other groups say of a world, where a step asks for it
 pub record OthersSay (c : Config) (w : World) : Type 0 where
   -- The target of an admitted Free is the cell of an unreleased allocation.
-  pub target : (seat : Seat) (cell : Cell) → target c.pages w.now.words (flight_of w.now seat) ≡ Some cell → IsCellOf c w.allocations cell
+  pub target : (seat : Seat) (cell : Cell) → target c.pages w.now.words (flight_of w.now seat) ≡ Some cell
+      → IsCellOf c w.allocations cell
   -- At the end of the stop, the run that the call freed is marked.
   pub marked :
       is_phase w.now.words 3 ≡ true → (run : RunPages) → w.now.seats.holding.freed ≡ Some run
@@ -38,7 +39,8 @@ pub record StandsInOrder (c : Config) (w : World) : Type 0 where
 -- One event, whatever it is: all stays in order.
 abbrev pub EventsKeepTheLayout : Type 0
 EventsKeepTheLayout =
-    (c : Config) (es : List Event) (e : Event) → IsWithinLimits c → AreEnabled c es → IsEnabledBehind c es e → OthersSay c (left c es)
+    (c : Config) (es : List Event) (e : Event) → IsWithinLimits c → AreEnabled c es → IsEnabledBehind c es e
+    → OthersSay c (left c es)
     → StandsInOrder c (left c es) → StandsInOrder c (world_behind c (left c es) e)
 
 -- The other groups say so before each event.

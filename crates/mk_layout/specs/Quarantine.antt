@@ -47,7 +47,8 @@ IsQuarantined c w = HasQuarantine c (is_phase w.now.words 4) w.now.words.marks (
 
 -- Each freed bit is that of a cell of its page.
 abbrev pub FreedCellsAreKnown : World → Type 0
-FreedCellsAreKnown w = (p k : ℕ) → has_bit (slice_index w.now.words.freed p) k ≡ true → k < cells_under (header_in w.now.words p)
+FreedCellsAreKnown w = (p k : ℕ) → has_bit (slice_index w.now.words.freed p) k ≡ true
+    → k < cells_under (header_in w.now.words p)
 
 -- The phase is one of a cycle's, from its `begin` to its `end`.
 abbrev pub is_cycling : ℕ → Bool
@@ -56,7 +57,8 @@ is_cycling phase = nat_le 1 phase && nat_le phase 4
 -- What is freed behind the last `begin` is fresh, and what was freed before it is the cycle's snapshot.
 pub record HasSnapshot (c : Config) (cycling : Bool) (snapshot : List ℕ) (xs : List PlacedAllocation) : Type 0 where
   -- A fresh allocation is freed, and not released.
-  pub fresh : (i : ℕ) → (placed_at xs i).fresh ≡ true → ((placed_at xs i).freed ≡ true) × ((placed_at xs i).released ≡ false)
+  pub fresh : (i : ℕ) → (placed_at xs i).fresh ≡ true
+      → ((placed_at xs i).freed ≡ true) × ((placed_at xs i).released ≡ false)
   -- In a cycle, an unreleased allocation's cell is in the snapshot exactly where it is freed and not fresh.
   pub quarantined : cycling ≡ true → (i : ℕ) → (placed_at xs i).released ≡ false
       → has_bit_of c snapshot (placed_at xs i) ≡ ((placed_at xs i).freed && not (placed_at xs i).fresh)

@@ -27,7 +27,8 @@ is_taken_page pages plot p = is_resident_page (use_of_page (page_in pages p)) ||
 
 -- With the pages that a New has chosen, no more are resident than may be.
 abbrev pub HasRoom : Config → World → Type 0
-HasRoom c w = count_below c.pages (is_taken_page w.now.words.pages (plot_of (object_now c w.now) w.now.seats.holding.placing)) ≤ c.resident
+HasRoom c w = count_below c.pages
+    (is_taken_page w.now.words.pages (plot_of (object_now c w.now) w.now.seats.holding.placing)) ≤ c.resident
 
 abbrev pub HasHeaderWords : World → Type 0
 HasHeaderWords w = (p : ℕ) → IsHeaderWord (header_at w.now.words p)

@@ -1,5 +1,6 @@
 -- What stands on the pages, at every moment: the claims of the allocations and of a New's place, and what is left over.
-use Rattle.std.specs.Prelude.{◌≡◌, ◌≢◌, ◌⊎◌, ℕ, ◌+◌, ◌-◌, ◌<◌, ◌≤◌, Bool, true, false, ◌&&◌, not, List, [], ◌∷◌, length, slice_index, slice_index_or, Option, Some}
+use Rattle.std.specs.Prelude.{◌≡◌, ◌≢◌, ◌⊎◌, ℕ, ◌+◌, ◌-◌, ◌<◌, ◌≤◌, Bool, true, false, ◌&&◌, not, List, [], ◌∷◌, length}
+use Rattle.std.specs.Prelude.{slice_index, slice_index_or, Option, Some}
 use Rattle.mk_geom.specs.declared.pages.Page.{Page}
 use Rattle.mk_geom.specs.declared.headers.Header.{Header}
 use Rattle.mk_geom.specs.declared.headers.Header.TheVariants.{Run, LeafRun, Later}
@@ -95,7 +96,8 @@ pub record IsShown (pages : List Page) (x : Claim) : Type 0 where
   pub sized : IsSized x.object
   pub known : x.index < cells_made x.object
   pub within : x.page + pages_made x.object ≤ length pages
-  pub headers : (distance : ℕ) → distance < pages_made x.object → HasHeader x.mode x.object distance (header_on pages (x.page + distance))
+  pub headers : (distance : ℕ) → distance < pages_made x.object
+      → HasHeader x.mode x.object distance (header_on pages (x.page + distance))
   pub used : has_bit (used_on pages x.page) x.index ≡ true
 
 -- The cell is a claim's.
@@ -125,7 +127,8 @@ IsTakenCell s p k = (k < cells_under (shows_on s.pages p)) × (IsClaimed s.claim
 abbrev pub HasItsHead : List Page → Bool → ℕ → ℕ → Type 0
 HasItsHead pages releasing p distance =
     (distance ≤ p)
-    × ((distance < run_count (shows_on pages (p - distance))) ⊎ ((releasing ≡ true) × (header_on pages (p - distance) ≡ 0)))
+    × ((distance < run_count (shows_on pages (p - distance)))
+    ⊎ ((releasing ≡ true) × (header_on pages (p - distance) ≡ 0)))
 
 pub record IsLaidOn (s : Scene) : Type 0 where
   -- Each claim is shown, and no two are of one cell.
@@ -135,6 +138,8 @@ pub record IsLaidOn (s : Scene) : Type 0 where
   pub used : (p k : ℕ) → has_bit (used_on s.pages p) k ≡ true → IsTakenCell s p k
   pub plot : PlotStands s.pages s.plot
   -- A page with a header has a used cell, a run's at its head, but while the phase is releasing and in a plot.
-  pub occupied : (p : ℕ) → header_on s.pages p ≢ 0 → used_on s.pages (head_on s.pages p) ≡ 0 → (s.releasing ≡ true) ⊎ InPlot s.plot p
+  pub occupied : (p : ℕ) → header_on s.pages p ≢ 0 → used_on s.pages (head_on s.pages p) ≡ 0
+      → (s.releasing ≡ true) ⊎ InPlot s.plot p
   -- A later page of a run has its head.
-  pub later : (p distance : ℕ) (mapped : Bool) → shows_on s.pages p ≡ Some (Later distance mapped) → HasItsHead s.pages s.releasing p distance
+  pub later : (p distance : ℕ) (mapped : Bool) → shows_on s.pages p ≡ Some (Later distance mapped)
+      → HasItsHead s.pages s.releasing p distance

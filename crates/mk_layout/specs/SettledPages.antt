@@ -8,7 +8,8 @@ use Rattle.mk_core.specs.Config.{IsWithinLimits}
 use Rattle.mk_core.specs.Cells.{is_used}
 use Rattle.mk_core.specs.Moments.{is_phase}
 use Rattle.mk_core.specs.NewPlaces.{place_on_pages, is_run_gone}
-use Rattle.mk_core.specs.Allocations.{PlacedAllocation, placed_at, cell_of_allocation, unreleased_storage, place_among_allocations}
+use Rattle.mk_core.specs.Allocations.{PlacedAllocation, placed_at, cell_of_allocation, unreleased_storage}
+use Rattle.mk_core.specs.Allocations.{place_among_allocations}
 use Rattle.mk_core.specs.StandingAllocations.{StandsOnHeap, HasItsHeaders}
 use Rattle.mk_core.specs.History.{World, left}
 use Rattle.mk_protocol.specs.Protocol.{has_place}
@@ -24,14 +25,17 @@ pub record StandsUsed (c : Config) (w : World) (a : PlacedAllocation) : Type 0 w
 abbrev pub UnreleasedStand : Type 0
 UnreleasedStand =
     (c : Config) (es : List Event) → IsWithinLimits c → IsLaidOut c (left c es)
-    → (i : ℕ) → (placed_at (left c es).allocations i).released ≡ false → StandsUsed c (left c es) (placed_at (left c es).allocations i)
+    → (i : ℕ) → (placed_at (left c es).allocations i).released ≡ false
+    → StandsUsed c (left c es) (placed_at (left c es).allocations i)
 
 -- and no two are of one cell.
 abbrev pub UnreleasedAreApart : Type 0
 UnreleasedAreApart =
     (c : Config) (es : List Event) → IsLaidOut c (left c es)
-    → (i j : ℕ) → (placed_at (left c es).allocations i).released ≡ false → (placed_at (left c es).allocations j).released ≡ false
-    → cell_of_allocation c (placed_at (left c es).allocations i) ≡ cell_of_allocation c (placed_at (left c es).allocations j) → i ≡ j
+    → (i j : ℕ) → (placed_at (left c es).allocations i).released ≡ false
+    → (placed_at (left c es).allocations j).released ≡ false
+    → cell_of_allocation c (placed_at (left c es).allocations i)
+    ≡ cell_of_allocation c (placed_at (left c es).allocations j) → i ≡ j
 
 -- Nothing is on its way: no cell is released, no New has a place, and the run that a call freed is gone.
 pub record IsSettled (w : World) : Type 0 where
@@ -49,4 +53,5 @@ HeadersStand =
 abbrev pub FirstFitIsThePlace : Type 0
 FirstFitIsThePlace =
     (c : Config) (es : List Event) (o : Object) → IsWithinLimits c → IsLaidOut c (left c es) → IsSettled (left c es)
-    → place_on_pages c.resident (left c es).now.words.pages o ≡ place_among_allocations c o.words o.leaf (left c es).allocations
+    → place_on_pages c.resident (left c es).now.words.pages o
+    ≡ place_among_allocations c o.words o.leaf (left c es).allocations

@@ -1,4 +1,5 @@
--- The snapshot's bits are those of the cycle's snapshot: the allocations that were freed and unreleased before its `begin`.
+-- The snapshot's bits are those of the cycle's snapshot: the allocations that were freed and unreleased before its
+-- `begin`.
 use Rattle.std.specs.Prelude.{◌≡◌, ℕ, true, false, List}
 use Rattle.std.specs.List.{list_any}
 use Rattle.mk_core.specs.declared.config.Config.{Config}
@@ -16,6 +17,7 @@ abbrev pub SnapshotsAreOfCycles : Type 0
 SnapshotsAreOfCycles =
     (c : Config) (es : List Event) → IsWithinLimits c → AreEnabled c es → OthersSayFrom c (first_world c) es
     → (begin : At is_begin es) → list_any (λ (e : Event). is_begin e.step) begin.behind ≡ false
-    → is_cycling (phase_of (left c es).now.words) ≡ true → (i : ℕ) → (placed_at (left c es).allocations i).released ≡ false
+    → is_cycling (phase_of (left c es).now.words) ≡ true → (i : ℕ)
+    → (placed_at (left c es).allocations i).released ≡ false
     → has_bit_of c (left c es).now.words.snapshot (placed_at (left c es).allocations i)
     ≡ is_quarantined (placed_at (left c begin.before).allocations i)

@@ -1,5 +1,6 @@
 -- The scene of a world: what the allocations, the place of a New and the run of a Free claim.
-use Rattle.std.specs.Prelude.{◌≡◌, ℕ, ◌-◌, ◌/◌, ◌<◌, Bool, true, false, ◌&&◌, not, ◌==◌, List, [], ◌∷◌, ◌++◌, length, Option, Some, None, if◌then◌else◌}
+use Rattle.std.specs.Prelude.{◌≡◌, ℕ, ◌-◌, ◌/◌, ◌<◌, Bool, true, false, ◌&&◌, not, ◌==◌, List, [], ◌∷◌, ◌++◌, length}
+use Rattle.std.specs.Prelude.{Option, Some, None, if◌then◌else◌}
 use Rattle.mk_geom.specs.declared.addresses.Cell.{Cell}
 use Rattle.mk_geom.specs.declared.pages.Page.{Page}
 use Rattle.mk_geom.specs.declared.pages.Place.{Place}
@@ -15,7 +16,8 @@ use Rattle.mk_core.specs.Allocations.{PlacedAllocation, placed_at, cell_of_alloc
 use Rattle.mk_core.specs.StandingAllocations.{object_placed, BeginsAtCell}
 use Rattle.mk_core.specs.History.{World}
 use Rattle.mk_protocol.specs.Ground.{Ground, ground_of}
-use Rattle.mk_layout.specs.Scene.{Mode, Mapped, Unmapping, Unmapped, Claim, Among, Plot, NoPlot, Plotted, Scene, IsLaidOn}
+use Rattle.mk_layout.specs.Scene.{Mode, Mapped, Unmapping, Unmapped, Claim, Among, Plot, NoPlot, Plotted, Scene}
+use Rattle.mk_layout.specs.Scene.{IsLaidOn}
 
 -- The call under way freed the run with its head there.
 abbrev pub is_unmapping : Option RunPages → ℕ → Bool

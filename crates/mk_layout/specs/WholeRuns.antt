@@ -9,8 +9,8 @@ use Rattle.mk_core.specs.History.{World}
 use Rattle.mk_layout.specs.Scene.{Plot, InPlot, header_on, used_on, shows_on, run_count}
 use Rattle.mk_layout.specs.Terrain.{plot_of, object_now}
 
--- The page so far behind the head is a later one of the run. Before a New has used it, and while the phase is releasing,
--- it may be free, where no cell of the run is used.
+-- The page so far behind the head is a later one of the run. Before a New has used it, and while the phase is
+-- releasing, it may be free, where no cell of the run is used.
 abbrev pub HasLaterPage : List Page → Bool → Plot → ℕ → ℕ → Type 0
 HasLaterPage pages releasing plot p distance =
     ((mapped : Bool) × (shows_on pages (p + distance) ≡ Some (Later distance mapped)))
@@ -18,10 +18,12 @@ HasLaterPage pages releasing plot p distance =
 
 pub record RunIsWhole (pages : List Page) (releasing : Bool) (plot : Plot) (p : ℕ) : Type 0 where
   pub within : p + run_count (shows_on pages p) ≤ length pages
-  pub later : (distance : ℕ) → 1 ≤ distance → distance < run_count (shows_on pages p) → HasLaterPage pages releasing plot p distance
+  pub later : (distance : ℕ) → 1 ≤ distance → distance < run_count (shows_on pages p)
+      → HasLaterPage pages releasing plot p distance
 
 abbrev pub HaveWholeRuns : List Page → Bool → Plot → Type 0
 HaveWholeRuns pages releasing plot = (p : ℕ) → heads_run (shows_on pages p) ≡ true → RunIsWhole pages releasing plot p
 
 abbrev pub RunsAreWhole : Config → World → Type 0
-RunsAreWhole c w = HaveWholeRuns w.now.words.pages (is_phase w.now.words 4) (plot_of (object_now c w.now) w.now.seats.holding.placing)
+RunsAreWhole c w = HaveWholeRuns w.now.words.pages (is_phase w.now.words 4)
+    (plot_of (object_now c w.now) w.now.seats.holding.placing)

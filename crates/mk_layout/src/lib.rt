@@ -1,7 +1,8 @@
 //! What stands on the pages, and the quarantine, at every moment: facts alone, with no code.
 #![tactic(auto)]
 
-ghost use Rattle.mk_layout.specs.LayoutLaws.{EventsKeepTheLayout, FewPagesAreResident, HistoriesAreLaidOut, PagesHaveHeaderWords};
+ghost use Rattle.mk_layout.specs.LayoutLaws.{EventsKeepTheLayout, FewPagesAreResident, HistoriesAreLaidOut};
+ghost use Rattle.mk_layout.specs.LayoutLaws.{PagesHaveHeaderWords};
 ghost use Rattle.mk_layout.specs.SettledPages.{FirstFitIsThePlace, HeadersStand, UnreleasedAreApart, UnreleasedStand};
 ghost use Rattle.mk_layout.specs.Snapshots.{SnapshotsAreOfCycles};
 

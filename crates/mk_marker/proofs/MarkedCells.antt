@@ -1,5 +1,6 @@
 -- While a cycle marks, each mark on a page that has a header is of a cell.
-use Rattle.std.proofs.Common.{◌≡◌, ◌≢◌, ◌⊎◌, ℕ, ◌+◌, ◌<◌, true, false, List, [], ◌∷◌, ◌++◌, refl, sym, ◌∙◌, subst, inl, inr, arith, append-nil, append_assoc}
+use Rattle.std.proofs.Common.{◌≡◌, ◌≢◌, ◌⊎◌, ℕ, ◌+◌, ◌<◌, true, false, List, [], ◌∷◌, ◌++◌, refl, sym, ◌∙◌, subst, inl}
+use Rattle.std.proofs.Common.{inr, arith, append-nil, append_assoc}
 use Rattle.std.specs.Prelude.{slice_index, ◌&&◌, ◌==◌}
 use Rattle.std.proofs.lemmas.Bool.{cases_lt, eqb-true, true≢false, and_parts}
 use Rattle.std.proofs.lemmas.List.{get_or_past}

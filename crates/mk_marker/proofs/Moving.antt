@@ -1,5 +1,6 @@
 -- One step of a marker: what it leaves.
-use Rattle.std.proofs.Common.{◌≡◌, ℕ, ◌+◌, ◌-◌, ◌*◌, ◌<◌, Bool, true, List, [], ◌∷◌, ◌++◌, refl, sym, ◌∙◌, ap, subst, append_assoc, arith}
+use Rattle.std.proofs.Common.{◌≡◌, ℕ, ◌+◌, ◌-◌, ◌*◌, ◌<◌, Bool, true, List, [], ◌∷◌, ◌++◌, refl, sym, ◌∙◌, ap, subst}
+use Rattle.std.proofs.Common.{append_assoc, arith}
 use Rattle.std.specs.Prelude.{slice_index, if◌then◌else◌, Some, None, ◌&&◌, nat_lt, slice_set, bit_or}
 use Rattle.std.proofs.lemmas.Bool.{lt-ltb, eq-eqb}
 use Rattle.mk_geom.specs.Headers.{header_of}
@@ -40,7 +41,8 @@ use Rattle.mk_marker.specs.declared.cells.MarkedCell.{MarkedCell}
 use Rattle.mk_marker.specs.Markers.{attends, between_scans}
 use Rattle.mk_marker.specs.Doing.{Did, finding}
 use Rattle.mk_marker.specs.Scanning.{words_scanned}
-use Rattle.mk_marker.specs.Steps.{IsOf, Moves, Moved, MarksGrow, IsMarkedIn, IsScanning, IsScanOf, ClaimsMarked, words_left}
+use Rattle.mk_marker.specs.Steps.{IsOf, Moves, Moved, MarksGrow, IsMarkedIn, IsScanning, IsScanOf, ClaimsMarked}
+use Rattle.mk_marker.specs.Steps.{words_left}
 
 -- one own event
 one_own : (c : Config) (s : Seat) (w : World) (x : Step)

@@ -7,7 +7,8 @@ ghost use Rattle.mk_words.specs.Markers.{marker_in};
 ghost use Rattle.mk_marker.specs.Markers.{between_scans, IsBetweenScans};
 ghost use Rattle.mk_marker.specs.Scanning.{words_scanned};
 ghost use Rattle.mk_marker.specs.Working.{IsBlackIn};
-ghost use Rattle.mk_marker.specs.Steps.{IsOf, IsMarkedIn, IsScanning, IsHolding, SameScan, GoesOn, ScansCell, words_left};
+ghost use Rattle.mk_marker.specs.Steps.{IsOf, IsMarkedIn, IsScanning, IsHolding, SameScan, GoesOn, ScansCell};
+ghost use Rattle.mk_marker.specs.Steps.{words_left};
 
 use crate::cells::MarkedCell;
 use crate::headers::{page_of, words_scanned};

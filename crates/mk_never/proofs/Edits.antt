@@ -1,5 +1,6 @@
 -- A fact about what is chosen, edited or reached, from the cases; and which allocations there are.
-use Rattle.std.proofs.Common.{◌≡◌, ℕ, suc, zero, ◌<◌, Bool, true, false, if◌then◌else◌, List, [], ◌∷◌, ◌++◌, length, get_or, set, refl, ap, arith}
+use Rattle.std.proofs.Common.{◌≡◌, ℕ, suc, zero, ◌<◌, Bool, true, false, if◌then◌else◌, List, [], ◌∷◌, ◌++◌, length}
+use Rattle.std.proofs.Common.{get_or, set, refl, ap, arith}
 use Rattle.std.proofs.lemmas.Bool.{false≢true}
 use Rattle.mk_never.specs.declared.values.Target.{Target}
 use Rattle.mk_never.specs.declared.values.Target.TheVariants.{Nothing, Unmapped, WordOf}
@@ -13,12 +14,14 @@ left_at_by P Unmapped refused at kept reached = kept
 left_at_by P (WordOf number place) refused at kept reached = reached number place refl
 
 -- what holds of both holds of the one that is chosen
-pub if_by : {A : Type 0} (P : A → Type 0) (b : Bool) (x y : A) → (b ≡ true → P x) → (b ≡ false → P y) → P (if b then x else y)
+pub if_by : {A : Type 0} (P : A → Type 0) (b : Bool) (x y : A) → (b ≡ true → P x) → (b ≡ false → P y)
+    → P (if b then x else y)
 if_by P true x y at_true at_false = at_true refl
 if_by P false x y at_true at_false = at_false refl
 
 -- what holds of the new element at its place and of the old one holds of the element there
-pub set_by : {A : Type 0} (P : A → Type 0) (xs : List A) (i k : ℕ) (v d : A) → (k ≡ i → P v) → P (get_or xs k d) → P (get_or (set xs i v) k d)
+pub set_by : {A : Type 0} (P : A → Type 0) (xs : List A) (i k : ℕ) (v d : A) → (k ≡ i → P v) → P (get_or xs k d)
+    → P (get_or (set xs i v) k d)
 set_by P [] i k v d new old = old
 set_by P (x ∷ xs) zero zero v d new old = new refl
 set_by P (x ∷ xs) zero (suc k) v d new old = old
@@ -35,7 +38,8 @@ push_by P (y ∷ xs) x d (suc k) inside new old =
     let inside' : k < length (xs ++ x ∷ []) = omega arith in push_by P xs x d k inside' new (λ h. old (omega arith))
 
 -- a place among an allocation's words is in an allocation that exists
-exists_in : (xs : List Allocation) (number place : ℕ) → place < length (get_or xs number no_allocation).words → number < length xs
+exists_in : (xs : List Allocation) (number place : ℕ) → place < length (get_or xs number no_allocation).words
+    → number < length xs
 exists_in [] number place h = absurd (omega arith)
 exists_in (x ∷ xs) zero place h = omega arith
 exists_in (x ∷ xs) (suc number) place h = let below : number < length xs = exists_in xs number place h in omega arith

@@ -16,5 +16,6 @@ new_adds n caller d ty is_caller in_range =
     }
 
 -- so a number that was given before any calls is not given after them
-pub count_never_falls : (n : NeverState) (calls : List Call) → length n.allocations ≤ length (after_calls n calls).allocations
+pub count_never_falls : (n : NeverState) (calls : List Call)
+    → length n.allocations ≤ length (after_calls n calls).allocations
 count_never_falls n calls = let stays : Continues n (after_calls n calls) = calls_stay n calls in stays.count

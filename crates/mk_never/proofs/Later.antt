@@ -1,12 +1,16 @@
 -- Allocations stay: their types, their sizes, and that they are freed.
-use Rattle.std.proofs.Common.{◌≡◌, ℕ, ◌<◌, true, List, [], ◌∷◌, length, get_or, set, refl, ◌∙◌, ap, subst, arith, length-set, length-append}
+use Rattle.std.proofs.Common.{◌≡◌, ℕ, ◌<◌, true, List, [], ◌∷◌, length, get_or, set, refl, ◌∙◌, ap, subst, arith}
+use Rattle.std.proofs.Common.{length-set, length-append}
 use Rattle.std.proofs.lemmas.List.{get_or_append_left}
 use Rattle.mk_never.specs.declared.values.Value.{Value}
 use Rattle.mk_never.specs.declared.values.Value.TheVariants.{Null, Num, Ptr}
 use Rattle.mk_never.specs.declared.values.Target.{Target}
 use Rattle.mk_never.specs.declared.operations.Op.{Op}
-use Rattle.mk_never.specs.declared.operations.Op.TheVariants.{New, Free, GetNum, SetNum, GetPtr, SetPtr, CasPtr, Lea, Move, Clear, GetGlobal, SetGlobal, Same, IsNull}
-use Rattle.mk_never.specs.NeverHeap.{NeverState, Allocation, Call, no_allocation, register_at, allocation_at, words_of, word_at, with_register, with_global, with_word, with_freed, with_new, is_same, left_at, after_free, after_op, after_calls}
+use Rattle.mk_never.specs.declared.operations.Op.TheVariants.{New, Free, GetNum, SetNum, GetPtr, SetPtr, CasPtr, Lea}
+use Rattle.mk_never.specs.declared.operations.Op.TheVariants.{Move, Clear, GetGlobal, SetGlobal, Same, IsNull}
+use Rattle.mk_never.specs.NeverHeap.{NeverState, Allocation, Call, no_allocation, register_at, allocation_at, words_of}
+use Rattle.mk_never.specs.NeverHeap.{word_at, with_register, with_global, with_word, with_freed, with_new, is_same}
+use Rattle.mk_never.specs.NeverHeap.{left_at, after_free, after_op, after_calls}
 use Rattle.mk_never.specs.Laws.{Continues, TypeStays, FreedStays}
 use Rattle.mk_never.proofs.Edits.{left_at_by, if_by, set_by, freed_exists}
 
@@ -35,7 +39,8 @@ join n m o first second =
       globals = second.globals ∙ first.globals;
       count = omega arith;
       ty = λ number h. let h' : number < length m.allocations = omega arith in second.ty number h' ∙ first.ty number h;
-      size = λ number h. let h' : number < length m.allocations = omega arith in second.size number h' ∙ first.size number h;
+      size = λ number h. let h' : number < length m.allocations = omega arith in second.size number h'
+          ∙ first.size number h;
       freed = λ number h. second.freed number (first.freed number h);
     }
 
@@ -46,16 +51,20 @@ pub global_stays : (n : NeverState) (g : ℕ) (v : Value) → Continues n (with_
 global_stays n g v = same_allocations n _ refl refl refl (length-set _ _ _)
 
 -- an allocation becomes another of the same type and size, freed if it was
-pub edit_stays : (n : NeverState) (number : ℕ) (new : Allocation) → new.ty ≡ (allocation_at n number).ty → length new.words ≡ length (words_of n number)
-    → ((allocation_at n number).freed ≡ true → new.freed ≡ true) → Continues n (record n { allocations = set n.allocations number new })
+pub edit_stays : (n : NeverState) (number : ℕ) (new : Allocation) → new.ty ≡ (allocation_at n number).ty
+    → length new.words ≡ length (words_of n number)
+    → ((allocation_at n number).freed ≡ true → new.freed ≡ true)
+    → Continues n (record n { allocations = set n.allocations number new })
 edit_stays n number new ty size freed =
     record {
       types = refl;
       registers = refl;
       globals = refl;
       count = omega (arith, length-set n.allocations number new);
-      ty = λ k h. set_by (λ a. a.ty ≡ (allocation_at n k).ty) n.allocations number k new no_allocation (λ e. rw e ty) refl;
-      size = λ k h. set_by (λ a. length a.words ≡ length (words_of n k)) n.allocations number k new no_allocation (λ e. rw e size) refl;
+      ty = λ k h. set_by (λ a. a.ty ≡ (allocation_at n k).ty) n.allocations number k new no_allocation
+          (λ e. rw e ty) refl;
+      size = λ k h. set_by (λ a. length a.words ≡ length (words_of n k)) n.allocations number k new no_allocation
+          (λ e. rw e size) refl;
       freed = λ k h. set_by (λ a. a.freed ≡ true) n.allocations number k new no_allocation
           (λ e. freed (subst (λ j. (allocation_at n j).freed ≡ true) e h)) h;
     }
@@ -66,7 +75,8 @@ word_stays n number place v = edit_stays n number _ refl (length-set _ _ _) (λ 
 pub freed_stays : (n : NeverState) (number : ℕ) → Continues n (with_freed n number)
 freed_stays n number = edit_stays n number _ refl refl (λ h. refl)
 
-pub old_stays : (n : NeverState) (ty number : ℕ) → number < length n.allocations → allocation_at (with_new n ty) number ≡ allocation_at n number
+pub old_stays : (n : NeverState) (ty number : ℕ) → number < length n.allocations
+    → allocation_at (with_new n ty) number ≡ allocation_at n number
 old_stays n ty number h = get_or_append_left _ _ _ _ h
 
 pub new_stays : (n : NeverState) (ty : ℕ) → Continues n (with_new n ty)
@@ -78,7 +88,8 @@ new_stays n ty =
       count = simp length-append (omega arith);
       ty = λ number h. ap (λ a. a.ty) (old_stays n ty number h);
       size = λ number h. ap (λ a. length a.words) (old_stays n ty number h);
-      freed = λ number h. let in_it : number < length n.allocations = freed_exists n number h in ap (λ a. a.freed) (old_stays n ty number in_it) ∙ h;
+      freed = λ number h. let in_it : number < length n.allocations =
+          freed_exists n number h in ap (λ a. a.freed) (old_stays n ty number in_it) ∙ h;
     }
 
 free_stays : (n : NeverState) (v : Value) → Continues n (after_free n v)
@@ -89,11 +100,13 @@ free_stays n (Ptr number ty offset) = freed_stays n number
 -- an access leaves the allocations where what it leaves at each word does
 access_stays : (n : NeverState) (t : Target) (refused : NeverState) (at : ℕ → ℕ → NeverState)
     → Continues n refused → ((number place : ℕ) → Continues n (at number place)) → Continues n (left_at t refused at)
-access_stays n t refused at kept reached = left_at_by (λ m. Continues n m) t refused at kept (λ number place e. reached number place)
+access_stays n t refused at kept reached =
+    left_at_by (λ m. Continues n m) t refused at kept (λ number place e. reached number place)
 
 pub op_stays : (n : NeverState) (c : ℕ) (op : Op) → Continues n (after_op n c op)
 op_stays n c (New d ty full) =
-    if_by (λ m. Continues n m) full _ _ (λ e. same n) (λ e. join n (with_new n ty) _ (new_stays n ty) (register_stays (with_new n ty) c d _))
+    if_by (λ m. Continues n m) full _ _ (λ e. same n)
+    (λ e. join n (with_new n ty) _ (new_stays n ty) (register_stays (with_new n ty) c d _))
 op_stays n c (Free p) = free_stays n (register_at n c p)
 op_stays n c (GetNum q i) = same n
 op_stays n c (SetNum q i m) = access_stays n _ n _ (same n) (λ number place. word_stays n number place _)
@@ -101,7 +114,8 @@ op_stays n c (GetPtr d q i) = access_stays n _ _ _ (register_stays n c d _) (λ 
 op_stays n c (SetPtr q i p) = access_stays n _ n _ (same n) (λ number place. word_stays n number place _)
 op_stays n c (CasPtr q i p r) =
     access_stays n _ n _ (same n)
-    (λ number place. if_by (λ m. Continues n m) (is_same (word_at n number place) (register_at n c p)) _ _ (λ e. word_stays n number place _) (λ e. same n))
+    (λ number place. if_by (λ m. Continues n m) (is_same (word_at n number place) (register_at n c p)) _ _
+    (λ e. word_stays n number place _) (λ e. same n))
 op_stays n c (Lea d q i) = register_stays n c d _
 op_stays n c (Move d q) = register_stays n c d _
 op_stays n c (Clear d) = register_stays n c d _
@@ -112,11 +126,15 @@ op_stays n c (IsNull p) = same n
 
 pub calls_stay : (n : NeverState) (calls : List Call) → Continues n (after_calls n calls)
 calls_stay n [] = same n
-calls_stay n (x ∷ xs) = join n (after_op n x.caller x.op) _ (op_stays n x.caller x.op) (calls_stay (after_op n x.caller x.op) xs)
+calls_stay n (x ∷ xs) =
+    join n (after_op n x.caller x.op) _ (op_stays n x.caller x.op) (calls_stay (after_op n x.caller x.op) xs)
 
-pub types_stay : (n : NeverState) (calls : List Call) (number : ℕ) → number < length n.allocations → TypeStays n (after_calls n calls) number
+pub types_stay : (n : NeverState) (calls : List Call) (number : ℕ) → number < length n.allocations
+    → TypeStays n (after_calls n calls) number
 types_stay n calls number there =
-    let stays : Continues n (after_calls n calls) = calls_stay n calls in (stays.ty number there, stays.size number there)
+    let stays : Continues n (after_calls n calls) =
+    calls_stay n calls in (stays.ty number there, stays.size number there)
 
 pub freed_stays_freed : (n : NeverState) (calls : List Call) (number : ℕ) → FreedStays n (after_calls n calls) number
-freed_stays_freed n calls number = let stays : Continues n (after_calls n calls) = calls_stay n calls in stays.freed number
+freed_stays_freed n calls number = let stays : Continues n (after_calls n calls) =
+    calls_stay n calls in stays.freed number

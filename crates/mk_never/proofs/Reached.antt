@@ -4,12 +4,14 @@ use Rattle.std.proofs.Common.{◌≡◌, ℕ, zero, suc, Bool, true, false, [], 
 use Rattle.std.proofs.lemmas.Bool.{false≢true}
 use Rattle.mk_never.specs.declared.values.Value.TheVariants.{Null, Num, Ptr}
 use Rattle.mk_never.specs.NeverHeap.{NeverState}
-use Rattle.mk_never.specs.Reach.{LeadsTo, WordLeadsTo, IsReached, by_register, by_global, by_word, IsClosedUnderPointers, ReachIsLeast}
+use Rattle.mk_never.specs.Reach.{LeadsTo, WordLeadsTo, IsReached, by_register, by_global, by_word}
+use Rattle.mk_never.specs.Reach.{IsClosedUnderPointers, ReachIsLeast}
 
 pub reach_is_closed : (n : NeverState) → IsClosedUnderPointers n (IsReached n)
 reach_is_closed n = record { registers = by_register; globals = by_global; words = by_word }
 
-pub reached_is_in : (n : NeverState) (S : ℕ → Type 0) → IsClosedUnderPointers n S → (number : ℕ) → IsReached n number → S number
+pub reached_is_in : (n : NeverState) (S : ℕ → Type 0) → IsClosedUnderPointers n S → (number : ℕ) → IsReached n number
+    → S number
 reached_is_in n S closed _ (by_register r number leads) = closed.registers r number leads
 reached_is_in n S closed _ (by_global g number leads) = closed.globals g number leads
 reached_is_in n S closed _ (by_word from place number reached leads) =
@@ -18,13 +20,14 @@ reached_is_in n S closed _ (by_word from place number reached leads) =
 pub reach_is_least : (n : NeverState) (S : ℕ → Bool) → ReachIsLeast n S
 reach_is_least n S closed = reached_is_in n (λ number. S number ≡ true) closed
 
--- A register points to 0, whose word points to 1, though it was freed. 1 is large and freed; a word of it points to 2, and
--- so does 2's own.
+-- A register points to 0, whose word points to 1, though it was freed. 1 is large and freed; a word of it points to 2,
+-- and so does 2's own.
 abbrev pub example : NeverState
 example = record {
   types = [];
   allocations =
-      record { ty = 0; words = Ptr 1 1 0 ∷ []; freed = true } ∷ record { ty = 1; words = Ptr 2 2 0 ∷ replicate 32 (Num 0); freed = true }
+      record { ty = 0; words = Ptr 1 1 0 ∷ []; freed = true }
+      ∷ record { ty = 1; words = Ptr 2 2 0 ∷ replicate 32 (Num 0); freed = true }
       ∷ record { ty = 2; words = Ptr 2 2 0 ∷ []; freed = false } ∷ [];
   registers = Ptr 0 0 0 ∷ [];
   globals = [];
@@ -46,7 +49,8 @@ lone_register : (r number : ℕ) → LeadsTo (get_or example.registers r Null) n
 lone_register zero number leads = subst (λ k. both k ≡ true) leads refl
 lone_register (suc r) number leads = absurd leads
 
-words_lead_to_both : (from place number : ℕ) → both from ≡ true → WordLeadsTo example from place number → both number ≡ true
+words_lead_to_both : (from place number : ℕ) → both from ≡ true → WordLeadsTo example from place number
+    → both number ≡ true
 words_lead_to_both zero zero number inside leads = subst (λ k. both k ≡ true) leads.1 refl
 words_lead_to_both zero (suc place) number inside leads = absurd leads.1
 words_lead_to_both (suc zero) place number inside leads = absurd (false≢true (sym leads.0))
@@ -56,4 +60,5 @@ pub third_is_not_reached : IsReached example 2 → ⊥
 third_is_not_reached reached =
     false≢true
     (reach_is_least example both
-    record { registers = lone_register; globals = λ g number leads. absurd leads; words = words_lead_to_both } 2 reached)
+    record { registers = lone_register; globals = λ g number leads. absurd leads; words = words_lead_to_both } 2
+    reached)

@@ -5,14 +5,17 @@ use Rattle.mk_never.specs.declared.values.Value.{Value}
 use Rattle.mk_never.specs.declared.values.Value.TheVariants.{Null, Num, Ptr}
 use Rattle.mk_never.specs.declared.values.Target.{Target}
 use Rattle.mk_never.specs.declared.operations.Op.{Op}
-use Rattle.mk_never.specs.declared.operations.Op.TheVariants.{New, Free, GetNum, SetNum, GetPtr, SetPtr, CasPtr, Lea, Move, Clear, GetGlobal, SetGlobal, Same, IsNull}
-use Rattle.mk_never.specs.NeverHeap.{NeverState, Call, register_at, word_at, with_register, with_new, is_same, left_at, after_free, after_op, after_calls}
+use Rattle.mk_never.specs.declared.operations.Op.TheVariants.{New, Free, GetNum, SetNum, GetPtr, SetPtr, CasPtr, Lea}
+use Rattle.mk_never.specs.declared.operations.Op.TheVariants.{Move, Clear, GetGlobal, SetGlobal, Same, IsNull}
+use Rattle.mk_never.specs.NeverHeap.{NeverState, Call, register_at, word_at, with_register, with_new, is_same, left_at}
+use Rattle.mk_never.specs.NeverHeap.{after_free, after_op, after_calls}
 use Rattle.mk_never.specs.Admitted.{OperandsAreInRange, IsAdmitted, AreAdmitted}
 use Rattle.mk_never.specs.Laws.{KeepsRegisters, DestinationIsInRange, AreByOthers, AreNotBy}
 use Rattle.mk_never.proofs.Edits.{left_at_by, if_by}
 
 -- a register of another caller
-other_register : (n : NeverState) (caller c d : ℕ) (v : Value) → c ≢ caller → d < 8 → KeepsRegisters caller n (with_register n c d v)
+other_register : (n : NeverState) (caller c d : ℕ) (v : Value) → c ≢ caller → d < 8
+    → KeepsRegisters caller n (with_register n c d v)
 other_register n caller c d v other in_range r below =
     let apart : 8 * caller + r ≢ 8 * c + d = λ e. other (omega arith) in get_or-set_other n.registers _ _ v Null apart
 
@@ -22,21 +25,29 @@ free_keeps n caller (Num m) r below = refl
 free_keeps n caller (Ptr number ty offset) r below = refl
 
 access_keeps : (n : NeverState) (caller : ℕ) (t : Target) (refused : NeverState) (at : ℕ → ℕ → NeverState)
-    → KeepsRegisters caller n refused → ((number place : ℕ) → KeepsRegisters caller n (at number place)) → KeepsRegisters caller n (left_at t refused at)
-access_keeps n caller t refused at kept reached = left_at_by (λ m. KeepsRegisters caller n m) t refused at kept (λ number place e. reached number place)
+    → KeepsRegisters caller n refused → ((number place : ℕ) → KeepsRegisters caller n (at number place))
+    → KeepsRegisters caller n (left_at t refused at)
+access_keeps n caller t refused at kept reached =
+    left_at_by (λ m. KeepsRegisters caller n m) t refused at kept (λ number place e. reached number place)
 
-pub op_keeps : (n : NeverState) (caller c : ℕ) (op : Op) → c ≢ caller → DestinationIsInRange op → KeepsRegisters caller n (after_op n c op)
+pub op_keeps : (n : NeverState) (caller c : ℕ) (op : Op) → c ≢ caller → DestinationIsInRange op
+    → KeepsRegisters caller n (after_op n c op)
 op_keeps n caller c (New d ty full) other in_range =
-    if_by (λ m. KeepsRegisters caller n m) full _ _ (λ e r below. refl) (λ e. other_register (with_new n ty) caller c d _ other in_range)
+    if_by (λ m. KeepsRegisters caller n m) full _ _ (λ e r below. refl)
+    (λ e. other_register (with_new n ty) caller c d _ other in_range)
 op_keeps n caller c (Free p) other in_range = free_keeps n caller (register_at n c p)
 op_keeps n caller c (GetNum q i) other in_range = λ r below. refl
-op_keeps n caller c (SetNum q i m) other in_range = access_keeps n caller _ n _ (λ r below. refl) (λ number place r below. refl)
+op_keeps n caller c (SetNum q i m) other in_range =
+    access_keeps n caller _ n _ (λ r below. refl) (λ number place r below. refl)
 op_keeps n caller c (GetPtr d q i) other in_range =
-    access_keeps n caller _ _ _ (other_register n caller c d _ other in_range) (λ number place. other_register n caller c d _ other in_range)
-op_keeps n caller c (SetPtr q i p) other in_range = access_keeps n caller _ n _ (λ r below. refl) (λ number place r below. refl)
+    access_keeps n caller _ _ _ (other_register n caller c d _ other in_range)
+    (λ number place. other_register n caller c d _ other in_range)
+op_keeps n caller c (SetPtr q i p) other in_range =
+    access_keeps n caller _ n _ (λ r below. refl) (λ number place r below. refl)
 op_keeps n caller c (CasPtr q i p r') other in_range =
     access_keeps n caller _ n _ (λ r below. refl)
-    (λ number place. if_by (λ m. KeepsRegisters caller n m) (is_same (word_at n number place) (register_at n c p)) _ _ (λ e r below. refl) (λ e r below. refl))
+    (λ number place. if_by (λ m. KeepsRegisters caller n m) (is_same (word_at n number place) (register_at n c p)) _ _
+    (λ e r below. refl) (λ e r below. refl))
 op_keeps n caller c (Lea d q i) other in_range = other_register n caller c d _ other in_range
 op_keeps n caller c (Move d q) other in_range = other_register n caller c d _ other in_range
 op_keeps n caller c (Clear d) other in_range = other_register n caller c d _ other in_range
@@ -45,10 +56,12 @@ op_keeps n caller c (SetGlobal g p) other in_range = λ r below. refl
 op_keeps n caller c (Same p q) other in_range = λ r below. refl
 op_keeps n caller c (IsNull p) other in_range = λ r below. refl
 
-pub calls_keep : (n : NeverState) (caller : ℕ) (calls : List Call) → AreByOthers caller calls → KeepsRegisters caller n (after_calls n calls)
+pub calls_keep : (n : NeverState) (caller : ℕ) (calls : List Call) → AreByOthers caller calls
+    → KeepsRegisters caller n (after_calls n calls)
 calls_keep n caller [] others = λ r below. refl
 calls_keep n caller (x ∷ xs) others =
-    λ r below. calls_keep (after_op n x.caller x.op) caller xs others.2 r below ∙ op_keeps n caller x.caller x.op others.0 others.1 r below
+    λ r below. calls_keep (after_op n x.caller x.op) caller xs others.2 r below
+    ∙ op_keeps n caller x.caller x.op others.0 others.1 r below
 
 -- operands in range: so is the register that is set
 pub destination : (n : NeverState) (op : Op) → OperandsAreInRange n op → DestinationIsInRange op
@@ -68,12 +81,18 @@ destination n (Same p q) h = tt
 destination n (IsNull p) h = tt
 
 -- admitted calls set registers of their own callers
-pub by_others : (globals : List ℕ) (n : NeverState) (caller : ℕ) (calls : List Call) → AreAdmitted globals n calls → AreNotBy caller calls → AreByOthers caller calls
+pub by_others : (globals : List ℕ) (n : NeverState) (caller : ℕ) (calls : List Call) → AreAdmitted globals n calls
+    → AreNotBy caller calls → AreByOthers caller calls
 by_others globals n caller [] admitted others = tt
 by_others globals n caller (x ∷ xs) admitted others =
-    let first : IsAdmitted globals n x.caller x.op = admitted.0 in
-    (others.0, destination n x.op first.in_range, by_others globals (after_op n x.caller x.op) caller xs admitted.1 others.1)
+    let first : IsAdmitted globals n x.caller x.op = admitted.0 in (
+      others.0,
+      destination n x.op first.in_range,
+      by_others globals (after_op n x.caller x.op) caller xs admitted.1 others.1,
+    )
 
-pub admitted_keep : (globals : List ℕ) (n : NeverState) (caller : ℕ) (calls : List Call) → AreAdmitted globals n calls → AreNotBy caller calls
+pub admitted_keep : (globals : List ℕ) (n : NeverState) (caller : ℕ) (calls : List Call) → AreAdmitted globals n calls
+    → AreNotBy caller calls
     → KeepsRegisters caller n (after_calls n calls)
-admitted_keep globals n caller calls admitted others = calls_keep n caller calls (by_others globals n caller calls admitted others)
+admitted_keep globals n caller calls admitted others =
+    calls_keep n caller calls (by_others globals n caller calls admitted others)

@@ -36,9 +36,11 @@ same_from_equal v w e = rw (← e) (same_itself v)
 pub same_compares : (v w : Value) → (is_same v w ≡ true) ↔ (v ≡ w)
 same_compares v w = (equal_from_same v w, same_from_equal v w)
 
-pub apart : (number number' ty ty' offset offset' : ℕ) → number ≢ number' → is_same (Ptr number ty offset) (Ptr number' ty' offset') ≡ false
+pub apart : (number number' ty ty' offset offset' : ℕ) → number ≢ number'
+    → is_same (Ptr number ty offset) (Ptr number' ty' offset') ≡ false
 apart number number' ty ty' offset offset' other =
-    false_from_ne_true _ (λ same. let equal : Ptr number ty offset ≡ Ptr number' ty' offset' = equal_from_same _ _ same in other (cc))
+    false_from_ne_true _
+    (λ same. let equal : Ptr number ty offset ≡ Ptr number' ty' offset' = equal_from_same _ _ same in other (cc))
 
 bit_one : (b : Bool) → bit b ≡ 1 → b ≡ true
 bit_one true h = refl
@@ -47,6 +49,7 @@ bit_one false h = absurd (omega arith)
 -- what a Same replies
 pub same_tells : (n : NeverState) (caller p q : ℕ) → SameTells n caller p q
 same_tells n caller p q = (
-  λ one. let bit_is : bit (is_same (register_at n caller p) (register_at n caller q)) ≡ 1 = cc in equal_from_same _ _ (bit_one _ bit_is),
+  λ one. let bit_is : bit (is_same (register_at n caller p) (register_at n caller q)) ≡ 1 =
+      cc in equal_from_same _ _ (bit_one _ bit_is),
   λ equal. ap (λ b. Number (bit b)) (same_from_equal _ _ equal),
 )

@@ -1,5 +1,6 @@
 -- Sound values stay sound, and suit the kinds that they are of.
-use Rattle.std.proofs.Common.{◌≡◌, ℕ, zero, suc, ◌+◌, ◌<◌, List, [], ◌∷◌, length, map, get_or, sym, subst, ◌∙◌, inl, inr, arith}
+use Rattle.std.proofs.Common.{◌≡◌, ℕ, zero, suc, ◌+◌, ◌<◌, List, [], ◌∷◌, length, map, get_or, sym, subst, ◌∙◌, inl}
+use Rattle.std.proofs.Common.{inr, arith}
 use Rattle.std.proofs.lemmas.Bool.{false≢true}
 use Rattle.mk_never.specs.declared.types.Kind.{Kind}
 use Rattle.mk_never.specs.declared.types.Kind.TheVariants.{Num as Number, To}
@@ -12,7 +13,8 @@ use Rattle.mk_never.specs.Laws.{Continues}
 use Rattle.mk_never.specs.Typed.{IsPlaceIn, IsSound, Suits, IsTypedAllocation}
 
 -- In a type that has words, a place is one of them.
-pub place_is_inside : (kinds : List Kind) (offset : ℕ) → IsPlaceIn kinds offset → 0 < length kinds → offset < length kinds
+pub place_is_inside : (kinds : List Kind) (offset : ℕ) → IsPlaceIn kinds offset → 0 < length kinds
+    → offset < length kinds
 place_is_inside kinds offset (inl first) some = omega arith
 place_is_inside kinds offset (inr inside) some = inside
 
@@ -29,12 +31,14 @@ pub suits_kept : (n m : NeverState) → Continues n m → (v : Value) (kind : Ki
 suits_kept n m stays v Number suits = suits
 suits_kept n m stays v (To ty offset) suits = (sound_kept n m stays v suits.0, suits.1)
 
-pub allocation_kept : (n m : NeverState) → Continues n m → (a : Allocation) → IsTypedAllocation n a → IsTypedAllocation m a
+pub allocation_kept : (n m : NeverState) → Continues n m → (a : Allocation) → IsTypedAllocation n a
+    → IsTypedAllocation m a
 allocation_kept n m stays a typed =
     record {
       ty = subst (λ types. a.ty < length types) (sym stays.types) typed.ty;
       size = subst (λ types. length a.words ≡ length (kinds_of types a.ty)) (sym stays.types) typed.size;
-      words = λ place h. subst (λ types. Suits m (get_or a.words place Null) (get_or (kinds_of types a.ty) place Number)) (sym stays.types)
+      words = λ place h. subst
+          (λ types. Suits m (get_or a.words place Null) (get_or (kinds_of types a.ty) place Number)) (sym stays.types)
           (suits_kept n m stays _ _ (typed.words place h));
     }
 
@@ -53,14 +57,16 @@ suited_is_sound n v Number is suits = absurd (false≢true (sym is))
 suited_is_sound n v (To ty offset) is suits = suits.0
 
 -- a zero word suits its kind
-pub zero_suits : (n : NeverState) (kinds : List Kind) (place : ℕ) → place < length (map zero_of kinds) → Suits n (get_or (map zero_of kinds) place Null) (get_or kinds place Number)
+pub zero_suits : (n : NeverState) (kinds : List Kind) (place : ℕ) → place < length (map zero_of kinds)
+    → Suits n (get_or (map zero_of kinds) place Null) (get_or kinds place Number)
 zero_suits n [] place h = absurd (omega arith)
 zero_suits n (Number ∷ kinds) zero h = tt
 zero_suits n (To ty offset ∷ kinds) zero h = (tt, tt)
 zero_suits n (kind ∷ kinds) (suc place) h = zero_suits n kinds place (omega arith)
 
 -- a pointer moved to a word of its allocation is sound
-pub moved_is_sound : (n : NeverState) (v : Value) (i : ℕ) (P : Kind → Type 0) → ((number : ℕ) → number < length n.allocations → IsTypedAllocation n (allocation_at n number))
+pub moved_is_sound : (n : NeverState) (v : Value) (i : ℕ) (P : Kind → Type 0)
+    → ((number : ℕ) → number < length n.allocations → IsTypedAllocation n (allocation_at n number))
     → IsSound n v → Meets n v i P → IsSound n (moved_on v i)
 moved_is_sound n Null i P typed sound meets = tt
 moved_is_sound n (Num m) i P typed sound meets = tt

@@ -1,5 +1,6 @@
 -- Words change by stores alone, and a load gives what was last stored.
-use Rattle.std.proofs.Common.{◌≡◌, ◌≢◌, ℕ, ◌+◌, ◌*◌, ◌<◌, true, if◌then◌else◌, List, [], ◌∷◌, length, get_or, refl, sym, ap, subst, ◌∙◌, arith}
+use Rattle.std.proofs.Common.{◌≡◌, ◌≢◌, ℕ, ◌+◌, ◌*◌, ◌<◌, true, if◌then◌else◌, List, [], ◌∷◌, length, get_or, refl, sym}
+use Rattle.std.proofs.Common.{ap, subst, ◌∙◌, arith}
 use Rattle.std.proofs.lemmas.List.{get_or-set_same, get_or-set_other, get_or_append_left}
 use Rattle.mk_never.specs.declared.types.Kind.{Kind}
 use Rattle.mk_never.specs.declared.values.Value.{Value}
@@ -7,12 +8,16 @@ use Rattle.mk_never.specs.declared.values.Value.TheVariants.{Null, Num, Ptr}
 use Rattle.mk_never.specs.declared.values.Target.{Target}
 use Rattle.mk_never.specs.declared.values.Target.TheVariants.{Unmapped, WordOf}
 use Rattle.mk_never.specs.declared.operations.Op.{Op}
-use Rattle.mk_never.specs.declared.operations.Op.TheVariants.{New, Free, GetNum, SetNum, GetPtr, SetPtr, CasPtr, Lea, Move, Clear, GetGlobal, SetGlobal, Same, IsNull}
+use Rattle.mk_never.specs.declared.operations.Op.TheVariants.{New, Free, GetNum, SetNum, GetPtr, SetPtr, CasPtr, Lea}
+use Rattle.mk_never.specs.declared.operations.Op.TheVariants.{Move, Clear, GetGlobal, SetGlobal, Same, IsNull}
 use Rattle.mk_never.specs.declared.operations.Reply.{Reply}
 use Rattle.mk_never.specs.declared.operations.Reply.TheVariants.{Num as Number, Val}
-use Rattle.mk_never.specs.NeverHeap.{NeverState, Call, no_allocation, register_at, allocation_at, words_of, word_at, with_register, with_word, with_freed, is_same, is_unmapped, target_of, left_at, reply_at, number_of, after_free, after_op, after_calls}
+use Rattle.mk_never.specs.NeverHeap.{NeverState, Call, no_allocation, register_at, allocation_at, words_of, word_at}
+use Rattle.mk_never.specs.NeverHeap.{with_register, with_word, with_freed, is_same, is_unmapped, target_of, left_at}
+use Rattle.mk_never.specs.NeverHeap.{reply_at, number_of, after_free, after_op, after_calls}
 use Rattle.mk_never.specs.Admitted.{Meets, IsNumber, IsPointer}
-use Rattle.mk_never.specs.Laws.{Reaches, StoresTo, stored_value, LoadsGive, UnstoredStays, StoreLeaves, StoreIsInside, LoadGivesStored, Continues}
+use Rattle.mk_never.specs.Laws.{Reaches, StoresTo, stored_value, LoadsGive, UnstoredStays, StoreLeaves, StoreIsInside}
+use Rattle.mk_never.specs.Laws.{LoadGivesStored, Continues}
 use Rattle.mk_never.proofs.Edits.{left_at_by, if_by, set_by, exists}
 use Rattle.mk_never.proofs.Later.{op_stays}
 use Rattle.mk_never.proofs.Sameness.{equal_from_same, same_from_equal}
@@ -22,10 +27,12 @@ abbrev WordStays : ℕ → ℕ → NeverState → NeverState → Type 0
 WordStays number place n m = word_at m number place ≡ word_at n number place
 
 -- a write of a word leaves the others
-other_word : (n : NeverState) (a w number place : ℕ) (v : Value) → (WordOf a w ≡ WordOf number place → ⊥) → WordStays number place n (with_word n a w v)
+other_word : (n : NeverState) (a w number place : ℕ) (v : Value) → (WordOf a w ≡ WordOf number place → ⊥)
+    → WordStays number place n (with_word n a w v)
 other_word n a w number place v apart =
     set_by (λ b. get_or b.words place Null ≡ word_at n number place) n.allocations a number _ no_allocation
-    (λ e. let other : place ≢ w = λ e'. apart (cc) in get_or-set_other (words_of n a) w place v Null other ∙ ap (λ k. word_at n k place) (sym e))
+    (λ e. let other : place ≢ w = λ e'. apart (cc) in get_or-set_other (words_of n a) w place v Null other
+    ∙ ap (λ k. word_at n k place) (sym e))
     refl
 
 -- a write leaves its value
@@ -33,7 +40,8 @@ pub this_word : (n : NeverState) (number place : ℕ) (v : Value) → place < le
     → word_at (with_word n number place v) number place ≡ v
 this_word n number place v h =
     let here : number < length n.allocations = exists n number place h in
-    ap (λ b. get_or b.words place Null) (get_or-set_same n.allocations number _ no_allocation here) ∙ get_or-set_same (words_of n number) place v Null h
+    ap (λ b. get_or b.words place Null) (get_or-set_same n.allocations number _ no_allocation here)
+    ∙ get_or-set_same (words_of n number) place v Null h
 
 freed_keeps : (n : NeverState) (a number place : ℕ) → WordStays number place n (with_freed n a)
 freed_keeps n a number place =
@@ -46,7 +54,8 @@ free_keeps n (Num m) number place = refl
 free_keeps n (Ptr a ty offset) number place = freed_keeps n a number place
 
 -- an operation that doesn't store to a word leaves it
-pub op_keeps : (n : NeverState) (c : ℕ) (op : Op) (number place : ℕ) → number < length n.allocations → (StoresTo n c op number place → ⊥)
+pub op_keeps : (n : NeverState) (c : ℕ) (op : Op) (number place : ℕ) → number < length n.allocations
+    → (StoresTo n c op number place → ⊥)
     → WordStays number place n (after_op n c op)
 op_keeps n c (New d ty full) number place there none =
     if_by (λ m. WordStays number place n m) full _ _ (λ e. refl)
@@ -54,15 +63,18 @@ op_keeps n c (New d ty full) number place there none =
 op_keeps n c (Free p) number place there none = free_keeps n (register_at n c p) number place
 op_keeps n c (GetNum q i) number place there none = refl
 op_keeps n c (SetNum q i m) number place there none =
-    left_at_by (λ m. WordStays number place n m) (target_of n (register_at n c q) i) n _ refl (λ a w e. other_word n a w number place _ (λ e'. none (e ∙ e')))
+    left_at_by (λ m. WordStays number place n m) (target_of n (register_at n c q) i) n _ refl
+    (λ a w e. other_word n a w number place _ (λ e'. none (e ∙ e')))
 op_keeps n c (GetPtr d q i) number place there none =
     left_at_by (λ m. WordStays number place n m) (target_of n (register_at n c q) i) _ _ refl (λ a w e. refl)
 op_keeps n c (SetPtr q i p) number place there none =
-    left_at_by (λ m. WordStays number place n m) (target_of n (register_at n c q) i) n _ refl (λ a w e. other_word n a w number place _ (λ e'. none (e ∙ e')))
+    left_at_by (λ m. WordStays number place n m) (target_of n (register_at n c q) i) n _ refl
+    (λ a w e. other_word n a w number place _ (λ e'. none (e ∙ e')))
 op_keeps n c (CasPtr q i p r) number place there none =
     left_at_by (λ m. WordStays number place n m) (target_of n (register_at n c q) i) n _ refl
     (λ a w e. if_by (λ m. WordStays number place n m) (is_same (word_at n a w) (register_at n c p)) _ _
-    (λ same. let here : word_at n a w ≡ register_at n c p = equal_from_same _ _ same in other_word n a w number place _ (λ e'. none (e ∙ e', (cc))))
+    (λ same. let here : word_at n a w ≡ register_at n c p = equal_from_same _ _ same in other_word n a w number place _
+    (λ e'. none (e ∙ e', (cc))))
     (λ differs. refl))
 op_keeps n c (Lea d q i) number place there none = refl
 op_keeps n c (Move d q) number place there none = refl
@@ -77,16 +89,20 @@ calls_keep n [] number place there none = refl
 calls_keep n (x ∷ xs) number place there none =
     let stays : Continues n (after_op n x.caller x.op) = op_stays n x.caller x.op in
     let there' : number < length (after_op n x.caller x.op).allocations = omega (arith, stays.count) in
-    calls_keep (after_op n x.caller x.op) xs number place there' none.1 ∙ op_keeps n x.caller x.op number place there none.0
+    calls_keep (after_op n x.caller x.op) xs number place there' none.1
+    ∙ op_keeps n x.caller x.op number place there none.0
 
 -- what an access leaves and replies where it reaches a word
-left_reached : (t : Target) (refused : NeverState) (at : ℕ → ℕ → NeverState) (number place : ℕ) → t ≡ WordOf number place → left_at t refused at ≡ at number place
+left_reached : (t : Target) (refused : NeverState) (at : ℕ → ℕ → NeverState) (number place : ℕ)
+    → t ≡ WordOf number place → left_at t refused at ≡ at number place
 left_reached t refused at number place e = ap (λ t. left_at t refused at) e
 
-reply_reached : (t : Target) (at : ℕ → ℕ → Reply) (number place : ℕ) → t ≡ WordOf number place → reply_at t at ≡ at number place
+reply_reached : (t : Target) (at : ℕ → ℕ → Reply) (number place : ℕ) → t ≡ WordOf number place
+    → reply_at t at ≡ at number place
 reply_reached t at number place e = ap (λ t. reply_at t at) e
 
-stored_in : (n m : NeverState) (number place : ℕ) (v : Value) → place < length (words_of n number) → m ≡ with_word n number place v → word_at m number place ≡ v
+stored_in : (n m : NeverState) (number place : ℕ) (v : Value) → place < length (words_of n number)
+    → m ≡ with_word n number place v → word_at m number place ≡ v
 stored_in n m number place v h e = ap (λ m. word_at m number place) e ∙ this_word n number place v h
 
 -- an operation that stores to a word leaves its value there
@@ -94,13 +110,16 @@ pub store_leaves : (n : NeverState) (c : ℕ) (op : Op) (number place : ℕ) →
 store_leaves n c (New d ty full) number place h stores = absurd stores
 store_leaves n c (Free p) number place h stores = absurd stores
 store_leaves n c (GetNum q i) number place h stores = absurd stores
-store_leaves n c (SetNum q i m) number place h stores = stored_in n _ number place _ h (left_reached _ n _ number place stores)
+store_leaves n c (SetNum q i m) number place h stores =
+    stored_in n _ number place _ h (left_reached _ n _ number place stores)
 store_leaves n c (GetPtr d q i) number place h stores = absurd stores
-store_leaves n c (SetPtr q i p) number place h stores = stored_in n _ number place _ h (left_reached _ n _ number place stores)
+store_leaves n c (SetPtr q i p) number place h stores =
+    stored_in n _ number place _ h (left_reached _ n _ number place stores)
 store_leaves n c (CasPtr q i p r) number place h stores =
     let exchanges : is_same (word_at n number place) (register_at n c p) ≡ true = same_from_equal _ _ stores.1 in
     stored_in n _ number place _ h
-    (left_reached _ n _ number place stores.0 ∙ ap (λ b. if b then with_word n number place (register_at n c r) else n) exchanges)
+    (left_reached _ n _ number place stores.0
+    ∙ ap (λ b. if b then with_word n number place (register_at n c r) else n) exchanges)
 store_leaves n c (Lea d q i) number place h stores = absurd stores
 store_leaves n c (Move d q) number place h stores = absurd stores
 store_leaves n c (Clear d) number place h stores = absurd stores
@@ -110,18 +129,22 @@ store_leaves n c (Same p q) number place h stores = absurd stores
 store_leaves n c (IsNull p) number place h stores = absurd stores
 
 -- a load from a word gives its value
-pub loads_give : (n : NeverState) (number place : ℕ) (v : Value) → word_at n number place ≡ v → LoadsGive n number place v
+pub loads_give : (n : NeverState) (number place : ℕ) (v : Value) → word_at n number place ≡ v
+    → LoadsGive n number place v
 loads_give n number place v is =
     record {
       a_number = λ c q i reaches. reply_reached _ _ number place reaches ∙ ap (λ v. Number (number_of v)) is;
       a_pointer = λ c d q i reaches. reply_reached _ _ number place reaches ∙ ap Val is;
       a_register = λ c d q i is_caller in_range reaches.
           let here : 8 * c + d < length n.registers = omega arith in
-          ap (λ m. register_at m c d) (left_reached _ (with_register n c d Null) (λ a w. with_register n c d (word_at n a w)) number place reaches)
+          ap (λ m. register_at m c d)
+          (left_reached _ (with_register n c d Null) (λ a w. with_register n c d (word_at n a w)) number place
+          reaches)
           ∙ get_or-set_same n.registers (8 * c + d) _ Null here ∙ is;
     }
 
-pub load_gives_stored : (n : NeverState) (c : ℕ) (op : Op) (calls : List Call) (number place : ℕ) → LoadGivesStored n c op calls number place
+pub load_gives_stored : (n : NeverState) (c : ℕ) (op : Op) (calls : List Call) (number place : ℕ)
+    → LoadGivesStored n c op calls number place
 load_gives_stored n c op calls number place h stores none =
     let stays : Continues n (after_op n c op) = op_stays n c op in
     let there : number < length n.allocations = exists n number place h in
@@ -130,23 +153,30 @@ load_gives_stored n c op calls number place h stores none =
     (calls_keep (after_op n c op) calls number place there' none ∙ store_leaves n c op number place h stores)
 
 -- an admitted access reaches a word that exists
-reached_is_inside : (n : NeverState) (v : Value) (i : ℕ) (P : Kind → Type 0) (number place : ℕ) → Meets n v i P → Reaches n v i number place
+reached_is_inside : (n : NeverState) (v : Value) (i : ℕ) (P : Kind → Type 0) (number place : ℕ) → Meets n v i P
+    → Reaches n v i number place
     → place < length (words_of n number)
 reached_is_inside n Null i P number place meets reaches = cc
 reached_is_inside n (Num m) i P number place meets reaches = cc
 reached_is_inside n (Ptr a ty offset) i P number place meets reaches =
-    if_by (λ t. t ≡ WordOf number place → place < length (words_of n number)) (is_unmapped (allocation_at n a)) Unmapped (WordOf a (offset + i))
-    (λ e reached. absurd (cc)) (λ e reached. let number_is : a ≡ number = cc in let place_is : offset + i ≡ place = cc in
-    subst (λ k. k < length (words_of n number)) place_is (subst (λ k. offset + i < length (words_of n k)) number_is meets.0)) reaches
+    if_by (λ t. t ≡ WordOf number place → place < length (words_of n number)) (is_unmapped (allocation_at n a)) Unmapped
+    (WordOf a (offset + i))
+    (λ e reached. absurd (cc)) (λ e reached. let number_is : a ≡ number = cc in let place_is : offset + i
+    ≡ place = cc in
+    subst (λ k. k < length (words_of n number)) place_is
+    (subst (λ k. offset + i < length (words_of n k)) number_is meets.0)) reaches
 
 pub store_is_inside : (n : NeverState) (c : ℕ) (op : Op) (number place : ℕ) → StoreIsInside n c op number place
 store_is_inside n c (New d ty full) number place access stores = absurd stores
 store_is_inside n c (Free p) number place access stores = absurd stores
 store_is_inside n c (GetNum q i) number place access stores = absurd stores
-store_is_inside n c (SetNum q i m) number place access stores = reached_is_inside n (register_at n c q) i IsNumber number place access stores
+store_is_inside n c (SetNum q i m) number place access stores =
+    reached_is_inside n (register_at n c q) i IsNumber number place access stores
 store_is_inside n c (GetPtr d q i) number place access stores = absurd stores
-store_is_inside n c (SetPtr q i p) number place access stores = reached_is_inside n (register_at n c q) i IsPointer number place access stores
-store_is_inside n c (CasPtr q i p r) number place access stores = reached_is_inside n (register_at n c q) i IsPointer number place access stores.0
+store_is_inside n c (SetPtr q i p) number place access stores =
+    reached_is_inside n (register_at n c q) i IsPointer number place access stores
+store_is_inside n c (CasPtr q i p r) number place access stores =
+    reached_is_inside n (register_at n c q) i IsPointer number place access stores.0
 store_is_inside n c (Lea d q i) number place access stores = absurd stores
 store_is_inside n c (Move d q) number place access stores = absurd stores
 store_is_inside n c (Clear d) number place access stores = absurd stores

@@ -1,22 +1,28 @@
 -- Admitted calls leave a typed state.
-use Rattle.std.proofs.Common.{◌≡◌, ℕ, zero, suc, ◌+◌, ◌*◌, Bool, List, [], ◌∷◌, Option, None, Some, replicate, get_or, refl, sym, subst, arith}
+use Rattle.std.proofs.Common.{◌≡◌, ℕ, zero, suc, ◌+◌, ◌*◌, Bool, List, [], ◌∷◌, Option, None, Some, replicate, get_or}
+use Rattle.std.proofs.Common.{refl, sym, subst, arith}
 use Rattle.std.specs.Prelude.{IfSome, slice_get}
 use Rattle.mk_never.specs.declared.types.Kind.{Kind}
 use Rattle.mk_never.specs.declared.types.Kind.TheVariants.{To}
 use Rattle.mk_never.specs.declared.values.Value.TheVariants.{Null, Num}
 use Rattle.mk_never.specs.declared.operations.Op.{Op}
-use Rattle.mk_never.specs.declared.operations.Op.TheVariants.{New, Free, GetNum, SetNum, GetPtr, SetPtr, CasPtr, Lea, Move, Clear, GetGlobal, SetGlobal, Same, IsNull}
-use Rattle.mk_never.specs.NeverHeap.{NeverState, Call, register_at, allocation_at, word_at, with_new, is_same, start_of, after_op}
-use Rattle.mk_never.specs.Admitted.{IsNumber, IsPointer, IsOfKind, OperandsAreInRange, AccessIsAdmitted, StoreIsAdmitted, IsAdmitted}
+use Rattle.mk_never.specs.declared.operations.Op.TheVariants.{New, Free, GetNum, SetNum, GetPtr, SetPtr, CasPtr, Lea}
+use Rattle.mk_never.specs.declared.operations.Op.TheVariants.{Move, Clear, GetGlobal, SetGlobal, Same, IsNull}
+use Rattle.mk_never.specs.NeverHeap.{NeverState, Call, register_at, allocation_at, word_at, with_new, is_same, start_of}
+use Rattle.mk_never.specs.NeverHeap.{after_op}
+use Rattle.mk_never.specs.Admitted.{IsNumber, IsPointer, IsOfKind, OperandsAreInRange, AccessIsAdmitted}
+use Rattle.mk_never.specs.Admitted.{StoreIsAdmitted, IsAdmitted}
 use Rattle.mk_never.specs.Typed.{IsSound, kind_in, IsTypedAllocation, IsTyped, KeepsTyped, StaysTyped}
 use Rattle.mk_never.proofs.Edits.{if_by}
 use Rattle.mk_never.proofs.Soundness.{number_suits, pointer_suits, suited_is_sound, moved_is_sound}
-use Rattle.mk_never.proofs.Typing.{typed_register, typed_global, typed_word, typed_new, typed_free, typed_access, new_is_sound}
+use Rattle.mk_never.proofs.Typing.{typed_register, typed_global, typed_word, typed_new, typed_free, typed_access}
+use Rattle.mk_never.proofs.Typing.{new_is_sound}
 
 module _ (listed : List ℕ) (n : NeverState) (c : ℕ) (typed : IsTyped listed n) where
   -- what an operation of these operands needs, and what it leaves
   abbrev Keeps : Op → Type 0
-  Keeps op = OperandsAreInRange n op → AccessIsAdmitted n c op → StoreIsAdmitted listed n c op → IsTyped listed (after_op n c op)
+  Keeps op = OperandsAreInRange n op → AccessIsAdmitted n c op → StoreIsAdmitted listed n c op
+      → IsTyped listed (after_op n c op)
 
   register_is_sound : (r : ℕ) → IsSound n (register_at n c r)
   register_is_sound r = typed.registers (8 * c + r)
@@ -34,23 +40,30 @@ module _ (listed : List ℕ) (n : NeverState) (c : ℕ) (typed : IsTyped listed 
   get_ptr_keeps : (d q i : ℕ) → Keeps (GetPtr d q i)
   get_ptr_keeps d q i in_range access store =
       typed_access listed n typed (register_at n c q) i IsPointer _ _ access (typed_register listed n typed c d Null tt)
-      (λ number place there inside is. let a : IsTypedAllocation n (allocation_at n number) = typed.allocations number there in
-      typed_register listed n typed c d _ (suited_is_sound n _ (kind_in n (allocation_at n number) place) is (a.words place inside)))
+      (λ number place there inside is. let a : IsTypedAllocation n (allocation_at n number) = typed.allocations number
+      there in
+      typed_register listed n typed c d _
+      (suited_is_sound n _ (kind_in n (allocation_at n number) place) is (a.words place inside)))
 
   set_ptr_keeps : (q i p : ℕ) → Keeps (SetPtr q i p)
   set_ptr_keeps q i p in_range access store =
       typed_access listed n typed (register_at n c q) i (IsOfKind (register_at n c p)) n _ store typed
-      (λ number place there inside is. typed_word listed n typed number place _ there (pointer_suits n _ _ (register_is_sound p) is))
+      (λ number place there inside is. typed_word listed n typed number place _ there
+      (pointer_suits n _ _ (register_is_sound p) is))
 
   cas_ptr_keeps : (q i p r : ℕ) → Keeps (CasPtr q i p r)
   cas_ptr_keeps q i p r in_range access store =
-      typed_access listed n typed (register_at n c q) i (λ kind. IsOfKind (register_at n c p) kind × IsOfKind (register_at n c r) kind) n _ store typed
-      (λ number place there inside is. if_by (λ m. IsTyped listed m) (is_same (word_at n number place) (register_at n c p)) _ _
-      (λ e. typed_word listed n typed number place _ there (pointer_suits n _ _ (register_is_sound r) is.1)) (λ e. typed))
+      typed_access listed n typed (register_at n c q) i (λ kind. IsOfKind (register_at n c p) kind
+      × IsOfKind (register_at n c r) kind) n _ store typed
+      (λ number place there inside is. if_by (λ m. IsTyped listed m)
+      (is_same (word_at n number place) (register_at n c p)) _ _
+      (λ e. typed_word listed n typed number place _ there (pointer_suits n _ _ (register_is_sound r) is.1))
+      (λ e. typed))
 
   lea_keeps : (d q i : ℕ) → Keeps (Lea d q i)
   lea_keeps d q i in_range access store =
-      typed_register listed n typed c d _ (moved_is_sound n (register_at n c q) i (λ kind. Unit {0}) typed.allocations (register_is_sound q) access)
+      typed_register listed n typed c d _
+      (moved_is_sound n (register_at n c q) i (λ kind. Unit {0}) typed.allocations (register_is_sound q) access)
 
   pub op_keeps : (op : Op) → Keeps op
   op_keeps (New d ty full) = new_keeps d ty full
@@ -72,7 +85,8 @@ pub calls_keep : (listed : List ℕ) (n : NeverState) (calls : List Call) → Ke
 calls_keep listed n [] typed admitted = typed
 calls_keep listed n (x ∷ xs) typed admitted =
     let first : IsAdmitted listed n x.caller x.op = admitted.0 in
-    calls_keep listed (after_op n x.caller x.op) xs (op_keeps listed n x.caller typed x.op first.in_range first.access first.store) admitted.1
+    calls_keep listed (after_op n x.caller x.op) xs
+    (op_keeps listed n x.caller typed x.op first.in_range first.access first.store) admitted.1
 
 null_at : (count k : ℕ) → get_or (replicate count Null) k Null ≡ Null
 null_at zero k = refl
@@ -83,15 +97,19 @@ always : (o : Option ℕ) → IfSome o (λ ty. Unit {0})
 always None = tt
 always (Some ty) = tt
 
-pub start_is_typed : (listed : List ℕ) (types : List (List Kind)) (callers : ℕ) → IsTyped listed (start_of types callers)
+pub start_is_typed : (listed : List ℕ) (types : List (List Kind)) (callers : ℕ)
+    → IsTyped listed (start_of types callers)
 start_is_typed listed types callers =
     let n = start_of types callers in
     record {
       allocations = λ number h. absurd (omega arith);
       registers = λ k. subst (λ v. IsSound n v) (sym (null_at (8 * callers) k)) tt;
       globals = λ g. subst (λ v. IsSound n v) (sym (null_at 64 g)) tt;
-      listed = λ g. subst (λ v. IfSome (slice_get listed g) (λ ty. IsOfKind v (To ty 0))) (sym (null_at 64 g)) (always (slice_get listed g));
+      listed = λ g. subst (λ v. IfSome (slice_get listed g) (λ ty. IsOfKind v (To ty 0))) (sym (null_at 64 g))
+          (always (slice_get listed g));
     }
 
-pub stays_typed : (listed : List ℕ) (types : List (List Kind)) (callers : ℕ) (calls : List Call) → StaysTyped listed types callers calls
-stays_typed listed types callers calls admitted = calls_keep listed (start_of types callers) calls (start_is_typed listed types callers) admitted
+pub stays_typed : (listed : List ℕ) (types : List (List Kind)) (callers : ℕ) (calls : List Call)
+    → StaysTyped listed types callers calls
+stays_typed listed types callers calls admitted =
+    calls_keep listed (start_of types callers) calls (start_is_typed listed types callers) admitted

@@ -1,5 +1,6 @@
 -- A state stays typed under admitted operations.
-use Rattle.std.proofs.Common.{ℕ, ◌+◌, ◌*◌, ◌<◌, false, List, [], length, set, refl, sym, ap, subst, ◌∙◌, inl, arith, length-set, length-append}
+use Rattle.std.proofs.Common.{ℕ, ◌+◌, ◌*◌, ◌<◌, false, List, [], length, set, refl, sym, ap, subst, ◌∙◌, inl, arith}
+use Rattle.std.proofs.Common.{length-set, length-append}
 use Rattle.std.proofs.lemmas.List.{length-map, get_or_at}
 use Rattle.std.specs.Prelude.{IfSome, slice_get}
 use Rattle.mk_never.specs.declared.types.Kind.{Kind}
@@ -8,7 +9,9 @@ use Rattle.mk_never.specs.declared.values.Value.{Value}
 use Rattle.mk_never.specs.declared.values.Value.TheVariants.{Null, Num, Ptr}
 use Rattle.mk_never.specs.declared.values.Target.TheVariants.{Unmapped, WordOf}
 use Rattle.mk_never.specs.Types.{kinds_of, zero_words}
-use Rattle.mk_never.specs.NeverHeap.{NeverState, Allocation, no_allocation, allocation_at, words_of, with_register, with_global, with_word, with_freed, with_new, is_unmapped, target_of, left_at, after_free}
+use Rattle.mk_never.specs.NeverHeap.{NeverState, Allocation, no_allocation, allocation_at, words_of, with_register}
+use Rattle.mk_never.specs.NeverHeap.{with_global, with_word, with_freed, with_new, is_unmapped, target_of, left_at}
+use Rattle.mk_never.specs.NeverHeap.{after_free}
 use Rattle.mk_never.specs.Admitted.{Meets, IsOfKind}
 use Rattle.mk_never.specs.Laws.{Continues}
 use Rattle.mk_never.specs.Typed.{IsSound, Suits, kind_in, IsTypedAllocation, IsTyped}
@@ -22,37 +25,44 @@ module _ (listed : List ℕ) (n : NeverState) (typed : IsTyped listed n) where
       let stays = register_stays n c d v in
       record {
         allocations = λ number h. allocation_kept n _ stays _ (typed.allocations number h);
-        registers = λ k. sound_kept n _ stays _ (set_by (λ x. IsSound n x) n.registers (8 * c + d) k v Null (λ e. sound) (typed.registers k));
+        registers = λ k. sound_kept n _ stays _
+            (set_by (λ x. IsSound n x) n.registers (8 * c + d) k v Null (λ e. sound) (typed.registers k));
         globals = λ g. sound_kept n _ stays _ (typed.globals g);
         listed = typed.listed;
       }
 
-  pub typed_global : (g : ℕ) (v : Value) → IsSound n v → IfSome (slice_get listed g) (λ ty. IsOfKind v (To ty 0)) → IsTyped listed (with_global n g v)
+  pub typed_global : (g : ℕ) (v : Value) → IsSound n v → IfSome (slice_get listed g) (λ ty. IsOfKind v (To ty 0))
+      → IsTyped listed (with_global n g v)
   typed_global g v sound of_kind =
       let stays = global_stays n g v in
       record {
         allocations = λ number h. allocation_kept n _ stays _ (typed.allocations number h);
         registers = λ k. sound_kept n _ stays _ (typed.registers k);
-        globals = λ k. sound_kept n _ stays _ (set_by (λ x. IsSound n x) n.globals g k v Null (λ e. sound) (typed.globals k));
+        globals = λ k. sound_kept n _ stays _
+            (set_by (λ x. IsSound n x) n.globals g k v Null (λ e. sound) (typed.globals k));
         listed = λ k. set_by (λ x. IfSome (slice_get listed k) (λ ty. IsOfKind x (To ty 0))) n.globals g k v Null
-            (λ e. subst (λ j. IfSome (slice_get listed j) (λ ty. IsOfKind v (To ty 0))) (sym e) of_kind) (typed.listed k);
+            (λ e. subst (λ j. IfSome (slice_get listed j) (λ ty. IsOfKind v (To ty 0))) (sym e) of_kind)
+            (typed.listed k);
       }
 
   -- an allocation becomes another that is typed
-  typed_edit : (number : ℕ) (new : Allocation) → Continues n (record n { allocations = set n.allocations number new }) → IsTypedAllocation n new
+  typed_edit : (number : ℕ) (new : Allocation) → Continues n (record n { allocations = set n.allocations number new })
+      → IsTypedAllocation n new
       → IsTyped listed (record n { allocations = set n.allocations number new })
   typed_edit number new stays new_typed =
       record {
         allocations = λ k h.
             let there : k < length n.allocations = omega (arith, length-set n.allocations number new) in
             allocation_kept n _ stays _
-            (set_by (λ a. IsTypedAllocation n a) n.allocations number k new no_allocation (λ e. new_typed) (typed.allocations k there));
+            (set_by (λ a. IsTypedAllocation n a) n.allocations number k new no_allocation (λ e. new_typed)
+            (typed.allocations k there));
         registers = λ k. sound_kept n _ stays _ (typed.registers k);
         globals = λ g. sound_kept n _ stays _ (typed.globals g);
         listed = typed.listed;
       }
 
-  pub typed_word : (number place : ℕ) (v : Value) → number < length n.allocations → Suits n v (kind_in n (allocation_at n number) place)
+  pub typed_word : (number place : ℕ) (v : Value) → number < length n.allocations
+      → Suits n v (kind_in n (allocation_at n number) place)
       → IsTyped listed (with_word n number place v)
   typed_word number place v there suits =
       let before = typed.allocations number there in
@@ -74,7 +84,8 @@ module _ (listed : List ℕ) (n : NeverState) (typed : IsTyped listed n) where
   typed_new ty in_range =
       let stays = new_stays n ty in
       let new : Allocation = record { ty = ty; words = zero_words (kinds_of n.types ty); freed = false } in
-      let new_typed : IsTypedAllocation n new = record { ty = in_range; size = length-map _ _; words = zero_suits n (kinds_of n.types ty) } in
+      let new_typed : IsTypedAllocation n new =
+      record { ty = in_range; size = length-map _ _; words = zero_suits n (kinds_of n.types ty) } in
       record {
         allocations = λ k h. allocation_kept n _ stays _
             (push_by (λ a. IsTypedAllocation n a) n.allocations new no_allocation k h new_typed (typed.allocations k));
@@ -89,17 +100,23 @@ module _ (listed : List ℕ) (n : NeverState) (typed : IsTyped listed n) where
   typed_free (Ptr number ty offset) sound = typed_freed number sound.0
 
   -- an access leaves a typed state where it does so at the word that it reaches
-  pub typed_access : (v : Value) (i : ℕ) (Q : Kind → Type 0) (refused : NeverState) (at : ℕ → ℕ → NeverState) → Meets n v i Q → IsTyped listed refused
-      → ((number place : ℕ) → number < length n.allocations → place < length (words_of n number) → Q (kind_in n (allocation_at n number) place)
+  pub typed_access : (v : Value) (i : ℕ) (Q : Kind → Type 0) (refused : NeverState) (at : ℕ → ℕ → NeverState)
+      → Meets n v i Q → IsTyped listed refused
+      → ((number place : ℕ) → number < length n.allocations → place < length (words_of n number)
+      → Q (kind_in n (allocation_at n number) place)
       → IsTyped listed (at number place))
       → IsTyped listed (left_at (target_of n v i) refused at)
   typed_access Null i Q refused at meets kept reached = kept
   typed_access (Num m) i Q refused at meets kept reached = kept
   typed_access (Ptr number ty offset) i Q refused at meets kept reached =
-      if_by (λ t. IsTyped listed (left_at t refused at)) (is_unmapped (allocation_at n number)) Unmapped (WordOf number (offset + i))
+      if_by (λ t. IsTyped listed (left_at t refused at)) (is_unmapped (allocation_at n number)) Unmapped
+      (WordOf number (offset + i))
       (λ e. kept) (λ e. reached number (offset + i) (exists n number (offset + i) meets.0) meets.0 meets.1)
 
 -- the pointer that a New gives
 pub new_is_sound : (n : NeverState) (ty : ℕ) → IsSound (with_new n ty) (Ptr (length n.allocations) ty 0)
-new_is_sound n ty =
-    (simp length-append (omega arith), sym (ap (λ a. a.ty) (get_or_at n.allocations _ [] no_allocation (length n.allocations) refl)), inl refl)
+new_is_sound n ty = (
+  simp length-append (omega arith),
+  sym (ap (λ a. a.ty) (get_or_at n.allocations _ [] no_allocation (length n.allocations) refl)),
+  inl refl,
+)

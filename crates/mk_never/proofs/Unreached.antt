@@ -1,5 +1,6 @@
 -- What isn't reached stays so: operations get their pointers from where reached ones stand.
-use Rattle.std.proofs.Common.{◌≡◌, ◌⊎◌, inl, inr, ℕ, zero, suc, ◌+◌, ◌*◌, ◌<◌, Bool, true, false, ◌&&◌, List, [], ◌∷◌, ◌++◌, length, map, get_or, refl, sym, subst, arith, length-set}
+use Rattle.std.proofs.Common.{◌≡◌, ◌⊎◌, inl, inr, ℕ, zero, suc, ◌+◌, ◌*◌, ◌<◌, Bool, true, false, ◌&&◌, List, [], ◌∷◌}
+use Rattle.std.proofs.Common.{◌++◌, length, map, get_or, refl, sym, subst, arith, length-set}
 use Rattle.std.specs.Prelude.{nat_lt, IsTrue}
 use Rattle.std.proofs.lemmas.List.{get_or_past}
 use Rattle.mk_never.specs.declared.types.Kind.{Kind}
@@ -9,11 +10,15 @@ use Rattle.mk_never.specs.declared.values.Value.TheVariants.{Null, Num, Ptr}
 use Rattle.mk_never.specs.declared.values.Target.{Target}
 use Rattle.mk_never.specs.declared.values.Target.TheVariants.{Unmapped, WordOf}
 use Rattle.mk_never.specs.declared.operations.Op.{Op}
-use Rattle.mk_never.specs.declared.operations.Op.TheVariants.{New, Free, GetNum, SetNum, GetPtr, SetPtr, CasPtr, Lea, Move, Clear, GetGlobal, SetGlobal, Same, IsNull}
+use Rattle.mk_never.specs.declared.operations.Op.TheVariants.{New, Free, GetNum, SetNum, GetPtr, SetPtr, CasPtr, Lea}
+use Rattle.mk_never.specs.declared.operations.Op.TheVariants.{Move, Clear, GetGlobal, SetGlobal, Same, IsNull}
 use Rattle.mk_never.specs.Types.{kinds_of, zero_of, zero_words}
-use Rattle.mk_never.specs.NeverHeap.{NeverState, Call, no_allocation, register_at, allocation_at, words_of, word_at, with_register, with_global, with_word, with_freed, with_new, is_same, is_unmapped, is_granted, target_of, left_at, moved_on, after_free, after_op}
+use Rattle.mk_never.specs.NeverHeap.{NeverState, Call, no_allocation, register_at, allocation_at, words_of, word_at}
+use Rattle.mk_never.specs.NeverHeap.{with_register, with_global, with_word, with_freed, with_new, is_same, is_unmapped}
+use Rattle.mk_never.specs.NeverHeap.{is_granted, target_of, left_at, moved_on, after_free, after_op}
 use Rattle.mk_never.specs.Laws.{Continues, Reaches}
-use Rattle.mk_never.specs.Reach.{LeadsTo, WordLeadsTo, IsReached, by_register, by_global, by_word, AccessIsToReached, ReachGrowsByGrants, UnreachedStays}
+use Rattle.mk_never.specs.Reach.{LeadsTo, WordLeadsTo, IsReached, by_register, by_global, by_word, AccessIsToReached}
+use Rattle.mk_never.specs.Reach.{ReachGrowsByGrants, UnreachedStays}
 use Rattle.mk_never.proofs.Edits.{left_at_by, if_by, set_by}
 use Rattle.mk_never.proofs.Later.{op_stays}
 use Rattle.mk_never.proofs.Reached.{reached_is_in}
@@ -27,7 +32,8 @@ abbrev ReachesNoMore : NeverState → NeverState → Type 0
 ReachesNoMore n m = (number : ℕ) → IsReached m number → IsReached n number
 
 -- what holds of the appended element and of what stood at the place holds of what stands there
-push_keeps : {A : Type 0} (P : A → Type 0) (xs : List A) (x d : A) (k : ℕ) → P x → P (get_or xs k d) → P (get_or (xs ++ x ∷ []) k d)
+push_keeps : {A : Type 0} (P : A → Type 0) (xs : List A) (x d : A) (k : ℕ) → P x → P (get_or xs k d)
+    → P (get_or (xs ++ x ∷ []) k d)
 push_keeps P [] x d zero new old = new
 push_keeps P [] x d (suc k) new old = old
 push_keeps P (y ∷ xs) x d zero new old = old
@@ -41,13 +47,17 @@ zeros_lead_nowhere (To ty offset ∷ kinds) zero number leads = leads
 zeros_lead_nowhere (kind ∷ kinds) (suc place) number leads = zeros_lead_nowhere kinds place number leads
 
 -- an access gets to a word of the allocation that its pointer leads to, which isn't unmapped
-target_leads : (n : NeverState) (v : Value) (i number place : ℕ) → Reaches n v i number place → LeadsTo v number × (is_unmapped (allocation_at n number) ≡ false)
+target_leads : (n : NeverState) (v : Value) (i number place : ℕ) → Reaches n v i number place
+    → LeadsTo v number × (is_unmapped (allocation_at n number) ≡ false)
 target_leads n Null i number place reaches = absurd (cc)
 target_leads n (Num m) i number place reaches = absurd (cc)
 target_leads n (Ptr a ty offset) i number place reaches =
-    if_by (λ t. t ≡ WordOf number place → (a ≡ number) × (is_unmapped (allocation_at n number) ≡ false)) (is_unmapped (allocation_at n a)) Unmapped (WordOf a (offset + i))
+    if_by (λ t. t ≡ WordOf number place
+    → (a ≡ number) × (is_unmapped (allocation_at n number) ≡ false)) (is_unmapped (allocation_at n a)) Unmapped
+    (WordOf a (offset + i))
     (λ e reached. absurd (cc))
-    (λ e reached. let number_is : a ≡ number = cc in (number_is, subst (λ k. is_unmapped (allocation_at n k) ≡ false) number_is e)) reaches
+    (λ e reached. let number_is : a
+    ≡ number = cc in (number_is, subst (λ k. is_unmapped (allocation_at n k) ≡ false) number_is e)) reaches
 
 -- a large allocation that was not unmapped before it was freed
 was_mapped : (freed large : Bool) → (true && large) ≡ false → (freed && large) ≡ false
@@ -71,7 +81,8 @@ module _ (n : NeverState) where
   register_adds_none c d v only =
       reached_is_in (with_register n c d v) (IsReached n)
       record {
-        registers = λ k number. set_by (λ x. LeadsTo x number → IsReached n number) n.registers (8 * c + d) k v Null (λ e. only number) (by_register k number);
+        registers = λ k number. set_by (λ x. LeadsTo x number
+            → IsReached n number) n.registers (8 * c + d) k v Null (λ e. only number) (by_register k number);
         globals = by_global;
         words = by_word;
       }
@@ -81,7 +92,8 @@ module _ (n : NeverState) where
       reached_is_in (with_global n g v) (IsReached n)
       record {
         registers = by_register;
-        globals = λ k number. set_by (λ x. LeadsTo x number → IsReached n number) n.globals g k v Null (λ e. only number) (by_global k number);
+        globals = λ k number. set_by (λ x. LeadsTo x number
+            → IsReached n number) n.globals g k v Null (λ e. only number) (by_global k number);
         words = by_word;
       }
 
@@ -92,10 +104,14 @@ module _ (n : NeverState) where
         registers = by_register;
         globals = by_global;
         words = λ from place number reached leads.
-            set_by (λ b. is_unmapped b ≡ false → LeadsTo (get_or b.words place Null) number → IsReached n number) n.allocations a from _ no_allocation
-            (λ e mapped. set_by (λ x. LeadsTo x number → IsReached n number) (words_of n a) w place v Null (λ e'. only number)
-            (λ leads'. by_word from place number reached (subst (λ j. WordLeadsTo n j place number) (sym e)
-            (subst (λ l. ((allocation_at n a).freed && nat_lt 32 l) ≡ false) (length-set (words_of n a) w v) mapped, leads'))))
+            set_by (λ b. is_unmapped b ≡ false → LeadsTo (get_or b.words place Null) number
+            → IsReached n number) n.allocations a from _ no_allocation
+            (λ e mapped. set_by (λ x. LeadsTo x number
+            → IsReached n number) (words_of n a) w place v Null (λ e'. only number)
+            (λ leads'. by_word from place number reached (subst (λ j. WordLeadsTo n j place number) (sym e) (
+              subst (λ l. ((allocation_at n a).freed && nat_lt 32 l) ≡ false) (length-set (words_of n a) w v) mapped,
+              leads',
+            ))))
             (λ mapped leads'. by_word from place number reached (mapped, leads')) leads.0 leads.1;
       }
 
@@ -106,8 +122,10 @@ module _ (n : NeverState) where
         registers = by_register;
         globals = by_global;
         words = λ from place number reached leads.
-            set_by (λ b. is_unmapped b ≡ false → LeadsTo (get_or b.words place Null) number → IsReached n number) n.allocations a from _ no_allocation
-            (λ e mapped leads'. by_word from place number reached (subst (λ j. WordLeadsTo n j place number) (sym e) (was_mapped _ _ mapped, leads')))
+            set_by (λ b. is_unmapped b ≡ false → LeadsTo (get_or b.words place Null) number
+            → IsReached n number) n.allocations a from _ no_allocation
+            (λ e mapped leads'. by_word from place number reached
+            (subst (λ j. WordLeadsTo n j place number) (sym e) (was_mapped _ _ mapped, leads')))
             (λ mapped leads'. by_word from place number reached (mapped, leads')) leads.0 leads.1;
       }
 
@@ -120,20 +138,24 @@ module _ (n : NeverState) where
   abbrev IsReachedOrNew : ℕ → Type 0
   IsReachedOrNew number = IsReached n number ⊎ (number ≡ length n.allocations)
 
-  new_adds_one : (c d ty number : ℕ) → IsReached (with_register (with_new n ty) c d (Ptr (length n.allocations) ty 0)) number → IsReachedOrNew number
+  new_adds_one : (c d ty number : ℕ)
+      → IsReached (with_register (with_new n ty) c d (Ptr (length n.allocations) ty 0)) number → IsReachedOrNew number
   new_adds_one c d ty =
       reached_is_in (with_register (with_new n ty) c d (Ptr (length n.allocations) ty 0)) IsReachedOrNew
       record {
-        registers = λ k number. set_by (λ x. LeadsTo x number → IsReachedOrNew number) n.registers (8 * c + d) k (Ptr (length n.allocations) ty 0) Null
+        registers = λ k number. set_by (λ x. LeadsTo x number
+            → IsReachedOrNew number) n.registers (8 * c + d) k (Ptr (length n.allocations) ty 0) Null
             (λ e new. inr (sym new)) (λ leads. inl (by_register k number leads));
         globals = λ g number leads. inl (by_global g number leads);
         words = λ from place number old leads.
-            push_keeps (λ b. is_unmapped b ≡ false → LeadsTo (get_or b.words place Null) number → IsReachedOrNew number) n.allocations
+            push_keeps (λ b. is_unmapped b ≡ false → LeadsTo (get_or b.words place Null) number
+            → IsReachedOrNew number) n.allocations
             record { ty = ty; words = zero_words (kinds_of n.types ty); freed = false } no_allocation from
             (λ mapped leads'. absurd (zeros_lead_nowhere (kinds_of n.types ty) place number leads'))
             (λ mapped leads'. old_word from place number old (mapped, leads')) leads.0 leads.1;
       } where
-        old_word : (from place number : ℕ) → IsReachedOrNew from → WordLeadsTo n from place number → IsReachedOrNew number
+        old_word : (from place number : ℕ) → IsReachedOrNew from → WordLeadsTo n from place number
+            → IsReachedOrNew number
         old_word from place number (inl reached) leads = inl (by_word from place number reached leads)
         old_word from place number (inr new) leads =
             absurd (subst (λ a. LeadsTo (get_or a.words place Null) number)
@@ -141,8 +163,10 @@ module _ (n : NeverState) where
             (subst (λ k. LeadsTo (word_at n k place) number) new leads.1))
 
 -- an access reaches no more where what it leaves at the word that it gets to doesn't
-access_adds_none : (n : NeverState) (t : Target) (refused : NeverState) (at : ℕ → ℕ → NeverState) → ReachesNoMore n refused
-    → ((number place : ℕ) → t ≡ WordOf number place → ReachesNoMore n (at number place)) → ReachesNoMore n (left_at t refused at)
+access_adds_none : (n : NeverState) (t : Target) (refused : NeverState) (at : ℕ → ℕ → NeverState)
+    → ReachesNoMore n refused
+    → ((number place : ℕ) → t ≡ WordOf number place → ReachesNoMore n (at number place))
+    → ReachesNoMore n (left_at t refused at)
 access_adds_none n t refused at kept got = left_at_by (λ m. ReachesNoMore n m) t refused at kept got
 
 same_adds_none : (n : NeverState) → ReachesNoMore n n
@@ -161,7 +185,8 @@ module _ (n : NeverState) (c : ℕ) where
   load_adds_none : (d q i : ℕ) → ReachesNoMore n (after_op n c (GetPtr d q i))
   load_adds_none d q i =
       access_adds_none n (target_of n (register_at n c q) i) _ _ (register_adds_none n c d Null (null_leads n))
-      (λ number place got. register_adds_none n c d (word_at n number place) (word_leads n (register_at n c q) i number place (at_register q) got))
+      (λ number place got. register_adds_none n c d (word_at n number place)
+      (word_leads n (register_at n c q) i number place (at_register q) got))
 
   exchange_adds_none : (q i p r : ℕ) → ReachesNoMore n (after_op n c (CasPtr q i p r))
   exchange_adds_none q i p r =
@@ -192,7 +217,8 @@ module _ (n : NeverState) (c : ℕ) where
       λ reached. inl (register_adds_none n c d _ (moved_leads n (register_at n c q) i (at_register q)) number reached)
   reach_grows_by_grants (Move d q) number = λ reached. inl (register_adds_none n c d _ (at_register q) number reached)
   reach_grows_by_grants (Clear d) number = λ reached. inl (register_adds_none n c d Null (null_leads n) number reached)
-  reach_grows_by_grants (GetGlobal d g) number = λ reached. inl (register_adds_none n c d _ (λ k leads. by_global g k leads) number reached)
+  reach_grows_by_grants (GetGlobal d g) number =
+      λ reached. inl (register_adds_none n c d _ (λ k leads. by_global g k leads) number reached)
   reach_grows_by_grants (SetGlobal g p) number = λ reached. inl (global_adds_none n g _ (at_register p) number reached)
   reach_grows_by_grants (Same p q) number = λ reached. inl reached
   reach_grows_by_grants (IsNull p) number = λ reached. inl reached
@@ -206,7 +232,8 @@ unreached_stays n [] number there reached = reached
 unreached_stays n (x ∷ xs) number there reached =
     let stays : Continues n (after_op n x.caller x.op) = op_stays n x.caller x.op in
     let there' : number < length (after_op n x.caller x.op).allocations = omega (arith, stays.count) in
-    was_there (reach_grows_by_grants n x.caller x.op number (unreached_stays (after_op n x.caller x.op) xs number there' reached)) where
+    was_there (reach_grows_by_grants n x.caller x.op number
+    (unreached_stays (after_op n x.caller x.op) xs number there' reached)) where
       was_there : IsReached n number ⊎ (IsTrue (is_granted x.op) × (number ≡ length n.allocations)) → IsReached n number
       was_there (inl old) = old
       was_there (inr granted) = let new : number ≡ length n.allocations = granted.1 in absurd (omega arith)

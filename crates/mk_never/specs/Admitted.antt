@@ -1,11 +1,13 @@
 -- Which operations the heap that never reuses storage is asked: what a checked program keeps to.
-use Rattle.std.specs.Prelude.{◌≡◌, ℕ, ◌+◌, ◌*◌, ◌<◌, false, List, [], ◌∷◌, length, slice_index_or, slice_get, IfSome, IsTrue}
+use Rattle.std.specs.Prelude.{◌≡◌, ℕ, ◌+◌, ◌*◌, ◌<◌, false, List, [], ◌∷◌, length, slice_index_or, slice_get, IfSome}
+use Rattle.std.specs.Prelude.{IsTrue}
 use Rattle.mk_never.specs.declared.types.Kind.{Kind}
 use Rattle.mk_never.specs.declared.types.Kind.TheVariants.{Num as Number, To}
 use Rattle.mk_never.specs.declared.values.Value.{Value}
 use Rattle.mk_never.specs.declared.values.Value.TheVariants.{Null, Num, Ptr}
 use Rattle.mk_never.specs.declared.operations.Op.{Op}
-use Rattle.mk_never.specs.declared.operations.Op.TheVariants.{New, Free, GetNum, SetNum, GetPtr, SetPtr, CasPtr, Lea, Move, Clear, GetGlobal, SetGlobal, Same, IsNull}
+use Rattle.mk_never.specs.declared.operations.Op.TheVariants.{New, Free, GetNum, SetNum, GetPtr, SetPtr, CasPtr, Lea}
+use Rattle.mk_never.specs.declared.operations.Op.TheVariants.{Move, Clear, GetGlobal, SetGlobal, Same, IsNull}
 use Rattle.mk_never.specs.Types.{kinds_of, is_number}
 use Rattle.mk_never.specs.NeverHeap.{NeverState, Call, register_at, allocation_at, words_of, after_op}
 
@@ -35,7 +37,8 @@ abbrev pub Meets : NeverState → Value → ℕ → (Kind → Type 0) → Type 0
 Meets n Null i P = Unit {0}
 Meets n (Num m) i P = Unit {0}
 Meets n (Ptr number ty offset) i P =
-    (offset + i < length (words_of n number)) × P (slice_index_or (kinds_of n.types (allocation_at n number).ty) (offset + i) Number)
+    (offset + i < length (words_of n number))
+    × P (slice_index_or (kinds_of n.types (allocation_at n number).ty) (offset + i) Number)
 
 abbrev pub IsNumber : Kind → Type 0
 IsNumber kind = IsTrue (is_number kind)
@@ -89,7 +92,8 @@ StoreIsAdmitted globals n c (Lea d q i) = Unit {0}
 StoreIsAdmitted globals n c (Move d q) = Unit {0}
 StoreIsAdmitted globals n c (Clear d) = Unit {0}
 StoreIsAdmitted globals n c (GetGlobal d g) = Unit {0}
-StoreIsAdmitted globals n c (SetGlobal g p) = IfSome (slice_get globals g) (λ ty. IsOfKind (register_at n c p) (To ty 0))
+StoreIsAdmitted globals n c (SetGlobal g p) =
+    IfSome (slice_get globals g) (λ ty. IsOfKind (register_at n c p) (To ty 0))
 StoreIsAdmitted globals n c (Same p q) = Unit {0}
 StoreIsAdmitted globals n c (IsNull p) = Unit {0}
 

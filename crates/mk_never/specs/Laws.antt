@@ -4,10 +4,12 @@ use Rattle.mk_never.specs.declared.values.Value.{Value}
 use Rattle.mk_never.specs.declared.values.Value.TheVariants.{Null, Num, Ptr}
 use Rattle.mk_never.specs.declared.values.Target.TheVariants.{WordOf}
 use Rattle.mk_never.specs.declared.operations.Op.{Op}
-use Rattle.mk_never.specs.declared.operations.Op.TheVariants.{New, Free, GetNum, SetNum, GetPtr, SetPtr, CasPtr, Lea, Move, Clear, GetGlobal, SetGlobal, Same, IsNull}
+use Rattle.mk_never.specs.declared.operations.Op.TheVariants.{New, Free, GetNum, SetNum, GetPtr, SetPtr, CasPtr, Lea}
+use Rattle.mk_never.specs.declared.operations.Op.TheVariants.{Move, Clear, GetGlobal, SetGlobal, Same, IsNull}
 use Rattle.mk_never.specs.declared.operations.Reply.TheVariants.{Num as Number, Val}
 use Rattle.mk_never.specs.Types.{kinds_of, zero_words}
-use Rattle.mk_never.specs.NeverHeap.{NeverState, Call, register_at, allocation_at, words_of, word_at, target_of, number_of, reply_of, after_op, after_calls, replies_of}
+use Rattle.mk_never.specs.NeverHeap.{NeverState, Call, register_at, allocation_at, words_of, word_at, target_of}
+use Rattle.mk_never.specs.NeverHeap.{number_of, reply_of, after_op, after_calls, replies_of}
 use Rattle.mk_never.specs.Admitted.{IsCaller, AccessIsAdmitted, AreAdmitted}
 
 -- Each allocation of n is in m, of the same type and as many words, and what is freed in n is freed in m.
@@ -24,7 +26,8 @@ pub record Continues (n m : NeverState) : Type 0 where
 -- An allocation's type and the number of its words are as they were.
 abbrev pub TypeStays : NeverState → NeverState → ℕ → Type 0
 TypeStays n m number =
-    ((allocation_at m number).ty ≡ (allocation_at n number).ty) × (length (words_of m number) ≡ length (words_of n number))
+    ((allocation_at m number).ty ≡ (allocation_at n number).ty)
+    × (length (words_of m number) ≡ length (words_of n number))
 
 -- What is freed is still freed.
 abbrev pub FreedStays : NeverState → NeverState → ℕ → Type 0
@@ -38,7 +41,8 @@ SameTells n caller p q = (reply_of n caller (Same p q) ≡ Number 1) ↔ (regist
 -- The register points to its first word.
 pub record AddsNew (n m : NeverState) (caller r ty : ℕ) : Type 0 where
   pub count : length m.allocations ≡ length n.allocations + 1
-  pub made : allocation_at m (length n.allocations) ≡ record { ty = ty; words = zero_words (kinds_of n.types ty); freed = false }
+  pub made : allocation_at m (length n.allocations)
+      ≡ record { ty = ty; words = zero_words (kinds_of n.types ty); freed = false }
   pub register : register_at m caller r ≡ Ptr (length n.allocations) ty 0
 
 -- A New that isn't refused adds an allocation.
@@ -150,7 +154,8 @@ StoreLeaves n caller op number place =
 -- After a store, and any calls that don't store to the word, a load from it gives the value that was stored.
 abbrev pub LoadGivesStored : NeverState → ℕ → Op → List Call → ℕ → ℕ → Type 0
 LoadGivesStored n caller op calls number place =
-    place < length (words_of n number) → StoresTo n caller op number place → NoneStoresTo (after_op n caller op) calls number place
+    place < length (words_of n number) → StoresTo n caller op number place
+    → NoneStoresTo (after_op n caller op) calls number place
     → LoadsGive (after_calls (after_op n caller op) calls) number place (stored_value n caller op)
 
 -- Calls leave what the later ones leave behind the earlier.
@@ -159,9 +164,11 @@ LeavesInParts n earlier later = after_calls n (earlier ++ later) ≡ after_calls
 
 -- Calls have the replies to the earlier ones, and then those to the later ones behind them.
 abbrev pub RepliesInParts : NeverState → List Call → List Call → Type 0
-RepliesInParts n earlier later = replies_of n (earlier ++ later) ≡ replies_of n earlier ++ replies_of (after_calls n earlier) later
+RepliesInParts n earlier later = replies_of n (earlier ++ later)
+    ≡ replies_of n earlier ++ replies_of (after_calls n earlier) later
 
 -- Calls are admitted where the earlier ones are, and the later ones behind them.
 abbrev pub AdmittedInParts : List ℕ → NeverState → List Call → List Call → Type 0
 AdmittedInParts globals n earlier later =
-    AreAdmitted globals n (earlier ++ later) ↔ (AreAdmitted globals n earlier × AreAdmitted globals (after_calls n earlier) later)
+    AreAdmitted globals n (earlier ++ later)
+    ↔ (AreAdmitted globals n earlier × AreAdmitted globals (after_calls n earlier) later)

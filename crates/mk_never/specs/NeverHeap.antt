@@ -1,14 +1,17 @@
 -- The heap that never reuses storage: what each operation replies and leaves.
-use Rattle.std.specs.Prelude.{ℕ, ◌+◌, ◌*◌, Bool, true, false, ◌&&◌, if◌then◌else◌, List, [], ◌∷◌, ◌++◌, length, replicate, slice_index_or, slice_set, ◌==◌}
+use Rattle.std.specs.Prelude.{ℕ, ◌+◌, ◌*◌, Bool, true, false, ◌&&◌, if◌then◌else◌, List, [], ◌∷◌, ◌++◌, length}
+use Rattle.std.specs.Prelude.{replicate, slice_index_or, slice_set, ◌==◌}
 use Rattle.mk_never.specs.declared.types.Kind.{Kind}
 use Rattle.mk_never.specs.declared.values.Value.{Value}
 use Rattle.mk_never.specs.declared.values.Value.TheVariants.{Null, Num, Ptr}
 use Rattle.mk_never.specs.declared.values.Target.{Target}
 use Rattle.mk_never.specs.declared.values.Target.TheVariants.{Nothing, Unmapped, WordOf}
 use Rattle.mk_never.specs.declared.operations.Op.{Op}
-use Rattle.mk_never.specs.declared.operations.Op.TheVariants.{New, Free, GetNum, SetNum, GetPtr, SetPtr, CasPtr, Lea, Move, Clear, GetGlobal, SetGlobal, Same, IsNull}
+use Rattle.mk_never.specs.declared.operations.Op.TheVariants.{New, Free, GetNum, SetNum, GetPtr, SetPtr, CasPtr, Lea}
+use Rattle.mk_never.specs.declared.operations.Op.TheVariants.{Move, Clear, GetGlobal, SetGlobal, Same, IsNull}
 use Rattle.mk_never.specs.declared.operations.Reply.{Reply}
-use Rattle.mk_never.specs.declared.operations.Reply.TheVariants.{Done, Num as Number, Val, Full, Fault, Null as WasNull, Double}
+use Rattle.mk_never.specs.declared.operations.Reply.TheVariants.{Done, Num as Number, Val, Full, Fault, Null as WasNull}
+use Rattle.mk_never.specs.declared.operations.Reply.TheVariants.{Double}
 use Rattle.mk_never.specs.Types.{kinds_of, is_large, zero_words}
 
 -- an allocation: the type that it was made for, its words, and whether it was freed
@@ -54,7 +57,10 @@ word_at n number place = slice_index_or (words_of n number) place Null
 
 abbrev pub with_word : NeverState → ℕ → ℕ → Value → NeverState
 with_word n number place value =
-    record n { allocations = slice_set n.allocations number (record (allocation_at n number) { words = slice_set (words_of n number) place value }) }
+    record n {
+      allocations = slice_set n.allocations number
+          (record (allocation_at n number) { words = slice_set (words_of n number) place value });
+    }
 
 abbrev pub with_freed : NeverState → ℕ → NeverState
 with_freed n number =
@@ -63,7 +69,13 @@ with_freed n number =
 -- a new object of a type, at the end
 abbrev pub with_new : NeverState → ℕ → NeverState
 with_new n ty =
-    record n { allocations = n.allocations ++ record { ty = ty; words = zero_words (kinds_of n.types ty); freed = false } ∷ [] }
+    record n {
+      allocations = n.allocations ++ record {
+        ty = ty;
+        words = zero_words (kinds_of n.types ty);
+        freed = false;
+      } ∷ [];
+    }
 
 -- the pages of a freed large allocation are unmapped
 abbrev pub is_unmapped : Allocation → Bool
@@ -73,7 +85,8 @@ is_unmapped a = a.freed && is_large a.words
 abbrev pub target_of : NeverState → Value → ℕ → Target
 target_of n Null i = Nothing
 target_of n (Num m) i = Nothing
-target_of n (Ptr number ty offset) i = if is_unmapped (allocation_at n number) then Unmapped else WordOf number (offset + i)
+target_of n (Ptr number ty offset) i = if is_unmapped (allocation_at n number) then Unmapped
+    else WordOf number (offset + i)
 
 abbrev pub number_of : Value → ℕ
 number_of Null = 0

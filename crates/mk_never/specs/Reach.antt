@@ -3,7 +3,8 @@ use Rattle.std.specs.Prelude.{◌≡◌, ◌⊎◌, ℕ, ◌<◌, Bool, false, I
 use Rattle.mk_never.specs.declared.values.Value.{Value}
 use Rattle.mk_never.specs.declared.values.Value.TheVariants.{Null, Num, Ptr}
 use Rattle.mk_never.specs.declared.operations.Op.{Op}
-use Rattle.mk_never.specs.NeverHeap.{NeverState, Call, register_at, allocation_at, global_at, word_at, is_unmapped, after_op, after_calls, is_granted}
+use Rattle.mk_never.specs.NeverHeap.{NeverState, Call, register_at, allocation_at, global_at, word_at, is_unmapped}
+use Rattle.mk_never.specs.NeverHeap.{after_op, after_calls, is_granted}
 use Rattle.mk_never.specs.Laws.{Reaches}
 
 -- The value is a pointer into the allocation.
@@ -12,7 +13,8 @@ LeadsTo Null number = ⊥
 LeadsTo (Num m) number = ⊥
 LeadsTo (Ptr number' ty offset) number = number' ≡ number
 
--- The word is a pointer into the allocation. The words of a freed large allocation lead nowhere, as its pages are unmapped.
+-- The word is a pointer into the allocation. The words of a freed large allocation lead nowhere, as its pages are
+-- unmapped.
 abbrev pub WordLeadsTo : NeverState → ℕ → ℕ → ℕ → Type 0
 WordLeadsTo n from place number = (is_unmapped (allocation_at n from) ≡ false) × LeadsTo (word_at n from place) number
 
@@ -30,7 +32,8 @@ pub record IsClosedUnderPointers (n : NeverState) (S : ℕ → Type 0) : Type 0 
 
 -- A set that is closed under pointers has all that is reached.
 abbrev pub ReachIsLeast : NeverState → (ℕ → Bool) → Type 0
-ReachIsLeast n S = IsClosedUnderPointers n (λ number. IsTrue (S number)) → (number : ℕ) → IsReached n number → IsTrue (S number)
+ReachIsLeast n S = IsClosedUnderPointers n (λ number. IsTrue (S number)) → (number : ℕ) → IsReached n number
+    → IsTrue (S number)
 
 -- An access gets to words of reached allocations alone.
 abbrev pub AccessIsToReached : NeverState → ℕ → ℕ → ℕ → ℕ → ℕ → Type 0
@@ -39,8 +42,10 @@ AccessIsToReached n caller q i number place = Reaches n (register_at n caller q)
 -- Behind an operation nothing is reached but what was before, and what the operation grants.
 abbrev pub ReachGrowsByGrants : NeverState → ℕ → Op → ℕ → Type 0
 ReachGrowsByGrants n caller op number =
-    IsReached (after_op n caller op) number → IsReached n number ⊎ (IsTrue (is_granted op) × (number ≡ length n.allocations))
+    IsReached (after_op n caller op) number
+    → IsReached n number ⊎ (IsTrue (is_granted op) × (number ≡ length n.allocations))
 
 -- An old allocation that is reached behind the calls was reached before: what isn't reached never is again.
 abbrev pub UnreachedStays : NeverState → List Call → ℕ → Type 0
-UnreachedStays n calls number = number < length n.allocations → IsReached (after_calls n calls) number → IsReached n number
+UnreachedStays n calls number = number < length n.allocations → IsReached (after_calls n calls) number
+    → IsReached n number

@@ -3,18 +3,23 @@
 ghost use Rattle.std.specs.Prelude.{◌≡◌, ◌≢◌, ◌↔◌, ℕ, ◌<◌, ◌≤◌, Bool, List, length, false, IsTrue};
 ghost use Rattle.mk_never.specs.NeverHeap.{NeverState, Call, start_of, after_calls, is_same};
 ghost use Rattle.mk_never.specs.Admitted.{AreAdmitted};
-ghost use Rattle.mk_never.specs.Laws.{Continues, TypeStays, FreedStays, SameTells, NewAdds, AreByOthers, AreNotBy, KeepsRegisters, UnstoredStays, StoreIsInside, StoreLeaves, LoadGivesStored, LeavesInParts, RepliesInParts, AdmittedInParts};
+ghost use Rattle.mk_never.specs.Laws.{Continues, TypeStays, FreedStays, SameTells, NewAdds, AreByOthers, AreNotBy};
+ghost use Rattle.mk_never.specs.Laws.{KeepsRegisters, UnstoredStays, StoreIsInside, StoreLeaves, LoadGivesStored};
+ghost use Rattle.mk_never.specs.Laws.{LeavesInParts, RepliesInParts, AdmittedInParts};
 ghost use Rattle.mk_never.specs.Typed.{IsTyped, KeepsTyped, StaysTyped};
-ghost use Rattle.mk_never.specs.Reach.{IsReached, IsClosedUnderPointers, ReachIsLeast, AccessIsToReached, ReachGrowsByGrants, UnreachedStays};
+ghost use Rattle.mk_never.specs.Reach.{IsReached, IsClosedUnderPointers, ReachIsLeast, AccessIsToReached};
+ghost use Rattle.mk_never.specs.Reach.{ReachGrowsByGrants, UnreachedStays};
 
 use crate::{Kind, Op, Value};
 
 /// Words, registers and globals hold what their types say, along admitted calls. A pointer that they hold
 /// names an allocation that exists, of the pointer's type, and a word of it; where a type has no words, its
 /// place 0.
-#[tactic(auto, using(crate::proofs::TypedCalls::start_is_typed, crate::proofs::TypedCalls::calls_keep, crate::proofs::TypedCalls::stays_typed))]
+#[tactic(auto, using(crate::proofs::TypedCalls::start_is_typed, crate::proofs::TypedCalls::calls_keep,
+    crate::proofs::TypedCalls::stays_typed))]
 pub fn the_state_stays_typed()
-    ensures start { (globals : List ℕ) (types : List (List Kind)) (callers : ℕ) → IsTyped globals (start_of types callers) }
+    ensures start { (globals : List ℕ) (types : List (List Kind)) (callers : ℕ)
+        → IsTyped globals (start_of types callers) }
     ensures kept { (globals : List ℕ) (n : NeverState) (calls : List Call) → KeepsTyped globals n calls }
     ensures along { (globals : List ℕ) (types : List (List Kind)) (callers : ℕ) (calls : List Call)
         → StaysTyped globals types callers calls }
@@ -43,7 +48,8 @@ pub fn freed_stays_freed()
 #[tactic(auto, using(crate::proofs::Fresh::new_adds, crate::proofs::Fresh::count_never_falls))]
 pub fn a_new_is_new()
     ensures next { (n : NeverState) (caller d ty : ℕ) → NewAdds n caller d ty }
-    ensures count_never_falls { (n : NeverState) (calls : List Call) → length n.allocations ≤ length (after_calls n calls).allocations }
+    ensures count_never_falls { (n : NeverState) (calls : List Call)
+        → length n.allocations ≤ length (after_calls n calls).allocations }
 {}
 
 /// The calls of others leave a caller's registers. They need no more than that each sets one of its own
@@ -52,12 +58,14 @@ pub fn a_new_is_new()
 pub fn others_leave_registers()
     ensures in_range { (n : NeverState) (caller : ℕ) (calls : List Call) → AreByOthers caller calls
         → KeepsRegisters caller n (after_calls n calls) }
-    ensures admitted { (globals : List ℕ) (n : NeverState) (caller : ℕ) (calls : List Call) → AreAdmitted globals n calls
+    ensures admitted { (globals : List ℕ) (n : NeverState) (caller : ℕ) (calls : List Call)
+        → AreAdmitted globals n calls
         → AreNotBy caller calls → KeepsRegisters caller n (after_calls n calls) }
 {}
 
 /// A comparison tells whether two values are equal, so it tells two allocations apart.
-#[tactic(auto, using(crate::proofs::Sameness::same_compares, crate::proofs::Sameness::apart, crate::proofs::Sameness::same_tells))]
+#[tactic(auto, using(crate::proofs::Sameness::same_compares, crate::proofs::Sameness::apart,
+    crate::proofs::Sameness::same_tells))]
 pub fn same_compares_values()
     ensures values { (v w : Value) → IsTrue (is_same v w) ↔ (v ≡ w) }
     ensures apart { (number number' ty ty' offset offset' : ℕ) → number ≢ number'
@@ -66,10 +74,12 @@ pub fn same_compares_values()
 {}
 
 /// A word changes by stores to it alone, and a load from it gives what was last stored.
-#[tactic(auto, using(crate::proofs::Stores::calls_keep, crate::proofs::Stores::store_is_inside, crate::proofs::Stores::store_leaves, crate::proofs::Stores::load_gives_stored))]
+#[tactic(auto, using(crate::proofs::Stores::calls_keep, crate::proofs::Stores::store_is_inside,
+    crate::proofs::Stores::store_leaves, crate::proofs::Stores::load_gives_stored))]
 pub fn a_load_gives_what_was_last_stored()
     ensures unstored { (n : NeverState) (calls : List Call) (number place : ℕ) → UnstoredStays n calls number place }
-    ensures inside { (n : NeverState) (caller : ℕ) (op : Op) (number place : ℕ) → StoreIsInside n caller op number place }
+    ensures inside { (n : NeverState) (caller : ℕ) (op : Op) (number place : ℕ)
+        → StoreIsInside n caller op number place }
     ensures stored { (n : NeverState) (caller : ℕ) (op : Op) (number place : ℕ) → StoreLeaves n caller op number place }
     ensures loaded { (n : NeverState) (caller : ℕ) (op : Op) (calls : List Call) (number place : ℕ)
         → LoadGivesStored n caller op calls number place }
@@ -85,7 +95,8 @@ pub fn what_is_reached()
 
 /// What isn't reached never is again: accesses get to reached allocations alone, and an operation adds no more
 /// to what is reached than the allocation that it grants.
-#[tactic(auto, using(crate::proofs::Unreached::access_is_to_reached, crate::proofs::Unreached::reach_grows_by_grants, crate::proofs::Unreached::unreached_stays))]
+#[tactic(auto, using(crate::proofs::Unreached::access_is_to_reached,
+    crate::proofs::Unreached::reach_grows_by_grants, crate::proofs::Unreached::unreached_stays))]
 pub fn the_unreached_stays_so()
     ensures accessed { (n : NeverState) (caller q i number place : ℕ) → AccessIsToReached n caller q i number place }
     ensures grown { (n : NeverState) (caller : ℕ) (op : Op) (number : ℕ) → ReachGrowsByGrants n caller op number }
@@ -93,9 +104,11 @@ pub fn the_unreached_stays_so()
 {}
 
 /// Calls in two parts leave, reply and are admitted as the earlier ones and then, behind these, the later ones.
-#[tactic(auto, using(crate::proofs::Parts::after_append, crate::proofs::Parts::replies_append, crate::proofs::Parts::admitted_append))]
+#[tactic(auto, using(crate::proofs::Parts::after_append, crate::proofs::Parts::replies_append,
+    crate::proofs::Parts::admitted_append))]
 pub fn calls_in_two_parts()
     ensures left { (n : NeverState) (earlier later : List Call) → LeavesInParts n earlier later }
     ensures replies { (n : NeverState) (earlier later : List Call) → RepliesInParts n earlier later }
-    ensures admitted { (globals : List ℕ) (n : NeverState) (earlier later : List Call) → AdmittedInParts globals n earlier later }
+    ensures admitted { (globals : List ℕ) (n : NeverState) (earlier later : List Call)
+        → AdmittedInParts globals n earlier later }
 {}

@@ -1,7 +1,9 @@
 //! The heap that never reuses storage, as a machine of one thread.
 ghost use Rattle.std.specs.Prelude.{◌≡◌, ◌+◌, ◌*◌, ◌^◌, ◌<◌, length, if◌then◌else◌, IfOk, OnOk, OnErr};
 ghost use Rattle.mk_never.specs.Types.{kinds_of, zero_of, zero_words, is_large};
-ghost use Rattle.mk_never.specs.NeverHeap.{start_of, register_at, with_register, word_at, words_of, with_word, with_new, with_freed, target_of, allocation_at, is_unmapped, number_of, is_same, bit};
+ghost use Rattle.mk_never.specs.NeverHeap.{start_of, register_at, with_register, word_at, words_of, with_word};
+ghost use Rattle.mk_never.specs.NeverHeap.{with_new, with_freed, target_of, allocation_at, is_unmapped, number_of};
+ghost use Rattle.mk_never.specs.NeverHeap.{is_same, bit};
 ghost use Rattle.mk_never.specs.Admitted.{IsCaller, Meets};
 
 mod applying;
@@ -60,7 +62,12 @@ impl Model for NeverHeap {
 
     ghost Value = { NeverState };
 
-    ghost view = { λ h. record { types = h.types; allocations = h.objects.items; registers = h.registers.items; globals = h.globals.items } };
+    ghost view = { λ h. record {
+      types = h.types;
+      allocations = h.objects.items;
+      registers = h.registers.items;
+      globals = h.globals.items;
+    } };
 }
 
 fn bit_of(b: bool) -> u64

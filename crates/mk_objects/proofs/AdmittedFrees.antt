@@ -18,32 +18,38 @@ use Rattle.mk_core.specs.declared.events.Step.{Step}
 use Rattle.mk_core.specs.Decided.{Decided, asked, entry_of}
 use Rattle.mk_core.specs.Effects.{answer_decided}
 use Rattle.mk_core.specs.Growing.{AreOfOthers}
-use Rattle.mk_core.specs.History.{IsAdmittedBehind, IsHistory, call_decided, calls, first_world, left, never_behind, never_first}
+use Rattle.mk_core.specs.History.{IsAdmittedBehind, IsHistory, call_decided, calls, first_world, left, never_behind}
+use Rattle.mk_core.specs.History.{never_first}
 use Rattle.mk_core.specs.Moments.{flight_of}
 use Rattle.mk_core.proofs.Histories.{calls_more}
 use Rattle.mk_core.proofs.HistoryParts.{earlier_part_is_history}
 use Rattle.mk_frames.proofs.Frames.{admitted_others_leave}
 
-free_admitted : (c : Config) (k r : ℕ) (xs : List Call) → k < c.callers → r < 8 → IsBase (register_at (after_calls (never_first c) xs) k r)
+free_admitted : (c : Config) (k r : ℕ) (xs : List Call) → k < c.callers → r < 8
+    → IsBase (register_at (after_calls (never_first c) xs) k r)
     → IsAdmitted c.globals (after_calls (never_first c) xs) k (op.Free r)
 free_admitted c k r xs lt small base =
     let stays = calls_stay (never_first c) xs in
     record {
-      of_a_caller = let many = length-replicate {A = Value} (8 * c.callers) Null in let same = stays.registers in omega arith;
+      of_a_caller = let many = length-replicate {A = Value} (8 * c.callers) Null in let same =
+          stays.registers in omega arith;
       in_range = small;
       access = tt;
       store = base;
     }
 
-free_call : (c : Config) (k r : ℕ) (xs : List Call) (a : Option Answer) → k < c.callers → r < 8 → IsBase (register_at (after_calls (never_first c) xs) k r)
+free_call : (c : Config) (k r : ℕ) (xs : List Call) (a : Option Answer) → k < c.callers → r < 8
+    → IsBase (register_at (after_calls (never_first c) xs) k r)
     → AreAdmitted c.globals (after_calls (never_first c) xs) (asked (entry_of k (op.Free r) a))
 free_call c k r xs None lt small base = tt
 free_call c k r xs (Some a) lt small base = (free_admitted c k r xs lt small base, tt)
 
-asked_more : (c : Config) (es : List Event) (e : Event) → asked (calls c (es ++ e ∷ [])) ≡ asked (calls c es) ++ asked (call_decided c (left c es).now e)
+asked_more : (c : Config) (es : List Event) (e : Event)
+    → asked (calls c (es ++ e ∷ [])) ≡ asked (calls c es) ++ asked (call_decided c (left c es).now e)
 asked_more c es e =
     ap (λ (ds : List Decided). asked ds) (calls_more c (first_world c) es e)
-    ∙ map-append (λ (x : Decided). record { caller = x.caller; op = x.op }) (calls c es) (call_decided c (left c es).now e)
+    ∙ map-append (λ (x : Decided). record { caller = x.caller; op = x.op }) (calls c es)
+    (call_decided c (left c es).now e)
 
 pub free_admits : (c : Config) (es : List Event) (k r : ℕ) (x : Step) → IsHistory c es → k < c.callers → r < 8
     → (flight_of (left c es).now (Caller k)).op ≡ op.Free r → IsBase (register_at (never_behind c es) k r)
@@ -52,19 +58,27 @@ free_admits c es k r x h lt small is base =
     let e : Event = record { seat = Caller k; step = x } in
     let a : Option Answer = answer_decided c (left c es).now e in
     subst (λ (xs : List Call). AreAdmitted c.globals (never_first c) xs) (sym (asked_more c es e))
-    (admitted_join c.globals (never_first c) (asked (calls c es)) (asked (call_decided c (left c es).now e))
-    (h.admitted, subst (λ (o : Op). AreAdmitted c.globals (never_behind c es) (asked (entry_of k o a))) (sym is) (free_call c k r (asked (calls c es)) a lt small base)))
+    (admitted_join c.globals (never_first c) (asked (calls c es)) (asked (call_decided c (left c es).now e)) (
+      h.admitted,
+      subst (λ (o : Op). AreAdmitted c.globals (never_behind c es) (asked (entry_of k o a))) (sym is)
+          (free_call c k r (asked (calls c es)) a lt small base),
+    ))
 
 -- A caller keeps its registers in the heap that never reuses storage over events of others and a step of its own that
 -- decides nothing.
-pub registers_kept : (c : Config) (es others : List Event) (k : ℕ) (x : Step) → IsHistory c (es ++ others ++ record { seat = Caller k; step = x } ∷ [])
-    → AreOfOthers (Caller k ∷ []) others → answer_decided c (left c (es ++ others)).now (record { seat = Caller k; step = x }) ≡ None
-    → (r : ℕ) → r < 8 → register_at (never_behind c (es ++ others ++ record { seat = Caller k; step = x } ∷ [])) k r ≡ register_at (never_behind c es) k r
+pub registers_kept : (c : Config) (es others : List Event) (k : ℕ) (x : Step)
+    → IsHistory c (es ++ others ++ record { seat = Caller k; step = x } ∷ [])
+    → AreOfOthers (Caller k ∷ []) others
+    → answer_decided c (left c (es ++ others)).now (record { seat = Caller k; step = x }) ≡ None
+    → (r : ℕ) → r < 8 → register_at (never_behind c (es ++ others ++ record { seat = Caller k; step = x } ∷ [])) k r
+    ≡ register_at (never_behind c es) k r
 registers_kept c es others k x whole of_others none r lt =
     let e : Event = record { seat = Caller k; step = x } in
     let before = earlier_part_is_history c (es ++ others) (e ∷ []) whole in
     let same : asked (calls c (es ++ others ++ e ∷ [])) ≡ asked (calls c (es ++ others)) =
-    asked_more c (es ++ others) e ∙ ap (λ (a : Option Answer). asked (calls c (es ++ others)) ++ asked (entry_of k (flight_of (left c (es ++ others)).now (Caller k)).op a)) none
+    asked_more c (es ++ others) e
+    ∙ ap (λ (a : Option Answer). asked (calls c (es ++ others))
+    ++ asked (entry_of k (flight_of (left c (es ++ others)).now (Caller k)).op a)) none
     ∙ append-nil (asked (calls c (es ++ others))) in
     ap (λ (xs : List Call). register_at (after_calls (never_first c) xs) k r) same
     ∙ (admitted_others_leave c es others (Caller k) before of_others).registers k r refl lt

@@ -1,5 +1,6 @@
 -- A New is admitted wherever its call is.
-use Rattle.std.proofs.Common.{◌≡◌, ℕ, ◌*◌, ◌<◌, Bool, true, false, List, [], ◌∷◌, ◌++◌, length, sym, ◌∙◌, ap, subst, arith}
+use Rattle.std.proofs.Common.{◌≡◌, ℕ, ◌*◌, ◌<◌, Bool, true, false, List, [], ◌∷◌, ◌++◌, length, sym, ◌∙◌, ap, subst}
+use Rattle.std.proofs.Common.{arith}
 use Rattle.std.specs.Prelude.{◌&&◌, nat_lt, Some}
 use Rattle.std.proofs.lemmas.Bool.{and_parts, ltb-true}
 use Rattle.mk_never.specs.declared.operations.Op.{Op}
@@ -29,7 +30,8 @@ new_in_range : (c : Config) (o : Op) (d ty : ℕ) (full : Bool) → o ≡ op.New
     → (d < 8) × (ty < length c.types)
 new_in_range c o d ty full is h =
     let at : has_operands c (op.New d ty full) ≡ true = ap (λ (x : Op). has_operands c x) (sym is) ∙ h in
-    let a = and_parts (nat_lt 0 8 && nat_lt 0 8 && nat_lt 0 8 && nat_lt d 8 && nat_lt 0 64) (nat_lt ty (length c.types)) at in
+    let a = and_parts (nat_lt 0 8 && nat_lt 0 8 && nat_lt 0 8 && nat_lt d 8 && nat_lt 0 64) (nat_lt ty (length c.types))
+    at in
     let b = and_parts (nat_lt 0 8 && nat_lt 0 8 && nat_lt 0 8 && nat_lt d 8) (nat_lt 0 64) a.0 in
     let e = and_parts (nat_lt 0 8 && nat_lt 0 8 && nat_lt 0 8) (nat_lt d 8) b.0 in
     (ltb-true d 8 e.1, ltb-true ty (length c.types) a.1)
@@ -44,7 +46,8 @@ new_admitted : (c : Config) (k d ty : ℕ) (xs : List Call) → k < c.callers �
 new_admitted c k d ty xs lt small typed =
     let stays = calls_stay (never_first c) xs in
     record {
-      of_a_caller = let many = length-replicate {A = Value} (8 * c.callers) Null in let same = stays.registers in omega arith;
+      of_a_caller = let many = length-replicate {A = Value} (8 * c.callers) Null in let same =
+          stays.registers in omega arith;
       in_range = (small, subst (λ (ts : _). ty < length ts) (sym stays.types) typed);
       access = tt;
       store = tt;
@@ -61,9 +64,12 @@ grant_admitted c es k h lt new operands =
     let ranges = new_in_range c f.op n.d n.ty n.full n.op operands in
     let more : asked (calls c (es ++ record { seat = Caller k; step = step.Grant } ∷ [])) ≡ asked
     (calls c es) ++ record { caller = k; op = op.New n.d n.ty false } ∷ [] =
-    ap (λ (ds : List Decided). asked ds) (calls_more c (first_world c) es (record { seat = Caller k; step = step.Grant }))
-    ∙ map-append (λ (x : Decided). record { caller = x.caller; op = x.op }) (calls c es) (entry_of k f.op (Some answer.Done))
+    ap (λ (ds : List Decided). asked ds)
+    (calls_more c (first_world c) es (record { seat = Caller k; step = step.Grant }))
+    ∙ map-append (λ (x : Decided). record { caller = x.caller; op = x.op }) (calls c es)
+    (entry_of k f.op (Some answer.Done))
     ∙ ap (λ (x : Op). asked (calls c es) ++ asked (entry_of k x (Some answer.Done))) n.op in
     subst (λ (xs : List Call). AreAdmitted c.globals (never_first c) xs) (sym more)
-    (admitted_join c.globals (never_first c) (asked (calls c es)) (record { caller = k; op = op.New n.d n.ty false } ∷ [])
+    (admitted_join c.globals (never_first c) (asked (calls c es))
+    (record { caller = k; op = op.New n.d n.ty false } ∷ [])
     (h.admitted, (new_admitted c k n.d n.ty (asked (calls c es)) lt ranges.0 ranges.1, tt)))

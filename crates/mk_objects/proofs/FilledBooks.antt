@@ -17,7 +17,8 @@ pub record IsFilledTo (was now : TurnState) (first book : List Page) (page : ℕ
   pub length : length book ≡ length first
   pub filled : (k : ℕ) → k < page → slice_index_or book k free_page ≡ page_of (now_of was.pass).words k
 
-pub filled_more : (pages book : List Page) (page : ℕ) (x : Page) → page < length book → x ≡ slice_index_or pages page free_page
+pub filled_more : (pages book : List Page) (page : ℕ) (x : Page) → page < length book
+    → x ≡ slice_index_or pages page free_page
     → ((k : ℕ) → k < page → slice_index_or book k free_page ≡ slice_index_or pages k free_page)
     → (k : ℕ) → k < page + 1 → slice_index_or (slice_set book page x) k free_page ≡ slice_index_or pages k free_page
 filled_more pages book page x within is before k le = elim (cases_eq k page) [
@@ -40,4 +41,5 @@ page_found p q r page h u a b head used =
     head ∙ ap (λ (t : Steady). (slice_index_or t.pages page free_page).header) (looks_left p q a).steady in
     let y : u ≡ used_at (now_of p).words page =
     used ∙ ap (λ (t : Steady). (slice_index_or t.pages page free_page).used) (looks_left p r b).steady in
-    ap (λ n. record { header = n; used = u }) x ∙ ap (λ n. record { header = header_at (now_of p).words page; used = n }) y
+    ap (λ n. record { header = n; used = u }) x
+    ∙ ap (λ n. record { header = header_at (now_of p).words page; used = n }) y

@@ -49,22 +49,28 @@ pointed_in_heap pages header u cell is = elim (cases_Bool (is_heap_address pages
       record { from = low; page = omega arith }
   | inr outside ↦
       let none : cell_at pages header u ≡ None =
-      cond-false (is_heap_address pages u) (option_and_then (λ (h : Header). cell_under h (page_at_address u) (word_at_address u)) (header_of header)) None outside in
+      cond-false (is_heap_address pages u)
+      (option_and_then (λ (h : Header). cell_under h (page_at_address u) (word_at_address u)) (header_of header))
+      None outside in
       let clash : None ≡ Some cell = sym none ∙ is in cc
 ]
 
-pub points_now : (p : PassState) (k : ℕ) → p.seat ≡ Caller k → IsHistory p.table.config p.seen → is_undecided_free (call_of p) ≡ true
+pub points_now : (p : PassState) (k : ℕ) → p.seat ≡ Caller k → IsHistory p.table.config p.seen
+    → is_undecided_free (call_of p) ≡ true
     → PointsAt p.table.config (world_of p) (never_behind p.table.config p.seen) k (call_of p)
 points_now p k is h undecided = by p.seat is undecided
   where
     by : (s : Seat) → s ≡ Caller k → is_undecided_free (flight_of (now_of p) s) ≡ true
         → PointsAt p.table.config (world_of p) (never_behind p.table.config p.seen) k (flight_of (now_of p) s)
     by s e free =
-        subst (λ (x : Seat). PointsAt p.table.config (world_of p) (never_behind p.table.config p.seen) k (flight_of (now_of p) x)) (sym e)
-        (free_points_at p.table.config p.seen k h (ap (λ (x : Seat). is_undecided_free (flight_of (now_of p) x)) (sym e) ∙ free))
+        subst (λ (x : Seat). PointsAt p.table.config (world_of p) (never_behind p.table.config p.seen) k
+        (flight_of (now_of p) x)) (sym e)
+        (free_points_at p.table.config p.seen k h (ap (λ (x : Seat). is_undecided_free (flight_of (now_of p) x)) (sym e)
+        ∙ free))
 
 -- what points into a cell by the words does so by its page's header
-pub pointed_by_header : (p : PassState) (u : ℕ) (x : Option Cell) → pointed_cell p.table.config.pages (now_of p).words.pages u ≡ x
+pub pointed_by_header : (p : PassState) (u : ℕ) (x : Option Cell)
+    → pointed_cell p.table.config.pages (now_of p).words.pages u ≡ x
     → cell_at p.table.config.pages (header_at (now_of p).words (page_at_address u)) u ≡ x
 unfolding pointed_cell
 pointed_by_header p u x is = is
@@ -79,11 +85,13 @@ pub record IsPointed (p : PassState) (u : ℕ) : Type 0 where
   pub within : cell.page < p.table.config.pages
   pub index : cell.index < 32
 
-pub target_of : (pages : ℕ) (w : Words) (f : Flight) (cell : Cell) → is_undecided_free f ≡ true → pointed_cell pages w.pages f.p ≡ Some cell
+pub target_of : (pages : ℕ) (w : Words) (f : Flight) (cell : Cell) → is_undecided_free f ≡ true
+    → pointed_cell pages w.pages f.p ≡ Some cell
     → target pages w f ≡ Some cell
 target_of pages w f cell free is = rw free is
 
-cell_within : (c : Config) (w : World) (a : PlacedAllocation) → IsWithinLimits c → StandsUsed c w a → (cell_of_allocation c a).page < c.pages
+cell_within : (c : Config) (w : World) (a : PlacedAllocation) → IsWithinLimits c → StandsUsed c w a
+    → (cell_of_allocation c a).page < c.pages
 cell_within c w a limits s =
     let some = (words_within (object_placed c a) (typed_size c a limits s.stands.typed)).0 in
     let ends = s.stands.within in
@@ -99,15 +107,18 @@ cells_few o sized = elim (cases_Bool (is_small_object o)) [
   | inr large ↦ let is = large_cells o large in omega arith
 ]
 
-cell_index : (c : Config) (w : World) (a : PlacedAllocation) → IsWithinLimits c → StandsUsed c w a → (cell_of_allocation c a).index < 32
+cell_index : (c : Config) (w : World) (a : PlacedAllocation) → IsWithinLimits c → StandsUsed c w a
+    → (cell_of_allocation c a).index < 32
 cell_index c w a limits s =
     let sized = typed_size c a limits s.stands.typed in
-    let is : (cell_of_allocation c a).index ≡ s.stands.begins.index = ap (λ (k : Cell). k.index) (placed_cell c a sized s.stands.begins) in
+    let is : (cell_of_allocation c a).index ≡ s.stands.begins.index =
+    ap (λ (k : Cell). k.index) (placed_cell c a sized s.stands.begins) in
     let known = s.stands.begins.known in
     let few = cells_few (object_placed c a) sized in
     omega arith
 
-pub pointed_now : (p : PassState) (u : ℕ) → IsHistory p.table.config p.seen → is_undecided_free (call_of p) ≡ true → (call_of p).p ≡ u → IsPointed p u
+pub pointed_now : (p : PassState) (u : ℕ) → IsHistory p.table.config p.seen → is_undecided_free (call_of p) ≡ true
+    → (call_of p).p ≡ u → IsPointed p u
 pointed_now p u h free is =
     let caller = acting_caller p (free_is_acting (call_of p) free) in
     let t = points_now p caller.number caller.is h free in
@@ -122,6 +133,8 @@ pointed_now p u h free is =
       page = heap.page;
       by_header = by_header;
       target = target_of p.table.config.pages (now_of p).words (call_of p) cell free t.cell;
-      within = cell_within p.table.config (world_of p) (placed_at (world_of p).allocations t.number) h.within_limits (allocations_stand p.table.config p.seen h t.number t.unreleased);
-      index = cell_index p.table.config (world_of p) (placed_at (world_of p).allocations t.number) h.within_limits (allocations_stand p.table.config p.seen h t.number t.unreleased);
+      within = cell_within p.table.config (world_of p) (placed_at (world_of p).allocations t.number) h.within_limits
+          (allocations_stand p.table.config p.seen h t.number t.unreleased);
+      index = cell_index p.table.config (world_of p) (placed_at (world_of p).allocations t.number) h.within_limits
+          (allocations_stand p.table.config p.seen h t.number t.unreleased);
     }

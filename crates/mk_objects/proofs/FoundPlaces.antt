@@ -1,5 +1,6 @@
 -- What the place that first fit finds says of its pages, and how many words are held.
-use Rattle.std.proofs.Common.{◌≡◌, ◌≢◌, ℕ, ◌*◌, ◌<◌, ◌≤◌, Bool, true, false, List, [], ◌∷◌, length, refl, sym, ap, subst, ◌∙◌, inl, inr, arith}
+use Rattle.std.proofs.Common.{◌≡◌, ◌≢◌, ℕ, ◌*◌, ◌<◌, ◌≤◌, Bool, true, false, List, [], ◌∷◌, length, refl, sym, ap}
+use Rattle.std.proofs.Common.{subst, ◌∙◌, inl, inr, arith}
 use Rattle.std.specs.Prelude.{◌==◌, Option, Some, None, slice_index_or, slice_get, count_by}
 use Rattle.std.specs.Int.{bit_at}
 use Rattle.std.proofs.lemmas.Bool.{cases_Bool, leb-false, leb-true}
@@ -56,13 +57,15 @@ free_is_zero h (Some (LeafRun n)) u is free = cc
 free_is_zero h (Some (Later d m)) u is free = cc
 
 -- The cell of a place that isn't on free pages isn't used.
-pub found_clear : (limit : ℕ) (pages : List Page) (o : Object) (place : Place) → IsSized o → place_on_pages limit pages o ≡ Some place
+pub found_clear : (limit : ℕ) (pages : List Page) (o : Object) (place : Place) → IsSized o
+    → place_on_pages limit pages o ≡ Some place
     → header_on pages place.page ≢ 0 → has_bit (used_on pages place.page) place.index ≡ false
 found_clear limit pages o place sized at some = elim (cases_Bool (is_small_object o)) [
   | inl s ↦
       let is = cell_place_is limit o.words (class_made o) o.leaf pages place
       (class_for_small o.words sized.0 (leb-true o.words 32 s)) at in
-      let page : slice_index_or pages place.page free_page ≡ is.page = get_or_from_slice_get pages place.page is.page free_page is.at in
+      let page : slice_index_or pages place.page free_page ≡ is.page =
+      get_or_from_slice_get pages place.page is.page free_page is.at in
       ap (λ (x : Page). has_bit x.used place.index) page
       ∙ clear_cell is.page.header is.page.used (class_made o) place.index o.leaf (header_of is.page.header) refl
       (λ z. some (ap (λ (x : Page). x.header) page ∙ z)) is.may_take
@@ -70,7 +73,8 @@ found_clear limit pages o place sized at some = elim (cases_Bool (is_small_objec
       let is = run_place_is limit o.words o.leaf pages place (leb-false o.words 32 l) at in
       let many = pages_some o sized in
       let count = large_pages o l in
-      absurd (some (free_is_zero (header_on pages place.page) (header_of (header_on pages place.page)) (used_on pages place.page) refl
+      absurd (some (free_is_zero (header_on pages place.page) (header_of (header_on pages place.page))
+      (used_on pages place.page) refl
       (is.free.free place.page free_page (omega arith) (omega arith))))
 ]
 

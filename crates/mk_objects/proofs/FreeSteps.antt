@@ -1,5 +1,6 @@
 -- The target of a Free is quarantined.
-use Rattle.std.proofs.Common.{◌≡◌, ℕ, ◌+◌, ◌-◌, ◌*◌, ◌/◌, ◌%◌, ◌<◌, ◌^◌, min, true, false, List, [], length, map, refl, sym, ap, subst, ◌∙◌, arith}
+use Rattle.std.proofs.Common.{◌≡◌, ℕ, ◌+◌, ◌-◌, ◌*◌, ◌/◌, ◌%◌, ◌<◌, ◌^◌, min, true, false, List, [], length, map, refl}
+use Rattle.std.proofs.Common.{sym, ap, subst, ◌∙◌, arith}
 use Rattle.std.specs.Prelude.{◌&&◌, ◌||◌, not, Option, Some, None, is_some, if◌then◌else◌, slice_index, slice_set}
 use Rattle.std.proofs.lemmas.Bool.{and_from, eq-eqb}
 use Rattle.std.proofs.lemmas.List.{set-get_or}
@@ -58,32 +59,42 @@ use Rattle.mk_objects.proofs.Unchanged.{call_behind}
 abbrev pub freed_word : Words → Cell → ℕ
 freed_word w cell = quarantine_word (slice_index w.freed cell.page + 2 ^ cell.index) (slice_index w.snapshot cell.page)
 
-pub frees_it : (w : Words) (cell : Cell) → is_freed w cell ≡ false → frees w (Some cell) cell.page (freed_word w cell) ≡ true
+pub frees_it : (w : Words) (cell : Cell) → is_freed w cell ≡ false
+    → frees w (Some cell) cell.page (freed_word w cell) ≡ true
 frees_it w cell clear =
-    and_from _ _ (and_from _ _ (eq-eqb cell.page cell.page refl) (ap not clear)) (eq-eqb (freed_word w cell) (freed_word w cell) refl)
+    and_from _ _ (and_from _ _ (eq-eqb cell.page cell.page refl) (ap not clear))
+    (eq-eqb (freed_word w cell) (freed_word w cell) refl)
 
 -- so it frees the target
-freed_target : (c : Config) (m : Moment) (f : Flight) (cell : Cell) (value : ℕ) → IsOutOfStop m → target c.pages m.words f ≡ Some cell
-    → is_freed m.words cell ≡ false → value ≡ freed_word m.words cell → cell_freed c.pages m.words f cell.page value ≡ Some cell
+freed_target : (c : Config) (m : Moment) (f : Flight) (cell : Cell) (value : ℕ) → IsOutOfStop m
+    → target c.pages m.words f ≡ Some cell
+    → is_freed m.words cell ≡ false → value ≡ freed_word m.words cell
+    → cell_freed c.pages m.words f cell.page value ≡ Some cell
 freed_target c m f cell value low at clear is =
     ap (λ (x : Option Cell). if not (is_phase m.words 4) && frees m.words x cell.page value then x else None) at
     ∙ ap (λ n. if not (is_phase m.words 4) && frees m.words (Some cell) cell.page n then Some cell else None) is
-    ∙ ap (λ b. if not b && frees m.words (Some cell) cell.page (freed_word m.words cell) then Some cell else None) (off_four m low)
+    ∙ ap (λ b. if not b && frees m.words (Some cell) cell.page (freed_word m.words cell) then Some cell else None)
+    (off_four m low)
     ∙ ap (λ b. if b then Some cell else None) (frees_it m.words cell clear)
 
 freed_left : (c : Config) (s : Seat) (cell : Cell) (value : ℕ) (w v : World) → IsAsLeft s w v → IsOutOfStop v.now
-    → target c.pages w.now.words (flight_of w.now s) ≡ Some cell → is_freed w.now.words cell ≡ false → value ≡ freed_word w.now.words cell
+    → target c.pages w.now.words (flight_of w.now s) ≡ Some cell → is_freed w.now.words cell ≡ false
+    → value ≡ freed_word w.now.words cell
     → cell_freed c.pages v.now.words (flight_of v.now s) cell.page value ≡ Some cell
 freed_left c s cell value w v kept low at clear is =
     let pages : v.now.words.pages ≡ w.now.words.pages = ap (λ (x : Steady). x.pages) kept.steady in
     let freeds : v.now.words.freed ≡ w.now.words.freed = ap (λ (x : Steady). x.freed) kept.steady in
     let snapshots : v.now.words.snapshot ≡ w.now.words.snapshot = ap (λ (x : Steady). x.snapshot) kept.steady in
     let there : target c.pages v.now.words (flight_of v.now s) ≡ Some cell =
-    ap (λ (g : Flight). target c.pages v.now.words g) kept.call ∙ target_same c.pages w.now.words v.now.words (flight_of w.now s) pages ∙ at in
+    ap (λ (g : Flight). target c.pages v.now.words g) kept.call
+    ∙ target_same c.pages w.now.words v.now.words (flight_of w.now s) pages ∙ at in
     let word : freed_word w.now.words cell ≡ freed_word v.now.words cell =
-    sym (ap (λ (xs : List ℕ). quarantine_word (slice_index xs cell.page + 2 ^ cell.index) (slice_index v.now.words.snapshot cell.page)) freeds
-    ∙ ap (λ (xs : List ℕ). quarantine_word (slice_index w.now.words.freed cell.page + 2 ^ cell.index) (slice_index xs cell.page)) snapshots) in
-    freed_target c v.now (flight_of v.now s) cell value low there (freed_same w.now.words v.now.words cell freeds ∙ clear) (is ∙ word)
+    sym (ap (λ (xs : List ℕ). quarantine_word (slice_index xs cell.page + 2 ^ cell.index)
+    (slice_index v.now.words.snapshot cell.page)) freeds
+    ∙ ap (λ (xs : List ℕ). quarantine_word (slice_index w.now.words.freed cell.page + 2 ^ cell.index)
+    (slice_index xs cell.page)) snapshots) in
+    freed_target c v.now (flight_of v.now s) cell value low there (freed_same w.now.words v.now.words cell freeds
+    ∙ clear) (is ∙ word)
 
 -- Both halves of the word are apart.
 pub low_half : (f s : ℕ) → f < 2 ^ 32 → quarantine_word f s % 2 ^ 32 ≡ f
@@ -92,8 +103,10 @@ low_half f s lt = omega arith
 high_half : (f s : ℕ) → f < 2 ^ 32 → quarantine_word f s / 2 ^ 32 ≡ s
 high_half f s lt = omega arith
 
-pub quar_behind : (c : Config) (k : ℕ) (cell : Cell) (value : ℕ) (w v : World) → k < length v.now.seats.flights → IsAsLeft (Caller k) w v
-    → IsOutOfStop v.now → target c.pages w.now.words (flight_of w.now (Caller k)) ≡ Some cell → is_freed w.now.words cell ≡ false
+pub quar_behind : (c : Config) (k : ℕ) (cell : Cell) (value : ℕ) (w v : World) → k < length v.now.seats.flights
+    → IsAsLeft (Caller k) w v
+    → IsOutOfStop v.now → target c.pages w.now.words (flight_of w.now (Caller k)) ≡ Some cell
+    → is_freed w.now.words cell ≡ false
     → value ≡ freed_word w.now.words cell → slice_index w.now.words.freed cell.page + 2 ^ cell.index < 2 ^ 32
     → IsFreedAt c (Caller k) cell w (world_behind c v (record { seat = Caller k; step = step.Quar cell.page value }))
     × (answer_decided c v.now (record { seat = Caller k; step = step.Quar cell.page value }) ≡ Some answer.Done)
@@ -102,7 +115,8 @@ quar_behind c k cell value w v lt kept low at clear is small =
     let freeds : v.now.words.freed ≡ w.now.words.freed = ap (λ (x : Steady). x.freed) kept.steady in
     let snapshots : v.now.words.snapshot ≡ w.now.words.snapshot = ap (λ (x : Steady). x.snapshot) kept.steady in
     let f : Flight = flight_of v.now (Caller k) in
-    let frees : cell_freed c.pages v.now.words f cell.page value ≡ Some cell = freed_left c (Caller k) cell value w v kept low at clear is in
+    let frees : cell_freed c.pages v.now.words f cell.page value ≡ Some cell =
+    freed_left c (Caller k) cell value w v kept low at clear is in
     let u : World = world_behind c v (record { seat = Caller k; step = step.Quar cell.page value }) in
     let n : ℕ = slice_index w.now.words.freed cell.page + 2 ^ cell.index in
     let freed : u.now.words.freed ≡ slice_set w.now.words.freed cell.page n =
@@ -111,26 +125,46 @@ quar_behind c k cell value w v lt kept low at clear is small =
     ∙ ap (λ (xs : List ℕ). slice_set xs cell.page n) freeds in
     let snapshot : u.now.words.snapshot ≡ w.now.words.snapshot =
     ap (λ i. slice_set v.now.words.snapshot cell.page (i / 2 ^ 32)) is
-    ∙ ap (λ i. slice_set v.now.words.snapshot cell.page i) (high_half n (slice_index w.now.words.snapshot cell.page) small)
+    ∙ ap (λ i. slice_set v.now.words.snapshot cell.page i)
+    (high_half n (slice_index w.now.words.snapshot cell.page) small)
     ∙ ap (λ (xs : List ℕ). slice_set xs cell.page (slice_index w.now.words.snapshot cell.page)) snapshots
     ∙ set-get_or w.now.words.snapshot cell.page 0 in
     let allocations : u.allocations ≡ map (freed_where_it_stands w.now.words (Some cell)) w.allocations =
     ap (λ (x : Option Cell). map (freed_where_it_stands v.now.words x) v.allocations) frees
-    ∙ ap (λ (ps : List Page). map (freed_where_it_stands (record v.now.words { pages = ps }) (Some cell)) v.allocations) pages
-    ∙ ap (λ (xs : List PlacedAllocation). map (freed_where_it_stands w.now.words (Some cell)) xs) (ap (λ (x : Steady). x.allocations) kept.steady) in (
+    ∙ ap (λ (ps : List Page). map (freed_where_it_stands (record v.now.words { pages = ps }) (Some cell)) v.allocations)
+    pages
+    ∙ ap (λ (xs : List PlacedAllocation). map (freed_where_it_stands w.now.words (Some cell)) xs)
+    (ap (λ (x : Steady). x.allocations) kept.steady) in (
       record {
-        call = call_behind c v.now k (step.Quar cell.page value) lt ∙ ap (λ (x : Option Cell). (progress_freed f x).flight) frees
+        call = call_behind c v.now k (step.Quar cell.page value) lt
+            ∙ ap (λ (x : Option Cell). (progress_freed f x).flight) frees
             ∙ ap (λ (g : Flight). record g { stage = stage.Give }) kept.call;
-        holding = ap (λ (x : Option Cell). record v.now.seats.holding { freed = or_else (run_of_cell v.now.words x) v.now.seats.holding.freed }) frees
-            ∙ ap (λ (ps : List Page). record v.now.seats.holding { freed = or_else (run_of_cell (record v.now.words { pages = ps }) (Some cell)) v.now.seats.holding.freed }) pages
-            ∙ ap (λ (h : Holding). record h { freed = or_else (run_of_cell w.now.words (Some cell)) h.freed }) kept.holding;
+        holding = ap (λ (x : Option Cell). record v.now.seats.holding
+            { freed = or_else (run_of_cell v.now.words x) v.now.seats.holding.freed }) frees
+            ∙ ap (λ (ps : List Page). record v.now.seats.holding
+            { freed = or_else (run_of_cell (record v.now.words { pages = ps }) (Some cell)) v.now.seats.holding.freed })
+            pages
+            ∙ ap (λ (h : Holding). record h { freed = or_else (run_of_cell w.now.words (Some cell)) h.freed })
+            kept.holding;
         freed = freed;
         snapshot = snapshot;
         fresh = ap (λ (x : Option Cell). min (v.now.fresh_words + words_freed v.now.words x) (2 ^ 64 - 1)) frees
-            ∙ ap (λ (ps : List Page). min (v.now.fresh_words + words_freed (record v.now.words { pages = ps }) (Some cell)) (2 ^ 64 - 1)) pages
-            ∙ ap (λ i. min (i + words_freed w.now.words (Some cell)) (2 ^ 64 - 1)) (ap (λ (x : Steady). x.fresh_words) kept.steady);
-        steady = ap (λ (xs : List PlacedAllocation). record (steady_of v) { freed = u.now.words.freed; snapshot = u.now.words.snapshot; fresh_words = u.now.fresh_words; allocations = xs }) allocations
-            ∙ ap (λ (x : Steady). record x { freed = u.now.words.freed; snapshot = u.now.words.snapshot; fresh_words = u.now.fresh_words; allocations = map (freed_where_it_stands w.now.words (Some cell)) w.allocations }) kept.steady;
+            ∙ ap (λ (ps : List Page). min
+            (v.now.fresh_words + words_freed (record v.now.words { pages = ps }) (Some cell)) (2 ^ 64 - 1)) pages
+            ∙ ap (λ i. min (i + words_freed w.now.words (Some cell)) (2 ^ 64 - 1))
+            (ap (λ (x : Steady). x.fresh_words) kept.steady);
+        steady = ap (λ (xs : List PlacedAllocation). record (steady_of v) {
+          freed = u.now.words.freed;
+          snapshot = u.now.words.snapshot;
+          fresh_words = u.now.fresh_words;
+          allocations = xs;
+        }) allocations
+            ∙ ap (λ (x : Steady). record x {
+              freed = u.now.words.freed;
+              snapshot = u.now.words.snapshot;
+              fresh_words = u.now.fresh_words;
+              allocations = map (freed_where_it_stands w.now.words (Some cell)) w.allocations;
+            }) kept.steady;
         registers = kept.registers;
         gates = kept.gates;
       },
@@ -138,33 +172,42 @@ quar_behind c k cell value w v lt kept low at clear is small =
     )
 
 -- at the seat of a pass
-module _ (p : PassState) (cell : Cell) (value : ℕ) (v : World) (known : Known p.table.config v.now) (low : IsOutOfStop (now_of p)) where
+module _ (p : PassState) (cell : Cell) (value : ℕ) (v : World) (known : Known p.table.config v.now)
+    (low : IsOutOfStop (now_of p)) where
   abbrev Frees : Seat → Type 0
   Frees s =
-      IsFreedAt p.table.config s cell (world_of p) (world_behind p.table.config v (record { seat = s; step = step.Quar cell.page value }))
+      IsFreedAt p.table.config s cell (world_of p)
+      (world_behind p.table.config v (record { seat = s; step = step.Quar cell.page value }))
       × (answer_decided p.table.config v.now (record { seat = s; step = step.Quar cell.page value }) ≡ Some answer.Done)
 
   still_low : phase_of v.now.words ≡ phase_of (now_of p).words → IsOutOfStop v.now
   still_low same = out_of_stop (now_of p) v.now same low
 
   frees_at : (s : Seat) (k : ℕ) → s ≡ Caller k → IsAsLeft s (world_of p) v → Holds p.table.config (now_of p) s
-      → target p.table.config.pages (now_of p).words (flight_of (now_of p) s) ≡ Some cell → is_freed (now_of p).words cell ≡ false
-      → value ≡ freed_word (now_of p).words cell → slice_index (now_of p).words.freed cell.page + 2 ^ cell.index < 2 ^ 32 → Frees s
+      → target p.table.config.pages (now_of p).words (flight_of (now_of p) s) ≡ Some cell
+      → is_freed (now_of p).words cell ≡ false
+      → value ≡ freed_word (now_of p).words cell
+      → slice_index (now_of p).words.freed cell.page + 2 ^ cell.index < 2 ^ 32 → Frees s
   frees_at s k e kept holds at clear is small =
       let lt : k < p.table.config.callers = (subst (λ (x : Seat). Holds p.table.config (now_of p) x) e holds).0 in
       let there : k < length v.now.seats.flights = subst (λ i. k < i) (sym known.orderly.flights) lt in
-      let by = quar_behind p.table.config k cell value (world_of p) v there (subst (λ (x : Seat). IsAsLeft x (world_of p) v) e kept)
+      let by = quar_behind p.table.config k cell value (world_of p) v there
+      (subst (λ (x : Seat). IsAsLeft x (world_of p) v) e kept)
       (still_low (ap (λ (x : Steady). x.phase) kept.steady))
-      (ap (λ (x : Seat). target p.table.config.pages (now_of p).words (flight_of (now_of p) x)) (sym e) ∙ at) clear is small in
+      (ap (λ (x : Seat). target p.table.config.pages (now_of p).words (flight_of (now_of p) x)) (sym e)
+      ∙ at) clear is small in
       subst (λ (x : Seat). Frees x) (sym e) by
 
-pub quarantine_reaches : (p q : PassState) (cell : Cell) (value : ℕ) (o : Option Op) → IsTurn p o → is_undecided_free (call_of p) ≡ true
-    → target p.table.config.pages (now_of p).words (call_of p) ≡ Some cell → is_freed (now_of p).words cell ≡ false → IsOutOfStop (now_of p)
+pub quarantine_reaches : (p q : PassState) (cell : Cell) (value : ℕ) (o : Option Op) → IsTurn p o
+    → is_undecided_free (call_of p) ≡ true
+    → target p.table.config.pages (now_of p).words (call_of p) ≡ Some cell → is_freed (now_of p).words cell ≡ false
+    → IsOutOfStop (now_of p)
     → value ≡ freed_word (now_of p).words cell → slice_index (now_of p).words.freed cell.page + 2 ^ cell.index < 2 ^ 32
     → Acts p (step.Quar cell.page value) q → Has p.seats p.seat → IsHistory q.table.config q.seen → HasFreed p cell q
 quarantine_reaches p q cell value o turn free at clear low is small a own history =
     let caller = acting_caller p (free_is_acting (call_of p) free) in
-    reaches_on is_freeing p p q (λ w. w ≡ world_of p) (IsFreedAt p.table.config p.seat cell (world_of p)) [] (entry_for p answer.Done)
+    reaches_on is_freeing p p q (λ w. w ≡ world_of p) (IsFreedAt p.table.config p.seat cell (world_of p)) []
+    (entry_for p answer.Done)
     (step.Quar cell.page value) (reaches_nothing is_freeing p (λ w. w ≡ world_of p) refl) a own history refl refl caller
     (λ w v first kept known pages.
     let kept : IsAsLeft p.seat (world_of p) v = subst (λ (x : World). IsAsLeft p.seat x v) first kept in
@@ -181,23 +224,32 @@ quarantine_reaches p q cell value o turn free at clear low is small a own histor
 
 -- and frees once
 pub quarantine_once : (p q : PassState) (cell : Cell) (value : ℕ) (o : Option Op) → IsTurn p o
-    → target p.table.config.pages (now_of p).words (call_of p) ≡ Some cell → is_freed (now_of p).words cell ≡ false → IsOutOfStop (now_of p)
+    → target p.table.config.pages (now_of p).words (call_of p) ≡ Some cell → is_freed (now_of p).words cell ≡ false
+    → IsOutOfStop (now_of p)
     → value ≡ freed_word (now_of p).words cell
     → Acts p (step.Quar cell.page value) q → Has p.seats p.seat → IsHistory q.table.config q.seen → FreesOnce p q
 quarantine_once p q cell value o turn at clear low is a own history =
-    frees_now p q (step.Quar cell.page value) (made_in p p.seen (step.Quar cell.page value) q a own history) history turn.holds
+    frees_now p q (step.Quar cell.page value) (made_in p p.seen (step.Quar cell.page value) q a own history) history
+    turn.holds
     (λ v kept. ap (λ (x : Option Cell). is_some x)
-    (freed_left p.table.config p.seat cell value (world_of p) v kept (out_of_stop (now_of p) v.now (ap (λ (x : Steady). x.phase) kept.steady) low) at clear is))
+    (freed_left p.table.config p.seat cell value (world_of p) v kept
+    (out_of_stop (now_of p) v.now (ap (λ (x : Steady). x.phase) kept.steady) low) at clear is))
 
-pub quarantine_may : (p : PassState) (cell : Cell) (value : ℕ) (o : Option Op) → IsTurn p o → is_undecided_free (call_of p) ≡ true
-    → target p.table.config.pages (now_of p).words (call_of p) ≡ Some cell → is_freed (now_of p).words cell ≡ false → IsOutOfStop (now_of p)
+pub quarantine_may : (p : PassState) (cell : Cell) (value : ℕ) (o : Option Op) → IsTurn p o
+    → is_undecided_free (call_of p) ≡ true
+    → target p.table.config.pages (now_of p).words (call_of p) ≡ Some cell → is_freed (now_of p).words cell ≡ false
+    → IsOutOfStop (now_of p)
     → value ≡ freed_word (now_of p).words cell → cell.page < p.table.config.pages
-    → (not (heads_run (header_in (now_of p).words cell.page)) || others_are_held p.table.config.callers (now_of p).words p.seat) ≡ true
+    → (not (heads_run (header_in (now_of p).words cell.page)) || others_are_held p.table.config.callers
+    (now_of p).words p.seat) ≡ true
     → IsEnabledTo p (step.Quar cell.page value)
 quarantine_may p cell value o turn free at clear low is within gates =
-    may_free p.table.config (now_of p) p.seat (acting_now p o turn (free_is_acting (call_of p) free)) cell.page value within low
-    (ap (λ (x : Option Cell). not (is_run_cell (now_of p).words x) || others_are_held p.table.config.callers (now_of p).words p.seat) at ∙ gates)
-    (ap (λ (x : Option Cell). frees (now_of p).words x cell.page value) at ∙ ap (λ n. frees (now_of p).words (Some cell) cell.page n) is
+    may_free p.table.config (now_of p) p.seat (acting_now p o turn (free_is_acting (call_of p) free)) cell.page value
+    within low
+    (ap (λ (x : Option Cell). not (is_run_cell (now_of p).words x) || others_are_held p.table.config.callers
+    (now_of p).words p.seat) at ∙ gates)
+    (ap (λ (x : Option Cell). frees (now_of p).words x cell.page value) at
+    ∙ ap (λ n. frees (now_of p).words (Some cell) cell.page n) is
     ∙ frees_it (now_of p).words cell clear)
 
 -- the word that is made of both halves of the one that was found

@@ -43,7 +43,8 @@ pub record PointsAt (c : Config) (w : World) (n : NeverState) (k : ℕ) (f : Fli
   pub unreleased : (placed_at w.allocations number).released ≡ false
   pub cell : pointed_cell c.pages w.now.words.pages f.p ≡ Some (cell_of_allocation c (placed_at w.allocations number))
 
-module _ (c : Config) (w : World) (n : NeverState) (known : KnownWorld c w) (others : OthersSay c w) (mirrors : Mirrors c w n) where
+module _ (c : Config) (w : World) (n : NeverState) (known : KnownWorld c w) (others : OthersSay c w)
+    (mirrors : Mirrors c w n) where
   st : Stands c w.now.words w.allocations
   st = stands_of c w known.limits others
 
@@ -67,11 +68,13 @@ module _ (c : Config) (w : World) (n : NeverState) (known : KnownWorld c w) (oth
   points_by : (k : ℕ) (s : Stage) (o : Op) (q p r l : ℕ) → is_undecided_free (flight s o q p r l) ≡ true
       → CarriesOwn (bases_of w.allocations) n k (flight s o q p r l) → PointsAt c w n k (flight s o q p r l)
   points_by k stage.Turn (op.Free p') q p r l undecided car =
-      by_value k (flight stage.Turn (op.Free p') q p r l) (register_at n k p') refl (mirrors.typed.registers (8 * k + p'))
+      by_value k (flight stage.Turn (op.Free p') q p r l) (register_at n k p') refl
+      (mirrors.typed.registers (8 * k + p'))
       (mirrors.safe.1.registers (8 * k + p')) (car.p refl) (car.some_p refl)
   points_by k _ _ q p r l undecided car = absurd (false≢true undecided)
 
-  pub points_at : (k : ℕ) → is_undecided_free (flight_of w.now (Caller k)) ≡ true → PointsAt c w n k (flight_of w.now (Caller k))
+  pub points_at : (k : ℕ) → is_undecided_free (flight_of w.now (Caller k)) ≡ true
+      → PointsAt c w n k (flight_of w.now (Caller k))
   points_at k undecided =
       let f = flight_of w.now (Caller k) in
       points_by k f.stage f.op f.q f.p f.r f.loaded undecided (ready.images.carried k)
@@ -82,4 +85,5 @@ pub free_points_at : (c : Config) (es : List Event) (k : ℕ) → IsHistory c es
 free_points_at c es k h undecided =
     let known = known_world c es h.within_limits h.enabled in
     let inv = histories_keep_the_invariant c es h in
-    points_at c (left c es) (never_behind c es) known (told_to_images c (left c es) (never_behind c es) known inv) inv.mirrors k undecided
+    points_at c (left c es) (never_behind c es) known (told_to_images c (left c es) (never_behind c es) known inv)
+    inv.mirrors k undecided

@@ -16,7 +16,8 @@ use Rattle.mk_invariant.proofs.Histories.{histories_keep_the_invariant}
 
 pub freed_told : (c : Config) (es : List Event) (i : ℕ) → IsHistory c es → is_phase (left c es).now.words 4 ≡ false
     → (placed_at (left c es).allocations i).released ≡ false
-    → is_freed (left c es).now.words (cell_of_allocation c (placed_at (left c es).allocations i)) ≡ (placed_at (left c es).allocations i).freed
+    → is_freed (left c es).now.words (cell_of_allocation c (placed_at (left c es).allocations i))
+    ≡ (placed_at (left c es).allocations i).freed
 freed_told c es i h off u = elim (cases_Bool (placed_at (left c es).allocations i).freed) [
   | inl freed ↦ order.quarantined.shown i u freed ∙ sym freed
   | inr live ↦
@@ -34,13 +35,17 @@ freed_told c es i h off u = elim (cases_Bool (placed_at (left c es).allocations 
     order : StandsInOrder c (left c es)
     order = (histories_keep_the_invariant c es h).order
 
-    other : IsFreedCell c (left c es).allocations (cell_of_allocation c (placed_at (left c es).allocations i)).page (cell_of_allocation c (placed_at (left c es).allocations i)).index
+    other : IsFreedCell c (left c es).allocations (cell_of_allocation c (placed_at (left c es).allocations i)).page
+        (cell_of_allocation c (placed_at (left c es).allocations i)).index
         ⊎ (is_released_in (is_phase (left c es).now.words 4) (left c es).now.words.snapshot (left c es).now.words.marks
-        (cell_of_allocation c (placed_at (left c es).allocations i)).page (cell_of_allocation c (placed_at (left c es).allocations i)).index ≡ true)
+        (cell_of_allocation c (placed_at (left c es).allocations i)).page
+        (cell_of_allocation c (placed_at (left c es).allocations i)).index ≡ true)
         → (placed_at (left c es).allocations i).freed ≡ true
     other (inl f) =
         let one = unreleased_are_apart c es order.laid f.number i f.unreleased u f.cell in
         ap (λ j. (placed_at (left c es).allocations j).freed) (sym one) ∙ f.freed
     other (inr gone) =
-        let none : false ≡ true = sym (ap (λ b. is_released_in b (left c es).now.words.snapshot (left c es).now.words.marks
-        (cell_of_allocation c (placed_at (left c es).allocations i)).page (cell_of_allocation c (placed_at (left c es).allocations i)).index) off) ∙ gone in cc
+        let none : false ≡ true =
+        sym (ap (λ b. is_released_in b (left c es).now.words.snapshot (left c es).now.words.marks
+        (cell_of_allocation c (placed_at (left c es).allocations i)).page
+        (cell_of_allocation c (placed_at (left c es).allocations i)).index) off) ∙ gone in cc

@@ -1,5 +1,6 @@
 -- A New behind its mark, its grant and its tally.
-use Rattle.std.proofs.Common.{◌≡◌, ℕ, ◌+◌, ◌*◌, ◌<◌, ◌≤◌, ◌^◌, ◌%◌, true, false, List, [], ◌∷◌, ◌++◌, length, refl, sym, ap, ◌∙◌, arith}
+use Rattle.std.proofs.Common.{◌≡◌, ℕ, ◌+◌, ◌*◌, ◌<◌, ◌≤◌, ◌^◌, ◌%◌, true, false, List, [], ◌∷◌, ◌++◌, length, refl, sym}
+use Rattle.std.proofs.Common.{ap, ◌∙◌, arith}
 use Rattle.std.specs.Prelude.{not, ◌==◌, Option, Some, slice_index, slice_set, bit_or}
 use Rattle.std.proofs.lemmas.Bool.{and_from, or_left, or_right, eq-eqb}
 use Rattle.std.specs.Int.Bits.{and_self}
@@ -52,7 +53,8 @@ pub serving_marks : (c : Config) (s : Seat) (o : Object) (place : Place) (w v : 
     → marks_place v.now.words (object_made c (flight_of v.now s).op)
     (place_now c v.now (flight_of v.now s)) place.page (bits_made o) ≡ true
 serving_marks c s o place w v at one free =
-    ap (λ (x : Object). marks_place v.now.words x (place_now c v.now (flight_of v.now s)) place.page (bits_made o)) at.object
+    ap (λ (x : Object). marks_place v.now.words x (place_now c v.now (flight_of v.now s)) place.page (bits_made o))
+    at.object
     ∙ ap (λ (x : Option Place). marks_place v.now.words o x place.page (bits_made o)) at.placed
     ∙ marks_first v.now.words o place one free
 
@@ -65,7 +67,8 @@ all_marked bits xs p lt =
     without_itself : (n : ℕ) → (without n n == 0) ≡ true
     without_itself n = eq-eqb (without n n) 0 (omega (arith, and_self n))
 
-pub carving_marked : (c : Config) (s : Seat) (o : Object) (place : Place) (w v : World) → Serving c s o place w v → HasCall c v.now s
+pub carving_marked : (c : Config) (s : Seat) (o : Object) (place : Place) (w v : World) → Serving c s o place w v
+    → HasCall c v.now s
     → is_undecided_new (flight_of v.now s) ≡ true → phase_of v.now.words ≡ 1
     → ((d : ℕ) → d < pages_made o → header_at v.now.words (place.page + d) ≡ 0)
     → 1 ≤ pages_made o → place.page < length v.now.words.marks
@@ -75,7 +78,8 @@ carving_marked c s o place w v at (OfCaller k lt) new one free some room =
     let call = call_behind c v.now k x lt in
     let u : World = world_behind c v (record { seat = s; step = x }) in
     let zero : place.page + 0 ≡ place.page = omega arith in
-    let marks = serving_marks c (Caller k) o place w v at one (sym (ap (λ p. header_at v.now.words p) zero) ∙ free 0 (omega arith)) in
+    let marks = serving_marks c (Caller k) o place w v at one (sym (ap (λ p. header_at v.now.words p) zero)
+    ∙ free 0 (omega arith)) in
     let fixed : u.now.seats.holding.placing ≡ Chosen place = rw marks
     (new_placed c v.now (flight_of v.now (Caller k)) place new at.placed at.once) in
     record {
@@ -107,7 +111,8 @@ carving_unmarked c s o place w v at none free =
 
 -- the grant, the tally, and what others do behind them
 
-pub granted_left : (c : Config) (s : Seat) (place : Place) (w u v : World) → d_of (flight_of w.now s).op < 8 → IsGrantedAt c s place w u
+pub granted_left : (c : Config) (s : Seat) (place : Place) (w u v : World) → d_of (flight_of w.now s).op < 8
+    → IsGrantedAt c s place w u
     → IsAsLeft s u v → IsGrantedAt c s place w v
 granted_left c s place w u v small at left =
     let pages : v.now.words.pages ≡ u.now.words.pages = ap (λ (x : Steady). x.pages) left.steady in
@@ -117,18 +122,21 @@ granted_left c s place w u v small at left =
       call = left.call ∙ at.call;
       placing = ap (λ (h : Holding). h.placing) left.holding ∙ at.placing;
       steady = left.steady ∙ at.steady
-          ∙ ap (λ (ps : List Page). record (steady_of w) { pages = ps; held = u.now.words.held; allocations = xs }) (sym pages)
+          ∙ ap (λ (ps : List Page). record (steady_of w) { pages = ps; held = u.now.words.held; allocations = xs })
+          (sym pages)
           ∙ ap (λ n. record (steady_of w) { pages = v.now.words.pages; held = n; allocations = xs }) (sym held);
       register = λ k is. left.registers k (d_of (flight_of w.now s).op) is small ∙ at.register k is;
     }
 
-pub granted_behind : (c : Config) (s : Seat) (o : Object) (place : Place) (w v : World) → IsTakenAt c s o place w v → HasCall c v.now s
+pub granted_behind : (c : Config) (s : Seat) (o : Object) (place : Place) (w v : World) → IsTakenAt c s o place w v
+    → HasCall c v.now s
     → ((k : ℕ) → s ≡ Caller k → 8 * k + d_of (flight_of w.now s).op < length v.now.words.registers)
     → IsGrantedAt c s place w (world_behind c v (record { seat = s; step = step.Grant }))
 granted_behind c s o place w v at (OfCaller k lt) room =
     let call = call_behind c v.now k step.Grant lt in
     let f : Flight = flight_of w.now (Caller k) in
-    let base : granted_base c (flight_of v.now (Caller k)) v.now.seats.holding.placing ≡ base_made (object_made c f.op) place =
+    let base : granted_base c (flight_of v.now (Caller k)) v.now.seats.holding.placing
+    ≡ base_made (object_made c f.op) place =
     ap (λ (x : Placing). granted_base c (flight_of v.now (Caller k)) x) at.placing
     ∙ ap (λ (g : Flight). base_made (object_made c g.op) place) at.call in
     let u : World = world_behind c v (record { seat = Caller k; step = step.Grant }) in
@@ -180,17 +188,21 @@ granted_behind c s o place w v at (OfCaller k lt) room =
         ≡ address_of (base_made (object_made c (flight_of w.now (Caller k)).op) place) % 2 ^ 64
     granted_register j is =
         let same : k ≡ j = cc in
-        let d : d_of (flight_of v.now (Caller k)).op ≡ d_of (flight_of w.now (Caller k)).op = ap (λ (g : Flight). d_of g.op) at.call in
+        let d : d_of (flight_of v.now (Caller k)).op ≡ d_of (flight_of w.now (Caller k)).op =
+        ap (λ (g : Flight). d_of g.op) at.call in
         let value = address_of (granted_base c (flight_of v.now (Caller k)) v.now.seats.holding.placing) % 2 ^ 64 in
         ap (λ i. slice_index (slice_set v.now.words.registers (8 * k + d_of (flight_of v.now (Caller k)).op) value)
         (8 * i + d_of (flight_of w.now (Caller k)).op)) (sym same)
-        ∙ ap (λ i. slice_index (slice_set v.now.words.registers (8 * k + i) value) (8 * k + d_of (flight_of w.now (Caller k)).op)) d
+        ∙ ap (λ i. slice_index (slice_set v.now.words.registers (8 * k + i) value)
+        (8 * k + d_of (flight_of w.now (Caller k)).op)) d
         ∙ get_or-set_same v.now.words.registers (8 * k + d_of (flight_of w.now (Caller k)).op) value 0 (room k refl)
-        ∙ ap (λ n. address_of n % 2 ^ 64) (ap (λ (x : Placing). granted_base c (flight_of v.now (Caller k)) x) at.placing
+        ∙ ap (λ n. address_of n % 2 ^ 64)
+        (ap (λ (x : Placing). granted_base c (flight_of v.now (Caller k)) x) at.placing
         ∙ ap (λ (g : Flight). base_made (object_made c g.op) place) at.call)
 
 -- The tally of held words is set.
-pub tallied_behind : (c : Config) (s : Seat) (place : Place) (w v : World) (n : ℕ) → IsGrantedAt c s place w v → HasCall c v.now s
+pub tallied_behind : (c : Config) (s : Seat) (place : Place) (w v : World) (n : ℕ) → IsGrantedAt c s place w v
+    → HasCall c v.now s
     → IsGrantedAt c s place w (world_behind c v (record { seat = s; step = step.Tally tally.Held n }))
 tallied_behind c s place w v n at (OfCaller k lt) =
     record {

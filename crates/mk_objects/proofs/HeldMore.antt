@@ -19,7 +19,8 @@ abbrev words_mapped : Storage → ℕ
 words_mapped s = if s.mapped then s.words else 0
 
 -- A live object is held besides.
-pub held_one_more : (c : Config) (xs : List PlacedAllocation) (a : PlacedAllocation) → a.released ≡ false → a.freed ≡ false
+pub held_one_more : (c : Config) (xs : List PlacedAllocation) (a : PlacedAllocation) → a.released ≡ false
+    → a.freed ≡ false
     → held_words c (xs ++ a ∷ []) ≡ held_words c xs + storage_words c a
 held_one_more c xs a unreleased live =
     ap mapped_words (unreleased_more c xs a unreleased)

@@ -1,5 +1,6 @@
 -- Looks one after the other, and a part of a turn behind looks.
-use Rattle.std.proofs.Common.{◌≡◌, ◌^◌, ◌%◌, inl, inr, Bool, true, List, [], ◌∷◌, ◌++◌, refl, sym, ◌∙◌, ap, subst, append-nil}
+use Rattle.std.proofs.Common.{◌≡◌, ◌^◌, ◌%◌, inl, inr, Bool, true, List, [], ◌∷◌, ◌++◌, refl, sym, ◌∙◌, ap, subst}
+use Rattle.std.proofs.Common.{append-nil}
 use Rattle.std.specs.Prelude.{Some}
 use Rattle.std.proofs.lemmas.Bool.{and_from, and_parts}
 use Rattle.mk_core.specs.declared.events.Step.{Step}
@@ -27,13 +28,15 @@ use Rattle.mk_words.specs.States.{PassState, WordsState, call_of, now_of, world_
 use Rattle.mk_turns.specs.Doing.{Does, are_of, done_in}
 use Rattle.mk_turns.proofs.Doing.{does_then}
 use Rattle.mk_objects.specs.Entries.{own_calls}
-use Rattle.mk_objects.specs.Placing.{GoesTo, HeldIsExact, IsGranted, IsGrantedAt, IsOutOfStop, IsUnplaced, OnlyLooks, entry_for, is_look, is_placing, object_at_place, object_for}
+use Rattle.mk_objects.specs.Placing.{GoesTo, HeldIsExact, IsGranted, IsGrantedAt, IsOutOfStop, IsUnplaced, OnlyLooks}
+use Rattle.mk_objects.specs.Placing.{entry_for, is_look, is_placing, object_at_place, object_for}
 use Rattle.mk_objects.specs.Unchanged.{IsAsLeft}
 use Rattle.mk_objects.proofs.Counted.{counts_then}
 use Rattle.mk_objects.proofs.Reaching.{reaches_nothing, seeing}
 use Rattle.mk_objects.proofs.Unchanged.{left_joined, left_same}
 
-are_wider : (narrow wide : Step → Bool) → ((s : Step) → narrow s ≡ true → wide s ≡ true) → (xs : List Finding) → are_of narrow xs ≡ true
+are_wider : (narrow wide : Step → Bool) → ((s : Step) → narrow s ≡ true → wide s ≡ true) → (xs : List Finding)
+    → are_of narrow xs ≡ true
     → are_of wide xs ≡ true
 are_wider narrow wide widens [] all = refl
 are_wider narrow wide widens (x ∷ xs) all =
@@ -89,7 +92,11 @@ granted_over c s place w u v a b =
       call = b.call ∙ ap (λ (f : Flight). record f { stage = stage.Give }) a.call;
       placing = b.placing;
       steady = b.steady
-          ∙ ap (λ (x : Steady). record x { pages = v.now.words.pages; held = v.now.words.held; allocations = x.allocations ++ object_at_place c (flight_of u.now s) place ∷ [] }) a.steady
+          ∙ ap (λ (x : Steady). record x {
+            pages = v.now.words.pages;
+            held = v.now.words.held;
+            allocations = x.allocations ++ object_at_place c (flight_of u.now s) place ∷ [];
+          }) a.steady
           ∙ ap (λ (f : Flight). record
           (steady_of w) {
             pages = v.now.words.pages;
@@ -102,7 +109,8 @@ granted_over c s place w u v a b =
           ∙ ap (λ (f : Flight). address_of (base_made (object_made c f.op) place) % 2 ^ 64) a.call;
     }
 
-pub granted_behind_looks : (p q r : PassState) (place : Place) → OnlyLooks p q → IsGranted q place r → IsGranted p place r
+pub granted_behind_looks : (p q r : PassState) (place : Place) → OnlyLooks p q → IsGranted q place r
+    → IsGranted p place r
 granted_behind_looks p q r place a b = by (subst (λ (x : PassState). IsGranted x place r) a.same b)
   where
     by : IsGranted (seeing p q.seen) place r → IsGranted p place r
@@ -113,7 +121,8 @@ granted_behind_looks p q r place a b = by (subst (λ (x : PassState). IsGranted 
               (subst (λ (x : PassState). Does is_placing x r) (sym a.same) b.does);
           calls = b.calls ∙ ap (λ (l : List Decided). l ++ entry_for (seeing p q.seen) answer.Done) (a.calls
               ∙ append-nil (own_calls p p.seen))
-              ∙ ap (λ (f : Flight). own_calls p p.seen ++ entry_of (caller_number p.seat) f.op (Some answer.Done)) a.world.call;
+              ∙ ap (λ (f : Flight). own_calls p p.seen ++ entry_of (caller_number p.seat) f.op (Some answer.Done))
+              a.world.call;
           world = granted_over p.table.config p.seat place (world_of p) _ _ a.world b.world;
           counts = counts_then p.table.config p.seen q.seen r.seen a.counts b.counts;
         }
@@ -135,7 +144,8 @@ looks_unplaced p q a u =
 pub looks_exact : (p q : PassState) → OnlyLooks p q → HeldIsExact p → HeldIsExact q
 looks_exact p q a exact =
     let kept = looks_left p q a in
-    ap (λ (x : Steady). x.held) kept.steady ∙ exact ∙ ap (λ (x : Steady). held_words p.table.config x.allocations) (sym kept.steady)
+    ap (λ (x : Steady). x.held) kept.steady ∙ exact
+    ∙ ap (λ (x : Steady). held_words p.table.config x.allocations) (sym kept.steady)
     ∙ ap (λ (t : WordsState). held_words t.config (world_of q).allocations) (sym (looks_table p q a))
 
 pub looks_object : (p q : PassState) → OnlyLooks p q → object_for q ≡ object_for p
@@ -153,5 +163,6 @@ pub goes_to : (p : PassState) (place : Place) → IsUnplaced p
 goes_to p place u fit =
     record {
       unplaced = u;
-      goes = rw u.new (ap (λ (x : Placing). place_in p.table.config.resident (now_of p).words.pages (object_for p) x) u.placing ∙ fit);
+      goes = rw u.new (ap (λ (x : Placing). place_in p.table.config.resident (now_of p).words.pages (object_for p) x)
+          u.placing ∙ fit);
     }

@@ -1,5 +1,6 @@
 -- The register of a Free is loaded.
-use Rattle.std.proofs.Common.{◌≡◌, ℕ, ◌+◌, ◌*◌, ◌/◌, ◌%◌, ◌<◌, Bool, true, false, List, [], ◌∷◌, ◌++◌, length, refl, sym, ap, subst, ◌∙◌, arith}
+use Rattle.std.proofs.Common.{◌≡◌, ℕ, ◌+◌, ◌*◌, ◌/◌, ◌%◌, ◌<◌, Bool, true, false, List, [], ◌∷◌, ◌++◌, length, refl}
+use Rattle.std.proofs.Common.{sym, ap, subst, ◌∙◌, arith}
 use Rattle.std.specs.Prelude.{◌==◌, Option, Some, None, if◌then◌else◌}
 use Rattle.std.proofs.lemmas.Bool.{eqb-true, lt-ltb}
 use Rattle.mk_never.specs.declared.operations.Op.{Op}
@@ -46,14 +47,16 @@ use Rattle.mk_core.specs.Image.{image_of}
 use Rattle.mk_images.specs.Images.{shown}
 use Rattle.mk_invariant.proofs.Histories.{histories_keep_the_invariant}
 use Rattle.mk_never.specs.NeverHeap.{register_at}
-use Rattle.mk_objects.specs.Retiring.{CallIsAt, HasLoaded, IsFreeAt, IsUnloaded, value_of, entry_loaded, is_loading, loaded_free}
+use Rattle.mk_objects.specs.Retiring.{CallIsAt, HasLoaded, IsFreeAt, IsUnloaded, value_of, entry_loaded, is_loading}
+use Rattle.mk_objects.specs.Retiring.{loaded_free}
 use Rattle.mk_objects.specs.Unchanged.{IsAsLeft}
 use Rattle.mk_objects.proofs.AdmittedFrees.{free_admits, registers_kept}
 use Rattle.mk_objects.proofs.Reaching.{IsCallers, made_in, reaches_nothing, reaches_on}
 use Rattle.mk_objects.proofs.Unchanged.{call_behind}
 
 -- Any step of a Free is admitted.
-pub free_step_admits : (p : PassState) (r : ℕ) (x : Step) (f : Flight) → IsCallers p → Holds p.table.config (now_of p) p.seat
+pub free_step_admits : (p : PassState) (r : ℕ) (x : Step) (f : Flight) → IsCallers p
+    → Holds p.table.config (now_of p) p.seat
     → IsHistory p.table.config p.seen → IsFreeAt p r f → f.op ≡ op.Free r → IsAdmittedTo p x
 free_step_admits p r x f caller holds h u is = by p.seat caller.is holds u.call u.base
   where
@@ -62,13 +65,16 @@ free_step_admits p r x f caller holds h u is = by p.seat caller.is holds u.call 
         → IsAdmittedBehind p.table.config p.seen (record { seat = s; step = x })
     by s e there call base =
         subst (λ (y : Seat). IsAdmittedBehind p.table.config p.seen (record { seat = y; step = x })) (sym e)
-        (free_admits p.table.config p.seen caller.number r x h (subst (λ (y : Seat). Holds p.table.config (now_of p) y) e there).0 u.small
+        (free_admits p.table.config p.seen caller.number r x h
+        (subst (λ (y : Seat). Holds p.table.config (now_of p) y) e there).0 u.small
         (ap (λ (y : Seat). (flight_of (now_of p) y).op) (sym e) ∙ ap (λ (g : Flight). g.op) call ∙ is)
         (subst (λ (y : Seat). IsBase (register_at (never_behind p.table.config p.seen) (caller_number y) r)) e base))
 
 -- Its register keeps its value over a step that decides nothing.
-pub value_kept : (p q : PassState) (r : ℕ) (x : Step) → IsCallers p → r < 8 → Acts p x q → Has p.seats p.seat → IsHistory q.table.config q.seen
-    → ((v : World) → IsAsLeft p.seat (world_of p) v → Known p.table.config v.now → answer_decided p.table.config v.now (event_of p x) ≡ None)
+pub value_kept : (p q : PassState) (r : ℕ) (x : Step) → IsCallers p → r < 8 → Acts p x q → Has p.seats p.seat
+    → IsHistory q.table.config q.seen
+    → ((v : World) → IsAsLeft p.seat (world_of p) v → Known p.table.config v.now
+    → answer_decided p.table.config v.now (event_of p x) ≡ None)
     → value_of q r ≡ value_of p r
 value_kept p q r x caller small a own history none =
     let m = made_in p p.seen x q a own history in
@@ -77,18 +83,23 @@ value_kept p q r x caller small a own history none =
     (subst (λ (y : PassState). IsHistory y.table.config y.seen) m.same history)
   where
     by : (others : List Event) (s : Seat) → s ≡ Caller caller.number → AreOfOthers (s ∷ []) others
-        → answer_decided p.table.config (left p.table.config (p.seen ++ others)).now (record { seat = s; step = x }) ≡ None
+        → answer_decided p.table.config (left p.table.config (p.seen ++ others)).now (record { seat = s; step = x })
+        ≡ None
         → IsHistory p.table.config (p.seen ++ others ++ record { seat = s; step = x } ∷ [])
-        → register_at (never_behind p.table.config (p.seen ++ others ++ record { seat = s; step = x } ∷ [])) (caller_number s) r
+        → register_at (never_behind p.table.config (p.seen ++ others ++ record { seat = s; step = x } ∷ []))
+        (caller_number s) r
         ≡ register_at (never_behind p.table.config p.seen) (caller_number s) r
     by others s e of_others answer whole =
         subst
         (λ (y : Seat). AreOfOthers (y ∷ []) others
-        → answer_decided p.table.config (left p.table.config (p.seen ++ others)).now (record { seat = y; step = x }) ≡ None
+        → answer_decided p.table.config (left p.table.config (p.seen ++ others)).now (record { seat = y; step = x })
+        ≡ None
         → IsHistory p.table.config (p.seen ++ others ++ record { seat = y; step = x } ∷ [])
-        → register_at (never_behind p.table.config (p.seen ++ others ++ record { seat = y; step = x } ∷ [])) (caller_number y) r
+        → register_at (never_behind p.table.config (p.seen ++ others ++ record { seat = y; step = x } ∷ []))
+        (caller_number y) r
         ≡ register_at (never_behind p.table.config p.seen) (caller_number y) r)
-        (sym e) (λ o n w. registers_kept p.table.config p.seen others caller.number x w o n r small) of_others answer whole
+        (sym e) (λ o n w. registers_kept p.table.config p.seen others caller.number x w o n r small) of_others answer
+        whole
 
 -- It is a caller's.
 pub unloaded_caller : (p : PassState) (r : ℕ) → call_of p ≡ begun (op.Free r) → IsCallers p
@@ -117,7 +128,8 @@ reg_enabled c m k r lt call =
       holder = refl;
     })
 
-module _ (p : PassState) (r : ℕ) (o : Option Op) (turn : IsTurn p o) (h : IsHistory p.table.config p.seen) (u : IsUnloaded p r) where
+module _ (p : PassState) (r : ℕ) (o : Option Op) (turn : IsTurn p o) (h : IsHistory p.table.config p.seen)
+    (u : IsUnloaded p r) where
   caller : IsCallers p
   caller = unloaded_caller p r u.call
 
@@ -130,11 +142,13 @@ module _ (p : PassState) (r : ℕ) (o : Option Op) (turn : IsTurn p o) (h : IsHi
   pub load_may : IsEnabledTo p step.Reg
   load_may = by p.seat caller.is turn.holds u.call
     where
-      by : (s : Seat) → s ≡ Caller number → Holds p.table.config (now_of p) s → flight_of (now_of p) s ≡ begun (op.Free r)
+      by : (s : Seat) → s ≡ Caller number → Holds p.table.config (now_of p) s
+          → flight_of (now_of p) s ≡ begun (op.Free r)
           → IsEnabled p.table.config (now_of p) (record { seat = s; step = step.Reg })
       by s is holds call =
           subst (λ (x : Seat). IsEnabled p.table.config (now_of p) (record { seat = x; step = step.Reg })) (sym is)
-          (reg_enabled p.table.config (now_of p) number r (within s is holds) (ap (λ (x : Seat). flight_of (now_of p) x) (sym is) ∙ call))
+          (reg_enabled p.table.config (now_of p) number r (within s is holds)
+          (ap (λ (x : Seat). flight_of (now_of p) x) (sym is) ∙ call))
 
   -- whether it decides the Free or not
   pub load_admits : IsAdmittedTo p step.Reg
@@ -157,18 +171,21 @@ load_progress r n b =
 loads_to : (r n : ℕ) → (progress_reg (begun (op.Free r)) stage.LoadP n).flight ≡ loaded_free r n
 loads_to r n = by (n == 0)
   where
-    by : (b : Bool) → (load_progress r n b).flight ≡ record (begun (op.Free r)) { stage = if b then stage.Give else stage.Turn; p = n }
+    by : (b : Bool) → (load_progress r n b).flight
+        ≡ record (begun (op.Free r)) { stage = if b then stage.Give else stage.Turn; p = n }
     by true = refl
     by false = refl
 
-loads_answer : (r n : ℕ) → (progress_reg (begun (op.Free r)) stage.LoadP n).answer ≡ (if n == 0 then Some answer.Done else None)
+loads_answer : (r n : ℕ)
+    → (progress_reg (begun (op.Free r)) stage.LoadP n).answer ≡ (if n == 0 then Some answer.Done else None)
 loads_answer r n = by (n == 0)
   where
     by : (b : Bool) → (load_progress r n b).answer ≡ (if b then Some answer.Done else None)
     by true = refl
     by false = refl
 
-loaded_entry : (k : ℕ) (o : Op) (b : Bool) → entry_of k o (if b then Some answer.Done else None) ≡ (if b then entry_of k o (Some answer.Done) else [])
+loaded_entry : (k : ℕ) (o : Op) (b : Bool)
+    → entry_of k o (if b then Some answer.Done else None) ≡ (if b then entry_of k o (Some answer.Done) else [])
 loaded_entry k o true = refl
 loaded_entry k o false = refl
 
@@ -184,11 +201,14 @@ loaded_found c m k r call = ap (λ (f : Flight). register_word m.words k (regist
 loaded_words : (c : Config) (m : Moment) (k r : ℕ) → flight_of m (Caller k) ≡ begun (op.Free r)
     → (moment_behind c m (record { seat = Caller k; step = step.Reg })).words ≡ m.words
 loaded_words c m k r call =
-    ap (λ (f : Flight). accessed m.words (Named (word.Reg k (register_met (flight_of m (Caller k)) (flight_of m (Caller k)).stage))) (reg_access f f.stage)) call
+    ap (λ (f : Flight). accessed m.words
+    (Named (word.Reg k (register_met (flight_of m (Caller k)) (flight_of m (Caller k)).stage)))
+    (reg_access f f.stage)) call
 
 record LoadsTo (c : Config) (k r n : ℕ) (w v : World) : Type 0 where
   at : CallIsAt (Caller k) (loaded_free r n) w (world_behind c v (record { seat = Caller k; step = step.Reg }))
-  answer : answer_decided c v.now (record { seat = Caller k; step = step.Reg }) ≡ (if n == 0 then Some answer.Done else None)
+  answer : answer_decided c v.now (record { seat = Caller k; step = step.Reg })
+      ≡ (if n == 0 then Some answer.Done else None)
 
 load_steps : (c : Config) (k r n : ℕ) (w v : World) → k < length v.now.seats.flights → IsAsLeft (Caller k) w v
     → flight_of w.now (Caller k) ≡ begun (op.Free r) → r < 8 → n ≡ register_word w.now.words k r → LoadsTo c k r n w v
@@ -199,7 +219,8 @@ load_steps c k r n w v lt kept call small is =
     let words = loaded_words c v.now k r here in
     record {
       at = record {
-        call = call_behind c v.now k step.Reg lt ∙ ap (λ (f : Flight). (progress_reg f f.stage (found c v.now e)).flight) here
+        call = call_behind c v.now k step.Reg lt
+            ∙ ap (λ (f : Flight). (progress_reg f f.stage (found c v.now e)).flight) here
             ∙ ap (λ i. (progress_reg (begun (op.Free r)) stage.LoadP i).flight) same ∙ loads_to r n;
         holding = kept.holding;
         steady = ap (λ (ws : Words). steady_of (record v { now = record v.now { words = ws } })) words ∙ kept.steady;
@@ -215,23 +236,29 @@ module _ (p : PassState) (r n : ℕ) (v : World) (small : r < 8) (known : Known 
   abbrev Lands : Seat → Type 0
   Lands s =
       CallIsAt s (loaded_free r n) (world_of p) (world_behind p.table.config v (record { seat = s; step = step.Reg }))
-      × (answer_decided p.table.config v.now (record { seat = s; step = step.Reg }) ≡ (if n == 0 then Some answer.Done else None))
+      × (answer_decided p.table.config v.now (record { seat = s; step = step.Reg })
+      ≡ (if n == 0 then Some answer.Done else None))
 
-  lands : (s : Seat) (k : ℕ) → s ≡ Caller k → IsAsLeft s (world_of p) v → Holds p.table.config (now_of p) s → flight_of (now_of p) s ≡ begun (op.Free r)
+  lands : (s : Seat) (k : ℕ) → s ≡ Caller k → IsAsLeft s (world_of p) v → Holds p.table.config (now_of p) s
+      → flight_of (now_of p) s ≡ begun (op.Free r)
       → n ≡ register_word (now_of p).words k r → Lands s
   lands s k e kept holds call is =
       let lt : k < p.table.config.callers = (subst (λ (x : Seat). Holds p.table.config (now_of p) x) e holds).0 in
       let there : k < length v.now.seats.flights = subst (λ i. k < i) (sym known.orderly.flights) lt in
-      let to = load_steps p.table.config k r n (world_of p) v there (subst (λ (x : Seat). IsAsLeft x (world_of p) v) e kept)
+      let to = load_steps p.table.config k r n (world_of p) v there
+      (subst (λ (x : Seat). IsAsLeft x (world_of p) v) e kept)
       (ap (λ (x : Seat). flight_of (now_of p) x) (sym e) ∙ call) small is in
       subst (λ (x : Seat). Lands x) (sym e) (to.at, to.answer)
 
-pub load_reaches : (p q : PassState) (r n : ℕ) (o : Option Op) → r < 8 → IsTurn p o → IsUnloaded p r → Acts p step.Reg q → Has p.seats p.seat
+pub load_reaches : (p q : PassState) (r n : ℕ) (o : Option Op) → r < 8 → IsTurn p o → IsUnloaded p r → Acts p step.Reg q
+    → Has p.seats p.seat
     → IsHistory q.table.config q.seen → n ≡ register_of p r → HasLoaded p r n q
 load_reaches p q r n o small turn u a own history is =
     let caller = unloaded_caller p r u.call in
-    let here : n ≡ register_word (now_of p).words caller.number r = is ∙ ap (λ (x : Seat). register_word (now_of p).words (caller_number x) r) caller.is in
-    reaches_on is_loading p p q (λ w. w ≡ world_of p) (CallIsAt p.seat (loaded_free r n) (world_of p)) [] (entry_loaded p n) step.Reg
+    let here : n ≡ register_word (now_of p).words caller.number r = is
+    ∙ ap (λ (x : Seat). register_word (now_of p).words (caller_number x) r) caller.is in
+    reaches_on is_loading p p q (λ w. w ≡ world_of p) (CallIsAt p.seat (loaded_free r n) (world_of p)) []
+    (entry_loaded p n) step.Reg
     (reaches_nothing is_loading p (λ w. w ≡ world_of p) refl) a own history refl refl caller
     (λ w v first kept known pages.
     let kept : IsAsLeft p.seat (world_of p) v = subst (λ (x : World). IsAsLeft p.seat x v) first kept in
@@ -248,20 +275,25 @@ load_reaches p q r n o small turn u a own history is =
     })
 
 -- A load that finds a pointer decides nothing.
-pub load_keeps : (p q : PassState) (r n : ℕ) (o : Option Op) → r < 8 → IsTurn p o → IsUnloaded p r → Acts p step.Reg q → Has p.seats p.seat
+pub load_keeps : (p q : PassState) (r n : ℕ) (o : Option Op) → r < 8 → IsTurn p o → IsUnloaded p r → Acts p step.Reg q
+    → Has p.seats p.seat
     → IsHistory q.table.config q.seen → n ≡ register_of p r → (n == 0) ≡ false → value_of q r ≡ value_of p r
 load_keeps p q r n o small turn u a own history is some =
     let caller = unloaded_caller p r u.call in
-    let here : n ≡ register_word (now_of p).words caller.number r = is ∙ ap (λ (x : Seat). register_word (now_of p).words (caller_number x) r) caller.is in
+    let here : n ≡ register_word (now_of p).words caller.number r = is
+    ∙ ap (λ (x : Seat). register_word (now_of p).words (caller_number x) r) caller.is in
     value_kept p q r step.Reg caller small a own history
     (λ v kept known.
-    (lands p r n v small known p.seat caller.number caller.is kept turn.holds u.call here).1 ∙ ap (λ (b : Bool). if b then Some answer.Done else None) some)
+    (lands p r n v small known p.seat caller.number caller.is kept turn.holds u.call here).1
+    ∙ ap (λ (b : Bool). if b then Some answer.Done else None) some)
 
 -- A Free that has loaded a pointer isn't decided.
-pub loaded_undecided : (p : PassState) (r u : ℕ) → IsFreeAt p r (loaded_free r u) → (u == 0) ≡ false → is_undecided_free (call_of p) ≡ true
+pub loaded_undecided : (p : PassState) (r u : ℕ) → IsFreeAt p r (loaded_free r u) → (u == 0) ≡ false
+    → is_undecided_free (call_of p) ≡ true
 loaded_undecided p r u at some =
     ap (λ (f : Flight). is_undecided_free f) at.call
-    ∙ ap (λ (b : Bool). is_undecided_free (record (begun (op.Free r)) { stage = if b then stage.Give else stage.Turn; p = u })) some
+    ∙ ap (λ (b : Bool). is_undecided_free
+    (record (begun (op.Free r)) { stage = if b then stage.Give else stage.Turn; p = u })) some
 
 -- A register whose word is 0 is null.
 
@@ -270,30 +302,38 @@ null_by bases Null base is = refl
 null_by bases (Num n) base is = absurd base
 null_by bases (Ptr number ty offset) base is = absurd (omega arith)
 
-null_at : (c : Config) (es : List Event) (k r : ℕ) → IsHistory c es → r < 8 → flight_of (left c es).now (Caller k) ≡ begun (op.Free r)
-    → IsBase (register_at (never_behind c es) k r) → register_word (left c es).now.words k r ≡ 0 → register_at (never_behind c es) k r ≡ Null
+null_at : (c : Config) (es : List Event) (k r : ℕ) → IsHistory c es → r < 8
+    → flight_of (left c es).now (Caller k) ≡ begun (op.Free r)
+    → IsBase (register_at (never_behind c es) k r) → register_word (left c es).now.words k r ≡ 0
+    → register_at (never_behind c es) k r ≡ Null
 null_at c es k r h small call base zero =
     let images = (histories_keep_the_invariant c es h).mirrors.images in
     let place : (8 * k + r) / 8 ≡ k = omega arith in
     let rest : (8 * k + r) % 8 ≡ r = omega arith in
-    let here : shown (flight_of (left c es).now (Caller ((8 * k + r) / 8))) ((8 * k + r) % 8) (register_word (left c es).now.words k r) ≡ 0 =
-    ap (λ i. shown (flight_of (left c es).now (Caller i)) ((8 * k + r) % 8) (register_word (left c es).now.words k r)) place
+    let here : shown (flight_of (left c es).now (Caller ((8 * k + r) / 8))) ((8 * k + r) % 8)
+    (register_word (left c es).now.words k r) ≡ 0 =
+    ap (λ i. shown (flight_of (left c es).now (Caller i)) ((8 * k + r) % 8) (register_word (left c es).now.words k r))
+    place
     ∙ ap (λ (f : Flight). shown f ((8 * k + r) % 8) (register_word (left c es).now.words k r)) call ∙ zero in
-    null_by (bases_of (left c es).allocations) (register_at (never_behind c es) k r) base (sym (images.registers (8 * k + r)) ∙ here)
+    null_by (bases_of (left c es).allocations) (register_at (never_behind c es) k r) base
+    (sym (images.registers (8 * k + r)) ∙ here)
 
-pub load_null : (p : PassState) (r n : ℕ) → IsHistory p.table.config p.seen → IsUnloaded p r → n ≡ register_of p r → (n == 0) ≡ true
+pub load_null : (p : PassState) (r n : ℕ) → IsHistory p.table.config p.seen → IsUnloaded p r → n ≡ register_of p r
+    → (n == 0) ≡ true
     → value_of p r ≡ Null
 load_null p r n h u is none =
     let caller = unloaded_caller p r u.call in
     by p.seat caller.is u.call u.base (sym is ∙ eqb-true n 0 none)
   where
     by : (s : Seat) → s ≡ Caller (unloaded_caller p r u.call).number → flight_of (now_of p) s ≡ begun (op.Free r)
-        → IsBase (register_at (never_behind p.table.config p.seen) (caller_number s) r) → register_word (now_of p).words (caller_number s) r ≡ 0
+        → IsBase (register_at (never_behind p.table.config p.seen) (caller_number s) r)
+        → register_word (now_of p).words (caller_number s) r ≡ 0
         → register_at (never_behind p.table.config p.seen) (caller_number s) r ≡ Null
     by s e call base zero =
         subst
         (λ (x : Seat). flight_of (now_of p) x ≡ begun (op.Free r)
-        → IsBase (register_at (never_behind p.table.config p.seen) (caller_number x) r) → register_word (now_of p).words (caller_number x) r ≡ 0
+        → IsBase (register_at (never_behind p.table.config p.seen) (caller_number x) r)
+        → register_word (now_of p).words (caller_number x) r ≡ 0
         → register_at (never_behind p.table.config p.seen) (caller_number x) r ≡ Null)
         (sym e)
         (λ c b z. null_at p.table.config p.seen (unloaded_caller p r u.call).number r h u.small c b z)

@@ -28,7 +28,8 @@ use Rattle.mk_objects.specs.Placing.{OnlyLooks, is_look}
 use Rattle.mk_objects.specs.Unchanged.{IsAsLeft}
 use Rattle.mk_objects.proofs.MayAct.{IsActing}
 use Rattle.mk_objects.proofs.Reaching.{GoesOn, IsCallers, reaches_nothing, reaches_still}
-use Rattle.mk_objects.proofs.Unchanged.{IsPlain, OfFresh, OfHead, OfHeld, OfPhase, OfUsed, acting_has_call, left_joined, left_same, look_leaves}
+use Rattle.mk_objects.proofs.Unchanged.{IsPlain, OfFresh, OfHead, OfHeld, OfPhase, OfUsed, acting_has_call, left_joined}
+use Rattle.mk_objects.proofs.Unchanged.{left_same, look_leaves}
 
 -- Who holds the turn exists, and is a caller where it is acting.
 
@@ -51,7 +52,11 @@ acting_caller p acts = by p.seat refl acts
 
 -- where it is as it was left, it is acting still
 pub still_acting : (c : Config) (s : Seat) (w v : World) → IsActing c w.now s → IsAsLeft s w v → IsActing c v.now s
-still_acting c s w v at kept = record { there = at.there; acts = ap (λ (f : Flight). is_acting f.stage) kept.call ∙ at.acts }
+still_acting c s w v at kept = record {
+  there = at.there;
+  acts = ap (λ (f : Flight). is_acting f.stage) kept.call
+      ∙ at.acts;
+}
 
 pub looks_on : (p : PassState) (x : Word) → IsActing p.table.config (now_of p) p.seat → IsPlain x
     → GoesOn p (IsAsLeft p.seat (world_of p)) (λ v. IsAsLeft p.seat (world_of p)
@@ -103,13 +108,15 @@ module _ (p q : PassState) (o : Option Op) (x : Word) (n : ℕ) (turn : IsTurn p
       by word.Fresh h = ap (λ (t : Steady). t.fresh) same
       by _ h = cc
 
-pub found_phase : (p q : PassState) (o : Option Op) (n : ℕ) → IsTurn p o → Finds p (step.Look word.Phase) n q → Has p.seats p.seat
+pub found_phase : (p q : PassState) (o : Option Op) (n : ℕ) → IsTurn p o → Finds p (step.Look word.Phase) n q
+    → Has p.seats p.seat
     → IsHistory q.table.config q.seen → n % 8 ≡ phase_of (now_of p).words
 found_phase p q o n turn f own history =
     ap (λ i. i % 8) f.finds ∙ ap (λ (t : Steady). t.phase)
     (((made p (step.Look word.Phase) q f.makes own history).frame.turn turn.holds).0).steady
 
-pub found_quarantine : (p q : PassState) (o : Option Op) (page n : ℕ) → IsTurn p o → Finds p (step.Look (word.Quar page)) n q → Has p.seats p.seat
+pub found_quarantine : (p q : PassState) (o : Option Op) (page n : ℕ) → IsTurn p o
+    → Finds p (step.Look (word.Quar page)) n q → Has p.seats p.seat
     → IsHistory q.table.config q.seen → n ≡ named_word (now_of p).words (word.Quar page)
 found_quarantine p q o page n turn f own history =
     let same = (((made p (step.Look (word.Quar page)) q f.makes own history).frame.turn turn.holds).0).steady in

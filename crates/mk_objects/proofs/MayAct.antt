@@ -22,10 +22,12 @@ use Rattle.mk_core.specs.Cells.{is_released, is_unmapped_header, pointed_cell}
 use Rattle.mk_core.specs.Enabled.{IsEnabled, marker_may, holder_may}
 use Rattle.mk_core.specs.Moments.{Moment, flight_of, is_held, is_number_of, marker_at, is_phase, others_are_held}
 use Rattle.mk_core.specs.NewPlaces.{is_new_at, is_run_gone, is_undecided_free, is_undecided_new, target, object_made}
-use Rattle.mk_core.specs.Order.{comes_next, group_of, is_in_order, is_of_any_holder, is_open_to, may_decide, seat_exists}
+use Rattle.mk_core.specs.Order.{comes_next, group_of, is_in_order, is_of_any_holder, is_open_to, may_decide}
+use Rattle.mk_core.specs.Order.{seat_exists}
 use Rattle.mk_core.specs.Ranges.{is_in_range, is_run_cell, is_word, has_gates, has_phase}
 use Rattle.mk_core.specs.StopConditions.{marks_by_hand, marks_place}
-use Rattle.mk_core.specs.TurnConditions.{carves, frees, is_in_gone_run, takes_snapshot, is_used_once, place_now, takes_cell, unmaps}
+use Rattle.mk_core.specs.TurnConditions.{carves, frees, is_in_gone_run, takes_snapshot, is_used_once, place_now}
+use Rattle.mk_core.specs.TurnConditions.{takes_cell, unmaps}
 use Rattle.mk_core.specs.declared.events.Word.{Word}
 use Rattle.mk_core.specs.declared.seats.Flight.{Flight}
 use Rattle.mk_core.proofs.Conditions.{meets_enabled}
@@ -49,14 +51,17 @@ any_may_decide (op.New d ty full) step.Grant h = refl
 any_may_decide (op.New d ty full) step.Full h = refl
 any_may_decide _ x h = h
 
-next_of_acting : (s : Stage) (o : Op) (x : Step) → is_acting s ≡ true → is_of_any_holder x ≡ true → comes_next s o x ≡ true
+next_of_acting : (s : Stage) (o : Op) (x : Step) → is_acting s ≡ true → is_of_any_holder x ≡ true
+    → comes_next s o x ≡ true
 next_of_acting stage.Turn o x acts any = any_may_decide o x any
 next_of_acting stage.Give o x acts any = any
 next_of_acting _ o x acts any = cc
 
-order_of_acting : (c : Config) (m : Moment) (s : Seat) (x : Step) → is_acting (flight_of m s).stage ≡ true → is_of_any_holder x ≡ true
+order_of_acting : (c : Config) (m : Moment) (s : Seat) (x : Step) → is_acting (flight_of m s).stage ≡ true
+    → is_of_any_holder x ≡ true
     → is_in_order c m s x ≡ true
-order_of_acting c m (Caller k) x acts any = next_of_acting (flight_of m (Caller k)).stage (flight_of m (Caller k)).op x acts any
+order_of_acting c m (Caller k) x acts any =
+    next_of_acting (flight_of m (Caller k)).stage (flight_of m (Caller k)).op x acts any
 order_of_acting c m (Marker k) x acts any = cc
 order_of_acting c m Host x acts any = cc
 
@@ -72,7 +77,8 @@ grant_comes_next : (s : Stage) (o : Op) → is_new_at s o ≡ true → comes_nex
 grant_comes_next stage.Turn (op.New d ty full) h = refl
 grant_comes_next _ _ h = cc
 
-grant_in_order : (c : Config) (m : Moment) (s : Seat) → is_undecided_new (flight_of m s) ≡ true → is_in_order c m s step.Grant ≡ true
+grant_in_order : (c : Config) (m : Moment) (s : Seat) → is_undecided_new (flight_of m s) ≡ true
+    → is_in_order c m s step.Grant ≡ true
 grant_in_order c m (Caller k) new = grant_comes_next (flight_of m (Caller k)).stage (flight_of m (Caller k)).op new
 grant_in_order c m (Marker k) new = cc
 grant_in_order c m Host new = cc
@@ -90,7 +96,8 @@ off_four m (inr one) = ap (λ (n : ℕ). n == 4) one
 
 module _ (c : Config) (m : Moment) (s : Seat) (at : IsActing c m s) where
   may_by : (x : Step) → group_of x ≡ group.Turn → is_in_order c m s x ≡ true → is_in_range c s (flight_of m s) x ≡ true
-      → has_gates c m.words s (flight_of m s) x ≡ true → has_phase (phase_of m.words) x ≡ true → marker_may c (marker_at m s) x ≡ true
+      → has_gates c m.words s (flight_of m s) x ≡ true → has_phase (phase_of m.words) x ≡ true
+      → marker_may c (marker_at m s) x ≡ true
       → holder_may c m (flight_of m s) x ≡ true → IsEnabled c m (record { seat = s; step = x })
   may_by x turn order range gates phase marker own =
       meets_enabled c m (record { seat = s; step = x }) (record {
@@ -104,7 +111,8 @@ module _ (c : Config) (m : Moment) (s : Seat) (at : IsActing c m s) where
         holder = own;
       })
 
-  pub may_look : (x : Word) → is_steady_word x ≡ true → is_word c x ≡ true → IsEnabled c m (record { seat = s; step = step.Look x })
+  pub may_look : (x : Word) → is_steady_word x ≡ true → is_word c x ≡ true
+      → IsEnabled c m (record { seat = s; step = step.Look x })
   may_look x steady within = may_by (step.Look x) refl (order_of_acting c m s (step.Look x) at.acts refl) within
       (gates x steady) refl refl refl
     where
@@ -113,22 +121,27 @@ module _ (c : Config) (m : Moment) (s : Seat) (at : IsActing c m s) where
       gates x steady = refl
 
   pub may_look_phase : IsEnabled c m (record { seat = s; step = step.Look word.Phase })
-  may_look_phase = may_by (step.Look word.Phase) refl (order_of_acting c m s (step.Look word.Phase) at.acts refl) refl refl refl refl refl
+  may_look_phase = may_by (step.Look word.Phase) refl (order_of_acting c m s (step.Look word.Phase) at.acts refl) refl
+      refl refl refl refl
 
   pub may_look_quarantine : (p : ℕ) → p < c.pages → IsEnabled c m (record { seat = s; step = step.Look (word.Quar p) })
   may_look_quarantine p within =
-      may_by (step.Look (word.Quar p)) refl (order_of_acting c m s (step.Look (word.Quar p)) at.acts refl) (lt-ltb p c.pages within)
+      may_by (step.Look (word.Quar p)) refl (order_of_acting c m s (step.Look (word.Quar p)) at.acts refl)
+      (lt-ltb p c.pages within)
       refl refl refl refl
 
   pub may_free : (p v : ℕ) → p < c.pages → IsOutOfStop m
-      → (not (is_run_cell m.words (target c.pages m.words (flight_of m s))) || others_are_held c.callers m.words s) ≡ true
-      → frees m.words (target c.pages m.words (flight_of m s)) p v ≡ true → IsEnabled c m (record { seat = s; step = step.Quar p v })
+      → (not (is_run_cell m.words (target c.pages m.words (flight_of m s))) || others_are_held c.callers m.words s)
+      ≡ true
+      → frees m.words (target c.pages m.words (flight_of m s)) p v ≡ true
+      → IsEnabled c m (record { seat = s; step = step.Quar p v })
   may_free p v within low gates frees =
       may_by (step.Quar p v) refl (order_of_acting c m s (step.Quar p v) at.acts refl) (lt-ltb p c.pages within) gates
       (low_or_more (phase_of m.words) 4 low) refl (rw (off_four m low) (or_left _ (takes_snapshot m.words p v) frees))
 
   pub may_tally : (n : Tally) (v : ℕ) → IsEnabled c m (record { seat = s; step = step.Tally n v })
-  may_tally n v = may_by (step.Tally n v) refl (order_of_acting c m s (step.Tally n v) at.acts refl) refl refl refl refl refl
+  may_tally n v = may_by (step.Tally n v) refl (order_of_acting c m s (step.Tally n v) at.acts refl) refl refl refl refl
+      refl
 
   pub may_mark_place : (p v : ℕ) → p < c.pages → phase_of m.words ≡ 1
       → marks_place m.words (object_made c (flight_of m s).op) (place_now c m (flight_of m s)) p v ≡ true
@@ -163,7 +176,8 @@ module _ (c : Config) (m : Moment) (s : Seat) (at : IsActing c m s) where
       → IsEnabled c m (record { seat = s; step = step.Hold j })
   may_hold j lt other not_held =
       may_by (step.Hold j) refl (order_of_acting c m s (step.Hold j) at.acts refl)
-      (and_from (nat_lt j c.callers) (not (is_number_of s j)) (lt-ltb j c.callers lt) (ap not other)) (ap not not_held) refl refl refl
+      (and_from (nat_lt j c.callers) (not (is_number_of s j)) (lt-ltb j c.callers lt) (ap not other))
+      (ap not not_held) refl refl refl
 
   pub may_open : (j : ℕ) → j < c.callers → is_number_of s j ≡ false → is_held m.words j ≡ true → IsOutOfStop m
       → is_run_gone m.words m.seats.holding.freed ≡ true → IsEnabled c m (record { seat = s; step = step.Open j })
@@ -181,7 +195,8 @@ module _ (c : Config) (m : Moment) (s : Seat) (at : IsActing c m s) where
   may_unmap p v within low held unmap =
       may_by (step.Head p v) refl (order_of_acting c m s (step.Head p v) at.acts refl) (lt-ltb p c.pages within)
       (or_right (not (is_unmapped_header (header_of v))) _ held) (low_or_more (phase_of m.words) 4 low) refl
-      (rw (off_four m low) (or_right (carves m.words (object_made c (flight_of m s).op) (place_now c m (flight_of m s)) p v) _ unmap))
+      (rw (off_four m low)
+      (or_right (carves m.words (object_made c (flight_of m s).op) (place_now c m (flight_of m s)) p v) _ unmap))
 
   pub may_look_heap : (n : ℕ) → n < 64 * c.pages → IsEnabled c m (record { seat = s; step = step.Look (word.Heap n) })
   may_look_heap n within =
@@ -191,5 +206,6 @@ module _ (c : Config) (m : Moment) (s : Seat) (at : IsActing c m s) where
   pub may_wipe : (n : ℕ) → n < 64 * c.pages → is_in_gone_run m.words m.seats.holding.freed n ≡ true
       → IsEnabled c m (record { seat = s; step = step.Wipe n })
   may_wipe n within gone =
-      may_by (step.Wipe n) refl (order_of_acting c m s (step.Wipe n) at.acts refl) (lt-ltb n (64 * c.pages) within) refl refl refl
+      may_by (step.Wipe n) refl (order_of_acting c m s (step.Wipe n) at.acts refl) (lt-ltb n (64 * c.pages) within) refl
+      refl refl
       (or_right (is_some_and (is_released m.words) (pointed_cell c.pages m.words.pages (address_of n))) _ gone)

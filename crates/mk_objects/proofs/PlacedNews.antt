@@ -45,7 +45,8 @@ type_of c o h = (and_parts
     (has_type c o) h).1
 
 -- Its type exists,
-pub type_asked : (p : PassState) (w : WordsState) (x y : Option Op) → p.table ≡ w → IsTurn p x → IsHistory p.table.config p.seen
+pub type_asked : (p : PassState) (w : WordsState) (x y : Option Op) → p.table ≡ w → IsTurn p x
+    → IsHistory p.table.config p.seen
     → is_undecided_new (call_of p) ≡ true → y ≡ x → (o : Op) → y ≡ Some o → has_type w.config o ≡ true
 type_asked p w x y table turn h new same o is =
     let e : o ≡ (call_of p).op = let z : Some o ≡ Some (call_of p).op = sym is ∙ same ∙ op_is p x turn new in cc z in
@@ -56,22 +57,27 @@ type_asked p w x y table turn h new same o is =
 -- and its shape is that of the object.
 pub shape_asked : (p : PassState) (w : WordsState) (x y : Option Op) (shape : Shape) → p.table ≡ w → IsTurn p x
     → is_undecided_new (call_of p) ≡ true
-    → y ≡ x → ((o : Op) → y ≡ Some o → object_shaped shape ≡ object_made w.config o) → object_shaped shape ≡ object_for p
+    → y ≡ x → ((o : Op) → y ≡ Some o → object_shaped shape ≡ object_made w.config o)
+    → object_shaped shape ≡ object_for p
 shape_asked p w x y shape table turn new same made =
-    made (call_of p).op (same ∙ op_is p x turn new) ∙ ap (λ (t : WordsState). object_made t.config (call_of p).op) (sym table)
+    made (call_of p).op (same ∙ op_is p x turn new)
+    ∙ ap (λ (t : WordsState). object_made t.config (call_of p).op) (sym table)
 
 -- The first fit on pages that are filled is that on the words.
-pub fit_found : (p : PassState) (w : WordsState) (pages : List Page) (resident : ℕ) (shape : Shape) (x : Option Place) → p.table ≡ w
+pub fit_found : (p : PassState) (w : WordsState) (pages : List Page) (resident : ℕ) (shape : Shape) (x : Option Place)
+    → p.table ≡ w
     → resident ≡ w.config.resident → pages ≡ (now_of p).words.pages → object_shaped shape ≡ object_for p
     → x ≡ place_among resident shape.words shape.leaf (uses_of_pages pages)
     → place_on_pages p.table.config.resident (now_of p).words.pages (object_for p) ≡ x
 fit_found p w pages resident shape x table limit filled is found =
-    ap (λ n. place_on_pages n (now_of p).words.pages (object_for p)) (ap (λ (t : WordsState). t.config.resident) table ∙ sym limit)
+    ap (λ n. place_on_pages n (now_of p).words.pages (object_for p)) (ap (λ (t : WordsState). t.config.resident) table
+    ∙ sym limit)
     ∙ ap (λ (ps : List Page). place_on_pages resident ps (object_for p)) (sym filled)
     ∙ ap (λ (o : Object). place_on_pages resident pages o) (sym is) ∙ sym found
 
 -- So is the place that was sought on the words for an object of the shape that was asked.
-pub fit_sought : (p : PassState) (w : WordsState) (x y : Option Op) (shape : Shape) (found : Option Place) → p.table ≡ w → IsTurn p x
+pub fit_sought : (p : PassState) (w : WordsState) (x y : Option Op) (shape : Shape) (found : Option Place) → p.table ≡ w
+    → IsTurn p x
     → is_undecided_new (call_of p) ≡ true
     → y ≡ x → ((o : Op) → y ≡ Some o → object_shaped shape ≡ object_made w.config o)
     → found ≡ place_among w.config.resident shape.words shape.leaf (uses_of_pages (now_of p).words.pages)
@@ -90,14 +96,16 @@ goes_behind p q place a u fit =
     ∙ ap (λ (o : Object). place_on_pages p.table.config.resident (now_of p).words.pages o) (looks_object p q a) ∙ fit)
 
 -- and the place among the allocations.
-pub place_found : (p : PassState) (x : Option Op) (found : Option Place) → IsTurn p x → IsHistory p.table.config p.seen → IsUnplaced p
+pub place_found : (p : PassState) (x : Option Op) (found : Option Place) → IsTurn p x → IsHistory p.table.config p.seen
+    → IsUnplaced p
     → place_on_pages p.table.config.resident (now_of p).words.pages (object_for p) ≡ found → place_now_for p ≡ found
 place_found p x found turn h u fit =
     let acts = new_is_acting (call_of p) u.new in
     sym (first_fit_finds_the_place p.table.config p.seen h (object_for p)
     (unplaced_settled p (acting_now p x turn acts) (acting_caller p acts) u h)) ∙ fit
 
-pub fit_within : (p : PassState) (x : Option Op) (place : Place) → IsTurn p x → IsHistory p.table.config p.seen → IsUnplaced p
+pub fit_within : (p : PassState) (x : Option Op) (place : Place) → IsTurn p x → IsHistory p.table.config p.seen
+    → IsUnplaced p
     → place_on_pages p.table.config.resident (now_of p).words.pages (object_for p) ≡ Some place
     → place.page < length (now_of p).words.pages
 fit_within p x place turn h u fit =

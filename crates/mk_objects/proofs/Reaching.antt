@@ -1,5 +1,6 @@
 -- The turn's holder goes on by a step.
-use Rattle.std.proofs.Common.{◌≡◌, ◌≢◌, ℕ, Bool, true, false, List, [], ◌∷◌, ◌++◌, refl, sym, ◌∙◌, ap, subst, append-nil, append_assoc, inl, inr}
+use Rattle.std.proofs.Common.{◌≡◌, ◌≢◌, ℕ, Bool, true, false, List, [], ◌∷◌, ◌++◌, refl, sym, ◌∙◌, ap, subst}
+use Rattle.std.proofs.Common.{append-nil, append_assoc, inl, inr}
 use Rattle.std.specs.Prelude.{◌==◌, Option, None}
 use Rattle.std.proofs.lemmas.Bool.{cases_eq, eq-eqb, ne_eqb}
 use Rattle.mk_core.specs.declared.config.Config.{Config}
@@ -84,7 +85,8 @@ made_in p es s r a own history =
       does = λ kinds ok. does_step kinds (seeing p es) r s own a.makes ok;
     }
 
-pub reaches_nothing : (kinds : Step → Bool) (p : PassState) (A : World → Type 0) → A (world_of p) → Reaches kinds p A [] p
+pub reaches_nothing : (kinds : Step → Bool) (p : PassState) (A : World → Type 0) → A (world_of p)
+    → Reaches kinds p A [] p
 reaches_nothing kinds p A here =
     record {
       same = refl;
@@ -120,14 +122,16 @@ own_adds p k is seen others s es of_others a answer entry =
     (record p { seat = x }) seen ++ es)
     (sym is)
     (λ o d e.
-    own_step_adds p.table.config k seen others s (flight_of (left p.table.config (seen ++ others)).now (Caller k)).op a o refl d
+    own_step_adds p.table.config k seen others s (flight_of (left p.table.config (seen ++ others)).now (Caller k)).op a
+    o refl d
     ∙ ap (λ (l : List Decided). own_calls (record p { seat = Caller k }) seen ++ l) e)
     of_others answer entry
 
 -- what is known of the world in which the holder makes a step, where it had come to such a one
 abbrev pub GoesOn : (p : PassState) (A : World → Type 0) (C : World → Type 0) → Type 0
 GoesOn p A C =
-    (w v : World) → A w → IsAsLeft p.seat w v → Known p.table.config v.now → AreOfPages p.table.config.pages v.now.words → C v
+    (w v : World) → A w → IsAsLeft p.seat w v → Known p.table.config v.now → AreOfPages p.table.config.pages v.now.words
+    → C v
 
 -- and, while all others are stopped, that they have left all words as they were
 abbrev pub GoesOnInStop : (p : PassState) (A : World → Type 0) (C : World → Type 0) → Type 0
@@ -138,7 +142,8 @@ GoesOnInStop p A C =
 -- One step further.
 pub reaches_in_stop : (kinds : Step → Bool) (p q r : PassState) (A B : World → Type 0) (ds es : List Decided) (s : Step)
     → Reaches kinds p A ds q
-    → Acts q s r → Has q.seats q.seat → IsHistory r.table.config r.seen → kinds s ≡ true → is_end s ≡ false → IsCallers p
+    → Acts q s r → Has q.seats q.seat → IsHistory r.table.config r.seen → kinds s ≡ true → is_end s ≡ false
+    → IsCallers p
     → GoesOnInStop p A (StepsTo p s B es)
     → Reaches kinds p B (ds ++ es) r
 reaches_in_stop kinds p q r A B ds es s reached acts own history allowed no_end caller next =
@@ -147,16 +152,20 @@ reaches_in_stop kinds p q r A B ds es s reached acts own history allowed no_end 
     made_in p q.seen s r (subst (λ (x : PassState). Acts x s r) reached.same acts)
     (subst (λ (x : PassState). Has x.seats x.seat) reached.same own) history in
     let v : World = left c (q.seen ++ m.others) in
-    let on : StepsTo p s B es v = next (left c q.seen) v reached.world m.kept m.stop m.known (histories_keep_lengths c (q.seen ++ m.others)) in
+    let on : StepsTo p s B es v =
+    next (left c q.seen) v reached.world m.kept m.stop m.known (histories_keep_lengths c (q.seen ++ m.others)) in
     let seen : r.seen ≡ q.seen ++ m.others ++ event_of p s ∷ [] = ap (λ (x : PassState). x.seen) m.same in
     let one = counts_more c (q.seen ++ m.others) (event_of p s) no_end (ap answers_full on.decides ∙ on.no_full) in
     record {
       same = m.same ∙ ap (λ (l : List Event). seeing p l) (sym seen);
-      does = does_then kinds p q r reached.does (subst (λ (x : PassState). Does kinds x r) (sym reached.same) (m.does kinds allowed));
+      does = does_then kinds p q r reached.does
+          (subst (λ (x : PassState). Does kinds x r) (sym reached.same) (m.does kinds allowed));
       calls = ap (λ (l : List Event). own_calls p l) seen
-          ∙ own_adds p caller.number caller.is q.seen m.others s es m.of_others on.answer on.decides (on.entry caller.number caller.is)
+          ∙ own_adds p caller.number caller.is q.seen m.others s es m.of_others on.answer on.decides
+          (on.entry caller.number caller.is)
           ∙ ap (λ (l : List Decided). l ++ es) reached.calls ∙ append_assoc (own_calls p p.seen) ds es;
-      world = subst B (sym m.behind ∙ ap (λ (x : PassState). world_of x) m.same ∙ ap (λ (l : List Event). left c l) (sym seen)) on.world;
+      world = subst B (sym m.behind ∙ ap (λ (x : PassState). world_of x) m.same
+          ∙ ap (λ (l : List Event). left c l) (sym seen)) on.world;
       counts = subst (λ (l : List Event). CountsAreLeft c p.seen l) (sym seen)
           (counts_then c p.seen (q.seen ++ m.others) (q.seen ++ m.others ++ event_of p s ∷ [])
           (counts_then c p.seen q.seen (q.seen ++ m.others) reached.counts m.counts) one);
@@ -164,7 +173,8 @@ reaches_in_stop kinds p q r A B ds es s reached acts own history allowed no_end 
 
 pub reaches_on : (kinds : Step → Bool) (p q r : PassState) (A B : World → Type 0) (ds es : List Decided) (s : Step)
     → Reaches kinds p A ds q
-    → Acts q s r → Has q.seats q.seat → IsHistory r.table.config r.seen → kinds s ≡ true → is_end s ≡ false → IsCallers p
+    → Acts q s r → Has q.seats q.seat → IsHistory r.table.config r.seen → kinds s ≡ true → is_end s ≡ false
+    → IsCallers p
     → GoesOn p A (StepsTo p s B es)
     → Reaches kinds p B (ds ++ es) r
 reaches_on kinds p q r A B ds es s reached acts own history allowed no_end caller next =
@@ -184,9 +194,11 @@ idle_steps p s B v idle there =
       entry = λ k is. refl;
     }
 
-pub reaches_still_in_stop : (kinds : Step → Bool) (p q r : PassState) (A B : World → Type 0) (ds : List Decided) (s : Step)
+pub reaches_still_in_stop : (kinds : Step → Bool) (p q r : PassState) (A B : World
+    → Type 0) (ds : List Decided) (s : Step)
     → Reaches kinds p A ds q
-    → Acts q s r → Has q.seats q.seat → IsHistory r.table.config r.seen → kinds s ≡ true → is_end s ≡ false → IsCallers p
+    → Acts q s r → Has q.seats q.seat → IsHistory r.table.config r.seen → kinds s ≡ true → is_end s ≡ false
+    → IsCallers p
     → may_decide s ≡ false
     → GoesOnInStop p A (λ v. B (world_behind p.table.config v (event_of p s))) → Reaches kinds p B ds r
 reaches_still_in_stop kinds p q r A B ds s reached acts own history allowed no_end caller idle next =
@@ -196,7 +208,8 @@ reaches_still_in_stop kinds p q r A B ds s reached acts own history allowed no_e
 
 pub reaches_still : (kinds : Step → Bool) (p q r : PassState) (A B : World → Type 0) (ds : List Decided) (s : Step)
     → Reaches kinds p A ds q
-    → Acts q s r → Has q.seats q.seat → IsHistory r.table.config r.seen → kinds s ≡ true → is_end s ≡ false → IsCallers p
+    → Acts q s r → Has q.seats q.seat → IsHistory r.table.config r.seen → kinds s ≡ true → is_end s ≡ false
+    → IsCallers p
     → may_decide s ≡ false
     → GoesOn p A (λ v. B (world_behind p.table.config v (event_of p s))) → Reaches kinds p B ds r
 reaches_still kinds p q r A B ds s reached acts own history allowed no_end caller idle next =

@@ -39,7 +39,8 @@ use Rattle.mk_objects.proofs.LoadedFrees.{value_kept}
 use Rattle.mk_objects.proofs.Unchanged.{call_behind}
 
 pub target_same : (pages : ℕ) (w v : Words) (f : Flight) → v.pages ≡ w.pages → target pages v f ≡ target pages w f
-target_same pages w v f same = ap (λ (ps : List Page). if is_undecided_free f then pointed_cell pages ps f.p else None) same
+target_same pages w v f same = ap (λ (ps : List Page). if is_undecided_free f then pointed_cell pages ps f.p
+    else None) same
 
 seen_at : (w : Words) (cell : Cell) → sees_double w (Some cell) (word.Quar cell.page) ≡ is_freed w cell
 seen_at w cell = ap (λ b. b && is_freed w cell) (eq-eqb cell.page cell.page refl)
@@ -48,17 +49,21 @@ pub freed_same : (w v : Words) (cell : Cell) → v.freed ≡ w.freed → is_free
 freed_same w v cell same = ap (λ (xs : List ℕ). has_bit (slice_index xs cell.page) cell.index) same
 
 -- what is seen of the target in a world that is as it was left
-seen_now : (c : Config) (k : ℕ) (cell : Cell) (w v : World) → IsAsLeft (Caller k) w v → target c.pages w.now.words (flight_of w.now (Caller k)) ≡ Some cell
-    → sees_double v.now.words (target c.pages v.now.words (flight_of v.now (Caller k))) (word.Quar cell.page) ≡ is_freed w.now.words cell
+seen_now : (c : Config) (k : ℕ) (cell : Cell) (w v : World) → IsAsLeft (Caller k) w v
+    → target c.pages w.now.words (flight_of w.now (Caller k)) ≡ Some cell
+    → sees_double v.now.words (target c.pages v.now.words (flight_of v.now (Caller k))) (word.Quar cell.page)
+    ≡ is_freed w.now.words cell
 seen_now c k cell w v kept at =
     let there : target c.pages v.now.words (flight_of v.now (Caller k)) ≡ Some cell =
     ap (λ (f : Flight). target c.pages v.now.words f) kept.call
-    ∙ target_same c.pages w.now.words v.now.words (flight_of w.now (Caller k)) (ap (λ (x : Steady). x.pages) kept.steady) ∙ at in
+    ∙ target_same c.pages w.now.words v.now.words (flight_of w.now (Caller k))
+    (ap (λ (x : Steady). x.pages) kept.steady) ∙ at in
     ap (λ (x : Option Cell). sees_double v.now.words x (word.Quar cell.page)) there ∙ seen_at v.now.words cell
     ∙ freed_same w.now.words v.now.words cell (ap (λ (x : Steady). x.freed) kept.steady)
 
 abbrev progress_seen : Flight → Bool → Progress
-progress_seen f b = if b then record { flight = record f { stage = stage.Give }; answer = Some answer.Double } else record { flight = f; answer = None }
+progress_seen f b = if b then record { flight = record f { stage = stage.Give }; answer = Some answer.Double }
+    else record { flight = f; answer = None }
 
 seen_flight : (f : Flight) (b : Bool) → (progress_seen f b).flight ≡ seen_free f b
 seen_flight f true = refl
@@ -71,9 +76,11 @@ seen_answer f false = refl
 pub record SeesBy (c : Config) (k : ℕ) (cell : Cell) (w v : World) : Type 0 where
   pub at : CallIsAt (Caller k) (seen_free (flight_of w.now (Caller k)) (is_freed w.now.words cell)) w
       (world_behind c v (record { seat = Caller k; step = step.Look (word.Quar cell.page) }))
-  pub answer : answer_decided c v.now (record { seat = Caller k; step = step.Look (word.Quar cell.page) }) ≡ answer_seen (is_freed w.now.words cell)
+  pub answer : answer_decided c v.now (record { seat = Caller k; step = step.Look (word.Quar cell.page) })
+      ≡ answer_seen (is_freed w.now.words cell)
 
-pub sees_by : (c : Config) (k : ℕ) (cell : Cell) (w v : World) → k < length v.now.seats.flights → IsAsLeft (Caller k) w v
+pub sees_by : (c : Config) (k : ℕ) (cell : Cell) (w v : World) → k < length v.now.seats.flights
+    → IsAsLeft (Caller k) w v
     → target c.pages w.now.words (flight_of w.now (Caller k)) ≡ Some cell → SeesBy c k cell w v
 sees_by c k cell w v lt kept at =
     let seen = seen_now c k cell w v kept at in
@@ -88,7 +95,8 @@ sees_by c k cell w v lt kept at =
         registers = kept.registers;
         gates = kept.gates;
       };
-      answer = ap (λ b. (progress_seen (flight_of v.now (Caller k)) b).answer) seen ∙ seen_answer (flight_of v.now (Caller k)) (is_freed w.now.words cell);
+      answer = ap (λ b. (progress_seen (flight_of v.now (Caller k)) b).answer) seen
+          ∙ seen_answer (flight_of v.now (Caller k)) (is_freed w.now.words cell);
     }
 
 seen_no_full : (b : Bool) → answers_full (answer_seen b) ≡ false
@@ -96,7 +104,8 @@ seen_no_full true = refl
 seen_no_full false = refl
 
 -- at the seat of a pass
-seen_entry : (k : ℕ) (o : Op) (b : Bool) → entry_of k o (answer_seen b) ≡ (if b then entry_of k o (Some answer.Double) else [])
+seen_entry : (k : ℕ) (o : Op) (b : Bool)
+    → entry_of k o (answer_seen b) ≡ (if b then entry_of k o (Some answer.Double) else [])
 seen_entry k o true = refl
 seen_entry k o false = refl
 
@@ -105,25 +114,30 @@ module _ (p : PassState) (cell : Cell) (v : World) (known : Known p.table.config
   Sees s =
       CallIsAt s (seen_free (flight_of (now_of p) s) (is_freed (now_of p).words cell)) (world_of p)
       (world_behind p.table.config v (record { seat = s; step = step.Look (word.Quar cell.page) }))
-      × (answer_decided p.table.config v.now (record { seat = s; step = step.Look (word.Quar cell.page) }) ≡ answer_seen (is_freed (now_of p).words cell))
+      × (answer_decided p.table.config v.now (record { seat = s; step = step.Look (word.Quar cell.page) })
+      ≡ answer_seen (is_freed (now_of p).words cell))
 
   sees : (s : Seat) (k : ℕ) → s ≡ Caller k → IsAsLeft s (world_of p) v → Holds p.table.config (now_of p) s
       → target p.table.config.pages (now_of p).words (flight_of (now_of p) s) ≡ Some cell → Sees s
   sees s k e kept holds at =
       let lt : k < p.table.config.callers = (subst (λ (x : Seat). Holds p.table.config (now_of p) x) e holds).0 in
       let there : k < length v.now.seats.flights = subst (λ i. k < i) (sym known.orderly.flights) lt in
-      let by = sees_by p.table.config k cell (world_of p) v there (subst (λ (x : Seat). IsAsLeft x (world_of p) v) e kept)
+      let by = sees_by p.table.config k cell (world_of p) v there
+      (subst (λ (x : Seat). IsAsLeft x (world_of p) v) e kept)
       (ap (λ (x : Seat). target p.table.config.pages (now_of p).words (flight_of (now_of p) x)) (sym e) ∙ at) in
       subst (λ (x : Seat). Sees x) (sym e) (by.at, by.answer)
 
 pub see_reaches : (p q : PassState) (cell : Cell) (o : Option Op) → IsTurn p o → is_undecided_free (call_of p) ≡ true
-    → target p.table.config.pages (now_of p).words (call_of p) ≡ Some cell → Acts p (step.Look (word.Quar cell.page)) q → Has p.seats p.seat
+    → target p.table.config.pages (now_of p).words (call_of p) ≡ Some cell → Acts p (step.Look (word.Quar cell.page)) q
+    → Has p.seats p.seat
     → IsHistory q.table.config q.seen → HasSeen p cell q
 see_reaches p q cell o turn free at a own history =
     let caller = acting_caller p (free_is_acting (call_of p) free) in
     let double : Bool = is_freed (now_of p).words cell in
-    reaches_on is_loading p p q (λ w. w ≡ world_of p) (CallIsAt p.seat (seen_free (call_of p) double) (world_of p)) [] (entry_seen p double)
-    (step.Look (word.Quar cell.page)) (reaches_nothing is_loading p (λ w. w ≡ world_of p) refl) a own history refl refl caller
+    reaches_on is_loading p p q (λ w. w ≡ world_of p) (CallIsAt p.seat (seen_free (call_of p) double) (world_of p)) []
+    (entry_seen p double)
+    (step.Look (word.Quar cell.page)) (reaches_nothing is_loading p (λ w. w ≡ world_of p) refl) a own history refl refl
+    caller
     (λ w v first kept known pages.
     let kept : IsAsLeft p.seat (world_of p) v = subst (λ (x : World). IsAsLeft p.seat x v) first kept in
     let to = sees p cell v known p.seat caller.number caller.is kept turn.holds at in
@@ -138,9 +152,11 @@ see_reaches p q cell o turn free at a own history =
     })
 
 -- A look that finds its target unfreed decides nothing.
-pub see_keeps : (p q : PassState) (r : ℕ) (cell : Cell) (o : Option Op) → r < 8 → IsTurn p o → is_undecided_free (call_of p) ≡ true
+pub see_keeps : (p q : PassState) (r : ℕ) (cell : Cell) (o : Option Op) → r < 8 → IsTurn p o
+    → is_undecided_free (call_of p) ≡ true
     → target p.table.config.pages (now_of p).words (call_of p) ≡ Some cell → is_freed (now_of p).words cell ≡ false
-    → Acts p (step.Look (word.Quar cell.page)) q → Has p.seats p.seat → IsHistory q.table.config q.seen → value_of q r ≡ value_of p r
+    → Acts p (step.Look (word.Quar cell.page)) q → Has p.seats p.seat → IsHistory q.table.config q.seen
+    → value_of q r ≡ value_of p r
 see_keeps p q r cell o small turn free at live a own history =
     let caller = acting_caller p (free_is_acting (call_of p) free) in
     value_kept p q r (step.Look (word.Quar cell.page)) caller small a own history

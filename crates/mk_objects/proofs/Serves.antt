@@ -1,5 +1,6 @@
 -- The turn's holder serves its New, step by step.
-use Rattle.std.proofs.Common.{◌≡◌, ◌≢◌, ℕ, ◌+◌, ◌<◌, true, false, List, [], length, refl, sym, ◌∙◌, ap, subst, inl, inr, ◌⊎◌, arith}
+use Rattle.std.proofs.Common.{◌≡◌, ◌≢◌, ℕ, ◌+◌, ◌<◌, true, false, List, [], length, refl, sym, ◌∙◌, ap, subst, inl, inr}
+use Rattle.std.proofs.Common.{◌⊎◌, arith}
 use Rattle.std.specs.Prelude.{Option, Some, slice_index_or}
 use Rattle.std.proofs.lemmas.Bool.{cases_eq}
 use Rattle.mk_never.specs.declared.operations.Op.{Op}
@@ -17,7 +18,8 @@ use Rattle.mk_core.specs.Bits.{has_bit}
 use Rattle.mk_core.specs.Frames.{Steady}
 use Rattle.mk_core.specs.History.{World, IsHistory, left}
 use Rattle.mk_core.specs.Moments.{Moment, flight_of}
-use Rattle.mk_core.specs.NewPlaces.{bits_made, header_made, is_undecided_new, object_made, pages_made, place_in, place_on_pages}
+use Rattle.mk_core.specs.NewPlaces.{bits_made, header_made, is_undecided_new, object_made, pages_made, place_in}
+use Rattle.mk_core.specs.NewPlaces.{place_on_pages}
 use Rattle.mk_core.specs.ObjectHeaders.{IsSized}
 use Rattle.mk_core.specs.TurnConditions.{is_used_once, place_now}
 use Rattle.mk_core.specs.Words.{header_at, phase_of, used_at}
@@ -61,12 +63,14 @@ pub record KnowsPlace (p : PassState) (place : Place) : Type 0 where
   pub fits : FitsOnFreePages p.table.config.resident (now_of p).words.pages (object_for p) place ⊎ FitsInBlock
       (now_of p).words.pages (object_for p) place
 
-fit_of : (c : Config) (m : Moment) (f : Flight) (place : Place) → is_undecided_new f ≡ true → m.seats.holding.placing ≡ Unplaced
+fit_of : (c : Config) (m : Moment) (f : Flight) (place : Place) → is_undecided_new f ≡ true
+    → m.seats.holding.placing ≡ Unplaced
     → place_now c m f ≡ Some place → place_on_pages c.resident m.words.pages (object_made c f.op) ≡ Some place
 fit_of c m f place new at placed = sym (ap
     (λ (x : Placing). place_in c.resident m.words.pages (object_made c f.op) x) at) ∙ sym (under new) ∙ placed
   where
-    under : is_undecided_new f ≡ true → place_now c m f ≡ place_in c.resident m.words.pages (object_made c f.op) m.seats.holding.placing
+    under : is_undecided_new f ≡ true
+        → place_now c m f ≡ place_in c.resident m.words.pages (object_made c f.op) m.seats.holding.placing
     under is = rw is refl
 
 within_of : (limit : ℕ) (pages : List Page) (o : Object) (place : Place) (n : ℕ) → IsSized o → length pages ≡ n
@@ -147,7 +151,11 @@ out_of_stop m n same (inr one) = inr (same ∙ one)
 pub served_acting : (p : PassState) (place : Place) (v : World) → KnowsPlace p place
     → Serving p.table.config p.seat (object_for p) place (world_of p) v
     → IsActing p.table.config v.now p.seat
-served_acting p place v k at = record { there = k.acting.there; acts = ap (λ (f : Flight). is_acting f.stage) at.call ∙ k.acting.acts }
+served_acting p place v k at = record {
+  there = k.acting.there;
+  acts = ap (λ (f : Flight). is_acting f.stage) at.call
+      ∙ k.acting.acts;
+}
 
 pub served_new : (p : PassState) (place : Place) (v : World) → GoesTo p place
     → Serving p.table.config p.seat (object_for p) place (world_of p) v
@@ -167,28 +175,34 @@ module _ (p : PassState) (place : Place) (goes : GoesTo p place) (k : KnowsPlace
 
   free_now : (w v : World) → IsAsLeft p.seat (world_of p) v → (d : ℕ) → d < pages_made (object_for p)
       → header_at v.now.words (place.page + d) ≡ 0
-  free_now w v kept d lt = ap (λ (x : Steady). (slice_index_or x.pages (place.page + d) free_page).header) kept.steady ∙ frees.free d lt
+  free_now w v kept d lt = ap (λ (x : Steady). (slice_index_or x.pages (place.page + d) free_page).header) kept.steady
+      ∙ frees.free d lt
 
   pub marks_first : (q : PassState) → phase_of (now_of p).words ≡ 1
       → Acts p (step.Mark place.page (bits_made (object_for p))) q → Has p.seats p.seat
       → IsHistory q.table.config q.seen → HasCarved p place 0 q
   marks_first q one a own history =
-      reaches_still is_placing p p q (λ w. w ≡ world_of p) (λ w. Carving p.table.config p.seat (object_for p) place (world_of p) w 0) []
+      reaches_still is_placing p p q (λ w. w ≡ world_of p)
+      (λ w. Carving p.table.config p.seat (object_for p) place (world_of p) w 0) []
       (step.Mark place.page (bits_made (object_for p)))
       (reaches_nothing is_placing p (λ w. w ≡ world_of p) refl) a own history refl refl k.caller refl
       (λ w v here kept known pages.
       let kept : IsAsLeft p.seat (world_of p) v = subst (λ (x : World). IsAsLeft p.seat x v) here kept in
-      let serving = serving_left p.table.config p.seat (object_for p) place (world_of p) (world_of p) v k.serving kept in
-      let call = acting_has_call p.table.config v.now p.seat known.orderly.flights (served_acting p place v k serving) in
+      let serving = serving_left p.table.config p.seat (object_for p) place (world_of p) (world_of p) v k.serving kept
+      in
+      let call = acting_has_call p.table.config v.now p.seat known.orderly.flights (served_acting p place v k serving)
+      in
       let some = pages_some (object_for p) k.sized in
-      carving_marked p.table.config p.seat (object_for p) place (world_of p) v serving call (served_new p place v goes serving)
+      carving_marked p.table.config p.seat (object_for p) place (world_of p) v serving call
+      (served_new p place v goes serving)
       (ap (λ (x : Steady). x.phase) kept.steady ∙ one) (free_now w v kept) some
       (let marks = pages.marks in let within = k.within in omega arith))
 
   pub marks_none : phase_of (now_of p).words ≢ 1 → HasCarved p place 0 p
   marks_none other =
       reaches_nothing is_placing p (λ w. Carving p.table.config p.seat (object_for p) place (world_of p) w 0)
-      (carving_unmarked p.table.config p.seat (object_for p) place (world_of p) (world_of p) k.serving (none goes.unplaced.phase)
+      (carving_unmarked p.table.config p.seat (object_for p) place (world_of p) (world_of p) k.serving
+      (none goes.unplaced.phase)
       (λ d lt. frees.free d lt))
     where
       none : IsOutOfStop (now_of p) → phase_of (now_of p).words ≡ 0
@@ -202,7 +216,8 @@ module _ (p : PassState) (place : Place) (goes : GoesTo p place) (k : KnowsPlace
       let w : World = left p.table.config q.seen in
       let ends = frees.within in
       let lengths = k.serving.pages in
-      subst (λ (x : PassState). IsEnabledTo x (step.Head (place.page + n) (header_made (object_for p) n))) (sym reached.same)
+      subst (λ (x : PassState). IsEnabledTo x (step.Head (place.page + n) (header_made (object_for p) n)))
+      (sym reached.same)
       (may_carve p.table.config w.now p.seat (served_acting p place w k reached.world.serving) (place.page + n)
       (header_made (object_for p) n)
       (omega arith)
@@ -211,7 +226,8 @@ module _ (p : PassState) (place : Place) (goes : GoesTo p place) (k : KnowsPlace
       (carving_carves p.table.config p.seat (object_for p) place (world_of p) w n k.sized reached.world lt))
 
   pub heads_on : (q r : PassState) (n : ℕ) → HasCarved p place n q → n < pages_made (object_for p)
-      → Acts q (step.Head (place.page + n) (header_made (object_for p) n)) r → Has q.seats q.seat → IsHistory r.table.config r.seen
+      → Acts q (step.Head (place.page + n) (header_made (object_for p) n)) r → Has q.seats q.seat
+      → IsHistory r.table.config r.seen
       → HasCarved p place (n + 1) r
   heads_on q r n reached lt a own history =
       let ends = frees.within in
@@ -222,9 +238,12 @@ module _ (p : PassState) (place : Place) (goes : GoesTo p place) (k : KnowsPlace
       reached a own history refl refl k.caller refl
       (λ w v here kept known pages.
       let on = carving_left p.table.config p.seat (object_for p) place (world_of p) w v n here kept in
-      let call = acting_has_call p.table.config v.now p.seat known.orderly.flights (served_acting p place v k on.serving) in
-      carving_more p.table.config p.seat (object_for p) place (world_of p) v n on call (served_new p place v goes on.serving)
-      (out_of_stop (now_of p) v.now (ap (λ (x : Steady). x.phase) on.serving.steady) goes.unplaced.phase) lt (omega arith))
+      let call = acting_has_call p.table.config v.now p.seat known.orderly.flights
+      (served_acting p place v k on.serving) in
+      carving_more p.table.config p.seat (object_for p) place (world_of p) v n on call
+      (served_new p place v goes on.serving)
+      (out_of_stop (now_of p) v.now (ap (λ (x : Steady). x.phase) on.serving.steady) goes.unplaced.phase) lt
+      (omega arith))
 
   pub carved_all : (q : PassState) → HasCarved p place (pages_made (object_for p)) q → MayTake p place q
   carved_all q reached =
@@ -232,12 +251,14 @@ module _ (p : PassState) (place : Place) (goes : GoesTo p place) (k : KnowsPlace
         same = reached.same;
         does = reached.does;
         calls = reached.calls;
-        world = ready_carved p.table.config p.seat (object_for p) place (world_of p) (left p.table.config q.seen) reached.world;
+        world = ready_carved p.table.config p.seat (object_for p) place (world_of p) (left p.table.config q.seen)
+            reached.world;
         counts = reached.counts;
       }
 
 -- A block is ready.
-pub block_ready : (p : PassState) (place : Place) → KnowsPlace p place → header_at (now_of p).words place.page ≢ 0 → MayTake p place p
+pub block_ready : (p : PassState) (place : Place) → KnowsPlace p place → header_at (now_of p).words place.page ≢ 0
+    → MayTake p place p
 block_ready p place k some =
     reaches_nothing is_placing p (IsReady p.table.config p.seat (object_for p) place (world_of p)) (record {
       serving = k.serving;

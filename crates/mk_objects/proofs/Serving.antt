@@ -1,5 +1,6 @@
 -- A New while it is served: how far its pages are, step by step.
-use Rattle.std.proofs.Common.{◌≡◌, ◌≢◌, ℕ, ◌+◌, ◌-◌, ◌<◌, ◌^◌, ◌%◌, true, false, List, length, refl, sym, ap, ◌∙◌, inl, inr, arith}
+use Rattle.std.proofs.Common.{◌≡◌, ◌≢◌, ℕ, ◌+◌, ◌-◌, ◌<◌, ◌^◌, ◌%◌, true, false, List, length, refl, sym, ap, ◌∙◌, inl}
+use Rattle.std.proofs.Common.{inr, arith}
 use Rattle.std.specs.Prelude.{not, ◌==◌, Option, Some, slice_index, slice_index_or, slice_set}
 use Rattle.std.proofs.lemmas.Bool.{and_from, cases_eq, cases_lt, eq-eqb, ne_eqb, le-leb, lt-ltb}
 use Rattle.std.proofs.lemmas.List.{get_or-set_same, get_or-set_other, length-set, set_past}
@@ -19,7 +20,8 @@ use Rattle.mk_core.specs.Effects.{chosen, taken}
 use Rattle.mk_core.specs.Frames.{Steady, steady_of}
 use Rattle.mk_core.specs.History.{World, world_behind}
 use Rattle.mk_core.specs.Moments.{Moment, flight_of, is_phase}
-use Rattle.mk_core.specs.NewPlaces.{bits_made, header_made, is_next_header, is_undecided_new, object_made, pages_made, place_in, stands}
+use Rattle.mk_core.specs.NewPlaces.{bits_made, header_made, is_next_header, is_undecided_new, object_made, pages_made}
+use Rattle.mk_core.specs.NewPlaces.{place_in, stands}
 use Rattle.mk_core.specs.ObjectHeaders.{IsSized}
 use Rattle.mk_core.specs.TurnConditions.{carves, is_marked_first, is_used_once, place_now, takes_cell}
 use Rattle.mk_core.specs.Words.{Words, header_at, used_at}
@@ -33,7 +35,8 @@ use Rattle.mk_objects.proofs.Unchanged.{HasCall, OfCaller, call_behind}
 
 -- What others do leaves it so.
 
-place_same : (c : Config) (u v : World) (f : Flight) → v.now.seats.holding ≡ u.now.seats.holding → v.now.words.pages ≡ u.now.words.pages
+place_same : (c : Config) (u v : World) (f : Flight) → v.now.seats.holding ≡ u.now.seats.holding
+    → v.now.words.pages ≡ u.now.words.pages
     → place_now c v.now f ≡ place_now c u.now f
 place_same c u v f holding pages =
     ap (λ (h : Holding). place_now c (record v.now { seats = record v.now.seats { holding = h } }) f) holding
@@ -47,13 +50,15 @@ serving_left c s o place w u v at left =
       call = left.call ∙ at.call;
       object = ap (λ (f : Flight). object_made c f.op) left.call ∙ at.object;
       steady = left.steady ∙ at.steady ∙ ap (λ (ps : List Page). record (steady_of w) { pages = ps }) (sym pages);
-      placed = place_same c u v (flight_of v.now s) left.holding pages ∙ ap (λ (f : Flight). place_now c u.now f) left.call ∙ at.placed;
+      placed = place_same c u v (flight_of v.now s) left.holding pages
+          ∙ ap (λ (f : Flight). place_now c u.now f) left.call ∙ at.placed;
       once = ap (λ (h : Holding). is_used_once h.placing) left.holding ∙ at.once;
       used = ap (λ (ps : List Page). (slice_index_or ps place.page free_page).used) pages ∙ at.used;
       pages = ap (λ (ps : List Page). length ps) pages ∙ at.pages;
     }
 
-marked_left : (o : Object) (place : Place) (s : Seat) (u v : World) → IsAsLeft s u v → is_marked_first u.now.words o place ≡ true
+marked_left : (o : Object) (place : Place) (s : Seat) (u v : World) → IsAsLeft s u v
+    → is_marked_first u.now.words o place ≡ true
     → is_marked_first v.now.words o place ≡ true
 marked_left o place s u v left h =
     let phase : (v.now.words.phase % 8) ≡ (u.now.words.phase % 8) = ap (λ (x : Steady). x.phase) left.steady in
@@ -86,13 +91,16 @@ chosen_place resident pages o (Chosen x) place h once = cc
 chosen_place resident pages o (Used x) place h once = cc
 chosen_place resident pages o Granted place h once = cc
 
-pub new_placed : (c : Config) (m : Moment) (f : Flight) (place : Place) → is_undecided_new f ≡ true → place_now c m f ≡ Some place
+pub new_placed : (c : Config) (m : Moment) (f : Flight) (place : Place) → is_undecided_new f ≡ true
+    → place_now c m f ≡ Some place
     → is_used_once m.seats.holding.placing ≡ false → chosen m.seats.holding.placing (place_now c m f) ≡ Chosen place
 new_placed c m f place new placed once =
     ap (λ (x : Option Place). chosen m.seats.holding.placing x) placed
-    ∙ chosen_place c.resident m.words.pages (object_made c f.op) m.seats.holding.placing place (sym (under new) ∙ placed) once
+    ∙ chosen_place c.resident m.words.pages (object_made c f.op) m.seats.holding.placing place (sym (under new)
+    ∙ placed) once
   where
-    under : is_undecided_new f ≡ true → place_now c m f ≡ place_in c.resident m.words.pages (object_made c f.op) m.seats.holding.placing
+    under : is_undecided_new f ≡ true
+        → place_now c m f ≡ place_in c.resident m.words.pages (object_made c f.op) m.seats.holding.placing
     under is = rw is refl
 
 pub chosen_now : (c : Config) (m : Moment) (f : Flight) (place : Place) → is_undecided_new f ≡ true
@@ -106,7 +114,8 @@ pub header_set : (ps : List Page) (p q : ℕ) (x : Page) → q ≢ p
     → (slice_index_or (slice_set ps p x) q free_page).header ≡ (slice_index_or ps q free_page).header
 header_set ps p q x ne = ap (λ (y : Page). y.header) (get_or-set_other ps p q x free_page ne)
 
-pub header_here : (ps : List Page) (p : ℕ) (x : Page) → p < length ps → (slice_index_or (slice_set ps p x) p free_page).header ≡ x.header
+pub header_here : (ps : List Page) (p : ℕ) (x : Page) → p < length ps
+    → (slice_index_or (slice_set ps p x) p free_page).header ≡ x.header
 header_here ps p x lt = ap (λ (y : Page). y.header) (get_or-set_same ps p x free_page lt)
 
 used_kept : (ps : List Page) (p q h : ℕ)
@@ -117,7 +126,8 @@ used_kept ps p q h = elim (cases_eq q p) [
   | inl e ↦ elim (cases_lt p (length ps)) [
     | inl lt ↦
         let x : Page = record { header = h; used = (slice_index_or ps p free_page).used } in
-        ap (λ i. (slice_index_or (slice_set ps p x) i free_page).used) e ∙ ap (λ (y : Page). y.used) (get_or-set_same ps p x free_page lt)
+        ap (λ i. (slice_index_or (slice_set ps p x) i free_page).used) e
+        ∙ ap (λ (y : Page). y.used) (get_or-set_same ps p x free_page lt)
         ∙ ap (λ i. (slice_index_or ps i free_page).used) (sym e)
     | inr past ↦ ap (λ (ys : List Page). (slice_index_or ys q free_page).used) (set_past ps p _ past)
   ]
@@ -128,7 +138,8 @@ used_kept ps p q h = elim (cases_eq q p) [
 pub carving_more : (c : Config) (s : Seat) (o : Object) (place : Place) (w v : World) (n : ℕ)
     → Carving c s o place w v n → HasCall c v.now s
     → is_undecided_new (flight_of v.now s) ≡ true → IsOutOfStop v.now → n < pages_made o → place.page + n < c.pages
-    → Carving c s o place w (world_behind c v (record { seat = s; step = step.Head (place.page + n) (header_made o n) })) (n + 1)
+    → Carving c s o place w
+    (world_behind c v (record { seat = s; step = step.Head (place.page + n) (header_made o n) })) (n + 1)
 carving_more c s o place w v n at (OfCaller k lt) new low within room =
     let p = place.page + n in
     let call = call_behind c v.now k (step.Head p (header_made o n)) lt in
@@ -151,14 +162,16 @@ carving_more c s o place w v n at (OfCaller k lt) new low within room =
             ∙ ap (λ i. header_made o i) (sym e)
         | inr ne ↦ header_set v.now.words.pages p (place.page + d) _ (λ e. ne (omega arith)) ∙ at.stand d (omega arith)
       ];
-      free = λ d le lt. header_set v.now.words.pages p (place.page + d) _ (λ e. absurd (omega arith)) ∙ at.free d (omega arith) lt;
+      free = λ d le lt. header_set v.now.words.pages p (place.page + d) _ (λ e. absurd (omega arith))
+          ∙ at.free d (omega arith) lt;
       marked = at.marked;
     }
 
 -- so it may come next
 
 pub next_is : (w : Words) (first count : ℕ) (wanted : ℕ → ℕ) (n : ℕ) → n < count → header_at w (first + n) ≢ wanted n
-    → ((d : ℕ) → d < n → header_at w (first + d) ≡ wanted d) → is_next_header w first count wanted (first + n) (wanted n) ≡ true
+    → ((d : ℕ) → d < n → header_at w (first + d) ≡ wanted d)
+    → is_next_header w first count wanted (first + n) (wanted n) ≡ true
 next_is w first count wanted n near not_yet before =
     let e : first + n - first ≡ n = omega arith in
     rw e
@@ -169,12 +182,14 @@ next_is w first count wanted n near not_yet before =
     (all_below_from n (stands w first wanted) (λ d lt. eq-eqb (header_at w (first + d)) (wanted d) (before d lt))))
     (eq-eqb (wanted n) (wanted n) refl))
 
-pub carving_carves : (c : Config) (s : Seat) (o : Object) (place : Place) (w v : World) (n : ℕ) → IsSized o → Carving c s o place w v n
+pub carving_carves : (c : Config) (s : Seat) (o : Object) (place : Place) (w v : World) (n : ℕ) → IsSized o
+    → Carving c s o place w v n
     → n < pages_made o
     → carves v.now.words (object_made c (flight_of v.now s).op) (place_now c v.now (flight_of v.now s))
     (place.page + n) (header_made o n) ≡ true
 carving_carves c s o place w v n sized at within =
-    ap (λ (x : Object). carves v.now.words x (place_now c v.now (flight_of v.now s)) (place.page + n) (header_made o n)) at.serving.object
+    ap (λ (x : Object). carves v.now.words x (place_now c v.now (flight_of v.now s)) (place.page + n) (header_made o n))
+    at.serving.object
     ∙ ap (λ (x : Option Place). carves v.now.words o x (place.page + n) (header_made o n)) at.serving.placed
     ∙ and_from _ _
     (next_is v.now.words place.page (pages_made o) (header_made o) n within
@@ -182,27 +197,31 @@ carving_carves c s o place w v n sized at within =
     at.stand)
     at.marked
 
-pub ready_left : (c : Config) (s : Seat) (o : Object) (place : Place) (w u v : World) → IsReady c s o place w u → IsAsLeft s u v
+pub ready_left : (c : Config) (s : Seat) (o : Object) (place : Place) (w u v : World) → IsReady c s o place w u
+    → IsAsLeft s u v
     → IsReady c s o place w v
 ready_left c s o place w u v at left =
     let pages : v.now.words.pages ≡ u.now.words.pages = ap (λ (x : Steady). x.pages) left.steady in
     record {
       serving = serving_left c s o place w u v at.serving left;
-      stand = λ d lt. ap (λ (ps : List Page). (slice_index_or ps (place.page + d) free_page).header) pages ∙ at.stand d lt;
+      stand = λ d lt. ap (λ (ps : List Page). (slice_index_or ps (place.page + d) free_page).header) pages
+          ∙ at.stand d lt;
     }
 
 pub ready_carved : (c : Config) (s : Seat) (o : Object) (place : Place) (w v : World)
     → Carving c s o place w v (pages_made o) → IsReady c s o place w v
 ready_carved c s o place w v at = record { serving = at.serving; stand = at.stand }
 
-pub ready_takes : (c : Config) (s : Seat) (o : Object) (place : Place) (w v : World) (used : ℕ) → IsReady c s o place w v
+pub ready_takes : (c : Config) (s : Seat) (o : Object) (place : Place) (w v : World) (used : ℕ)
+    → IsReady c s o place w v
     → used_at w.now.words place.page ≡ used → has_bit used place.index ≡ false
     → takes_cell v.now.words (object_made c (flight_of v.now s).op) (place_now c v.now (flight_of v.now s)) place.page
     (used + 2 ^ place.index) ≡ true
 ready_takes c s o place w v used at known unused =
     let same : used_at v.now.words place.page ≡ used = at.serving.used ∙ known in
     let value = used + 2 ^ place.index in
-    ap (λ (x : Object). takes_cell v.now.words x (place_now c v.now (flight_of v.now s)) place.page value) at.serving.object
+    ap (λ (x : Object). takes_cell v.now.words x (place_now c v.now (flight_of v.now s)) place.page value)
+    at.serving.object
     ∙ ap (λ (x : Option Place). takes_cell v.now.words o x place.page value) at.serving.placed
     ∙ and_from _ _
     (and_from _ _ (and_from _ _ (eq-eqb place.page place.page refl)
@@ -218,7 +237,8 @@ pub record IsTakenAt (c : Config) (s : Seat) (o : Object) (place : Place) (w v :
   pub steady : steady_of v ≡ record (steady_of w) { pages = v.now.words.pages }
   pub placing : v.now.seats.holding.placing ≡ Used place
 
-pub taken_left : (c : Config) (s : Seat) (o : Object) (place : Place) (w u v : World) → IsTakenAt c s o place w u → IsAsLeft s u v
+pub taken_left : (c : Config) (s : Seat) (o : Object) (place : Place) (w u v : World) → IsTakenAt c s o place w u
+    → IsAsLeft s u v
     → IsTakenAt c s o place w v
 taken_left c s o place w u v at left =
     let pages : v.now.words.pages ≡ u.now.words.pages = ap (λ (x : Steady). x.pages) left.steady in

@@ -1,5 +1,6 @@
 -- What the pages that were looked at tell of the place of a small object.
-use Rattle.std.proofs.Common.{◌≡◌, ◌≢◌, ℕ, ◌+◌, ◌-◌, ◌<◌, ◌≤◌, Bool, true, false, not, ◌&&◌, nat_eq, List, [], length, drop, get_or, zero-add, refl, sym, ap, ◌∙◌, inl, inr, arith}
+use Rattle.std.proofs.Common.{◌≡◌, ◌≢◌, ℕ, ◌+◌, ◌-◌, ◌<◌, ◌≤◌, Bool, true, false, not, ◌&&◌, nat_eq, List, [], length}
+use Rattle.std.proofs.Common.{drop, get_or, zero-add, refl, sym, ap, ◌∙◌, inl, inr, arith}
 use Rattle.std.specs.Prelude.{Option, Some, None, option_map, nat_le, nat_lt, if◌then◌else◌, slice_index_or}
 use Rattle.std.specs.Option.{option_or}
 use Rattle.std.proofs.lemmas.Bool.{cases_Bool, cases_eq, le-leb, leb-true, ne_eqb}
@@ -11,7 +12,8 @@ use Rattle.mk_geom.specs.Classes.{cells_of}
 use Rattle.mk_geom.specs.Headers.{header_of, word_of}
 use Rattle.std.proofs.lemmas.List.{at_drop_all, at_drop_more, length-drop, length-map}
 use Rattle.std.proofs.lemmas.List.Sums.{count_by-le-length}
-use Rattle.mk_geom.specs.PageUses.{Cells, carved, cell_place, cells_taken, first_where, is_free_page, is_resident_page, is_same_sort, large_place, or_else, range_start, resident_pages, small_place}
+use Rattle.mk_geom.specs.PageUses.{Cells, carved, cell_place, cells_taken, first_where, is_free_page, is_resident_page}
+use Rattle.mk_geom.specs.PageUses.{is_same_sort, large_place, or_else, range_start, resident_pages, small_place}
 use Rattle.mk_geom.specs.PageWords.{bits_of, use_of_page, use_under, uses_of_pages}
 use Rattle.mk_geom.specs.Storages.{block_header, free_page}
 use Rattle.mk_geom.proofs.HeaderLemmas.{header_of-word_of, word_of-header_of}
@@ -88,14 +90,17 @@ cells_under_other h u class leaf other = by (header_of h) refl
     by (Some (LeafRun n)) is = refl
     by (Some (Later d m)) is = refl
     by (Some (Block k)) is = other_cells class k leaf false (bits_of (cells_of k) u)
-        (λ e sort. other (sym (word_of-header_of h (Block k) is).1 ∙ (λ i. word_of (block_header (sym e i) (sym sort i)))))
+        (λ e sort. other (sym (word_of-header_of h (Block k) is).1
+        ∙ (λ i. word_of (block_header (sym e i) (sym sort i)))))
     by (Some (LeafBlock k)) is = other_cells class k leaf true (bits_of (cells_of k) u)
-        (λ e sort. other (sym (word_of-header_of h (LeafBlock k) is).1 ∙ (λ i. word_of (block_header (sym e i) (sym sort i)))))
+        (λ e sort. other (sym (word_of-header_of h (LeafBlock k) is).1
+        ∙ (λ i. word_of (block_header (sym e i) (sym sort i)))))
 
 -- What a page's header word tells.
 
 pub resident_told : (pages : List Page) (n header : ℕ) (b : Bool) → header ≡ (slice_index_or pages n free_page).header
-    → b ≡ is_resident_page (use_under (header_of header) 0) → is_resident_page (use_of_page (get_or pages n free_page)) ≡ b
+    → b ≡ is_resident_page (use_under (header_of header) 0)
+    → is_resident_page (use_of_page (get_or pages n free_page)) ≡ b
 resident_told pages n header b head is =
     ap (λ m. is_resident_page (use_under (header_of m) (slice_index_or pages n free_page).used)) (sym head)
     ∙ resident_alike (header_of header) (slice_index_or pages n free_page).used ∙ sym is
@@ -108,10 +113,12 @@ free_told pages n header head z =
 pub taken_told : (pages : List Page) (n header : ℕ) → header ≡ (slice_index_or pages n free_page).header → header ≢ 0
     → is_free_page (use_of_page (get_or pages n free_page)) ≡ false
 taken_told pages n header head some =
-    taken_under_other (slice_index_or pages n free_page).header (slice_index_or pages n free_page).used (λ z. some (head ∙ z))
+    taken_under_other (slice_index_or pages n free_page).header (slice_index_or pages n free_page).used
+    (λ z. some (head ∙ z))
 
 -- The pages before one were looked at, and none has a free cell of the class and sort.
-pub record IsSoughtTo (was now : TurnState) (class : ℕ) (leaf : Bool) (resident : ℕ) (first_free : Option ℕ) (page : ℕ) : Type 0 where
+pub record IsSoughtTo (was now : TurnState) (class : ℕ) (leaf : Bool) (resident : ℕ) (first_free : Option ℕ)
+    (page : ℕ) : Type 0 where
   pub op : now.op ≡ was.op
   pub looks : OnlyLooks was.pass now.pass
   pub few : resident ≤ page
@@ -150,9 +157,11 @@ pub place_of_cell : (limit class n index : ℕ) (leaf : Bool) (pages : List Page
     → Some (record { page = n; index = index; carve = false }) ≡ small_place limit class leaf (uses_of_pages pages)
 place_of_cell limit class n index leaf pages within found cells =
     let here : cell_from n class leaf pages ≡ Some (record { page = n; index = index; carve = false }) =
-    at_drop_more (λ rest. option_map (place_behind n) (cell_place class leaf (uses_of_pages rest))) pages n free_page within
+    at_drop_more (λ rest. option_map (place_behind n) (cell_place class leaf (uses_of_pages rest))) pages n free_page
+    within
     ∙ rw found (ap (λ m. Some (record { page = m; index = index; carve = false })) (zero-add n)) in
-    let free = if nat_lt (resident_pages (uses_of_pages pages)) limit then option_map carved (first_where is_free_page (uses_of_pages pages)) else None in
+    let free = if nat_lt (resident_pages (uses_of_pages pages)) limit
+    then option_map carved (first_where is_free_page (uses_of_pages pages)) else None in
     sym (ap (λ (o : Option Place). or_else o free) (sym cells ∙ here))
 
 or_none : (o : Option ℕ) → option_or o None ≡ o
@@ -164,18 +173,24 @@ pub place_of_free : (limit class resident n : ℕ) (leaf : Bool) (first : Option
     → cell_from n class leaf pages ≡ cell_place class leaf (uses_of_pages pages)
     → resident + resident_from n pages ≡ resident_pages (uses_of_pages pages)
     → option_or first (free_page_from n pages) ≡ first_where is_free_page (uses_of_pages pages)
-    → (if nat_lt resident limit then option_map carved first else None) ≡ small_place limit class leaf (uses_of_pages pages)
+    → (if nat_lt resident limit then option_map carved first else None)
+    ≡ small_place limit class leaf (uses_of_pages pages)
 place_of_free limit class resident n leaf first pages past cells counted free =
     let none : cell_place class leaf (uses_of_pages pages) ≡ None =
-    sym cells ∙ at_drop_all (λ rest. option_map (place_behind n) (cell_place class leaf (uses_of_pages rest))) pages n past in
+    sym cells ∙ at_drop_all (λ rest. option_map (place_behind n) (cell_place class leaf (uses_of_pages rest))) pages n
+    past in
     let ended = resident_from-end n pages past in
     let all : resident ≡ resident_pages (uses_of_pages pages) = omega (arith, counted, ended) in
     let lowest : first ≡ first_where is_free_page (uses_of_pages pages) =
     sym (or_none first)
-    ∙ ap (option_or first) (sym (at_drop_all (λ rest. option_map (λ page. page + n) (first_where is_free_page (uses_of_pages rest))) pages n past))
+    ∙ ap (option_or first)
+    (sym (at_drop_all (λ rest. option_map (λ page. page + n) (first_where is_free_page (uses_of_pages rest))) pages n
+    past))
     ∙ free in
     (λ i. if nat_lt (all i) limit then option_map carved (lowest i) else None)
-    ∙ ap (λ (o : Option Place). or_else o (if nat_lt (resident_pages (uses_of_pages pages)) limit then option_map carved (first_where is_free_page (uses_of_pages pages)) else None)) (sym none)
+    ∙ ap (λ (o : Option Place). or_else o
+    (if nat_lt (resident_pages (uses_of_pages pages)) limit
+    then option_map carved (first_where is_free_page (uses_of_pages pages)) else None)) (sym none)
 
 -- The pages before one were looked at, and no range of so many free ones but the first that was found ends among them.
 pub record IsRangedTo (was now : TurnState) (count resident range : ℕ) (first : Option ℕ) (page : ℕ) : Type 0 where
@@ -214,7 +229,8 @@ few_left n pages within =
     omega (arith, few, long, within)
 
 -- A range was found, and all pages from one on may be resident with it.
-pub place_at_once : (limit count resident range n : ℕ) (first : Option ℕ) (place : Place) (pages : List Page) → n ≤ length pages
+pub place_at_once : (limit count resident range n : ℕ) (first : Option ℕ) (place : Place) (pages : List Page)
+    → n ≤ length pages
     → resident + resident_from n pages ≡ resident_pages (uses_of_pages pages)
     → option_or first (range_start_from range count pages) ≡ range_start count (uses_of_pages pages)
     → (if nat_le (resident + (length pages - n) + count) limit then option_map carved first else None) ≡ Some place
@@ -225,7 +241,8 @@ place_at_once limit count resident range n first place pages within counted star
           let less = leb-true (resident + (length pages - n) + count) limit fits in
           let all : nat_le (resident_pages (uses_of_pages pages) + count) limit ≡ true =
           le-leb _ _ (omega (arith, less, counted, few_left n pages within)) in
-          let found : option_map carved first ≡ Some place = sym (ap (λ b. if b then option_map carved first else None) fits) ∙ settled in
+          let found : option_map carved first ≡ Some place =
+          sym (ap (λ b. if b then option_map carved first else None) fits) ∙ settled in
           by first found all starts
       | inr tight ↦ absurd (none_is (sym (ap (λ b. if b then option_map carved first else None) tight) ∙ settled))
     ]
@@ -233,7 +250,8 @@ place_at_once limit count resident range n first place pages within counted star
     none_is : None ≡ Some place → ⊥
     none_is e = cc
 
-    by : (o : Option ℕ) → option_map carved o ≡ Some place → nat_le (resident_pages (uses_of_pages pages) + count) limit ≡ true
+    by : (o : Option ℕ) → option_map carved o ≡ Some place
+        → nat_le (resident_pages (uses_of_pages pages) + count) limit ≡ true
         → option_or o (range_start_from range count pages) ≡ range_start count (uses_of_pages pages)
         → Some place ≡ large_place limit count (uses_of_pages pages)
     by None found all start = cc
@@ -243,10 +261,12 @@ place_at_once limit count resident range n first place pages within counted star
         ∙ sym (ap (λ b. if b then option_map carved (range_start count (uses_of_pages pages)) else None) all)
 
 -- All were looked at.
-pub place_of_range : (limit count resident range n : ℕ) (first : Option ℕ) (pages : List Page) → length pages ≡ n → range ≤ n
+pub place_of_range : (limit count resident range n : ℕ) (first : Option ℕ) (pages : List Page) → length pages ≡ n
+    → range ≤ n
     → resident + resident_from n pages ≡ resident_pages (uses_of_pages pages) → (first ≡ None → n < range + count)
     → option_or first (range_start_from range count pages) ≡ range_start count (uses_of_pages pages)
-    → (if nat_le (resident + count) limit then option_map carved first else None) ≡ large_place limit count (uses_of_pages pages)
+    → (if nat_le (resident + count) limit then option_map carved first else None)
+    ≡ large_place limit count (uses_of_pages pages)
 place_of_range limit count resident range n first pages all begun counted short starts =
     let ended = resident_from-end n pages (omega arith) in
     let held : resident ≡ resident_pages (uses_of_pages pages) = omega (arith, counted, ended) in

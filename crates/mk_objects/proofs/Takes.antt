@@ -1,5 +1,6 @@
 -- The turn's holder takes the cell of its New's place, grants the object and counts it.
-use Rattle.std.proofs.Common.{◌≡◌, ℕ, ◌+◌, ◌*◌, ◌<◌, ◌≤◌, ◌^◌, ◌%◌, true, false, List, [], ◌∷◌, ◌++◌, length, refl, sym, ◌∙◌, ap, subst, inl, inr, arith, min}
+use Rattle.std.proofs.Common.{◌≡◌, ℕ, ◌+◌, ◌*◌, ◌<◌, ◌≤◌, ◌^◌, ◌%◌, true, false, List, [], ◌∷◌, ◌++◌, length, refl, sym}
+use Rattle.std.proofs.Common.{◌∙◌, ap, subst, inl, inr, arith, min}
 use Rattle.std.specs.Prelude.{◌==◌, Some, bit_or, bit_and, nat_lt}
 use Rattle.std.specs.Int.{bit_at}
 use Rattle.std.proofs.lemmas.Bool.{cases_Bool, cases_eq, ltb-true, cond-true, cond-false}
@@ -41,7 +42,8 @@ use Rattle.mk_words.specs.States.{PassState, call_of, now_of, world_of}
 use Rattle.mk_words.specs.Steps.{IsAdmittedTo, IsEnabledTo}
 use Rattle.mk_words.specs.TurnSteps.{Acts}
 use Rattle.mk_objects.specs.Looking.{is_acting}
-use Rattle.mk_objects.specs.Placing.{GoesTo, HeldIsExact, IsGrantedAt, IsOutOfStop, IsUnplaced, MayTake, Reaches, entry_for, is_placing, object_at_place, object_for}
+use Rattle.mk_objects.specs.Placing.{GoesTo, HeldIsExact, IsGrantedAt, IsOutOfStop, IsUnplaced, MayTake, Reaches}
+use Rattle.mk_objects.specs.Placing.{entry_for, is_placing, object_at_place, object_for}
 use Rattle.mk_objects.specs.Serving.{IsReady}
 use Rattle.mk_objects.proofs.AdmittedNews.{grant_admitted, register_small}
 use Rattle.mk_objects.proofs.Granting.{granted_behind, granted_left, tallied_behind}
@@ -55,25 +57,30 @@ use Rattle.mk_objects.proofs.Unchanged.{acting_has_call}
 -- A bit more, where it wasn't set.
 pub one_bit_more : (n k : ℕ) → k < 64 → has_bit n k ≡ false → bit_or n (1 * 2 ^ k % 2 ^ 64) ≡ n + 2 ^ k
 one_bit_more n k lt clear =
-    ap (λ m. bit_or n m) (let e : 1 * 2 ^ k % 2 ^ 64 ≡ bit_for k = ap (λ x. x % 2 ^ 64) (omega arith) in e ∙ bit_for_small k lt)
+    ap (λ m. bit_or n m) (let e : 1 * 2 ^ k % 2 ^ 64 ≡ bit_for k = ap (λ x. x % 2 ^ 64) (omega arith) in e
+    ∙ bit_for_small k lt)
     ∙ or_disjoint n (2 ^ k) (zero_from_bits (bit_and n (2 ^ k)) none)
   where
     none : (i : ℕ) → has_bit (bit_and n (2 ^ k)) i ≡ false
     none i = elim (cases_Bool (has_bit (2 ^ k) i)) [
       | inl here ↦
           let zero : bit_at n i ≡ 0 = ap (λ j. bit_at n j) (bit_of_power k i here) ∙ bit_is_none n k clear in
-          ap (λ m. m == 1) (bit_at_and n (2 ^ k) i ∙ (let m : min (bit_at n i) (bit_at (2 ^ k) i) ≡ 0 = omega arith in m))
+          ap (λ m. m == 1) (bit_at_and n (2 ^ k) i
+          ∙ (let m : min (bit_at n i) (bit_at (2 ^ k) i) ≡ 0 = omega arith in m))
       | inr not_here ↦
           let zero : bit_at (2 ^ k) i ≡ 0 = bit_is_none (2 ^ k) i not_here in
-          ap (λ m. m == 1) (bit_at_and n (2 ^ k) i ∙ (let m : min (bit_at n i) (bit_at (2 ^ k) i) ≡ 0 = omega arith in m))
+          ap (λ m. m == 1) (bit_at_and n (2 ^ k) i
+          ∙ (let m : min (bit_at n i) (bit_at (2 ^ k) i) ≡ 0 = omega arith in m))
     ]
 
 few_cells : (o : Object) → cells_made o ≤ 64
 few_cells o = elim (cases_Bool (is_small_object o)) [
   | inl small ↦
-      let is : cells_made o ≡ cells_of (class_made o) = cond-true (is_small_object o) (cells_of (class_made o)) 1 small in
+      let is : cells_made o ≡ cells_of (class_made o) =
+      cond-true (is_small_object o) (cells_of (class_made o)) 1 small in
       let most : cells_of (class_made o) ≤ 64 = div-le_self 64 (class_words_of (class_made o)) in omega arith
-  | inr large ↦ let is : cells_made o ≡ 1 = cond-false (is_small_object o) (cells_of (class_made o)) 1 large in omega arith
+  | inr large ↦ let is : cells_made o ≡ 1 =
+      cond-false (is_small_object o) (cells_of (class_made o)) 1 large in omega arith
 ]
 
 pub small_index : (p : PassState) (place : Place) → KnowsPlace p place → place.index < 64
@@ -91,14 +98,16 @@ unplaced_settled p at caller unplaced h = settled p.seat caller.number caller.is
     settled : (s : Seat) (j : ℕ) → s ≡ Caller j → seat_exists p.table.config s ≡ true
         → is_undecided_new (flight_of (now_of p) s) ≡ true → IsSettled (world_of p)
     settled s j is there new =
-        let here : nat_lt j p.table.config.callers ≡ true = ap (λ (x : Seat). seat_exists p.table.config x) (sym is) ∙ there in
+        let here : nat_lt j p.table.config.callers ≡ true = ap (λ (x : Seat). seat_exists p.table.config x) (sym is)
+        ∙ there in
         unplaced_settles p.table.config p.seen j h (ltb-true j p.table.config.callers here)
         (ap (λ (x : Seat). is_undecided_new (flight_of (now_of p) x)) (sym is) ∙ new)
         (off_four (now_of p) unplaced.phase) unplaced.placing
 
 pub few_held : (p : PassState) (place : Place) → KnowsPlace p place → GoesTo p place → IsHistory p.table.config p.seen
     → held_words p.table.config (world_of p).allocations ≤ 64 * p.table.config.pages
-few_held p place k goes h = held_is_little p.table.config p.seen h (unplaced_settled p k.acting k.caller goes.unplaced h)
+few_held p place k goes h =
+    held_is_little p.table.config p.seen h (unplaced_settled p k.acting k.caller goes.unplaced h)
 
 module _ (p : PassState) (place : Place) (goes : GoesTo p place) (k : KnowsPlace p place) where
   abbrev pub c : Config
@@ -115,13 +124,16 @@ module _ (p : PassState) (place : Place) (goes : GoesTo p place) (k : KnowsPlace
       → IsEnabledTo q (step.Used place.page (used + 2 ^ place.index))
   used_may q used reached known =
       let w : World = left c q.seen in
-      let unused : has_bit used place.index ≡ false = sym (ap (λ n. has_bit n place.index) known) ∙ place_unused p place k in
+      let unused : has_bit used place.index ≡ false = sym (ap (λ n. has_bit n place.index) known)
+      ∙ place_unused p place k in
       subst (λ (x : PassState). IsEnabledTo x (step.Used place.page (used + 2 ^ place.index))) (sym reached.same)
-      (may_take c w.now p.seat (served_acting p place w k reached.world.serving) place.page (used + 2 ^ place.index) k.within
+      (may_take c w.now p.seat (served_acting p place w k reached.world.serving) place.page (used + 2 ^ place.index)
+      k.within
       (low_still w (ap (λ (x : Steady). x.phase) reached.world.serving.steady)) reached.world.serving.once
       (ready_takes c p.seat (object_for p) place (world_of p) w used reached.world known unused))
 
-  pub used_on : (q r : PassState) (value : ℕ) → MayTake p place q → Acts q (step.Used place.page value) r → Has q.seats q.seat
+  pub used_on : (q r : PassState) (value : ℕ) → MayTake p place q → Acts q (step.Used place.page value) r
+      → Has q.seats q.seat
       → IsHistory r.table.config r.seen → HasTaken r
   used_on q r value reached a own history =
       reaches_still is_placing p q r (IsReady c p.seat (object_for p) place (world_of p))
@@ -135,9 +147,14 @@ module _ (p : PassState) (place : Place) (goes : GoesTo p place) (k : KnowsPlace
 
   -- `grant`
   taken_acting : (v : World) → IsTakenAt c p.seat (object_for p) place (world_of p) v → IsActing c v.now p.seat
-  taken_acting v at = record { there = k.acting.there; acts = ap (λ (f : Flight). is_acting f.stage) at.call ∙ k.acting.acts }
+  taken_acting v at = record {
+    there = k.acting.there;
+    acts = ap (λ (f : Flight). is_acting f.stage) at.call
+        ∙ k.acting.acts;
+  }
 
-  taken_new : (v : World) → IsTakenAt c p.seat (object_for p) place (world_of p) v → is_undecided_new (flight_of v.now p.seat) ≡ true
+  taken_new : (v : World) → IsTakenAt c p.seat (object_for p) place (world_of p) v
+      → is_undecided_new (flight_of v.now p.seat) ≡ true
   taken_new v at = ap (λ (f : Flight). is_undecided_new f) at.call ∙ goes.unplaced.new
 
   pub grant_may : (q : PassState) → HasTaken q → IsEnabledTo q step.Grant
@@ -154,7 +171,8 @@ module _ (p : PassState) (place : Place) (goes : GoesTo p place) (k : KnowsPlace
       by s j is = subst (λ (x : Seat). has_operands c (flight_of (now_of p) x).op ≡ true) (sym is)
           ((known_left c p.seen h.within_limits h.enabled).operands j)
 
-  pub grant_admits : (q : PassState) → HasTaken q → IsHistory q.table.config q.seen → IsHistory c p.seen → IsAdmittedTo q step.Grant
+  pub grant_admits : (q : PassState) → HasTaken q → IsHistory q.table.config q.seen → IsHistory c p.seen
+      → IsAdmittedTo q step.Grant
   grant_admits q reached history h =
       let w : World = left c q.seen in
       let here : IsHistory c q.seen = subst (λ (x : PassState). IsHistory x.table.config q.seen) reached.same history in
@@ -162,7 +180,8 @@ module _ (p : PassState) (place : Place) (goes : GoesTo p place) (k : KnowsPlace
       (by p.seat k.caller.is k.acting.there (taken_new w reached.world)
       (ap (λ (f : Flight). has_operands c f.op) reached.world.call ∙ operands h) here)
     where
-      by : (s : Seat) → s ≡ Caller k.caller.number → seat_exists c s ≡ true → is_undecided_new (flight_of (left c q.seen).now s) ≡ true
+      by : (s : Seat) → s ≡ Caller k.caller.number → seat_exists c s ≡ true
+          → is_undecided_new (flight_of (left c q.seen).now s) ≡ true
           → has_operands c (flight_of (left c q.seen).now s).op ≡ true → IsHistory c q.seen
           → IsAdmittedBehind c q.seen (record { seat = s; step = step.Grant })
       by s is there new op here =
@@ -185,7 +204,8 @@ module _ (p : PassState) (place : Place) (goes : GoesTo p place) (k : KnowsPlace
       → IsHistory r.table.config r.seen → IsHistory c p.seen
       → HasGranted r
   grant_on q r reached a own history h =
-      reaches_on is_placing p q r (IsTakenAt c p.seat (object_for p) place (world_of p)) (IsGrantedAt c p.seat place (world_of p)) []
+      reaches_on is_placing p q r (IsTakenAt c p.seat (object_for p) place (world_of p))
+      (IsGrantedAt c p.seat place (world_of p)) []
       (entry_for p answer.Done) step.Grant reached a own history refl refl k.caller
       (λ w v here kept known pages.
       let on = taken_left c p.seat (object_for p) place (world_of p) w v here kept in
@@ -232,23 +252,33 @@ module _ (p : PassState) (place : Place) (goes : GoesTo p place) (k : KnowsPlace
       (λ w. IsGrantedAt c p.seat place (world_of p) w × (w.now.words.held ≡ n))
       (entry_for p answer.Done) (step.Tally tally.Held n) reached a own history refl refl k.caller refl
       (λ w v here kept known pages.
-      let on = granted_left c p.seat place (world_of p) w v (register_small c (call_of p) goes.unplaced.new (operands h)) here kept in
+      let on = granted_left c p.seat place (world_of p) w v
+      (register_small c (call_of p) goes.unplaced.new (operands h)) here kept in
       let call = acting_has_call c v.now p.seat known.orderly.flights (granted_acting v on) in
       (tallied_behind c p.seat place (world_of p) v n on call, refl))
 
   pub counted : (r : PassState) (n : ℕ) → HasCounted n r → HasGranted r
-  counted r n reached = record { same = reached.same; does = reached.does; calls = reached.calls; world = reached.world.0; counts = reached.counts }
+  counted r n reached =
+      record {
+        same = reached.same;
+        does = reached.does;
+        calls = reached.calls;
+        world = reached.world.0;
+        counts = reached.counts;
+      }
 
   object_words : storage_words c (object_at_place c (call_of p) place) ≡ words_made (object_for p)
   object_words = ap (λ (o : Object). words_made o) (granted_object c (now_of p) (call_of p) goes.unplaced.new)
 
-  pub counted_held : (r : PassState) (held size : ℕ) → held ≡ held_words c (world_of p).allocations → size ≡ words_made (object_for p)
+  pub counted_held : (r : PassState) (held size : ℕ) → held ≡ held_words c (world_of p).allocations
+      → size ≡ words_made (object_for p)
       → HasCounted (held + size) r → HeldIsExact r
   counted_held r held size before words reached =
       let w : World = left c r.seen in
       let xs : w.allocations ≡ (world_of p).allocations ++ object_at_place c (call_of p) place ∷ [] = ap
       (λ (x : Steady). x.allocations) reached.world.0.steady in
       subst (λ (x : PassState). HeldIsExact x) (sym reached.same)
-      (reached.world.1 ∙ ap (λ n. n + size) before ∙ ap (λ n. held_words c (world_of p).allocations + n) (words ∙ sym object_words)
+      (reached.world.1 ∙ ap (λ n. n + size) before
+      ∙ ap (λ n. held_words c (world_of p).allocations + n) (words ∙ sym object_words)
       ∙ sym (held_one_more c (world_of p).allocations (object_at_place c (call_of p) place) refl refl)
       ∙ ap (λ (ys : List PlacedAllocation). held_words c ys) (sym xs))

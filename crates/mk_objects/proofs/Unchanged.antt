@@ -21,7 +21,14 @@ use Rattle.mk_objects.specs.Unchanged.{IsAsLeft}
 use Rattle.mk_objects.proofs.MayAct.{IsActing}
 
 pub left_same : (s : Seat) (w : World) → IsAsLeft s w w
-left_same s w = record { call = refl; holding = refl; steady = refl; marks = grows_same w.now.words.marks; registers = λ k r is lt. refl; gates = λ j. refl }
+left_same s w = record {
+  call = refl;
+  holding = refl;
+  steady = refl;
+  marks = grows_same w.now.words.marks;
+  registers = λ k r is lt. refl;
+  gates = λ j. refl;
+}
 
 pub left_joined : (s : Seat) (w u v : World) → IsAsLeft s w u → IsAsLeft s u v → IsAsLeft s w v
 left_joined s w u v a b =
@@ -45,7 +52,8 @@ call_behind c m k x lt = get_or-set_same m.seats.flights k
 pub data HasCall (c : Config) (m : Moment) : Seat → Type 0 where
   OfCaller : (k : ℕ) → k < length m.seats.flights → HasCall c m (Caller k)
 
-pub acting_has_call : (c : Config) (m : Moment) (s : Seat) → length m.seats.flights ≡ c.callers → IsActing c m s → HasCall c m s
+pub acting_has_call : (c : Config) (m : Moment) (s : Seat) → length m.seats.flights ≡ c.callers → IsActing c m s
+    → HasCall c m s
 acting_has_call c m s all at = by s at.there at.acts
   where
     by : (s : Seat) → seat_exists c s ≡ true → is_acting (flight_of m s).stage ≡ true → HasCall c m s

@@ -1,5 +1,6 @@
 -- The pages of a run are unmapped one after the other, and then its words are wiped.
-use Rattle.std.proofs.Common.{◌≡◌, ℕ, zero, suc, ◌+◌, ◌-◌, ◌*◌, ◌/◌, ◌<◌, ◌≤◌, Bool, true, false, List, [], length, refl, sym, ◌∙◌, ap}
+use Rattle.std.proofs.Common.{◌≡◌, ℕ, zero, suc, ◌+◌, ◌-◌, ◌*◌, ◌/◌, ◌<◌, ◌≤◌, Bool, true, false, List, [], length}
+use Rattle.std.proofs.Common.{refl, sym, ◌∙◌, ap}
 use Rattle.std.proofs.Common.{subst, inl, inr, arith}
 use Rattle.std.specs.Prelude.{◌||◌, ◌==◌, nat_le, nat_lt, Option, Some, None, if◌then◌else◌, slice_index}
 use Rattle.std.specs.Prelude.{option_and_then, slice_index_or, slice_set}
@@ -11,7 +12,8 @@ use Rattle.mk_geom.specs.declared.addresses.Cell.{Cell}
 use Rattle.mk_geom.specs.declared.headers.Header.{Header}
 use Rattle.mk_geom.specs.declared.headers.Header.TheVariants.{Later, Run}
 use Rattle.mk_geom.specs.declared.pages.Page.{Page}
-use Rattle.mk_geom.specs.Addresses.{address_of, cell_under, is_heap_address, page_at_address, run_of_page, word_at_address}
+use Rattle.mk_geom.specs.Addresses.{address_of, cell_under, is_heap_address, page_at_address, run_of_page}
+use Rattle.mk_geom.specs.Addresses.{word_at_address}
 use Rattle.mk_geom.specs.Headers.{header_of}
 use Rattle.mk_geom.specs.PageUses.{or_else}
 use Rattle.mk_geom.specs.Storages.{free_page, run_header}
@@ -254,7 +256,8 @@ gone_cell w run pages address d cell unmapped few near at is =
     then cell_under (run_header run.count false false d) (page_at_address address) (word_at_address address) else None)
     ≡ Some cell =
     ap (λ (x : Option Header). if is_heap_address pages address
-    then option_and_then (λ h. cell_under h (page_at_address address) (word_at_address address)) x else None) header ∙ is in
+    then option_and_then (λ h. cell_under h (page_at_address address) (word_at_address address)) x else None) header
+    ∙ is in
     let head = cell_is_head run.page run.count pages (page_at_address address) (word_at_address address) d
     (is_heap_address pages address) cell at under in
     let first : cell.page ≡ run.page + 0 = omega (arith, head) in
@@ -266,11 +269,13 @@ no_hand : (c : Config) (m : Moment) (s : Seat) (run : RunPages) (n value : ℕ) 
     → run.count ≤ 64 → n < 64 * run.count → hand_given c m s (word.Heap (64 * run.page + n)) value ≡ None
 no_hand c m s run n value unmapped few near =
     by (pointed_cell c.pages m.words.pages (address_of (64 * run.page + n)))
-    (λ cell is. gone_cell m.words run c.pages (address_of (64 * run.page + n)) (n / 64) cell unmapped few (omega (arith, near))
+    (λ cell is. gone_cell m.words run c.pages (address_of (64 * run.page + n)) (n / 64) cell unmapped few
+    (omega (arith, near))
     (omega arith) is)
   where
     by : (x : Option Cell) → ((cell : Cell) → x ≡ Some cell → has_no_pointers (header_in m.words cell.page) ≡ true)
-        → option_and_then (λ (cell : Cell). hand_of_cell m.words (is_in_stop c.callers m.words s) m.seats.holding.placing
+        → option_and_then (λ (cell : Cell). hand_of_cell m.words (is_in_stop c.callers m.words s)
+        m.seats.holding.placing
         cell value) x ≡ None
     by None none = refl
     by (Some cell) none = rw (none cell refl) refl
@@ -365,18 +370,22 @@ module _ (p : PassState) (o : Option Op) (run : RunPages) (turn : IsTurn p o) (g
       (λ j lt. ap (λ b. is_number_of p.seat j || b) (gates j)
       ∙ all_below-at p.table.config.callers j (λ i. is_number_of p.seat i || is_held (now_of p).words i) stopped lt)
 
-  still_unmapped : (v : World) (n : ℕ) → WipedTo p.seat run (world_of p) v n → is_run_unmapped (now_of p).words run ≡ true
+  still_unmapped : (v : World) (n : ℕ) → WipedTo p.seat run (world_of p) v n
+      → is_run_unmapped (now_of p).words run ≡ true
       → is_run_unmapped v.now.words run ≡ true
   still_unmapped v n at unmapped =
       ap (λ (ps : List Page). all_below run.count (λ d. (slice_index_or ps (run.page + d) free_page).header ==
       unmapped_header run.count d)) (ap (λ (x : Steady). x.pages) at.changes.steady) ∙ unmapped
 
-  pub look_may : (q : PassState) (n : ℕ) → HasWiped q n → n < 64 * run.count → run.page + run.count ≤ p.table.config.pages
+  pub look_may : (q : PassState) (n : ℕ) → HasWiped q n → n < 64 * run.count
+      → run.page + run.count ≤ p.table.config.pages
       → IsEnabledTo q (step.Look (word.Heap (64 * run.page + n)))
   look_may q n reached near within =
       let at = reached.world in
-      reached_there is_clearing p q _ [] reached (λ (x : PassState). IsEnabledTo x (step.Look (word.Heap (64 * run.page + n))))
-      (may_look_heap p.table.config (left p.table.config q.seen).now p.seat (there_wiping (left p.table.config q.seen) at.changes.call)
+      reached_there is_clearing p q _ [] reached
+      (λ (x : PassState). IsEnabledTo x (step.Look (word.Heap (64 * run.page + n))))
+      (may_look_heap p.table.config (left p.table.config q.seen).now p.seat
+      (there_wiping (left p.table.config q.seen) at.changes.call)
       (64 * run.page + n) (omega arith))
 
   -- with the turn held, and all other gates
@@ -441,7 +450,8 @@ module _ (p : PassState) (o : Option Op) (run : RunPages) (turn : IsTurn p o) (g
       reaches_still_in_stop is_clearing p q r (λ v. WipedTo p.seat run (world_of p) v n
       × HoldsAll p.table.config v.now p.seat)
       (λ v. WipedTo p.seat run (world_of p) v (n + 1)) []
-      (step.Wipe (64 * run.page + n)) (with_turn q n reached holds) a own history refl refl (acting_caller p (give_acts (call_of p) give))
+      (step.Wipe (64 * run.page + n)) (with_turn q n reached holds) a own history refl refl
+      (acting_caller p (give_acts (call_of p) give))
       refl
       (λ w v here kept stop known pages.
       let call = acting_has_call p.table.config v.now p.seat known.orderly.flights

@@ -68,9 +68,10 @@ is_placing step.Grant = true
 is_placing (step.Tally n v) = true
 is_placing _ = false
 
--- The pass's seat did only steps of these kinds, which added these entries to its calls, and came to a world of this sort.
--- No cycle has ended, and no call was answered Full.
-pub record Reaches (kinds : Step → Bool) (p : PassState) (sort : World → Type 0) (entries : List Decided) (q : PassState) : Type 0 where
+-- The pass's seat did only steps of these kinds, which added these entries to its calls, and came to a world of this
+-- sort. No cycle has ended, and no call was answered Full.
+pub record Reaches (kinds : Step → Bool) (p : PassState) (sort : World
+    → Type 0) (entries : List Decided) (q : PassState) : Type 0 where
   pub same : q ≡ record p { seen = q.seen }
   pub does : Does kinds p q
   pub calls : own_calls p q.seen ≡ own_calls p p.seen ++ entries
@@ -111,7 +112,8 @@ abbrev pub entry_for : PassState → Answer → List Decided
 entry_for p a = entry_of (caller_number p.seat) (call_of p).op (Some a)
 
 abbrev pub IsGranted : PassState → Place → PassState → Type 0
-IsGranted p place q = Reaches is_placing p (IsGrantedAt p.table.config p.seat place (world_of p)) (entry_for p answer.Done) q
+IsGranted p place q = Reaches is_placing p (IsGrantedAt p.table.config p.seat place (world_of p))
+    (entry_for p answer.Done) q
 
 -- The object of the New was granted at its place, and the tally of held words is that of the allocations.
 pub record IsPlaced (p q : PassState) : Type 0 where
@@ -133,7 +135,8 @@ pub record GoesTo (p : PassState) (place : Place) : Type 0 where
 -- So many pages of the place have their headers; its cell may be taken.
 
 abbrev pub HasCarved : PassState → Place → ℕ → PassState → Type 0
-HasCarved p place n q = Reaches is_placing p (λ w. Carving p.table.config p.seat (object_for p) place (world_of p) w n) [] q
+HasCarved p place n q = Reaches is_placing p (λ w. Carving p.table.config p.seat (object_for p) place (world_of p) w n)
+    [] q
 
 abbrev pub MayTake : PassState → Place → PassState → Type 0
 MayTake p place q = Reaches is_placing p (IsReady p.table.config p.seat (object_for p) place (world_of p)) [] q

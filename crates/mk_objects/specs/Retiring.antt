@@ -1,5 +1,6 @@
 -- Freeing an object: what is asked, and how far the call is.
-use Rattle.std.specs.Prelude.{◌≡◌, ℕ, ◌+◌, ◌-◌, ◌^◌, min, map, slice_index, slice_set, ◌==◌, ◌<◌, Bool, true, false, List, [], Option, Some, None, if◌then◌else◌}
+use Rattle.std.specs.Prelude.{◌≡◌, ℕ, ◌+◌, ◌-◌, ◌^◌, min, map, slice_index, slice_set, ◌==◌, ◌<◌, Bool, true, false}
+use Rattle.std.specs.Prelude.{List, [], Option, Some, None, if◌then◌else◌}
 use Rattle.mk_never.specs.declared.operations.Op.TheVariants as op
 use Rattle.mk_never.specs.declared.values.Value.{Value}
 use Rattle.mk_never.specs.Admitted.{IsBase}
@@ -32,8 +33,8 @@ use Rattle.mk_objects.specs.Placing.{Reaches, entry_for}
 abbrev pub value_of : PassState → ℕ → Value
 value_of p r = register_at (never_behind p.table.config p.seen) (caller_number p.seat) r
 
--- The turn is for a Free of this register, at this point of the call, and the register is null or points to the first word
--- of its allocation.
+-- The turn is for a Free of this register, at this point of the call, and the register is null or points to the first
+-- word of its allocation.
 pub record IsFreeAt (p : PassState) (r : ℕ) (f : Flight) : Type 0 where
   pub call : call_of p ≡ f
   pub small : r < 8
@@ -95,13 +96,14 @@ HasSeen p cell q =
     Reaches is_loading p (CallIsAt p.seat (seen_free (call_of p) (is_freed (now_of p).words cell)) (world_of p))
     (entry_seen p (is_freed (now_of p).words cell)) q
 
--- The target was quarantined: the call is decided, the allocation of the cell is freed and fresh, a run is what the call
--- has freed, and all else that none but the holder changes is as it was.
+-- The target was quarantined: the call is decided, the allocation of the cell is freed and fresh, a run is what the
+-- call has freed, and all else that none but the holder changes is as it was.
 pub record IsFreedAt (c : Config) (s : Seat) (cell : Cell) (w v : World) : Type 0 where
   pub call : flight_of v.now s ≡ record (flight_of w.now s) { stage = stage.Give }
   pub holding : v.now.seats.holding
       ≡ record w.now.seats.holding { freed = or_else (run_of_cell w.now.words (Some cell)) w.now.seats.holding.freed }
-  pub freed : v.now.words.freed ≡ slice_set w.now.words.freed cell.page (slice_index w.now.words.freed cell.page + 2 ^ cell.index)
+  pub freed : v.now.words.freed
+      ≡ slice_set w.now.words.freed cell.page (slice_index w.now.words.freed cell.page + 2 ^ cell.index)
   pub snapshot : v.now.words.snapshot ≡ w.now.words.snapshot
   pub fresh : v.now.fresh_words ≡ min (w.now.fresh_words + words_freed w.now.words (Some cell)) (2 ^ 64 - 1)
   pub steady : steady_of v

@@ -11,7 +11,8 @@ use Rattle.mk_core.specs.NewPlaces.{header_made, object_made, pages_made}
 use Rattle.mk_core.specs.TurnConditions.{is_marked_first, is_used_once, place_now}
 use Rattle.mk_core.specs.Words.{header_at, used_at}
 
--- Between the first world and this one the New was served up to its cell: its call, and all but the pages, is as it was.
+-- Between the first world and this one the New was served up to its cell: its call, and all but the pages, is as it
+-- was.
 pub record Serving (c : Config) (s : Seat) (o : Object) (place : Place) (w v : World) : Type 0 where
   pub call : flight_of v.now s ≡ flight_of w.now s
   pub object : object_made c (flight_of v.now s).op ≡ o

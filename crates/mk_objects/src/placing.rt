@@ -6,7 +6,8 @@ ghost use Rattle.mk_core.specs.NewPlaces.{object_made};
 ghost use Rattle.mk_core.specs.Words.{header_at, page_of, phase_of};
 ghost use Rattle.mk_words.specs.States.{now_of};
 ghost use Rattle.mk_turns.specs.Sweeping.{SweepsNothing};
-ghost use Rattle.mk_objects.specs.Placing.{GoesTo, HasCarved, HeldIsExact, MayTake, IsUnplaced, IsPlaced, FitsNowhere, IsGranted, object_for};
+ghost use Rattle.mk_objects.specs.Placing.{GoesTo, HasCarved, HeldIsExact, MayTake, IsUnplaced, IsPlaced, FitsNowhere};
+ghost use Rattle.mk_objects.specs.Placing.{IsGranted, object_for};
 ghost use Rattle.mk_objects.specs.Shapes.{object_shaped};
 
 use crate::looking::{fill, look_at, look_at_page, look_at_phase};

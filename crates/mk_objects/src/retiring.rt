@@ -55,7 +55,8 @@ pub(crate) fn find_cell(words: &Words, turn: &mut Turn, value: u64) -> Cell
     requires value { (call_of turn.old.pass).p ≡ value }
     ensures op { turn.new.op ≡ turn.old.op }
     ensures looks { OnlyLooks turn.old.pass turn.new.pass }
-    ensures cell { target turn.old.pass.table.config.pages (now_of turn.old.pass).words (call_of turn.old.pass) ≡ Some result }
+    ensures cell { target turn.old.pass.table.config.pages (now_of turn.old.pass).words (call_of turn.old.pass)
+        ≡ Some result }
     ensures within { result.page < turn.old.pass.table.config.pages }
     ensures index { result.index < 32 }
     ensures keeps { (r : ℕ) → r < 8 → value_of turn.new.pass r ≡ value_of turn.old.pass r }
@@ -78,12 +79,14 @@ pub(crate) fn look_at_quarantine(
     requires one_table { turn.old.pass.table ≡ words.now }
     requires free { IsFreeAt turn.old.pass register (loaded_free register value) }
     requires some { (value == 0) ≡ false }
-    requires cell { target turn.old.pass.table.config.pages (now_of turn.old.pass).words (call_of turn.old.pass) ≡ Some cell }
+    requires cell { target turn.old.pass.table.config.pages (now_of turn.old.pass).words (call_of turn.old.pass)
+        ≡ Some cell }
     requires within { cell.page < turn.old.pass.table.config.pages }
     ensures op { turn.new.op ≡ turn.old.op }
     ensures seen { HasSeen turn.old.pass cell turn.new.pass }
     ensures finds { result ≡ named_word (now_of turn.old.pass).words (word.Quar cell.page) }
-    ensures keeps { is_freed (now_of turn.old.pass).words cell ≡ false → (r : ℕ) → r < 8 → value_of turn.new.pass r ≡ value_of turn.old.pass r }
+    ensures keeps { is_freed (now_of turn.old.pass).words cell ≡ false → (r : ℕ) → r < 8
+        → value_of turn.new.pass r ≡ value_of turn.old.pass r }
 {
     turn.is_in_order();
     let found = turn.look(words, Word::Quar(cell.page));
@@ -103,13 +106,15 @@ pub(crate) fn quarantine(
     requires one_table { turn.old.pass.table ≡ words.now }
     requires free { IsFreeAt turn.old.pass register (loaded_free register value) }
     requires some { (value == 0) ≡ false }
-    requires cell { target turn.old.pass.table.config.pages (now_of turn.old.pass).words (call_of turn.old.pass) ≡ Some cell }
+    requires cell { target turn.old.pass.table.config.pages (now_of turn.old.pass).words (call_of turn.old.pass)
+        ≡ Some cell }
     requires within { cell.page < turn.old.pass.table.config.pages }
     requires index { cell.index < 32 }
     requires clear { is_freed (now_of turn.old.pass).words cell ≡ false }
     requires quar { quar ≡ named_word (now_of turn.old.pass).words (word.Quar cell.page) }
     requires phase { IsOutOfStop (now_of turn.old.pass) }
-    requires gates { (not (heads_run (header_in (now_of turn.old.pass).words cell.page)) || others_are_held turn.old.pass.table.config.callers (now_of turn.old.pass).words turn.old.pass.seat) ≡ true }
+    requires gates { (not (heads_run (header_in (now_of turn.old.pass).words cell.page))
+        || others_are_held turn.old.pass.table.config.callers (now_of turn.old.pass).words turn.old.pass.seat) ≡ true }
     ensures op { turn.new.op ≡ turn.old.op }
     ensures freed { HasFreed turn.old.pass cell turn.new.pass }
     ensures once { FreesOnce turn.old.pass turn.new.pass }

@@ -1,10 +1,12 @@
 //! The search for the place of an object, page by page by header words. That of a small one stops at the first free
 //! cell, and looks besides at the used words of blocks of the object's class and sort. That of a large one stops at the
 //! first range, unless too many of the pages behind it might be resident.
-ghost use Rattle.std.specs.Prelude.{◌≡◌, ◌+◌, ◌<◌, ◌≤◌, ◌^◌, nat_le, nat_lt, if◌then◌else◌, not, true, None, option_map};
+ghost use Rattle.std.specs.Prelude.{◌≡◌, ◌+◌, ◌<◌, ◌≤◌, ◌^◌, nat_le, nat_lt, if◌then◌else◌, not, true, None};
+ghost use Rattle.std.specs.Prelude.{option_map};
 ghost use Rattle.mk_geom.specs.Classes.{cells_of};
 ghost use Rattle.mk_geom.specs.Headers.{header_of, word_of};
-ghost use Rattle.mk_geom.specs.PageUses.{cells_taken, first_where, is_resident_page, place_among, small_place, large_place, carved};
+ghost use Rattle.mk_geom.specs.PageUses.{cells_taken, first_where, is_resident_page, place_among, small_place};
+ghost use Rattle.mk_geom.specs.PageUses.{large_place, carved};
 ghost use Rattle.mk_geom.specs.PageWords.{bits_of, use_of_page, use_under, uses_of_pages};
 ghost use Rattle.mk_geom.specs.Storages.{block_header};
 ghost use Rattle.mk_core.specs.Words.{header_at, page_of};
@@ -66,7 +68,8 @@ fn free_cell(
     requires class { class < 8 }
     ensures op { turn.new.op ≡ turn.old.op }
     ensures looks { OnlyLooks turn.old.pass turn.new.pass }
-    ensures cell { result ≡ first_where not (cells_taken class leaf (use_of_page (page_of (now_of turn.old.pass).words page))) }
+    ensures cell { result
+        ≡ first_where not (cells_taken class leaf (use_of_page (page_of (now_of turn.old.pass).words page))) }
 {
     if header != block_word(class, leaf) {
         return None;
@@ -103,7 +106,8 @@ fn seek_small(words: &Words, turn: &mut Turn, class: u64, leaf: bool) -> Option<
     requires class { class < 8 }
     ensures op { turn.new.op ≡ turn.old.op }
     ensures looks { OnlyLooks turn.old.pass turn.new.pass }
-    ensures place { result ≡ small_place words.now.config.resident class leaf (uses_of_pages (now_of turn.old.pass).words.pages) }
+    ensures place { result
+        ≡ small_place words.now.config.resident class leaf (uses_of_pages (now_of turn.old.pass).words.pages) }
 {
     let pages = words.pages();
     let mut resident: u64 = 0;
@@ -149,7 +153,8 @@ fn seek_large(words: &Words, turn: &mut Turn, count: u64) -> Option<Place>
     requires short { count ≤ 2 ^ 58 }
     ensures op { turn.new.op ≡ turn.old.op }
     ensures looks { OnlyLooks turn.old.pass turn.new.pass }
-    ensures place { result ≡ large_place words.now.config.resident count (uses_of_pages (now_of turn.old.pass).words.pages) }
+    ensures place { result
+        ≡ large_place words.now.config.resident count (uses_of_pages (now_of turn.old.pass).words.pages) }
 {
     words.is_within_limits();
     let pages = words.pages();
@@ -183,7 +188,9 @@ pub(crate) fn seek(words: &Words, turn: &mut Turn, shape: Shape) -> Option<Place
     requires acting { is_acting (call_of turn.old.pass).stage ≡ true }
     ensures op { turn.new.op ≡ turn.old.op }
     ensures looks { OnlyLooks turn.old.pass turn.new.pass }
-    ensures place { result ≡ place_among words.now.config.resident shape.words shape.leaf (uses_of_pages (now_of turn.old.pass).words.pages) }
+    ensures place { result
+        ≡ place_among words.now.config.resident shape.words shape.leaf
+        (uses_of_pages (now_of turn.old.pass).words.pages) }
 {
     if shape.words <= SMALL_WORDS {
         seek_small(words, turn, class_of(shape.words)?, shape.leaf)

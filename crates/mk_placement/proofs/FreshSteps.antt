@@ -1,5 +1,6 @@
 -- The count of fresh words that is kept beside the table is that of the allocations, behind each kind of event.
-use Rattle.std.proofs.Common.{◌≡◌, ◌≢◌, ℕ, ◌+◌, ◌-◌, ◌<◌, ◌^◌, Bool, true, false, List, map, length, refl, sym, ◌∙◌, ap, subst, arith, inl, inr}
+use Rattle.std.proofs.Common.{◌≡◌, ◌≢◌, ℕ, ◌+◌, ◌-◌, ◌<◌, ◌^◌, Bool, true, false, List, map, length, refl, sym, ◌∙◌, ap}
+use Rattle.std.proofs.Common.{subst, arith, inl, inr}
 use Rattle.std.specs.Prelude.{None, Option, Some, min, not, slice_index, ◌&&◌, ◌||◌, ◌==◌, if◌then◌else◌}
 use Rattle.std.proofs.lemmas.Bool.{and_parts, cases_lt, cond-true, false_from_ne_true, not-true, true≢false}
 use Rattle.std.proofs.lemmas.List.{get_or_past}
@@ -11,7 +12,8 @@ use Rattle.mk_core.specs.declared.events.Seat.{Seat}
 use Rattle.mk_core.specs.declared.events.Step.{Step}
 use Rattle.mk_core.specs.declared.events.Step.TheVariants as step
 use Rattle.mk_core.specs.declared.seats.Object.{Object}
-use Rattle.mk_core.specs.Allocations.{PlacedAllocation, cell_of_allocation, fresh_words_of, freed_where_it_stands, granted, never_granted, placed_at, stands_in, storage_words, with_released}
+use Rattle.mk_core.specs.Allocations.{PlacedAllocation, cell_of_allocation, fresh_words_of, freed_where_it_stands}
+use Rattle.mk_core.specs.Allocations.{granted, never_granted, placed_at, stands_in, storage_words, with_released}
 use Rattle.mk_core.specs.Bits.{has_bit}
 use Rattle.mk_core.specs.Cells.{first_word, header_in, heads_run, words_under}
 use Rattle.mk_core.specs.Counts.{in_a_word}
@@ -41,7 +43,8 @@ use Rattle.mk_layout.proofs.QuarantineChanges.{FreesHere}
 use Rattle.mk_layout.proofs.Released.{all_stand}
 use Rattle.mk_layout.proofs.Serving.{Laid}
 use Rattle.mk_layout.proofs.SnapshotKinds.{snapshot_behind}
-use Rattle.mk_placement.proofs.FreshWords.{CountsAsBefore, fresh_kept, fresh_more, fresh_part, fresh_pushed, no_part, none_fresh, stale_part}
+use Rattle.mk_placement.proofs.FreshWords.{CountsAsBefore, fresh_kept, fresh_more, fresh_part, fresh_pushed, no_part}
+use Rattle.mk_placement.proofs.FreshWords.{none_fresh, stale_part}
 
 -- The count is that of the allocations, as it stands in a word.
 abbrev pub FreshTold : Config → World → Type 0

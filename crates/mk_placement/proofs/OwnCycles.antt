@@ -1,5 +1,6 @@
 -- The cycle that the turn's holder has begun, and how far it is.
-use Rattle.std.proofs.Common.{◌≡◌, ◌⊎◌, ℕ, ◌%◌, Bool, true, false, List, [], ◌∷◌, ◌++◌, refl, sym, ◌∙◌, ap, arith, inl, inr, subst}
+use Rattle.std.proofs.Common.{◌≡◌, ◌⊎◌, ℕ, ◌%◌, Bool, true, false, List, [], ◌∷◌, ◌++◌, refl, sym, ◌∙◌, ap, arith, inl}
+use Rattle.std.proofs.Common.{inr, subst}
 use Rattle.std.specs.Prelude.{⊤, Option, ◌==◌, if◌then◌else◌}
 use Rattle.std.proofs.lemmas.Bool.{eqb-true}
 use Rattle.std.specs.List.{list_any}
@@ -22,7 +23,8 @@ use Rattle.mk_protocol.proofs.OthersMoves.{WorldBehind}
 use Rattle.mk_protocol.proofs.SameWords.{tally_keeps}
 use Rattle.mk_layout.proofs.Before.{reg_leaves}
 use Rattle.mk_layout.proofs.Behind.{over_phase}
-use Rattle.mk_placement.proofs.Longer.{longer_at, longer_cycle, longer_marking, longer_releasing, next_at_end, none_more}
+use Rattle.mk_placement.proofs.Longer.{longer_at, longer_cycle, longer_marking, longer_releasing, next_at_end}
+use Rattle.mk_placement.proofs.Longer.{none_more}
 
 -- some event of the kind
 abbrev pub some_of : (Step → Bool) → List Event → Bool

@@ -1,5 +1,6 @@
 -- What the tallies count: before each `give`, and where nobody holds the turn.
-use Rattle.std.proofs.Common.{◌≡◌, ◌≤◌, ◌⊎◌, ℕ, ◌+◌, Bool, true, false, List, [], ◌∷◌, ◌++◌, refl, sym, ◌∙◌, ap, append_assoc, subst, arith, inl, inr}
+use Rattle.std.proofs.Common.{◌≡◌, ◌≤◌, ◌⊎◌, ℕ, ◌+◌, Bool, true, false, List, [], ◌∷◌, ◌++◌, refl, sym, ◌∙◌, ap}
+use Rattle.std.proofs.Common.{append_assoc, subst, arith, inl, inr}
 use Rattle.std.specs.Prelude.{cond, ◌&&◌, ◌==◌}
 use Rattle.std.proofs.lemmas.Bool.{and_parts, eqb-true, false_from_ne_true, ne_eqb, true≢false}
 use Rattle.std.proofs.lemmas.List.Sums.{sum_by_push}
@@ -17,7 +18,8 @@ use Rattle.mk_core.specs.Counts.{IsTidy, TalliesAreExact, TalliesAreTidy, ends, 
 use Rattle.mk_core.specs.Cycles.{is_end}
 use Rattle.mk_core.specs.Decided.{Decided}
 use Rattle.mk_core.specs.Effects.{answer_decided}
-use Rattle.mk_core.specs.History.{IsHistory, World, calls, calls_from, call_decided, first_world, left, left_from, world_behind}
+use Rattle.mk_core.specs.History.{IsHistory, World, calls, calls_from, call_decided, first_world, left, left_from}
+use Rattle.mk_core.specs.History.{world_behind}
 use Rattle.mk_core.specs.Moments.{Moment, flight_of}
 use Rattle.mk_core.specs.NewPlaces.{is_run_gone, is_undecided_new}
 use Rattle.mk_core.specs.Readings.{TalliesTell}
@@ -43,7 +45,8 @@ use Rattle.mk_invariant.proofs.Theorems.{pages_show_the_storage}
 use Rattle.mk_placement.specs.ExactTallies.{TalliesAreExactAtGives}
 use Rattle.mk_placement.proofs.FreshSteps.{FreshTold, fresh_told_behind}
 use Rattle.mk_placement.proofs.Histories.{KeptByEvents, before_it, holds_of_histories}
-use Rattle.mk_placement.proofs.TallySteps.{CountsNothing, Gives, Leaves, Takes, TurnStep, give_counts_nothing, others_count_nothing, turn_step}
+use Rattle.mk_placement.proofs.TallySteps.{CountsNothing, Gives, Leaves, Takes, TurnStep, give_counts_nothing}
+use Rattle.mk_placement.proofs.TallySteps.{others_count_nothing, turn_step}
 
 -- The fresh count of the moment is that of the allocations, behind every history.
 

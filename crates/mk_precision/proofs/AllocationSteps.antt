@@ -1,8 +1,10 @@
 -- What one event leaves of the allocations: each keeps its place, and a grant adds one.
-use Rattle.std.proofs.Common.{List, Option, [], ap, arith, false, inl, inr, length, map, refl, sym, ℕ, ◌++◌, ◌<◌, ◌∙◌, ◌∷◌, ◌≡◌}
+use Rattle.std.proofs.Common.{List, Option, [], ap, arith, false, inl, inr, length, map, refl, sym, ℕ, ◌++◌, ◌<◌, ◌∙◌}
+use Rattle.std.proofs.Common.{◌∷◌, ◌≡◌}
 use Rattle.std.proofs.lemmas.Bool.{cases_lt, true≢false}
 use Rattle.std.proofs.lemmas.List.{get_or_past, length-append, length-map}
-use Rattle.mk_core.specs.Allocations.{PlacedAllocation, allocations_by, freed_where_it_stands, granted, never_granted, no_longer_fresh, placed_at, with_released}
+use Rattle.mk_core.specs.Allocations.{PlacedAllocation, allocations_by, freed_where_it_stands, granted, never_granted}
+use Rattle.mk_core.specs.Allocations.{no_longer_fresh, placed_at, with_released}
 use Rattle.mk_core.specs.Bounded.{is_some_and}
 use Rattle.mk_core.specs.Cells.{is_left_unmarked, pointed_cell}
 use Rattle.mk_core.specs.Cycles.{is_release}
@@ -14,7 +16,8 @@ use Rattle.mk_core.specs.declared.events.Step.TheVariants as step
 use Rattle.mk_core.specs.declared.seats.Flight.{Flight}
 use Rattle.mk_geom.specs.Addresses.{address_of}
 use Rattle.mk_geom.specs.declared.addresses.Cell.{Cell}
-use Rattle.mk_core.proofs.ChangedAllocations.{LeavesPlaces, changed_at, earlier_at, freed_leaves, freed_released, fresh_leaves, released_leaves}
+use Rattle.mk_core.proofs.ChangedAllocations.{LeavesPlaces, changed_at, earlier_at, freed_leaves, freed_released}
+use Rattle.mk_core.proofs.ChangedAllocations.{fresh_leaves, released_leaves}
 use Rattle.mk_precision.proofs.StepKinds.{neither}
 
 -- An unreleased allocation is one of the list.

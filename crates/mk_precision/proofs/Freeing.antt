@@ -1,5 +1,6 @@
 -- Behind a cycle's `end` what its `release` released counts as free: no unreleased storage has a word of it.
-use Rattle.std.proofs.Common.{List, [], ap, append-nil, append_assoc, arith, false, refl, subst, sym, ℕ, ◌%◌, ◌++◌, ◌≤◌, ◌∙◌, ◌∷◌, ◌≡◌}
+use Rattle.std.proofs.Common.{List, [], ap, append-nil, append_assoc, arith, false, refl, subst, sym, ℕ, ◌%◌, ◌++◌, ◌≤◌}
+use Rattle.std.proofs.Common.{◌∙◌, ◌∷◌, ◌≡◌}
 use Rattle.std.specs.Prelude.{Contains, not}
 use Rattle.std.proofs.lemmas.Bool.{and_parts, not-true, true≢false}
 use Rattle.std.specs.List.{list_any}

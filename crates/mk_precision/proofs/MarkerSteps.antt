@@ -11,7 +11,8 @@ use Rattle.mk_core.specs.Accesses.{found, next_word}
 use Rattle.mk_core.specs.Allocations.{PlacedAllocation, cell_of_allocation, placed_at, storage_of}
 use Rattle.mk_core.specs.Bits.{has_bit}
 use Rattle.mk_core.specs.Cells.{cell_words, cells_under, first_word, has_no_pointers, header_in, is_marked, words_under}
-use Rattle.mk_core.specs.Effects.{behind_mlook, hand_behind_look, marker_behind, open_hand, scan_begun, scan_claimed, scan_onward}
+use Rattle.mk_core.specs.Effects.{behind_mlook, hand_behind_look, marker_behind, open_hand, scan_begun, scan_claimed}
+use Rattle.mk_core.specs.Effects.{scan_onward}
 use Rattle.mk_core.specs.History.{World}
 use Rattle.mk_core.specs.MarkerConditions.{has_next_word, has_seen_cell}
 use Rattle.mk_core.specs.Moments.{marker_of}

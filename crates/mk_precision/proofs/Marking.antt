@@ -1,5 +1,6 @@
 -- Along the marking of a cycle without a sweeping mark, all that is marked or held is touched.
-use Rattle.std.proofs.Common.{List, [], ap, append-nil, append_assoc, false, refl, subst, sym, ℕ, ◌++◌, ◌∙◌, ◌∷◌, ◌≡◌, inl, arith}
+use Rattle.std.proofs.Common.{List, [], ap, append-nil, append_assoc, false, refl, subst, sym, ℕ, ◌++◌, ◌∙◌, ◌∷◌, ◌≡◌}
+use Rattle.std.proofs.Common.{inl, arith}
 use Rattle.std.proofs.lemmas.Bool.{eqb-true}
 use Rattle.std.specs.List.{list_any}
 use Rattle.mk_core.specs.Cycles.{Marking, NoneSweepsFrom, before_close, is_begin, is_close, is_release, sweeps, through}

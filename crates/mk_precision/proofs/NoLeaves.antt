@@ -1,5 +1,6 @@
 -- Pages where no leaf begins, and that they stay so while they show cells.
-use Rattle.std.proofs.Common.{ap, arith, false, inl, inr, length, refl, subst, sym, true, ℕ, ◌+◌, ◌-◌, ◌/◌, ◌∙◌, ◌≡◌, ◌≢◌}
+use Rattle.std.proofs.Common.{ap, arith, false, inl, inr, length, refl, subst, sym, true, ℕ, ◌+◌, ◌-◌, ◌/◌, ◌∙◌, ◌≡◌}
+use Rattle.std.proofs.Common.{◌≢◌}
 use Rattle.std.specs.Prelude.{Option, None, Some, slice_index_or, slice_set, ◌||◌}
 use Rattle.std.proofs.lemmas.Bool.{cases_eq, eqb-true, ltb-true}
 use Rattle.std.proofs.lemmas.List.{get_or-set_other, get_or-set_same}

@@ -1,5 +1,6 @@
 -- Allocations behind events that grant none: what is unreleased was so before, and each keeps its place.
-use Rattle.std.proofs.Common.{List, [], ap, append-nil, append_assoc, false, refl, subst, sym, ℕ, ◌++◌, ◌<◌, ◌∙◌, ◌∷◌, ◌≡◌, length}
+use Rattle.std.proofs.Common.{List, [], ap, append-nil, append_assoc, false, refl, subst, sym, ℕ, ◌++◌, ◌<◌, ◌∙◌, ◌∷◌}
+use Rattle.std.proofs.Common.{◌≡◌, length}
 use Rattle.std.proofs.lemmas.Bool.{true≢false}
 use Rattle.mk_core.specs.Allocations.{PlacedAllocation, placed_at}
 use Rattle.mk_core.specs.Cycles.{is_release}
@@ -10,7 +11,8 @@ use Rattle.mk_core.specs.declared.events.Event.{Event}
 use Rattle.mk_core.specs.declared.events.Seat.{Seat}
 use Rattle.mk_core.specs.declared.events.Step.{Step}
 use Rattle.mk_protocol.proofs.OthersMoves.{WorldBehind}
-use Rattle.mk_precision.proofs.AllocationSteps.{AreOfOne, Came, GoesOn, IsNew, Stayed, allocation_step, goes_on, of_one_joined}
+use Rattle.mk_precision.proofs.AllocationSteps.{AreOfOne, Came, GoesOn, IsNew, Stayed, allocation_step, goes_on}
+use Rattle.mk_precision.proofs.AllocationSteps.{of_one_joined}
 use Rattle.mk_precision.proofs.Marking.{one_more}
 use Rattle.mk_precision.proofs.StepKinds.{is_grant}
 use Rattle.mk_precision.proofs.Precise.{came_behind}

@@ -1,5 +1,7 @@
--- From a cycle's `close` to its `release` all that is marked is touched. The `release` releases the rest of the snapshot.
-use Rattle.std.proofs.Common.{Bool, List, [], ap, append-nil, append_assoc, arith, false, inl, inr, refl, subst, sym, true, ℕ, ◌++◌, ◌∙◌, ◌∷◌, ◌≡◌}
+-- From a cycle's `close` to its `release` all that is marked is touched. The `release` releases the rest of the
+-- snapshot.
+use Rattle.std.proofs.Common.{Bool, List, [], ap, append-nil, append_assoc, arith, false, inl, inr, refl, subst, sym}
+use Rattle.std.proofs.Common.{true, ℕ, ◌++◌, ◌∙◌, ◌∷◌, ◌≡◌}
 use Rattle.std.specs.Prelude.{not, slice_index, ◌&&◌}
 use Rattle.std.proofs.lemmas.Bool.{cases_Bool, eqb-true, true≢false}
 use Rattle.std.specs.List.{list_any}
@@ -7,7 +9,8 @@ use Rattle.mk_geom.specs.declared.addresses.Cell.{Cell}
 use Rattle.mk_core.specs.Allocations.{PlacedAllocation, cell_of_allocation, placed_at, with_released}
 use Rattle.mk_core.specs.Bits.{has_bit}
 use Rattle.mk_core.specs.Cells.{is_left_unmarked, is_marked}
-use Rattle.mk_core.specs.Cycles.{At, NoneSweeps, Releasing, before_close, before_release, is_begin, is_close, is_release, through}
+use Rattle.mk_core.specs.Cycles.{At, NoneSweeps, Releasing, before_close, before_release, is_begin, is_close}
+use Rattle.mk_core.specs.Cycles.{is_release, through}
 use Rattle.mk_core.specs.History.{IsHistory, World, left, world_behind}
 use Rattle.mk_core.specs.Touched.{IsTouched}
 use Rattle.mk_core.specs.Words.{phase_of}

@@ -24,7 +24,8 @@ use Rattle.mk_core.proofs.ObjectHeaders.{part_has_no_pointers}
 use Rattle.mk_core.proofs.PointedAllocations.{pointers_come_back}
 use Rattle.mk_core.proofs.PointedPages.{PointsTo, points_to}
 use Rattle.mk_core.proofs.Sizes.{large_words}
-use Rattle.mk_core.proofs.StandingAllocations.{first_page_shows, pointers_hit, run_begins, standing_has_storage, typed_size}
+use Rattle.mk_core.proofs.StandingAllocations.{first_page_shows, pointers_hit, run_begins, standing_has_storage}
+use Rattle.mk_core.proofs.StandingAllocations.{typed_size}
 use Rattle.mk_layout.specs.Scene.{run_count}
 use Rattle.mk_images.specs.OthersSay as images
 use Rattle.mk_images.specs.OthersSay.{MayHoldWords, OfFreedRun, OfMapped, OfReleased}

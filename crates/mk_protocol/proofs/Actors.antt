@@ -47,14 +47,17 @@ turns_kind (step.Take o) g t = cc
 turns_kind step.Over g t = refl
 turns_kind x g t = ap is_of_turn g
 
-caller_takes : (c : Config) (m : Moment) (k : ℕ) (x : Step) → Meets c m (Caller k) x → is_take x ≡ true → Actor c m (Caller k) x
+caller_takes : (c : Config) (m : Moment) (k : ℕ) (x : Step) → Meets c m (Caller k) x → is_take x ≡ true
+    → Actor c m (Caller k) x
 caller_takes c m k (step.Take (Some o)) h t =
     let s = at_take (flight_of m (Caller k)).stage (flight_of m (Caller k)).op o h.order in
     CallTakes k o (ltb-true k c.callers h.seat) s.0 s.1
-caller_takes c m k (step.Take None) h t = absurd (at_no_take (flight_of m (Caller k)).stage (flight_of m (Caller k)).op h.order)
+caller_takes c m k (step.Take None) h t =
+    absurd (at_no_take (flight_of m (Caller k)).stage (flight_of m (Caller k)).op h.order)
 caller_takes c m k _ h t = cc
 
-caller_acts : (c : Config) (m : Moment) (k : ℕ) (x : Step) → Meets c m (Caller k) x → is_astray (standing (flight_of m (Caller k))) ≡ false → Actor c m (Caller k) x
+caller_acts : (c : Config) (m : Moment) (k : ℕ) (x : Step) → Meets c m (Caller k) x
+    → is_astray (standing (flight_of m (Caller k))) ≡ false → Actor c m (Caller k) x
 caller_acts c m k x h a = by (group_of x) refl
   where
     lt : k < c.callers
@@ -69,7 +72,8 @@ caller_acts c m k x h a = by (group_of x) refl
     by group.Host g = let e : false ≡ true = ap (λ (y : Group). is_open_to (Caller k) y) (sym g) ∙ h.kind in cc
     by group.Turn g = elim (cases_Bool (is_take x)) [
       | inl t ↦ caller_takes c m k x h t
-      | inr t ↦ AsHolder (Caller k) x (lt, turns_stand f.stage f.op (of_turn f.stage f.op x g t h.order) a) (turns_kind x g t)
+      | inr t ↦ AsHolder (Caller k) x (lt, turns_stand f.stage f.op (of_turn f.stage f.op x g t h.order) a)
+          (turns_kind x g t)
     ]
 
 marker_acts : (c : Config) (m : Moment) (k : ℕ) (x : Step) → Meets c m (Marker k) x → Actor c m (Marker k) x
@@ -90,7 +94,8 @@ never false e = cc
 over_holds : (c : Config) (m : Moment) → Meets c m Host step.Over → host_has_turn c m ≡ true
 over_holds c m h = (and_parts (host_has_turn c m) (is_phase m.words 0) h.holder).0
 
-host_may : (c : Config) (m : Moment) (x : Step) → group_of x ≡ group.Turn → is_take x ≡ false → comes_next_to_host (host_has_turn c m) x ≡ true → host_has_turn c m ≡ true
+host_may : (c : Config) (m : Moment) (x : Step) → group_of x ≡ group.Turn → is_take x ≡ false
+    → comes_next_to_host (host_has_turn c m) x ≡ true → host_has_turn c m ≡ true
 host_may c m (step.Take o) g t h = cc
 host_may c m step.Over g t h = cc
 host_may c m x g t h = by x (host_has_turn c m) g t h
@@ -102,7 +107,8 @@ host_may c m x g t h = by x (host_has_turn c m) g t h
     by _ false g t h = cc
 
 host_takes : (c : Config) (m : Moment) (x : Step) → Meets c m Host x → is_take x ≡ true → Actor c m Host x
-host_takes c m (step.Take None) h t = HostTakes (eqb-false m.words.turn (1 + c.callers) (not-true (host_has_turn c m) h.order))
+host_takes c m (step.Take None) h t =
+    HostTakes (eqb-false m.words.turn (1 + c.callers) (not-true (host_has_turn c m) h.order))
 host_takes c m (step.Take (Some o)) h t = absurd (never (host_has_turn c m) h.order)
 host_takes c m _ h t = cc
 
@@ -115,7 +121,8 @@ host_acts c m x h = by (group_of x) refl
     by group.Host g = over_alone x g h
       where
         over_alone : (x : Step) → group_of x ≡ group.Host → Meets c m Host x → Actor c m Host x
-        over_alone step.Over g h = AsHolder Host step.Over (eqb-true m.words.turn (1 + c.callers) (over_holds c m h)) refl
+        over_alone step.Over g h =
+            AsHolder Host step.Over (eqb-true m.words.turn (1 + c.callers) (over_holds c m h)) refl
         over_alone _ g h = cc
     by group.Turn g = elim (cases_Bool (is_take x)) [
       | inl t ↦ host_takes c m x h t
@@ -123,7 +130,8 @@ host_acts c m x h = by (group_of x) refl
     ]
 
 -- where no caller is astray, each event that meets the conditions is one of these
-pub acts : (c : Config) (m : Moment) (seat : Seat) (x : Step) → ((k : ℕ) → k < c.callers → is_astray (standing (flight_of m (Caller k))) ≡ false)
+pub acts : (c : Config) (m : Moment) (seat : Seat) (x : Step)
+    → ((k : ℕ) → k < c.callers → is_astray (standing (flight_of m (Caller k))) ≡ false)
     → Meets c m seat x → Actor c m seat x
 acts c m (Caller k) x a h = caller_acts c m k x h (a k (ltb-true k c.callers h.seat))
 acts c m (Marker k) x a h = marker_acts c m k x h
@@ -139,12 +147,14 @@ new_at_full : (s : Stage) (o : Op) → comes_next s o step.Full ≡ true → is_
 new_at_full stage.Turn (op.New d ty full) h = refl
 new_at_full _ _ h = cc
 
-pub grants_new : (c : Config) (m : Moment) (seat : Seat) → Meets c m seat step.Grant → is_undecided_new (flight_of m seat) ≡ true
+pub grants_new : (c : Config) (m : Moment) (seat : Seat) → Meets c m seat step.Grant
+    → is_undecided_new (flight_of m seat) ≡ true
 grants_new c m (Caller k) h = new_at_grant (flight_of m (Caller k)).stage (flight_of m (Caller k)).op h.order
 grants_new c m (Marker k) h = let kind = h.kind in cc
 grants_new c m Host h = absurd (never (host_has_turn c m) h.order)
 
-pub fills_new : (c : Config) (m : Moment) (seat : Seat) → Meets c m seat step.Full → is_undecided_new (flight_of m seat) ≡ true
+pub fills_new : (c : Config) (m : Moment) (seat : Seat) → Meets c m seat step.Full
+    → is_undecided_new (flight_of m seat) ≡ true
 fills_new c m (Caller k) h = new_at_full (flight_of m (Caller k)).stage (flight_of m (Caller k)).op h.order
 fills_new c m (Marker k) h = let kind = h.kind in cc
 fills_new c m Host h = absurd (never (host_has_turn c m) h.order)

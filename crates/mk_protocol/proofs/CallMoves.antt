@@ -16,12 +16,15 @@ use Rattle.mk_core.specs.declared.seats.Stage.{Stage}
 use Rattle.mk_core.specs.declared.seats.Flight.{Flight}
 use Rattle.mk_core.specs.Words.{accessed}
 use Rattle.mk_core.specs.Cells.{is_unmapped_header}
-use Rattle.mk_core.specs.Calls.{steps_of, stage_behind, is_under_turn, begun, at_rest, still, onward, refused, progress_reg}
+use Rattle.mk_core.specs.Calls.{steps_of, stage_behind, is_under_turn, begun, at_rest, still, onward, refused}
+use Rattle.mk_core.specs.Calls.{progress_reg}
 use Rattle.mk_core.specs.Moments.{Moment, flight_of}
 use Rattle.mk_core.specs.Order.{group_of}
 use Rattle.mk_core.specs.Accesses.{found, access, reached, register_met, reg_access}
 use Rattle.mk_protocol.proofs.Standings.{Standing, Resting, InCall, UnderTurn, Astray, standing_at, standing, is_astray}
-use Rattle.mk_protocol.proofs.Stages.{is_call_stage, is_reg_stage, goes_on, calls_stand, onward_stands, refused_stands, regs_work, loads_under_turn, begun_in_call, read_stands, either_stands, reg_stands, reg_no_new}
+use Rattle.mk_protocol.proofs.Stages.{is_call_stage, is_reg_stage, goes_on, calls_stand, onward_stands, refused_stands}
+use Rattle.mk_protocol.proofs.Stages.{regs_work, loads_under_turn, begun_in_call, read_stands, either_stands}
+use Rattle.mk_protocol.proofs.Stages.{reg_stands, reg_no_new}
 use Rattle.mk_protocol.proofs.NextSteps.{stage_of, has_stage_of_its_own, at_its_stage, at_reg, at_enter}
 use Rattle.mk_protocol.proofs.Services.{Loads}
 use Rattle.mk_protocol.proofs.Views.{View, view_of, flight_in, gate_in}
@@ -34,9 +37,11 @@ use Rattle.mk_protocol.proofs.SameWords.{Moves, finds, reg_keeps, with_words}
 pub same_flight : (v : View) (k : ℕ) → record v { flights = slice_set v.flights k (flight_in v k) } ≡ v
 same_flight v k = ap (λ (fs : List Flight). record v { flights = fs }) (set-get_or v.flights k at_rest)
 
-same_both : (v : View) (k : ℕ) → record v { gates = slice_set v.gates k (gate_in v k); flights = slice_set v.flights k (flight_in v k) } ≡ v
+same_both : (v : View) (k : ℕ)
+    → record v { gates = slice_set v.gates k (gate_in v k); flights = slice_set v.flights k (flight_in v k) } ≡ v
 same_both v k =
-    ap (λ (fs : List Flight). record v { gates = slice_set v.gates k (gate_in v k); flights = fs }) (set-get_or v.flights k at_rest)
+    ap (λ (fs : List Flight). record v { gates = slice_set v.gates k (gate_in v k); flights = fs })
+    (set-get_or v.flights k at_rest)
     ∙ ap (λ (gs : List ℕ). record v { gates = gs }) (set-get_or v.gates k 0)
 
 -- a caller in its call
@@ -45,17 +50,21 @@ abbrev entered : View → ℕ → Op → Bool → View
 entered v k o b =
     record v {
       gates = slice_set v.gates k (if b then 1 else gate_in v k);
-      flights = slice_set v.flights k ((if b then record { flight = begun o; answer = None } else still (flight_in v k)).flight);
+      flights = slice_set v.flights k
+          ((if b then record { flight = begun o; answer = None } else still (flight_in v k)).flight);
     }
 
-enter_move : (c : Config) (m : Moment) (k : ℕ) (o : Op) → k < c.callers → standing (flight_of m (Caller k)) ≡ Resting → is_under_turn o ≡ false
+enter_move : (c : Config) (m : Moment) (k : ℕ) (o : Op) → k < c.callers → standing (flight_of m (Caller k)) ≡ Resting
+    → is_under_turn o ≡ false
     → Moves c m (Caller k) (step.Enter o)
 enter_move c m k o lt was out = elim (cases_eq (slice_index m.words.gates k) 0) [
   | inl z ↦
-      subst (λ (b : Bool). Move c (view_of m) (Caller k) (entered (view_of m) k o b)) (sym (eq-eqb (slice_index m.words.gates k) 0 z))
+      subst (λ (b : Bool). Move c (view_of m) (Caller k) (entered (view_of m) k o b))
+      (sym (eq-eqb (slice_index m.words.gates k) 0 z))
       (Enters (begun o) lt z was (begun_in_call o out))
   | inr ne ↦
-      subst (λ (b : Bool). Move c (view_of m) (Caller k) (entered (view_of m) k o b)) (sym (ne_eqb (slice_index m.words.gates k) 0 ne))
+      subst (λ (b : Bool). Move c (view_of m) (Caller k) (entered (view_of m) k o b))
+      (sym (ne_eqb (slice_index m.words.gates k) 0 ne))
       (subst (λ (n : View). Move c (view_of m) (Caller k) n) (sym (same_both (view_of m) k)) Stays)
 ]
 
@@ -63,7 +72,8 @@ enter_move c m k o lt was out = elim (cases_eq (slice_index m.words.gates k) 0) 
 reg_move : (c : Config) (m : Moment) (k : ℕ) → k < c.callers → is_reg_stage (flight_of m (Caller k)).stage ≡ true
     → is_astray (standing (flight_of m (Caller k))) ≡ false → Moves c m (Caller k) step.Reg
 reg_move c m k lt is a =
-    with_words c (view_of m) (Caller k) m.words (accessed m.words (reached c m e) (access c m e)) _ m.seats.holding m.seats.markers
+    with_words c (view_of m) (Caller k) m.words (accessed m.words (reached c m e) (access c m e)) _ m.seats.holding
+    m.seats.markers
     (reg_keeps m.words k (register_met f f.stage) (reg_access f f.stage))
     (by (standing f) refl (reg_stands f.stage f.op f.q f.p f.r f.loaded (found c m e) is a))
   where
@@ -74,7 +84,8 @@ reg_move c m k lt is a =
     f = flight_of m (Caller k)
 
     g : Flight
-    g = (progress_reg (flight_of m (Caller k)) (flight_of m (Caller k)).stage (found c m (record { seat = Caller k; step = step.Reg }))).flight
+    g = (progress_reg (flight_of m (Caller k)) (flight_of m (Caller k)).stage
+        (found c m (record { seat = Caller k; step = step.Reg }))).flight
 
     by : (s : Standing) → standing (flight_of m (Caller k)) ≡ s → standing g ≡ standing (flight_of m (Caller k))
         → Move c (view_of m) (Caller k) (record (view_of m) { flights = slice_set m.seats.flights k g })
@@ -82,20 +93,24 @@ reg_move c m k lt is a =
     by InCall was same = GoesOn g lt was (same ∙ was)
     by UnderTurn was same =
         Works g m.seats.holding (lt, was)
-        (Loads g (loads_under_turn f.stage f.op is was) (same ∙ was) (reg_no_new f.stage f.op f.q f.p f.r f.loaded (found c m e) is was))
+        (Loads g (loads_under_turn f.stage f.op is was) (same
+        ∙ was) (reg_no_new f.stage f.op f.q f.p f.r f.loaded (found c m e) is was))
     by Astray was same = let y : true ≡ false = ap is_astray (sym was) ∙ a in cc
 
 -- the other steps of a call
-on : (c : Config) (m : Moment) (k : ℕ) (x : Step) → Meets c m (Caller k) x → has_stage_of_its_own x ≡ true → is_call_stage (stage_of x) ≡ true
+on : (c : Config) (m : Moment) (k : ℕ) (x : Step) → Meets c m (Caller k) x → has_stage_of_its_own x ≡ true
+    → is_call_stage (stage_of x) ≡ true
     → is_astray (standing (flight_of m (Caller k))) ≡ false
     → standing (flight_of m (Caller k)) ≡ InCall
 on c m k x h own is a =
     let f = flight_of m (Caller k) in
     calls_stand f.stage f.op (ap is_call_stage (at_its_stage f.stage f.op x own h.order) ∙ is) a
 
-onward_from : (c : Config) (m : Moment) (k : ℕ) (x : Step) → Meets c m (Caller k) x → has_stage_of_its_own x ≡ true → goes_on (stage_of x) ≡ true
+onward_from : (c : Config) (m : Moment) (k : ℕ) (x : Step) → Meets c m (Caller k) x → has_stage_of_its_own x ≡ true
+    → goes_on (stage_of x) ≡ true
     → standing (flight_of m (Caller k)) ≡ InCall
-    → standing_at (stage_behind (flight_of m (Caller k)).stage (steps_of (flight_of m (Caller k)).op)) (flight_of m (Caller k)).op ≡ InCall
+    → standing_at (stage_behind (flight_of m (Caller k)).stage (steps_of (flight_of m (Caller k)).op))
+    (flight_of m (Caller k)).op ≡ InCall
 onward_from c m k x h own is was =
     let f = flight_of m (Caller k) in
     onward_stands f.stage f.op was (ap goes_on (at_its_stage f.stage f.op x own h.order) ∙ is)
@@ -106,20 +121,27 @@ call_moves c m k (step.Enter o) lt g a h =
     let s = at_enter (flight_of m (Caller k)).stage (flight_of m (Caller k)).op o h.order in
     enter_move c m k o lt (ap (λ (t : Stage). standing_at t (flight_of m (Caller k)).op) s.0) s.1
 call_moves c m k step.Leave lt g a h = Leaves lt (on c m k step.Leave h refl refl a)
-call_moves c m k step.Reg lt g a h = reg_move c m k lt (at_reg (flight_of m (Caller k)).stage (flight_of m (Caller k)).op h.order) a
+call_moves c m k step.Reg lt g a h =
+    reg_move c m k lt (at_reg (flight_of m (Caller k)).stage (flight_of m (Caller k)).op h.order) a
 call_moves c m k step.Probe lt g a h =
     let f = flight_of m (Caller k) in
     let was = on c m k step.Probe h refl refl a in
     GoesOn _ lt was
-    (either_stands (is_unmapped_header (header_of (finds c m (Caller k) step.Probe))) (refused f answer.Fault) (onward f None) InCall
+    (either_stands (is_unmapped_header (header_of (finds c m (Caller k) step.Probe))) (refused f answer.Fault)
+    (onward f None) InCall
     (refused_stands f.stage f.op was) (onward_from c m k step.Probe h refl refl was))
 call_moves c m k step.Read lt g a h =
     let f = flight_of m (Caller k) in
     let was = on c m k step.Read h refl refl a in
     GoesOn _ lt was (read_stands f f.op (finds c m (Caller k) step.Read) ∙ onward_from c m k step.Read h refl refl was)
-call_moves c m k step.Write lt g a h = let was = on c m k step.Write h refl refl a in GoesOn _ lt was (onward_from c m k step.Write h refl refl was)
-call_moves c m k step.Cas lt g a h = let was = on c m k step.Cas h refl refl a in GoesOn _ lt was (onward_from c m k step.Cas h refl refl was)
-call_moves c m k step.Getg lt g a h = let was = on c m k step.Getg h refl refl a in GoesOn _ lt was (onward_from c m k step.Getg h refl refl was)
-call_moves c m k step.Setg lt g a h = let was = on c m k step.Setg h refl refl a in GoesOn _ lt was (onward_from c m k step.Setg h refl refl was)
-call_moves c m k step.Dirty lt g a h = let was = on c m k step.Dirty h refl refl a in GoesOn _ lt was (onward_from c m k step.Dirty h refl refl was)
+call_moves c m k step.Write lt g a h = let was =
+    on c m k step.Write h refl refl a in GoesOn _ lt was (onward_from c m k step.Write h refl refl was)
+call_moves c m k step.Cas lt g a h = let was =
+    on c m k step.Cas h refl refl a in GoesOn _ lt was (onward_from c m k step.Cas h refl refl was)
+call_moves c m k step.Getg lt g a h = let was =
+    on c m k step.Getg h refl refl a in GoesOn _ lt was (onward_from c m k step.Getg h refl refl was)
+call_moves c m k step.Setg lt g a h = let was =
+    on c m k step.Setg h refl refl a in GoesOn _ lt was (onward_from c m k step.Setg h refl refl was)
+call_moves c m k step.Dirty lt g a h = let was =
+    on c m k step.Dirty h refl refl a in GoesOn _ lt was (onward_from c m k step.Dirty h refl refl was)
 call_moves c m k _ lt g a h = cc

@@ -1,6 +1,7 @@
 -- What an event may do to marks, blacks and dirty words, and to the hand of the turn's holder.
 use Rattle.std.proofs.Common.{◌≡◌, ◌⊎◌, ℕ, Bool, true, false, List, refl, sym, ◌∙◌, ap, subst, inl, inr, arith}
-use Rattle.std.specs.Prelude.{Option, None, is_some, slice_index, slice_set, bit_or, not, ◌&&◌, ◌||◌, ◌==◌, if◌then◌else◌}
+use Rattle.std.specs.Prelude.{Option, None, is_some, slice_index, slice_set, bit_or, not, ◌&&◌, ◌||◌, ◌==◌}
+use Rattle.std.specs.Prelude.{if◌then◌else◌}
 use Rattle.std.proofs.lemmas.Bool.{not-true, eqb-true, or_cases, and_parts}
 use Rattle.mk_geom.specs.PageUses.{or_else}
 use Rattle.mk_core.specs.declared.config.Config.{Config}
@@ -21,7 +22,8 @@ use Rattle.mk_core.specs.Cells.{head_page}
 use Rattle.mk_core.specs.Moments.{Moment, flight_of, marker_of, marker_at, is_phase, nothing_done}
 use Rattle.mk_core.specs.StopConditions.{is_attending, none_attends, may_mark, may_undirty, may_black}
 use Rattle.mk_core.specs.MarkerConditions.{cell_seen, may_mblack}
-use Rattle.mk_core.specs.Accesses.{caller_number, found, register_met, reg_access, tally_word, seen_page, seen_bit, scan_page, scan_bit}
+use Rattle.mk_core.specs.Accesses.{caller_number, found, register_met, reg_access, tally_word, seen_page, seen_bit}
+use Rattle.mk_core.specs.Accesses.{scan_page, scan_bit}
 use Rattle.mk_core.specs.Effects.{hand_given}
 use Rattle.mk_core.specs.Frames.{OnlyGrow}
 use Rattle.mk_protocol.proofs.Asked.{none_at}
@@ -48,28 +50,42 @@ IsQuiet m = (phase_of m.words ≡ 0) ⊎ ((phase_of m.words ≡ 2) × (none_atte
 -- where a seat steps
 pub data ColourStep (c : Config) (m : Moment) (seat : Seat) : Colours → Type 0 where
   Leaves : ColourStep c m seat (colours_of m)
-  ClearsMarks : (p : ℕ) → phase_of m.words ≡ 0 → ColourStep c m seat (record (colours_of m) { marks = slice_set m.words.marks p 0 })
-  AddsMarks : (p bits : ℕ) → (phase_of m.words ≡ 1) ⊎ (phase_of m.words ≡ 2) → may_mark c m (flight_of m seat) p bits ≡ true
-      → ColourStep c m seat (record (colours_of m) { marks = slice_set m.words.marks p (bit_or (slice_index m.words.marks p) bits) })
+  ClearsMarks : (p : ℕ) → phase_of m.words ≡ 0
+      → ColourStep c m seat (record (colours_of m) { marks = slice_set m.words.marks p 0 })
+  AddsMarks : (p bits : ℕ) → (phase_of m.words ≡ 1) ⊎ (phase_of m.words ≡ 2)
+      → may_mark c m (flight_of m seat) p bits ≡ true
+      → ColourStep c m seat
+      (record (colours_of m) { marks = slice_set m.words.marks p (bit_or (slice_index m.words.marks p) bits) })
   MarksSeen : (p bits : ℕ) → is_some (cell_seen c (marker_at m seat).seen (marker_at m seat).hand) ≡ true
-      → seen_page (cell_seen c (marker_at m seat).seen (marker_at m seat).hand) ≡ p → seen_bit (cell_seen c (marker_at m seat).seen (marker_at m seat).hand) ≡ bits
-      → ColourStep c m seat (record (colours_of m) { marks = slice_set m.words.marks p (bit_or (slice_index m.words.marks p) bits) })
+      → seen_page (cell_seen c (marker_at m seat).seen (marker_at m seat).hand) ≡ p
+      → seen_bit (cell_seen c (marker_at m seat).seen (marker_at m seat).hand) ≡ bits
+      → ColourStep c m seat
+      (record (colours_of m) { marks = slice_set m.words.marks p (bit_or (slice_index m.words.marks p) bits) })
   Blackens : (p bits : ℕ) → phase_of m.words ≡ 2 → may_black c m p bits ≡ true
-      → ColourStep c m seat (record (colours_of m) { blacks = slice_set m.words.blacks p (bit_or (slice_index m.words.blacks p) bits) })
-  BlackensScanned : (p bits : ℕ) → may_mblack (marker_at m seat) ≡ true → scan_page (marker_at m seat).scan ≡ p → scan_bit (marker_at m seat).scan ≡ bits
-      → ColourStep c m seat (record (colours_of m) { blacks = slice_set m.words.blacks p (bit_or (slice_index m.words.blacks p) bits) })
+      → ColourStep c m seat
+      (record (colours_of m) { blacks = slice_set m.words.blacks p (bit_or (slice_index m.words.blacks p) bits) })
+  BlackensScanned : (p bits : ℕ) → may_mblack (marker_at m seat) ≡ true → scan_page (marker_at m seat).scan ≡ p
+      → scan_bit (marker_at m seat).scan ≡ bits
+      → ColourStep c m seat
+      (record (colours_of m) { blacks = slice_set m.words.blacks p (bit_or (slice_index m.words.blacks p) bits) })
   Whitens : (p : ℕ) → IsQuiet m → ColourStep c m seat (record (colours_of m) { blacks = slice_set m.words.blacks p 0 })
-  Dirties : ColourStep c m seat (record (colours_of m) { dirty = slice_set m.words.dirty (page_met (flight_of m seat)) 1 })
-  Cleans : (p : ℕ) → IsQuiet m → may_undirty m p ≡ true → ColourStep c m seat (record (colours_of m) { dirty = slice_set m.words.dirty p 0 })
+  Dirties : ColourStep c m seat
+      (record (colours_of m) { dirty = slice_set m.words.dirty (page_met (flight_of m seat)) 1 })
+  Cleans : (p : ℕ) → IsQuiet m → may_undirty m p ≡ true
+      → ColourStep c m seat (record (colours_of m) { dirty = slice_set m.words.dirty p 0 })
   TakesHand : (x : Word)
-      → ColourStep c m seat (colours_with m.words (or_else (hand_given c m seat x (found c m (record { seat = seat; step = step.Look x }))) m.seats.holding.hand))
+      → ColourStep c m seat
+      (colours_with m.words
+      (or_else (hand_given c m seat x (found c m (record { seat = seat; step = step.Look x }))) m.seats.holding.hand))
   DropsHand : ColourStep c m seat (record (colours_of m) { hand = None })
 
-pub reg_colours : (w : Words) (k r : ℕ) (a : Access) (hand : Option Hand) → colours_with (accessed w (Named (word.Reg k r)) a) hand ≡ colours_with w hand
+pub reg_colours : (w : Words) (k r : ℕ) (a : Access) (hand : Option Hand)
+    → colours_with (accessed w (Named (word.Reg k r)) a) hand ≡ colours_with w hand
 reg_colours w k r Load hand = refl
 reg_colours w k r _ hand = refl
 
-pub tally_colours : (w : Words) (n : Tally) (v : ℕ) (hand : Option Hand) → colours_with (accessed w (Named (tally_word n)) (Store v)) hand ≡ colours_with w hand
+pub tally_colours : (w : Words) (n : Tally) (v : ℕ) (hand : Option Hand)
+    → colours_with (accessed w (Named (tally_word n)) (Store v)) hand ≡ colours_with w hand
 tally_colours w tally.Held v hand = refl
 tally_colours w _ v hand = refl
 
@@ -98,17 +114,21 @@ and_moved : (a b d : Bool) → (a && b && d) ≡ (a && (b && d))
 and_moved true b d = refl
 and_moved false b d = refl
 
-takes_or_not : (c : Config) (m : Moment) (seat : Seat) (b : Bool) → ColourStep c m seat (colours_with m.words (if b then nothing_done else m.seats.holding).hand)
+takes_or_not : (c : Config) (m : Moment) (seat : Seat) (b : Bool)
+    → ColourStep c m seat (colours_with m.words (if b then nothing_done else m.seats.holding).hand)
 takes_or_not c m seat true = DropsHand
 takes_or_not c m seat false = Leaves
 
 -- all kinds, whatever the seat
-pub colour_step : (c : Config) (m : Moment) (seat : Seat) (x : Step) → Meets c m seat x → ColourStep c m seat (colours_of (Behind c m seat x))
+pub colour_step : (c : Config) (m : Moment) (seat : Seat) (x : Step) → Meets c m seat x
+    → ColourStep c m seat (colours_of (Behind c m seat x))
 colour_step c m seat step.Reg h =
     let f = flight_of m seat in
     subst (λ (y : Colours). ColourStep c m seat y)
-    (sym (reg_colours m.words (caller_number seat) (register_met f f.stage) (reg_access f f.stage) m.seats.holding.hand)) Leaves
-colour_step c m seat (step.Tally n v) h = subst (λ (y : Colours). ColourStep c m seat y) (sym (tally_colours m.words n v m.seats.holding.hand)) Leaves
+    (sym (reg_colours m.words (caller_number seat) (register_met f f.stage)
+    (reg_access f f.stage) m.seats.holding.hand)) Leaves
+colour_step c m seat (step.Tally n v) h =
+    subst (λ (y : Colours). ColourStep c m seat y) (sym (tally_colours m.words n v m.seats.holding.hand)) Leaves
 colour_step c m seat (step.Take o) h = takes_or_not c m seat (m.words.turn == 0)
 colour_step c m seat step.Give h = DropsHand
 colour_step c m seat (step.Look w) h = TakesHand w
@@ -120,27 +140,35 @@ colour_step c m seat step.Mmark h = MarksSeen _ _ h.marker refl refl
 colour_step c m seat (step.Black p v) h = Blackens p v (eqb-true (phase_of m.words) 2 h.phase) h.holder
 colour_step c m seat step.Mblack h = BlackensScanned _ _ h.marker refl refl
 colour_step c m seat (step.Unblack p) h =
-    Whitens p (quiet m true h.phase (ap (λ b. not (is_phase m.words 2) || b) (sym (and_true (none_attends m.seats.markers))) ∙ h.holder))
+    Whitens p (quiet m true h.phase
+    (ap (λ b. not (is_phase m.words 2) || b) (sym (and_true (none_attends m.seats.markers))) ∙ h.holder))
 colour_step c m seat (step.Undirty p) h =
     Cleans p
     (quiet m (is_blank m p) h.phase
     (ap (λ b. not (is_phase m.words 2) || b)
-    (sym (and_moved (none_attends m.seats.markers) (slice_index m.words.blacks p == 0) (slice_index m.words.blacks (head_page m.words p) == 0))) ∙ h.holder))
+    (sym (and_moved (none_attends m.seats.markers) (slice_index m.words.blacks p == 0)
+    (slice_index m.words.blacks (head_page m.words p) == 0))) ∙ h.holder))
     h.holder
 colour_step c m seat _ h = Leaves
 
 -- While a marker attends, no mark and no black bit is cleared.
-quiet_ends : (m : Moment) (k : ℕ) → (phase_of m.words ≡ 1) ⊎ (phase_of m.words ≡ 2) → is_attending (marker_of m k).presence ≡ true → IsQuiet m → ⊥
+quiet_ends : (m : Moment) (k : ℕ) → (phase_of m.words ≡ 1) ⊎ (phase_of m.words ≡ 2)
+    → is_attending (marker_of m k).presence ≡ true → IsQuiet m → ⊥
 quiet_ends m k early a (inl z) = elim early [ inl e ↦ absurd (omega arith) | inr e ↦ absurd (omega arith) ]
 quiet_ends m k early a (inr none) = let f : true ≡ false = sym a ∙ none_at m.seats.markers k none.1 in cc
 
-pub attending_grows : (c : Config) (m : Moment) (seat : Seat) (y : Colours) (k : ℕ) → (phase_of m.words ≡ 1) ⊎ (phase_of m.words ≡ 2)
+pub attending_grows : (c : Config) (m : Moment) (seat : Seat) (y : Colours) (k : ℕ)
+    → (phase_of m.words ≡ 1) ⊎ (phase_of m.words ≡ 2)
     → is_attending (marker_of m k).presence ≡ true
     → ColourStep c m seat y → OnlyGrow m.words.marks y.marks × OnlyGrow m.words.blacks y.blacks
-attending_grows c m seat y k early a (AddsMarks p bits e h) = (grows_more m.words.marks p bits, grows_same m.words.blacks)
-attending_grows c m seat y k early a (MarksSeen p bits s e f) = (grows_more m.words.marks p bits, grows_same m.words.blacks)
-attending_grows c m seat y k early a (Blackens p bits e h) = (grows_same m.words.marks, grows_more m.words.blacks p bits)
-attending_grows c m seat y k early a (BlackensScanned p bits s e f) = (grows_same m.words.marks, grows_more m.words.blacks p bits)
+attending_grows c m seat y k early a (AddsMarks p bits e h) =
+    (grows_more m.words.marks p bits, grows_same m.words.blacks)
+attending_grows c m seat y k early a (MarksSeen p bits s e f) =
+    (grows_more m.words.marks p bits, grows_same m.words.blacks)
+attending_grows c m seat y k early a (Blackens p bits e h) =
+    (grows_same m.words.marks, grows_more m.words.blacks p bits)
+attending_grows c m seat y k early a (BlackensScanned p bits s e f) =
+    (grows_same m.words.marks, grows_more m.words.blacks p bits)
 attending_grows c m seat y k early a (ClearsMarks p z) = absurd (quiet_ends m k early a (inl z))
 attending_grows c m seat y k early a (Whitens p q) = absurd (quiet_ends m k early a q)
 attending_grows c m seat y k early a _ = (grows_same m.words.marks, grows_same m.words.blacks)

@@ -1,5 +1,6 @@
 -- What an event may do to what stands on the pages and to the quarantine, by the conditions under which it does so.
-use Rattle.std.proofs.Common.{◌≡◌, ◌≢◌, ◌⊎◌, ℕ, ◌/◌, ◌%◌, ◌^◌, ◌≤◌, Bool, true, false, List, [], ◌∷◌, ◌++◌, map, refl, sym, subst, inl, inr}
+use Rattle.std.proofs.Common.{◌≡◌, ◌≢◌, ◌⊎◌, ℕ, ◌/◌, ◌%◌, ◌^◌, ◌≤◌, Bool, true, false, List, [], ◌∷◌, ◌++◌, map, refl}
+use Rattle.std.proofs.Common.{sym, subst, inl, inr}
 use Rattle.std.specs.Prelude.{Option, Some, None, slice_set, not, ◌&&◌, ◌||◌, ◌==◌, if◌then◌else◌}
 use Rattle.std.proofs.lemmas.Bool.{not-true, eqb-true, eqb-false, and_parts, or_cases}
 use Rattle.mk_never.specs.declared.operations.Op.{Op}
@@ -25,7 +26,9 @@ use Rattle.mk_core.specs.declared.seats.RunPages.{RunPages}
 use Rattle.mk_core.specs.Words.{Words, header_at, used_at, accessed, phase_of}
 use Rattle.mk_core.specs.Moments.{Moment, flight_of, is_phase, nothing_done}
 use Rattle.mk_core.specs.NewPlaces.{object_made, target, is_undecided_new}
-use Rattle.mk_core.specs.TurnConditions.{may_give, may_head, may_use, may_quarantine, place_now, carves, unmaps, empties, takes_cell, gives_back, frees, takes_snapshot, drops, cell_freed, is_used_once}
+use Rattle.mk_core.specs.TurnConditions.{may_give, may_head, may_use, may_quarantine, place_now, carves, unmaps}
+use Rattle.mk_core.specs.TurnConditions.{empties, takes_cell, gives_back, frees, takes_snapshot, drops, cell_freed}
+use Rattle.mk_core.specs.TurnConditions.{is_used_once}
 use Rattle.mk_core.specs.StopConditions.{marks_place}
 use Rattle.mk_core.specs.Allocations.{PlacedAllocation, granted, freed_where_it_stands, with_released, no_longer_fresh}
 use Rattle.mk_core.specs.Accesses.{caller_number, tally_word, register_met, reg_access}
@@ -71,7 +74,10 @@ used_up c w f p n b =
 
 abbrev pub marked : Config → World → Flight → Bool → Ground
 marked c w f b =
-    record (ground_of w) { placing = if b then chosen w.now.seats.holding.placing (place_now c w.now f) else w.now.seats.holding.placing }
+    record (ground_of w) {
+      placing = if b then chosen w.now.seats.holding.placing (place_now c w.now f)
+          else w.now.seats.holding.placing;
+    }
 
 abbrev pub begun_by : World → Bool → Ground
 begun_by w b =
@@ -83,30 +89,52 @@ begun_by w b =
 -- where a seat steps whose call is f
 pub data GroundStep (c : Config) (w : World) (f : Flight) : Ground → Type 0 where
   Rests : GroundStep c w f (ground_of w)
-  Starts : w.now.words.turn ≡ 0 → f.stage ≡ stage.Idle → GroundStep c w f (record (ground_of w) { placing = Unplaced; run = None })
-  Gives : may_give w.now f ≡ true → (phase_of w.now.words ≤ 1) ⊎ (phase_of w.now.words ≡ 5) → GroundStep c w f (record (ground_of w) { placing = Unplaced; run = None })
-  Carves : (p n : ℕ) → carves w.now.words (object_made c f.op) (place_now c w.now f) p n ≡ true → phase_of w.now.words ≢ 4
-      → GroundStep c w f (record (ground_of w) { pages = with_header w.now.words p n; placing = chosen w.now.seats.holding.placing (place_now c w.now f) })
+  Starts : w.now.words.turn ≡ 0 → f.stage ≡ stage.Idle
+      → GroundStep c w f (record (ground_of w) { placing = Unplaced; run = None })
+  Gives : may_give w.now f ≡ true → (phase_of w.now.words ≤ 1) ⊎ (phase_of w.now.words ≡ 5)
+      → GroundStep c w f (record (ground_of w) { placing = Unplaced; run = None })
+  Carves : (p n : ℕ) → carves w.now.words (object_made c f.op) (place_now c w.now f) p n ≡ true
+      → phase_of w.now.words ≢ 4
+      → GroundStep c w f (record (ground_of w) {
+        pages = with_header w.now.words p n;
+        placing = chosen w.now.seats.holding.placing (place_now c w.now f);
+      })
   Unmaps : (p n : ℕ) → unmaps w.now.words w.now.seats.holding.freed p n ≡ true → phase_of w.now.words ≢ 4
-      → GroundStep c w f (record (ground_of w) { pages = with_header w.now.words p n; placing = chosen w.now.seats.holding.placing (place_now c w.now f) })
-  Empties : (p n : ℕ) → empties w.now.words p n ≡ true → phase_of w.now.words ≡ 4 → GroundStep c w f (record (ground_of w) { pages = with_header w.now.words p n })
+      → GroundStep c w f (record (ground_of w) {
+        pages = with_header w.now.words p n;
+        placing = chosen w.now.seats.holding.placing (place_now c w.now f);
+      })
+  Empties : (p n : ℕ) → empties w.now.words p n ≡ true → phase_of w.now.words ≡ 4
+      → GroundStep c w f (record (ground_of w) { pages = with_header w.now.words p n })
   TakesCell : (p n : ℕ) → is_used_once w.now.seats.holding.placing ≡ false
       → takes_cell w.now.words (object_made c f.op) (place_now c w.now f) p n ≡ true → phase_of w.now.words ≢ 4
-      → GroundStep c w f (record (ground_of w) { pages = with_used w.now.words p n; placing = taken w.now.seats.holding.placing (place_now c w.now f) })
-  GivesBack : (p n : ℕ) → gives_back w.now.words p n ≡ true → phase_of w.now.words ≡ 4 → GroundStep c w f (record (ground_of w) { pages = with_used w.now.words p n })
-  Frees : (p n : ℕ) (cell : Option Cell) → cell_freed c.pages w.now.words f p n ≡ cell → frees w.now.words (target c.pages w.now.words f) p n ≡ true
+      → GroundStep c w f (record (ground_of w) {
+        pages = with_used w.now.words p n;
+        placing = taken w.now.seats.holding.placing (place_now c w.now f);
+      })
+  GivesBack : (p n : ℕ) → gives_back w.now.words p n ≡ true → phase_of w.now.words ≡ 4
+      → GroundStep c w f (record (ground_of w) { pages = with_used w.now.words p n })
+  Frees : (p n : ℕ) (cell : Option Cell) → cell_freed c.pages w.now.words f p n ≡ cell
+      → frees w.now.words (target c.pages w.now.words f) p n ≡ true
       → phase_of w.now.words ≢ 4
       → GroundStep c w f (with_quarantine w p n cell)
-  Snapshots : (p n : ℕ) (cell : Option Cell) → cell_freed c.pages w.now.words f p n ≡ cell → takes_snapshot w.now.words p n ≡ true
+  Snapshots : (p n : ℕ) (cell : Option Cell) → cell_freed c.pages w.now.words f p n ≡ cell
+      → takes_snapshot w.now.words p n ≡ true
       → GroundStep c w f (with_quarantine w p n cell)
-  Drops : (p n : ℕ) (cell : Option Cell) → cell_freed c.pages w.now.words f p n ≡ cell → drops w.now.words p (n % 2 ^ 32) (n / 2 ^ 32) ≡ true → phase_of w.now.words ≡ 4
+  Drops : (p n : ℕ) (cell : Option Cell) → cell_freed c.pages w.now.words f p n ≡ cell
+      → drops w.now.words p (n % 2 ^ 32) (n / 2 ^ 32) ≡ true → phase_of w.now.words ≡ 4
       → GroundStep c w f (with_quarantine w p n cell)
   Grants : is_undecided_new f ≡ true → is_used_once w.now.seats.holding.placing ≡ true
-      → GroundStep c w f (record (ground_of w) { placing = Granted; allocations = w.allocations ++ granted c w.now f ∷ [] })
+      → GroundStep c w f (record (ground_of w) {
+        placing = Granted;
+        allocations = w.allocations ++ granted c w.now f ∷ [];
+      })
   Places : (p n : ℕ) → marks_place w.now.words (object_made c f.op) (place_now c w.now f) p n ≡ true
       → GroundStep c w f (record (ground_of w) { placing = chosen w.now.seats.holding.placing (place_now c w.now f) })
-  Freshens : phase_of w.now.words ≡ 0 → GroundStep c w f (record (ground_of w) { allocations = map no_longer_fresh w.allocations })
-  Releases : phase_of w.now.words ≡ 3 → GroundStep c w f (record (ground_of w) { allocations = map (with_released c w.now.words) w.allocations })
+  Freshens : phase_of w.now.words ≡ 0
+      → GroundStep c w f (record (ground_of w) { allocations = map no_longer_fresh w.allocations })
+  Releases : phase_of w.now.words ≡ 3
+      → GroundStep c w f (record (ground_of w) { allocations = map (with_released c w.now.words) w.allocations })
 
 -- the words of the ground are the same
 pub record KeepsGround (w x : Words) : Type 0 where
@@ -125,8 +153,10 @@ reg_ground w k r _ = record { pages = refl; freed = refl; snapshot = refl }
 rests : (c : Config) (w : World) (f : Flight) (x : Words) → KeepsGround w.now.words x
     → GroundStep c w f (record (ground_of w) { pages = x.pages; freed = x.freed; snapshot = x.snapshot })
 rests c w f x g =
-    subst (λ (ps : List Page). GroundStep c w f (record (ground_of w) { pages = ps; freed = x.freed; snapshot = x.snapshot })) (sym g.pages)
-    (subst (λ (fs : List ℕ). GroundStep c w f (record (ground_of w) { freed = fs; snapshot = x.snapshot })) (sym g.freed)
+    subst (λ (ps : List Page). GroundStep c w f
+    (record (ground_of w) { pages = ps; freed = x.freed; snapshot = x.snapshot })) (sym g.pages)
+    (subst (λ (fs : List ℕ). GroundStep c w f (record (ground_of w) { freed = fs; snapshot = x.snapshot }))
+    (sym g.freed)
     (subst (λ (ss : List ℕ). GroundStep c w f (record (ground_of w) { snapshot = ss })) (sym g.snapshot) Rests))
 
 -- the kinds that go by the phase
@@ -145,7 +175,10 @@ head_step c w f p n h = by (is_phase w.now.words 4) refl h
         → GroundStep c w f (headed c w f p n b)
     by true e k = Empties p n k (eqb-true (phase_of w.now.words) 4 e)
     by false e k =
-        elim (or_cases carved unmapped k) [ inl a ↦ Carves p n a (eqb-false (phase_of w.now.words) 4 e) | inr a ↦ Unmaps p n a (eqb-false (phase_of w.now.words) 4 e) ]
+        elim (or_cases carved unmapped k) [
+          | inl a ↦ Carves p n a (eqb-false (phase_of w.now.words) 4 e)
+          | inr a ↦ Unmaps p n a (eqb-false (phase_of w.now.words) 4 e)
+        ]
 
 used_step : (c : Config) (w : World) (f : Flight) (p n : ℕ) → may_use c w.now f p n ≡ true
     → GroundStep c w f (used_up c w f p n (is_phase w.now.words 4))
@@ -154,12 +187,14 @@ used_step c w f p n h = by (is_phase w.now.words 4) refl h
     takes : Bool
     takes = takes_cell w.now.words (object_made c f.op) (place_now c w.now f) p n
 
-    by : (b : Bool) → is_phase w.now.words 4 ≡ b → (if b then gives_back w.now.words p n else not (is_used_once w.now.seats.holding.placing) && takes) ≡ true
+    by : (b : Bool) → is_phase w.now.words 4 ≡ b
+        → (if b then gives_back w.now.words p n else not (is_used_once w.now.seats.holding.placing) && takes) ≡ true
         → GroundStep c w f (used_up c w f p n b)
     by true e k = GivesBack p n k (eqb-true (phase_of w.now.words) 4 e)
     by false e k =
         let both = and_parts (not (is_used_once w.now.seats.holding.placing)) takes k in
-        TakesCell p n (not-true (is_used_once w.now.seats.holding.placing) both.0) both.1 (eqb-false (phase_of w.now.words) 4 e)
+        TakesCell p n (not-true (is_used_once w.now.seats.holding.placing) both.0) both.1
+        (eqb-false (phase_of w.now.words) 4 e)
 
 quar_step : (c : Config) (w : World) (f : Flight) (p n : ℕ) → may_quarantine c w.now f p n ≡ true
     → GroundStep c w f (with_quarantine w p n (cell_freed c.pages w.now.words f p n))
@@ -171,7 +206,8 @@ quar_step c w f p n h = by (is_phase w.now.words 4) refl h
     snaps : Bool
     snaps = takes_snapshot w.now.words p n
 
-    by : (b : Bool) → is_phase w.now.words 4 ≡ b → (if b then drops w.now.words p (n % 2 ^ 32) (n / 2 ^ 32) else frees_it || snaps) ≡ true
+    by : (b : Bool) → is_phase w.now.words 4 ≡ b
+        → (if b then drops w.now.words p (n % 2 ^ 32) (n / 2 ^ 32) else frees_it || snaps) ≡ true
         → GroundStep c w f (with_quarantine w p n (cell_freed c.pages w.now.words f p n))
     by true e k = Drops p n (cell_freed c.pages w.now.words f p n) refl k (eqb-true (phase_of w.now.words) 4 e)
     by false e k = elim (or_cases frees_it snaps k) [
@@ -197,14 +233,17 @@ take_step c w f idle = by (w.now.words.turn == 0) refl
     by true e = Starts (eqb-true w.now.words.turn 0 e) idle
     by false e = Rests
 
-taker_idle : (c : Config) (m : Moment) (seat : Seat) (o : Option Op) → Meets c m seat (step.Take o) → (flight_of m seat).stage ≡ stage.Idle
+taker_idle : (c : Config) (m : Moment) (seat : Seat) (o : Option Op) → Meets c m seat (step.Take o)
+    → (flight_of m seat).stage ≡ stage.Idle
 taker_idle c m (Caller k) (Some o) h = (at_take (flight_of m (Caller k)).stage (flight_of m (Caller k)).op o h.order).0
-taker_idle c m (Caller k) None h = absurd (at_no_take (flight_of m (Caller k)).stage (flight_of m (Caller k)).op h.order)
+taker_idle c m (Caller k) None h =
+    absurd (at_no_take (flight_of m (Caller k)).stage (flight_of m (Caller k)).op h.order)
 taker_idle c m Host o h = refl
 taker_idle c m (Marker k) o h = refl
 
 -- all kinds, whatever the seat
-pub ground_step : (c : Config) (w : World) (seat : Seat) (x : Step) → Meets c w.now seat x → GroundStep c w (flight_of w.now seat) (ground_of (WorldBehind c w seat x))
+pub ground_step : (c : Config) (w : World) (seat : Seat) (x : Step) → Meets c w.now seat x
+    → GroundStep c w (flight_of w.now seat) (ground_of (WorldBehind c w seat x))
 ground_step c w seat (step.Take o) h = take_step c w (flight_of w.now seat) (taker_idle c w.now seat o h)
 ground_step c w seat step.Give h = Gives h.holder (give_phase (phase_of w.now.words) h.phase)
 ground_step c w seat step.Reg h =

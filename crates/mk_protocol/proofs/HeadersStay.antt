@@ -11,7 +11,8 @@ use Rattle.mk_core.specs.declared.seats.Flight.{Flight}
 use Rattle.mk_core.specs.declared.seats.Object.{Object}
 use Rattle.mk_core.specs.declared.seats.RunPages.{RunPages}
 use Rattle.mk_core.specs.Words.{Words, header_at, used_at, phase_of}
-use Rattle.mk_core.specs.NewPlaces.{object_made, is_small_object, class_made, pages_made, header_made, unmapped_header, is_next_header}
+use Rattle.mk_core.specs.NewPlaces.{object_made, is_small_object, class_made, pages_made, header_made, unmapped_header}
+use Rattle.mk_core.specs.NewPlaces.{is_next_header}
 use Rattle.mk_core.specs.TurnConditions.{is_marked_first, place_now, carves, unmaps}
 use Rattle.mk_core.specs.History.{World}
 use Rattle.mk_protocol.proofs.HeaderSteps.{page_set, used_set}
@@ -36,14 +37,16 @@ run_some count false leaf (suc d) = omega arith
 made_some : (o : Object) (d : ℕ) → 1 ≤ header_made o d
 made_some o d = by (is_small_object o)
   where
-    by : (b : Bool) → 1 ≤ (if b then word_of (block_header (class_made o) o.leaf) else word_of (run_header (run_pages_of o.words) true o.leaf d))
+    by : (b : Bool) → 1 ≤ (if b then word_of (block_header (class_made o) o.leaf)
+        else word_of (run_header (run_pages_of o.words) true o.leaf d))
     by true = block_some (class_made o) o.leaf
     by false = run_some (run_pages_of o.words) true o.leaf d
 
 carves_some : (w : Words) (o : Object) (place : Option Place) (p n : ℕ) → carves w o place p n ≡ true → 1 ≤ n
 carves_some w o None p n h = cc
 carves_some w o (Some x) p n h =
-    let next = next_is w x.page (pages_made o) (header_made o) p n (and_parts (is_next_header w x.page (pages_made o) (header_made o) p n) (is_marked_first w o x) h).0 in
+    let next = next_is w x.page (pages_made o) (header_made o) p n
+    (and_parts (is_next_header w x.page (pages_made o) (header_made o) p n) (is_marked_first w o x) h).0 in
     subst (λ v. 1 ≤ v) (sym next.is) (made_some o (p - x.page))
 
 unmaps_some : (w : Words) (run : Option RunPages) (p n : ℕ) → unmaps w run p n ≡ true → 1 ≤ n
@@ -52,13 +55,18 @@ unmaps_some w (Some run) p n h =
     let next = next_is w run.page run.count (unmapped_header run.count) p n h in
     subst (λ v. 1 ≤ v) (sym next.is) (run_some run.count false false (p - run.page))
 
-header_set : (w : Words) (p q n : ℕ) → 1 ≤ n → 1 ≤ header_at w q → 1 ≤ (slice_index_or (with_header w p n) q free_page).header
-header_set w p q n some is = page_set w.pages p q (record { header = n; used = used_at w p }) (λ x. 1 ≤ x) (λ lt. some) is
+header_set : (w : Words) (p q n : ℕ) → 1 ≤ n → 1 ≤ header_at w q
+    → 1 ≤ (slice_index_or (with_header w p n) q free_page).header
+header_set w p q n some is = page_set w.pages p q (record { header = n; used = used_at w p }) (λ x. 1 ≤ x)
+    (λ lt. some) is
 
-pub headers_stay : (c : Config) (w : World) (f : Flight) (g : Ground) → phase_of w.now.words ≢ 4 → GroundStep c w f g → (q : ℕ) → 1 ≤ header_at w.now.words q
+pub headers_stay : (c : Config) (w : World) (f : Flight) (g : Ground) → phase_of w.now.words ≢ 4 → GroundStep c w f g
+    → (q : ℕ) → 1 ≤ header_at w.now.words q
     → 1 ≤ (slice_index_or g.pages q free_page).header
-headers_stay c w f g early (Carves p n own at) q is = header_set w.now.words p q n (carves_some w.now.words (object_made c f.op) (place_now c w.now f) p n own) is
-headers_stay c w f g early (Unmaps p n own at) q is = header_set w.now.words p q n (unmaps_some w.now.words w.now.seats.holding.freed p n own) is
+headers_stay c w f g early (Carves p n own at) q is =
+    header_set w.now.words p q n (carves_some w.now.words (object_made c f.op) (place_now c w.now f) p n own) is
+headers_stay c w f g early (Unmaps p n own at) q is =
+    header_set w.now.words p q n (unmaps_some w.now.words w.now.seats.holding.freed p n own) is
 headers_stay c w f g early (Empties p n own at) q is = absurd (early at)
 headers_stay c w f g early (TakesCell p n once own at) q is = used_set w.now.words p q n (λ x. 1 ≤ x) is
 headers_stay c w f g early (GivesBack p n own at) q is = absurd (early at)

@@ -21,26 +21,35 @@ pub free_in_turn : (s : Stage) (o : Op) → is_free_at s o ≡ true → (not (is
 free_in_turn stage.Turn (op.Free p) h = refl
 free_in_turn _ _ h = cc
 
-pub decided_new_in_turn : (s : Stage) (o : Op) → is_decided_new_at s o ≡ true → (not (is_idle s) && is_under_turn o) ≡ true
+pub decided_new_in_turn : (s : Stage) (o : Op) → is_decided_new_at s o ≡ true
+    → (not (is_idle s) && is_under_turn o) ≡ true
 decided_new_in_turn stage.Give (op.New d ty full) h = refl
 decided_new_in_turn _ _ h = cc
 
-pub decided_free_in_turn : (s : Stage) (o : Op) → is_decided_free_at s o ≡ true → (not (is_idle s) && is_under_turn o) ≡ true
+pub decided_free_in_turn : (s : Stage) (o : Op) → is_decided_free_at s o ≡ true
+    → (not (is_idle s) && is_under_turn o) ≡ true
 decided_free_in_turn stage.Give (op.Free p) h = refl
 decided_free_in_turn _ _ h = cc
 
 -- so the turn word names it
 
-pub new_has_turn : (c : Config) (m : Moment) (k : ℕ) → Protocol c m → k < c.callers → is_undecided_new (flight_of m (Caller k)) ≡ true → m.words.turn ≡ 1 + k
+pub new_has_turn : (c : Config) (m : Moment) (k : ℕ) → Protocol c m → k < c.callers
+    → is_undecided_new (flight_of m (Caller k)) ≡ true → m.words.turn ≡ 1 + k
 new_has_turn c m k p lt h = (p.holder k lt).1 (new_in_turn (flight_of m (Caller k)).stage (flight_of m (Caller k)).op h)
 
-pub free_has_turn : (c : Config) (m : Moment) (k : ℕ) → Protocol c m → k < c.callers → is_undecided_free (flight_of m (Caller k)) ≡ true → m.words.turn ≡ 1 + k
-free_has_turn c m k p lt h = (p.holder k lt).1 (free_in_turn (flight_of m (Caller k)).stage (flight_of m (Caller k)).op h)
+pub free_has_turn : (c : Config) (m : Moment) (k : ℕ) → Protocol c m → k < c.callers
+    → is_undecided_free (flight_of m (Caller k)) ≡ true → m.words.turn ≡ 1 + k
+free_has_turn c m k p lt h =
+    (p.holder k lt).1 (free_in_turn (flight_of m (Caller k)).stage (flight_of m (Caller k)).op h)
 
-pub decided_new_has_turn : (c : Config) (m : Moment) (k : ℕ) → Protocol c m → k < c.callers → is_decided_new (flight_of m (Caller k)) ≡ true
+pub decided_new_has_turn : (c : Config) (m : Moment) (k : ℕ) → Protocol c m → k < c.callers
+    → is_decided_new (flight_of m (Caller k)) ≡ true
     → m.words.turn ≡ 1 + k
-decided_new_has_turn c m k p lt h = (p.holder k lt).1 (decided_new_in_turn (flight_of m (Caller k)).stage (flight_of m (Caller k)).op h)
+decided_new_has_turn c m k p lt h =
+    (p.holder k lt).1 (decided_new_in_turn (flight_of m (Caller k)).stage (flight_of m (Caller k)).op h)
 
-pub decided_free_has_turn : (c : Config) (m : Moment) (k : ℕ) → Protocol c m → k < c.callers → is_decided_free (flight_of m (Caller k)) ≡ true
+pub decided_free_has_turn : (c : Config) (m : Moment) (k : ℕ) → Protocol c m → k < c.callers
+    → is_decided_free (flight_of m (Caller k)) ≡ true
     → m.words.turn ≡ 1 + k
-decided_free_has_turn c m k p lt h = (p.holder k lt).1 (decided_free_in_turn (flight_of m (Caller k)).stage (flight_of m (Caller k)).op h)
+decided_free_has_turn c m k p lt h =
+    (p.holder k lt).1 (decided_free_in_turn (flight_of m (Caller k)).stage (flight_of m (Caller k)).op h)

@@ -33,12 +33,14 @@ none_seen : (c : Config) (s : Option SeenHeader) → is_some (cell_seen c s None
 none_seen c (Some s) = refl
 none_seen c None = refl
 
-seen_attends : (c : Config) (x : Marker) → IdlesOutside x → is_some (cell_seen c x.seen x.hand) ≡ true → is_attending x.presence ≡ true
+seen_attends : (c : Config) (x : Marker) → IdlesOutside x → is_some (cell_seen c x.seen x.hand) ≡ true
+    → is_attending x.presence ≡ true
 seen_attends c x h s = elim (cases_Bool (is_attending x.presence)) [
   | inl e ↦ e
   | inr e ↦
       let i = h e in
-      let f : false ≡ true = sym (none_seen c x.seen) ∙ ap (λ (v : Option ℕ). is_some (cell_seen c x.seen v)) (sym i.hand) ∙ s in
+      let f : false ≡ true = sym (none_seen c x.seen)
+      ∙ ap (λ (v : Option ℕ). is_some (cell_seen c x.seen v)) (sym i.hand) ∙ s in
       cc
 ]
 
@@ -51,10 +53,12 @@ is_work step.Mmark = true
 is_work step.Mblack = true
 is_work _ = false
 
-pub work_attends : (c : Config) (x : Marker) (s : Step) → IdlesOutside x → marker_may c x s ≡ true → is_work s ≡ true → is_attending x.presence ≡ true
+pub work_attends : (c : Config) (x : Marker) (s : Step) → IdlesOutside x → marker_may c x s ≡ true → is_work s ≡ true
+    → is_attending x.presence ≡ true
 work_attends c x (step.Mlook w) h m k = (and_parts (is_attending x.presence) (is_markers_word w) m).0
 work_attends c x (step.Claim p i) h m k =
-    (and_parts (is_attending x.presence) (is_none x.scan) (and_parts (is_attending x.presence && is_none x.scan) (has_seen_cell x.seen p i) m).0).0
+    (and_parts (is_attending x.presence) (is_none x.scan)
+    (and_parts (is_attending x.presence && is_none x.scan) (has_seen_cell x.seen p i) m).0).0
 work_attends c x step.Mload h m k = next_attends x h (and_parts (has_next_word x.scan) (is_none x.hand) m).0
 work_attends c x step.Mmark h m k = seen_attends c x h m
 work_attends c x step.Mblack h m k = scanned_attends x h (and_parts (is_scanned x.scan) (is_none x.hand) m).0
@@ -66,7 +70,8 @@ pub look_stays : (c : Config) (n : ℕ) (w : Word) (x : Marker) → (behind_mloo
 look_stays c n (word.Head p) x = refl
 look_stays c n _ x = refl
 
-pub work_stays : (c : Config) (n : ℕ) (s : Step) (x : Marker) → is_work s ≡ true → (marker_behind c n s x).presence ≡ x.presence
+pub work_stays : (c : Config) (n : ℕ) (s : Step) (x : Marker) → is_work s ≡ true
+    → (marker_behind c n s x).presence ≡ x.presence
 work_stays c n (step.Mlook w) x k = look_stays c n w x
 work_stays c n (step.Claim p i) x k = refl
 work_stays c n step.Mload x k = refl
@@ -74,7 +79,8 @@ work_stays c n step.Mmark x k = refl
 work_stays c n step.Mblack x k = refl
 work_stays c n _ x k = cc
 
-pub work_idles : (c : Config) (n : ℕ) (s : Step) (x : Marker) → marker_may c x s ≡ true → is_work s ≡ true → IdlesOutside x → IdlesOutside (marker_behind c n s x)
+pub work_idles : (c : Config) (n : ℕ) (s : Step) (x : Marker) → marker_may c x s ≡ true → is_work s ≡ true
+    → IdlesOutside x → IdlesOutside (marker_behind c n s x)
 work_idles c n s x m k h e =
     let a = work_attends c x s h m k in
     let f : true ≡ false = sym a ∙ ap is_attending (sym (work_stays c n s x k)) ∙ e in

@@ -41,12 +41,16 @@ pub record InHeap (c : Config) (m : Moment) : Type 0 where
 own_fits : (c : Config) (m : Moment) (k : ℕ) (x : Step) → Meets c m (Marker k) x → InHeap c m
     → MarkerFits c (marker_behind c (found c m (record { seat = Marker k; step = x })) x (marker_of m k))
 own_fits c m k x h in_heap =
-    marker_fits_behind c (found c m (record { seat = Marker k; step = x })) x (marker_of m k) (looked x) (claimed x h.range) h.marker (in_heap.markers k)
+    marker_fits_behind c (found c m (record { seat = Marker k; step = x })) x (marker_of m k) (looked x)
+    (claimed x h.range) h.marker (in_heap.markers k)
   where
-    looked : (x : Step) (p : ℕ) → x ≡ step.Mlook (word.Head p) → RunFits c p (found c m (record { seat = Marker k; step = x }))
-    looked x p e = subst (λ (y : Step). RunFits c p (found c m (record { seat = Marker k; step = y }))) (sym e) (in_heap.runs p)
+    looked : (x : Step) (p : ℕ) → x ≡ step.Mlook (word.Head p)
+        → RunFits c p (found c m (record { seat = Marker k; step = x }))
+    looked x p e = subst (λ (y : Step). RunFits c p (found c m (record { seat = Marker k; step = y }))) (sym e)
+        (in_heap.runs p)
 
-    claimed : (x : Step) → is_in_range c (Marker k) (flight_of m (Marker k)) x ≡ true → (p i : ℕ) → x ≡ step.Claim p i → p < c.pages
+    claimed : (x : Step) → is_in_range c (Marker k) (flight_of m (Marker k)) x ≡ true → (p i : ℕ) → x ≡ step.Claim p i
+        → p < c.pages
     claimed x range p i e =
         let r = subst (λ (y : Step). is_in_range c (Marker k) (flight_of m (Marker k)) y ≡ true) e range in
         ltb-true p c.pages (and_parts (nat_lt p c.pages) (nat_lt i 32) r).0
@@ -56,25 +60,30 @@ markers_fit : (c : Config) (w : World) (seat : Seat) (x : Step) → InHeap c w.n
 markers_fit c w (Caller j) x in_heap h k = in_heap.markers k
 markers_fit c w Host x in_heap h k = in_heap.markers k
 markers_fit c w (Marker j) x in_heap h k =
-    marker_set w.now.seats.markers j k _ (λ (y : MarkerState). MarkerFits c y) (λ lt. own_fits c w.now j x h in_heap) (in_heap.markers k)
+    marker_set w.now.seats.markers j k _ (λ (y : MarkerState). MarkerFits c y) (λ lt. own_fits c w.now j x h in_heap)
+    (in_heap.markers k)
 
-in_heap_behind : (c : Config) (w : World) (seat : Seat) (x : Step) → Known c w.now → InHeap c w.now → Meets c w.now seat x → InHeap c (WorldBehind c w seat x).now
+in_heap_behind : (c : Config) (w : World) (seat : Seat) (x : Step) → Known c w.now → InHeap c w.now
+    → Meets c w.now seat x → InHeap c (WorldBehind c w seat x).now
 in_heap_behind c w seat x known in_heap h =
     let e : Event = record { seat = seat; step = x } in
     record {
       lengths = accessed_lengths c.pages w.now.words (reached c w.now e) (access c w.now e) in_heap.lengths;
       runs =
           runs_behind c w (flight_of w.now seat) (ground_of (WorldBehind c w seat x))
-          (λ place now. place_fits_now c w.now seat x place in_heap.lengths.pages in_heap.places h now) in_heap.runs (ground_step c w seat x h);
+          (λ place now. place_fits_now c w.now seat x place in_heap.lengths.pages in_heap.places h now) in_heap.runs
+          (ground_step c w seat x h);
       places = places_behind c w seat x known in_heap.lengths.pages in_heap.places h;
       markers = markers_fit c w seat x in_heap h;
     }
 
-in_heap_from : (c : Config) (w : World) (es : List Event) → Known c w.now → InHeap c w.now → AreEnabledFrom c w es → InHeap c (left_from c w es).now
+in_heap_from : (c : Config) (w : World) (es : List Event) → Known c w.now → InHeap c w.now → AreEnabledFrom c w es
+    → InHeap c (left_from c w es).now
 unfolding left_from AreEnabledFrom
 in_heap_from c w [] known in_heap on = in_heap
 in_heap_from c w (e ∷ es) known in_heap on =
-    in_heap_from c (world_behind c w e) es (known_behind c w.now e known on.0) (in_heap_behind c w e.seat e.step known in_heap (enabled_meets c w.now e on.0)) on.1
+    in_heap_from c (world_behind c w e) es (known_behind c w.now e known on.0)
+    (in_heap_behind c w e.seat e.step known in_heap (enabled_meets c w.now e on.0)) on.1
 
 in_heap_at_first : (c : Config) → InHeap c (first_moment c)
 in_heap_at_first c =
@@ -82,7 +91,8 @@ in_heap_at_first c =
       lengths = zero_lengths c.pages;
       runs = λ p. subst (λ (y : Page). RunFits c p y.header) (sym (at_first c.pages p free_page)) (λ count shows. cc);
       places = λ k lt new place held. cc;
-      markers = λ k. subst (λ (y : MarkerState). MarkerFits c y) (sym (at_first 8 k outside)) (nothing_fits c outside refl refl);
+      markers = λ k. subst (λ (y : MarkerState). MarkerFits c y) (sym (at_first 8 k outside))
+          (nothing_fits c outside refl refl);
     }
 
 pub in_heap_left : (c : Config) (es : List Event) → IsWithinLimits c → AreEnabled c es → InHeap c (left c es).now

@@ -1,5 +1,6 @@
 -- Each move keeps all in order.
-use Rattle.std.proofs.Common.{◌≡◌, ◌≢◌, ◌⊎◌, ℕ, ◌+◌, ◌-◌, ◌*◌, ◌%◌, ◌^◌, ◌<◌, ◌≤◌, true, List, length, length-set, refl, sym, ◌∙◌, ap, subst, inl, inr, arith}
+use Rattle.std.proofs.Common.{◌≡◌, ◌≢◌, ◌⊎◌, ℕ, ◌+◌, ◌-◌, ◌*◌, ◌%◌, ◌^◌, ◌<◌, ◌≤◌, true, List, length, length-set, refl}
+use Rattle.std.proofs.Common.{sym, ◌∙◌, ap, subst, inl, inr, arith}
 use Rattle.std.specs.Prelude.{slice_index, slice_index_or, slice_set}
 use Rattle.std.proofs.lemmas.Bool.{cases_eq}
 use Rattle.std.proofs.lemmas.List.{get_or-set_same, get_or-set_other}
@@ -13,69 +14,88 @@ use Rattle.mk_core.specs.declared.seats.Marker.{Marker as MarkerState}
 use Rattle.mk_core.specs.Calls.{at_rest}
 use Rattle.mk_core.specs.Moments.{outside, holder_number}
 use Rattle.mk_core.specs.StopConditions.{is_attending}
-use Rattle.mk_protocol.proofs.Standings.{Standing, Resting, InCall, standing, Shows, shows_taken, shows_given, shows_held, shows_opened}
+use Rattle.mk_protocol.proofs.Standings.{Standing, Resting, InCall, standing, Shows, shows_taken, shows_given}
+use Rattle.mk_protocol.proofs.Standings.{shows_held, shows_opened}
 use Rattle.mk_protocol.proofs.Services.{Served, Service, Goes, service_stands, service_rests, served_on, nothing_served}
 use Rattle.mk_protocol.proofs.Views.{View, flight_in, gate_in, marker_in, flight_at, flights_with, HoldsTurn}
-use Rattle.mk_protocol.proofs.Moves.{IdlesOutside, Move, Stays, Enters, GoesOn, Leaves, Takes, Gives, Works, Holds, Opens, Phases, Attends, Quits, Scans}
+use Rattle.mk_protocol.proofs.Moves.{IdlesOutside, Move, Stays, Enters, GoesOn, Leaves, Takes, Gives, Works, Holds}
+use Rattle.mk_protocol.proofs.Moves.{Opens, Phases, Attends, Quits, Scans}
 use Rattle.mk_protocol.proofs.Shown.{AllShow, all_but_flight, all_but_gate, all_but_both, all_but_seat, length_with}
-use Rattle.mk_protocol.proofs.Markers.{count_in, counted_same, counted_more, counted_less, marker_set, up_eight, down_eight}
-use Rattle.mk_protocol.proofs.Orderly.{Orderly, shows_at, turn_of, holders_flight, holder_shows, giver_shows, taker_shows, taker_number, few_in}
+use Rattle.mk_protocol.proofs.Markers.{count_in, counted_same, counted_more, counted_less, marker_set, up_eight}
+use Rattle.mk_protocol.proofs.Markers.{down_eight}
+use Rattle.mk_protocol.proofs.Orderly.{Orderly, shows_at, turn_of, holders_flight, holder_shows, giver_shows}
+use Rattle.mk_protocol.proofs.Orderly.{taker_shows, taker_number, few_in}
 use Rattle.mk_protocol.proofs.PhaseKept.{phase_kept}
 
-flights_kept : (c : Config) (v : View) (seat : Seat) (f : Flight) → Orderly c v → length (flights_with v.flights seat f) ≡ c.callers
+flights_kept : (c : Config) (v : View) (seat : Seat) (f : Flight) → Orderly c v
+    → length (flights_with v.flights seat f) ≡ c.callers
 flights_kept c v seat f h = length_with v.flights seat f ∙ h.flights
 
 -- a caller that isn't the holder goes on
 others_served : (c : Config) (v : View) (k : ℕ) (f : Flight) → Orderly c v → v.turn ≢ 1 + k
     → Served (slice_index_or (slice_set v.flights k f) (v.turn - 1) at_rest) v.holding
 others_served c v k f h ne = elim (cases_eq v.turn 0) [
-  | inl z ↦ subst (λ (i : Holding). Served (slice_index_or (slice_set v.flights k f) (v.turn - 1) at_rest) i) (sym (h.free z)) (nothing_served _ _)
-  | inr held ↦ subst (λ (x : Flight). Served x v.holding) (sym (get_or-set_other v.flights k (v.turn - 1) f at_rest (λ e. ne (omega arith)))) h.served
+  | inl z ↦ subst (λ (i : Holding). Served (slice_index_or (slice_set v.flights k f) (v.turn - 1) at_rest) i)
+      (sym (h.free z)) (nothing_served _ _)
+  | inr held ↦ subst (λ (x : Flight). Served x v.holding)
+      (sym (get_or-set_other v.flights k (v.turn - 1) f at_rest (λ e. ne (omega arith)))) h.served
 ]
 
 -- the holder goes on
-works_served : (c : Config) (v : View) (seat : Seat) (f : Flight) (i : Holding) → Orderly c v → HoldsTurn c v seat → Service (flight_at v.flights seat) v.holding f i
+works_served : (c : Config) (v : View) (seat : Seat) (f : Flight) (i : Holding) → Orderly c v → HoldsTurn c v seat
+    → Service (flight_at v.flights seat) v.holding f i
     → Served (slice_index_or (flights_with v.flights seat f) (v.turn - 1) at_rest) i
 works_served c v seat f i h t s =
     subst (λ (x : Flight). Served x i) (sym (behind c v seat f i h t s))
-    (served_on (flight_at v.flights seat) v.holding f i (subst (λ (x : Flight). Served x v.holding) (holders_flight c v seat h t) h.served) s)
+    (served_on (flight_at v.flights seat) v.holding f i
+    (subst (λ (x : Flight). Served x v.holding) (holders_flight c v seat h t) h.served) s)
   where
-    behind : (c : Config) (v : View) (seat : Seat) (f : Flight) (i : Holding) → Orderly c v → HoldsTurn c v seat → Service (flight_at v.flights seat) v.holding f i
+    behind : (c : Config) (v : View) (seat : Seat) (f : Flight) (i : Holding) → Orderly c v → HoldsTurn c v seat
+        → Service (flight_at v.flights seat) v.holding f i
         → slice_index_or (flights_with v.flights seat f) (v.turn - 1) at_rest ≡ f
     behind c v (Caller k) f i h t s =
         let turn = turn_of c v (Caller k) h t in
         let e : v.turn - 1 ≡ k = omega arith in
-        ap (λ j. slice_index_or (slice_set v.flights k f) j at_rest) e ∙ get_or-set_same v.flights k f at_rest (omega (arith, h.flights, t.0))
+        ap (λ j. slice_index_or (slice_set v.flights k f) j at_rest) e
+        ∙ get_or-set_same v.flights k f at_rest (omega (arith, h.flights, t.0))
     behind c v (Marker k) f i h t s = absurd t
     behind c v Host f i h t s = holders_flight c v Host h t ∙ sym (service_rests at_rest v.holding f i refl s)
 
-works_shown : (c : Config) (v : View) (seat : Seat) (f : Flight) (i : Holding) → Orderly c v → HoldsTurn c v seat → Service (flight_at v.flights seat) v.holding f i
+works_shown : (c : Config) (v : View) (seat : Seat) (f : Flight) (i : Holding) → Orderly c v → HoldsTurn c v seat
+    → Service (flight_at v.flights seat) v.holding f i
     → AllShow c.callers v.turn v.gates (flights_with v.flights seat f)
 works_shown c v seat f i h t s =
-    all_but_seat c v.turn seat v.gates v.flights f (holder_shows c v seat f h t (λ is. service_stands (flight_at v.flights seat) v.holding f i is s))
+    all_but_seat c v.turn seat v.gates v.flights f
+    (holder_shows c v seat f h t (λ is. service_stands (flight_at v.flights seat) v.holding f i is s))
     (λ b lb ne. h.each b lb)
 
 -- a gate of another is set
-gate_shown : (c : Config) (v : View) (j x : ℕ) → c.callers ≤ 16 → Orderly c v → j < c.callers → Shows v.turn x j (standing (flight_in v j))
+gate_shown : (c : Config) (v : View) (j x : ℕ) → c.callers ≤ 16 → Orderly c v → j < c.callers
+    → Shows v.turn x j (standing (flight_in v j))
     → AllShow c.callers v.turn (slice_set v.gates j x) v.flights
-gate_shown c v j x small h lj s = all_but_gate c.callers v.turn j x v.gates v.flights (omega (arith, h.gates)) s (λ b lb nb. h.each b lb)
+gate_shown c v j x small h lj s = all_but_gate c.callers v.turn j x v.gates v.flights (omega (arith, h.gates)) s
+    (λ b lb nb. h.each b lb)
 
 -- one gate is set to 2, or stays
-held_or : (gs : List ℕ) (j b : ℕ) → j < length gs → (b ≢ j → slice_index gs b ≡ 2) → slice_index (slice_set gs j 2) b ≡ 2
+held_or : (gs : List ℕ) (j b : ℕ) → j < length gs → (b ≢ j → slice_index gs b ≡ 2)
+    → slice_index (slice_set gs j 2) b ≡ 2
 held_or gs j b lt other = elim (cases_eq b j) [
   | inl e ↦ ap (λ i. slice_index (slice_set gs j 2) i) e ∙ get_or-set_same gs j 2 0 lt
   | inr ne ↦ get_or-set_other gs j b 2 0 ne ∙ other ne
 ]
 
 -- a marker attends only in these phases, behind a change of one
-attends_set : (v : View) (p k : ℕ) (x : MarkerState) → (is_attending x.presence ≡ true → (v.phase % 8 ≡ 1) ⊎ (v.phase % 8 ≡ 2))
+attends_set : (v : View) (p k : ℕ) (x : MarkerState)
+    → (is_attending x.presence ≡ true → (v.phase % 8 ≡ 1) ⊎ (v.phase % 8 ≡ 2))
     → ((b : ℕ) → is_attending (marker_in v b).presence ≡ true → (v.phase % 8 ≡ 1) ⊎ (v.phase % 8 ≡ 2)) → p ≡ v.phase % 8
     → (b : ℕ) → is_attending (slice_index_or (slice_set v.markers k x) b outside).presence ≡ true → (p ≡ 1) ⊎ (p ≡ 2)
 attends_set v p k x own others e b a =
     subst (λ n. (n ≡ 1) ⊎ (n ≡ 2)) (sym e)
-    (marker_set v.markers k b x (λ (y : MarkerState). is_attending y.presence ≡ true → (v.phase % 8 ≡ 1) ⊎ (v.phase % 8 ≡ 2)) (λ lk. own) (others b) a)
+    (marker_set v.markers k b x (λ (y : MarkerState). is_attending y.presence ≡ true
+    → (v.phase % 8 ≡ 1) ⊎ (v.phase % 8 ≡ 2)) (λ lk. own) (others b) a)
 
-pub kept : (c : Config) (v : View) (seat : Seat) (n : View) → c.callers ≤ 16 → Orderly c v → Move c v seat n → Orderly c n
+pub kept : (c : Config) (v : View) (seat : Seat) (n : View) → c.callers ≤ 16 → Orderly c v → Move c v seat n
+    → Orderly c n
 kept c v seat n small h Stays = h
 kept c v seat n small h (Enters {k} f lt free was is) =
     let s = shows_at c v k Resting h lt was in
@@ -124,7 +144,8 @@ kept c v seat n small h (Leaves {k} lt was) =
       markers = h.markers;
       turn = h.turn;
       each =
-          all_but_both c.callers v.turn k 0 v.gates v.flights at_rest (omega (arith, h.gates)) (omega (arith, h.flights))
+          all_but_both c.callers v.turn k 0 v.gates v.flights at_rest (omega (arith, h.gates))
+          (omega (arith, h.flights))
           (λ e. absurd (omega arith), omega arith, λ e. refl, s.1) h.each;
       served = others_served c v k at_rest h s.1;
       free = h.free;
@@ -161,7 +182,8 @@ kept c v seat n small h (Gives t none at) =
       markers = h.markers;
       turn = omega arith;
       each = all_but_seat c 0 seat v.gates v.flights at_rest (giver_shows c v seat h t)
-          (λ b lb ne. shows_given v.turn (gate_in v b) b (holder_number c seat) (standing (flight_in v b)) ne turn (none b lb) (h.each b lb));
+          (λ b lb ne. shows_given v.turn (gate_in v b) b (holder_number c seat) (standing (flight_in v b)) ne turn
+          (none b lb) (h.each b lb));
       served = nothing_served _ _;
       free = λ e. refl;
       phase = h.phase;
@@ -197,7 +219,8 @@ kept c v seat n small h (Holds j t lj ne was) =
       turn = h.turn;
       each =
           gate_shown c v j 2 small h lj
-          (shows_held v.turn j (holder_number c seat) (standing (flight_in v j)) ne turn (subst (λ x. Shows v.turn x j (standing (flight_in v j))) was (h.each j lj)));
+          (shows_held v.turn j (holder_number c seat) (standing (flight_in v j)) ne turn
+          (subst (λ x. Shows v.turn x j (standing (flight_in v j))) was (h.each j lj)));
       served = h.served;
       free = λ e. absurd (omega arith);
       phase = h.phase;
@@ -216,7 +239,8 @@ kept c v seat n small h (Opens j t lj ne was open3) =
       turn = h.turn;
       each =
           gate_shown c v j 0 small h lj
-          (shows_opened v.turn j (holder_number c seat) (standing (flight_in v j)) ne turn (subst (λ x. Shows v.turn x j (standing (flight_in v j))) was (h.each j lj)));
+          (shows_opened v.turn j (holder_number c seat) (standing (flight_in v j)) ne turn
+          (subst (λ x. Shows v.turn x j (standing (flight_in v j))) was (h.each j lj)));
       served = h.served;
       free = λ e. absurd (omega arith);
       phase = h.phase;
@@ -235,7 +259,8 @@ kept c v seat n small h (Phases i {n = p} t same_place same_run step) =
       markers = h.markers;
       turn = h.turn;
       each = h.each;
-      served = served_on (flight_in v (v.turn - 1)) v.holding (flight_in v (v.turn - 1)) i h.served (Goes i same_place same_run);
+      served = served_on (flight_in v (v.turn - 1)) v.holding (flight_in v (v.turn - 1)) i h.served
+          (Goes i same_place same_run);
       free = λ e. absurd (omega arith);
       phase = k.phase;
       low = k.low;
@@ -264,7 +289,8 @@ kept c v seat n small h (Attends {k} x lt was is at idle) =
     }
 kept c v seat n small h (Quits {k} lt was) =
     let less = counted_less v.markers k outside (omega (arith, h.markers)) was refl in
-    let down = down_eight v.phase (count_in v.markers) (count_in (slice_set v.markers k outside)) (v.phase % 8) h.phase h.low (few_in c v h) less in
+    let down = down_eight v.phase (count_in v.markers) (count_in (slice_set v.markers k outside))
+    (v.phase % 8) h.phase h.low (few_in c v h) less in
     record {
       flights = h.flights;
       gates = h.gates;
@@ -278,7 +304,8 @@ kept c v seat n small h (Quits {k} lt was) =
       cycle = λ a b. h.cycle (omega (arith, down.0)) (omega (arith, down.0));
       stopped = λ e. h.stopped (omega (arith, down.0));
       attends = attends_set v (((v.phase + (2 ^ 64 - 8)) % 2 ^ 64) % 8) k outside (λ y. cc) h.attends down.0;
-      idle = λ b. marker_set v.markers k b outside (λ (y : MarkerState). IdlesOutside y) (λ lk _. record { scan = refl; hand = refl; seen = refl }) (h.idle b);
+      idle = λ b. marker_set v.markers k b outside (λ (y : MarkerState). IdlesOutside y)
+          (λ lk _. record { scan = refl; hand = refl; seen = refl }) (h.idle b);
     }
 kept c v seat n small h (Scans {k} x lt same idle) =
     let less = counted_same v.markers k x (omega (arith, h.markers)) same in
@@ -294,6 +321,7 @@ kept c v seat n small h (Scans {k} x lt same idle) =
       low = h.low;
       cycle = h.cycle;
       stopped = h.stopped;
-      attends = attends_set v (v.phase % 8) k x (λ y. h.attends k (ap (λ (p : Presence). is_attending p) (sym same) ∙ y)) h.attends refl;
+      attends = attends_set v (v.phase % 8) k x (λ y. h.attends k (ap (λ (p : Presence). is_attending p) (sym same)
+          ∙ y)) h.attends refl;
       idle = λ b. marker_set v.markers k b x (λ (y : MarkerState). IdlesOutside y) (λ lk. idle (h.idle k)) (h.idle b);
     }

@@ -27,9 +27,14 @@ pub record Known (c : Config) (m : Moment) : Type 0 where
 pub known_behind : (c : Config) (m : Moment) (e : Event) → Known c m → IsEnabled c m e → Known c (moment_behind c m e)
 known_behind c m e k on =
     let h = enabled_meets c m e on in
-    record { small = k.small; orderly = orderly_behind c m e.seat e.step k.small k.orderly h; operands = operands_behind c m e.seat e.step k.operands h }
+    record {
+      small = k.small;
+      orderly = orderly_behind c m e.seat e.step k.small k.orderly h;
+      operands = operands_behind c m e.seat e.step k.operands h;
+    }
 
-pub known_from : (c : Config) (w : World) (es : List Event) → Known c w.now → AreEnabledFrom c w es → Known c (left_from c w es).now
+pub known_from : (c : Config) (w : World) (es : List Event) → Known c w.now → AreEnabledFrom c w es
+    → Known c (left_from c w es).now
 unfolding left_from AreEnabledFrom
 known_from c w [] k on = k
 known_from c w (e ∷ es) k on = known_from c (world_behind c w e) es (known_behind c w.now e k on.0) on.1
@@ -46,8 +51,12 @@ pub known_left : (c : Config) (es : List Event) → IsWithinLimits c → AreEnab
 known_left c es limits on = known_from c (first_world c) es (known_at_first c limits) on
 
 -- who holds the turn by its call holds it by what the protocol reads
-pub holds_turn : (c : Config) (m : Moment) (seat : Seat) → Orderly c (view_of m) → Holds c m seat → HoldsTurn c (view_of m) seat
-holds_turn c m (Caller k) o h =
-    (h.0, under_turn_is (standing (flight_of m (Caller k))) (in_turn_told (flight_of m (Caller k)).stage (flight_of m (Caller k)).op (not_astray c m o k h.0) ∙ h.1))
+pub holds_turn : (c : Config) (m : Moment) (seat : Seat) → Orderly c (view_of m) → Holds c m seat
+    → HoldsTurn c (view_of m) seat
+holds_turn c m (Caller k) o h = (
+  h.0,
+  under_turn_is (standing (flight_of m (Caller k)))
+      (in_turn_told (flight_of m (Caller k)).stage (flight_of m (Caller k)).op (not_astray c m o k h.0) ∙ h.1),
+)
 holds_turn c m (Marker k) o h = h
 holds_turn c m Host o h = h

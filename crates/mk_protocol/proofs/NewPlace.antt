@@ -1,5 +1,6 @@
 -- The place of an undecided New lies in the heap.
-use Rattle.std.proofs.Common.{◌≡◌, ◌⊎◌, ℕ, ◌+◌, ◌<◌, ◌≤◌, Bool, true, false, List, length, refl, sym, ◌∙◌, ap, subst, inl, inr}
+use Rattle.std.proofs.Common.{◌≡◌, ◌⊎◌, ℕ, ◌+◌, ◌<◌, ◌≤◌, Bool, true, false, List, length, refl, sym, ◌∙◌, ap, subst}
+use Rattle.std.proofs.Common.{inl, inr}
 use Rattle.std.specs.Prelude.{Option, Some, None, slice_index_or, slice_set, if◌then◌else◌}
 use Rattle.std.proofs.lemmas.Bool.{cases_eq, cases_lt, ltb-true, leb-false}
 use Rattle.std.proofs.lemmas.List.{get_or-set_same, get_or-set_other, set_past}
@@ -26,7 +27,8 @@ use Rattle.mk_core.specs.Moments.{Moment, flight_of}
 use Rattle.mk_core.specs.History.{World}
 use Rattle.mk_protocol.proofs.Standings.{InCall, UnderTurn, standing}
 use Rattle.mk_protocol.proofs.Stages.{new_stands}
-use Rattle.mk_protocol.proofs.Services.{Service, Goes, Loads, Places as PlacesNew, Fills, Grants as GrantsNew, Frees as FreesRun}
+use Rattle.mk_protocol.proofs.Services.{Service, Goes, Loads, Places as PlacesNew, Fills, Grants as GrantsNew}
+use Rattle.mk_protocol.proofs.Services.{Frees as FreesRun}
 use Rattle.mk_protocol.proofs.Views.{View, view_of, flight_in, flight_at, flights_with, HoldsTurn}
 use Rattle.mk_protocol.proofs.Moves.{Move, Enters, GoesOn, Leaves, Takes, Gives as GivesTurn, Works}
 use Rattle.mk_protocol.proofs.Orderly.{same_holder}
@@ -44,49 +46,61 @@ held_place _ = None
 
 -- A large object has all its pages in the heap.
 abbrev pub PlaceFits : Config → Op → Place → Type 0
-PlaceFits c o place = is_small_object (object_made c o) ≡ false → place.page + run_pages_of (object_made c o).words ≤ c.pages
+PlaceFits c o place = is_small_object (object_made c o) ≡ false
+    → place.page + run_pages_of (object_made c o).words ≤ c.pages
 
 abbrev pub PlacesFit : Config → Moment → Type 0
 PlacesFit c m =
-    (k : ℕ) → k < c.callers → is_undecided_new (flight_of m (Caller k)) ≡ true → (place : Place) → held_place m.seats.holding.placing ≡ Some place
+    (k : ℕ) → k < c.callers → is_undecided_new (flight_of m (Caller k)) ≡ true → (place : Place)
+    → held_place m.seats.holding.placing ≡ Some place
     → PlaceFits c (flight_of m (Caller k)).op place
 
 -- the place of first fit does, and so that of the step
 
-first_fits : (resident : ℕ) (pages : List Page) (o : Object) (place : Place) → place_on_pages resident pages o ≡ Some place
+first_fits : (resident : ℕ) (pages : List Page) (o : Object) (place : Place)
+    → place_on_pages resident pages o ≡ Some place
     → is_small_object o ≡ false → place.page + run_pages_of o.words ≤ length pages
-first_fits resident pages o place is large = (run_place_is resident o.words o.leaf pages place (leb-false o.words 32 large) is).free.within
+first_fits resident pages o place is large =
+    (run_place_is resident o.words o.leaf pages place (leb-false o.words 32 large) is).free.within
 
 in_fits : (c : Config) (pages : List Page) (o : Op) (placing : Placing) (place : Place) → length pages ≡ c.pages
     → ((y : Place) → held_place placing ≡ Some y → PlaceFits c o y)
     → place_in c.resident pages (object_made c o) placing ≡ Some place → PlaceFits c o place
 in_fits c pages o Unplaced place count held is =
-    λ large. subst (λ n. place.page + run_pages_of (object_made c o).words ≤ n) count (first_fits c.resident pages (object_made c o) place is large)
+    λ large. subst (λ n. place.page + run_pages_of (object_made c o).words ≤ n) count
+    (first_fits c.resident pages (object_made c o) place is large)
 in_fits c pages o (Chosen y) place count held is = held place is
 in_fits c pages o (Used y) place count held is = held place is
 in_fits c pages o Granted place count held is = cc
 
 now_is : (c : Config) (m : Moment) (f : Flight) (place : Place) → place_now c m f ≡ Some place
-    → (is_undecided_new f ≡ true) × (place_in c.resident m.words.pages (object_made c f.op) m.seats.holding.placing ≡ Some place)
+    → (is_undecided_new f ≡ true)
+    × (place_in c.resident m.words.pages (object_made c f.op) m.seats.holding.placing ≡ Some place)
 now_is c m f place e = by (is_undecided_new f) refl e
   where
-    by : (b : Bool) → is_undecided_new f ≡ b → (if b then place_in c.resident m.words.pages (object_made c f.op) m.seats.holding.placing else None) ≡ Some place
-        → (is_undecided_new f ≡ true) × (place_in c.resident m.words.pages (object_made c f.op) m.seats.holding.placing ≡ Some place)
+    by : (b : Bool) → is_undecided_new f ≡ b
+        → (if b then place_in c.resident m.words.pages (object_made c f.op) m.seats.holding.placing else None)
+        ≡ Some place
+        → (is_undecided_new f ≡ true)
+        × (place_in c.resident m.words.pages (object_made c f.op) m.seats.holding.placing ≡ Some place)
     by true is h = (is, h)
     by false is h = cc
 
 -- a place that is held was held, or is that of the step
 
-chosen_held : (p : Placing) (place : Option Place) (x : Place) → held_place (chosen p place) ≡ Some x → (held_place p ≡ Some x) ⊎ (place ≡ Some x)
+chosen_held : (p : Placing) (place : Option Place) (x : Place) → held_place (chosen p place) ≡ Some x
+    → (held_place p ≡ Some x) ⊎ (place ≡ Some x)
 chosen_held Unplaced (Some y) x h = inr h
 chosen_held Unplaced None x h = inl h
 chosen_held _ place x h = inl h
 
-taken_held : (p : Placing) (place : Option Place) (x : Place) → held_place (taken p place) ≡ Some x → (held_place p ≡ Some x) ⊎ (place ≡ Some x)
+taken_held : (p : Placing) (place : Option Place) (x : Place) → held_place (taken p place) ≡ Some x
+    → (held_place p ≡ Some x) ⊎ (place ≡ Some x)
 taken_held p (Some y) x h = inr h
 taken_held p None x h = inl h
 
-ground_place : (c : Config) (w : World) (f : Flight) (g : Ground) (x : Place) → GroundStep c w f g → held_place g.placing ≡ Some x
+ground_place : (c : Config) (w : World) (f : Flight) (g : Ground) (x : Place) → GroundStep c w f g
+    → held_place g.placing ≡ Some x
     → (held_place w.now.seats.holding.placing ≡ Some x) ⊎ (place_now c w.now f ≡ Some x)
 ground_place c w f g x (Starts z idle) h = cc
 ground_place c w f g x (Gives own at) h = cc
@@ -105,8 +119,10 @@ set_new : (fs : List Flight) (k j : ℕ) (f : Flight) → (is_undecided_new f �
 set_new fs k j f same new = elim (cases_eq j k) [
   | inl e ↦ elim (cases_lt k (length fs)) [
     | inl lt ↦
-        let now : slice_index_or (slice_set fs k f) j at_rest ≡ f = ap (λ i. slice_index_or (slice_set fs k f) i at_rest) e ∙ get_or-set_same fs k f at_rest lt in
-        now ∙ same (ap (λ (x : Flight). is_undecided_new x) (sym now) ∙ new) ∙ ap (λ i. slice_index_or fs i at_rest) (sym e)
+        let now : slice_index_or (slice_set fs k f) j at_rest ≡ f =
+        ap (λ i. slice_index_or (slice_set fs k f) i at_rest) e ∙ get_or-set_same fs k f at_rest lt in
+        now ∙ same (ap (λ (x : Flight). is_undecided_new x) (sym now) ∙ new)
+        ∙ ap (λ i. slice_index_or fs i at_rest) (sym e)
     | inr past ↦ ap (λ (xs : List Flight). slice_index_or xs j at_rest) (set_past fs k f past)
   ]
   | inr ne ↦ get_or-set_other fs k j f at_rest ne
@@ -121,7 +137,8 @@ call_no_new f is new = let e : InCall ≡ UnderTurn = sym is ∙ new_stands f.st
 give_no_new : (o : Op) → is_new_at stage.Give o ≡ true → ⊥
 give_no_new o h = cc
 
-service_new : (f : Flight) (h : Holding) (g : Flight) (i : Holding) → Service f h g i → is_undecided_new g ≡ true → g ≡ f
+service_new : (f : Flight) (h : Holding) (g : Flight) (i : Holding) → Service f h g i → is_undecided_new g ≡ true
+    → g ≡ f
 service_new f h g i (Goes _ p q) new = refl
 service_new f h g i (Loads _ at stands no_new) new = let e : true ≡ false = sym new ∙ no_new in cc
 service_new f h g i (PlacesNew _ was p q) new = refl
@@ -129,63 +146,80 @@ service_new f h g i (Fills was p) new = absurd (give_no_new f.op new)
 service_new f h g i (GrantsNew was) new = absurd (give_no_new f.op new)
 service_new f h g i (FreesRun _ free p) new = absurd (give_no_new f.op new)
 
-pub new_was : (c : Config) (v : View) (seat : Seat) (n : View) (j : ℕ) → Move c v seat n → is_undecided_new (flight_in n j) ≡ true
+pub new_was : (c : Config) (v : View) (seat : Seat) (n : View) (j : ℕ) → Move c v seat n
+    → is_undecided_new (flight_in n j) ≡ true
     → (flight_in n j ≡ flight_in v j) ⊎ (held_place n.holding.placing ≡ None)
-new_was c v seat n j (Enters {k} f lt z was is) new = inl (set_new v.flights k j f (λ x. absurd (call_no_new f is x)) new)
+new_was c v seat n j (Enters {k} f lt z was is) new =
+    inl (set_new v.flights k j f (λ x. absurd (call_no_new f is x)) new)
 new_was c v seat n j (GoesOn {k} f lt was is) new = inl (set_new v.flights k j f (λ x. absurd (call_no_new f is x)) new)
 new_was c v seat n j (Leaves {k} lt was) new = inl (set_new v.flights k j at_rest (λ x. cc) new)
 new_was c v seat n j (Takes f z may) new = inr refl
 new_was c v seat n j (GivesTurn t none at) new = inr refl
 new_was c v seat n j (Works f i t s) new = inl (by seat t s new)
   where
-    by : (s : Seat) → HoldsTurn c v s → Service (flight_at v.flights s) v.holding f i → is_undecided_new (slice_index_or (flights_with v.flights s f) j at_rest) ≡ true
+    by : (s : Seat) → HoldsTurn c v s → Service (flight_at v.flights s) v.holding f i
+        → is_undecided_new (slice_index_or (flights_with v.flights s f) j at_rest) ≡ true
         → slice_index_or (flights_with v.flights s f) j at_rest ≡ flight_in v j
-    by (Caller k) t s new = set_new v.flights k j f (service_new (slice_index_or v.flights k at_rest) v.holding f i s) new
+    by (Caller k) t s new = set_new v.flights k j f (service_new (slice_index_or v.flights k at_rest) v.holding f i s)
+        new
     by (Marker k) t s new = absurd t
     by Host t s new = refl
 new_was c v seat n j _ new = inl refl
 
 -- the seat of an undecided New holds the turn
-pub new_holds : (c : Config) (m : Moment) (seat : Seat) (x : Step) → Meets c m seat x → is_undecided_new (flight_of m seat) ≡ true
+pub new_holds : (c : Config) (m : Moment) (seat : Seat) (x : Step) → Meets c m seat x
+    → is_undecided_new (flight_of m seat) ≡ true
     → (k : ℕ) × (k < c.callers) × (seat ≡ Caller k)
 new_holds c m (Caller k) x h new = (k, ltb-true k c.callers h.seat, refl)
 new_holds c m (Marker k) x h new = cc
 new_holds c m Host x h new = cc
 
 -- the place of a step
-pub place_fits_now : (c : Config) (m : Moment) (seat : Seat) (x : Step) (place : Place) → length m.words.pages ≡ c.pages → PlacesFit c m
+pub place_fits_now : (c : Config) (m : Moment) (seat : Seat) (x : Step) (place : Place) → length m.words.pages ≡ c.pages
+    → PlacesFit c m
     → Meets c m seat x → place_now c m (flight_of m seat) ≡ Some place
     → PlaceFits c (flight_of m seat).op place
 place_fits_now c m seat x place count fits h now =
     let is = now_is c m (flight_of m seat) place now in
     let own = new_holds c m seat x h is.0 in
-    let own_new : is_undecided_new (flight_of m (Caller own.0)) ≡ true = subst (λ (s : Seat). is_undecided_new (flight_of m s) ≡ true) own.2 is.0 in
+    let own_new : is_undecided_new (flight_of m (Caller own.0)) ≡ true =
+    subst (λ (s : Seat). is_undecided_new (flight_of m s) ≡ true) own.2 is.0 in
     in_fits c m.words.pages (flight_of m seat).op m.seats.holding.placing place count
     (λ y old. subst (λ (s : Seat). PlaceFits c (flight_of m s).op y) (sym own.2) (fits own.0 own.1 own_new y old)) is.1
 
-pub places_behind : (c : Config) (w : World) (seat : Seat) (x : Step) → Known c w.now → length w.now.words.pages ≡ c.pages → PlacesFit c w.now
+pub places_behind : (c : Config) (w : World) (seat : Seat) (x : Step) → Known c w.now
+    → length w.now.words.pages ≡ c.pages → PlacesFit c w.now
     → Meets c w.now seat x → PlacesFit c (WorldBehind c w seat x).now
 places_behind c w seat x known count fits h k lt new place held =
-    elim (new_was c (view_of w.now) seat (view_of (WorldBehind c w seat x).now) k (event_moves c w.now seat x known.orderly h) new) [
+    elim (new_was c (view_of w.now) seat (view_of (WorldBehind c w seat x).now) k
+    (event_moves c w.now seat x known.orderly h) new) [
       | inr none ↦ let e : None ≡ Some place = sym none ∙ held in absurd (none_some e)
       | inl same ↦
-          let was : is_undecided_new (flight_of w.now (Caller k)) ≡ true = ap (λ (f : Flight). is_undecided_new f) (sym same) ∙ new in
-          subst (λ (f : Flight). PlaceFits c f.op place) (sym same) (before was (ground_place c w (flight_of w.now seat) _ place (ground_step c w seat x h) held))
+          let was : is_undecided_new (flight_of w.now (Caller k)) ≡ true =
+          ap (λ (f : Flight). is_undecided_new f) (sym same) ∙ new in
+          subst (λ (f : Flight). PlaceFits c f.op place) (sym same)
+          (before was (ground_place c w (flight_of w.now seat) _ place (ground_step c w seat x h) held))
     ]
   where
     none_some : None ≡ Some place → ⊥
     none_some e = cc
 
     before : is_undecided_new (flight_of w.now (Caller k)) ≡ true
-        → (held_place w.now.seats.holding.placing ≡ Some place) ⊎ (place_now c w.now (flight_of w.now seat) ≡ Some place)
+        → (held_place w.now.seats.holding.placing ≡ Some place)
+        ⊎ (place_now c w.now (flight_of w.now seat) ≡ Some place)
         → PlaceFits c (flight_of w.now (Caller k)).op place
     before was (inl old) = fits k lt was place old
     before was (inr now) =
         let is = now_is c w.now (flight_of w.now seat) place now in
         let own = new_holds c w.now seat x h is.0 in
-        let own_new : is_undecided_new (flight_of w.now (Caller own.0)) ≡ true = subst (λ (s : Seat). is_undecided_new (flight_of w.now s) ≡ true) own.2 is.0 in
-        let stands : standing (flight_of w.now (Caller own.0)) ≡ UnderTurn = new_stands (flight_of w.now (Caller own.0)).stage
+        let own_new : is_undecided_new (flight_of w.now (Caller own.0)) ≡ true =
+        subst (λ (s : Seat). is_undecided_new (flight_of w.now s) ≡ true) own.2 is.0 in
+        let stands : standing (flight_of w.now (Caller own.0)) ≡ UnderTurn =
+        new_stands (flight_of w.now (Caller own.0)).stage
         (flight_of w.now (Caller own.0)).op own_new in
-        let mine : standing (flight_of w.now (Caller k)) ≡ UnderTurn = new_stands (flight_of w.now (Caller k)).stage (flight_of w.now (Caller k)).op was in
-        let that : seat ≡ Caller k = own.2 ∙ same_holder c (view_of w.now) (Caller own.0) (Caller k) known.orderly (own.1, stands) (lt, mine) in
-        subst (λ (s : Seat). PlaceFits c (flight_of w.now s).op place) that (place_fits_now c w.now seat x place count fits h now)
+        let mine : standing (flight_of w.now (Caller k)) ≡ UnderTurn =
+        new_stands (flight_of w.now (Caller k)).stage (flight_of w.now (Caller k)).op was in
+        let that : seat ≡ Caller k = own.2
+        ∙ same_holder c (view_of w.now) (Caller own.0) (Caller k) known.orderly (own.1, stands) (lt, mine) in
+        subst (λ (s : Seat). PlaceFits c (flight_of w.now s).op place) that
+        (place_fits_now c w.now seat x place count fits h now)

@@ -30,7 +30,8 @@ deciding_kind (op.New d ty full) step.Full h = (refl, refl)
 deciding_kind o x h = holders_kind x h
 
 -- what is of the turn, and no `take`, comes at a stage of the turn
-pub of_turn : (s : Stage) (o : Op) (x : Step) → group_of x ≡ group.Turn → is_take x ≡ false → comes_next s o x ≡ true → is_turn_stage s ≡ true
+pub of_turn : (s : Stage) (o : Op) (x : Step) → group_of x ≡ group.Turn → is_take x ≡ false → comes_next s o x ≡ true
+    → is_turn_stage s ≡ true
 of_turn stage.Turn o x g t h = refl
 of_turn stage.Give o x g t h = refl
 of_turn stage.Idle o (step.Enter y) g t h = cc
@@ -93,7 +94,8 @@ at_dirty : (s : Stage) (o : Op) → comes_next s o step.Dirty ≡ true → s ≡
 at_dirty stage.Turn o h = let e = (deciding_kind o step.Dirty h).0 in cc
 at_dirty _ o h = cc
 
-pub at_its_stage : (s : Stage) (o : Op) (x : Step) → has_stage_of_its_own x ≡ true → comes_next s o x ≡ true → s ≡ stage_of x
+pub at_its_stage : (s : Stage) (o : Op) (x : Step) → has_stage_of_its_own x ≡ true → comes_next s o x ≡ true
+    → s ≡ stage_of x
 at_its_stage s o step.Leave i h = at_leave s o h
 at_its_stage s o step.Probe i h = at_probe s o h
 at_its_stage s o step.Read i h = at_read s o h
@@ -108,12 +110,14 @@ pub at_reg : (s : Stage) (o : Op) → comes_next s o step.Reg ≡ true → is_re
 at_reg stage.Turn o h = let e = (deciding_kind o step.Reg h).0 in cc
 at_reg _ o h = cc
 
-pub at_enter : (s : Stage) (o next : Op) → comes_next s o (step.Enter next) ≡ true → (s ≡ stage.Idle) × (is_under_turn next ≡ false)
+pub at_enter : (s : Stage) (o next : Op) → comes_next s o (step.Enter next) ≡ true
+    → (s ≡ stage.Idle) × (is_under_turn next ≡ false)
 at_enter stage.Idle o next h = (refl, not-true (is_under_turn next) h)
 at_enter stage.Turn o next h = let e = (deciding_kind o (step.Enter next) h).0 in cc
 at_enter _ o next h = cc
 
-pub at_take : (s : Stage) (o next : Op) → comes_next s o (step.Take (Some next)) ≡ true → (s ≡ stage.Idle) × (is_under_turn next ≡ true)
+pub at_take : (s : Stage) (o next : Op) → comes_next s o (step.Take (Some next)) ≡ true
+    → (s ≡ stage.Idle) × (is_under_turn next ≡ true)
 at_take stage.Idle o next h = (refl, h)
 at_take stage.Turn o next h = let e = (deciding_kind o (step.Take (Some next)) h).1 in cc
 at_take _ o next h = cc

@@ -15,7 +15,8 @@ use Rattle.mk_core.specs.declared.seats.Stage.{Stage}
 use Rattle.mk_core.specs.declared.seats.Stage.TheVariants as stage
 use Rattle.mk_core.specs.declared.seats.Flight.{Flight}
 use Rattle.mk_core.specs.declared.seats.Progress.{Progress}
-use Rattle.mk_core.specs.Calls.{has_operands, has_type, at_rest, q_of, p_of, r_of, d_of, g_of, progress_reg, progress_read, progress_q, progress_p}
+use Rattle.mk_core.specs.Calls.{has_operands, has_type, at_rest, q_of, p_of, r_of, d_of, g_of, progress_reg}
+use Rattle.mk_core.specs.Calls.{progress_read, progress_q, progress_p}
 use Rattle.mk_core.specs.Moments.{Moment, flight_of}
 use Rattle.mk_core.specs.Accesses.{found, register_met}
 use Rattle.mk_core.specs.Effects.{progress, progress_freed}
@@ -29,7 +30,8 @@ pub data OpStep (c : Config) (old : Op) : Op → Type 0 where
   Same : OpStep c old old
   Checked : {new : Op} → has_operands c new ≡ true → OpStep c old new
 
-either_op : (c : Config) (old : Op) (b : Bool) (p q : Progress) → OpStep c old p.flight.op → OpStep c old q.flight.op → OpStep c old (if b then p else q).flight.op
+either_op : (c : Config) (old : Op) (b : Bool) (p q : Progress) → OpStep c old p.flight.op → OpStep c old q.flight.op
+    → OpStep c old (if b then p else q).flight.op
 either_op c old true p q hp hq = hp
 either_op c old false p q hp hq = hq
 
@@ -57,7 +59,8 @@ freed_op c f (Some cell) = Same
 freed_op c f None = Same
 
 -- all kinds
-op_step : (c : Config) (m : Moment) (seat : Seat) (f : Flight) (n : ℕ) (x : Step) → is_in_range c seat f x ≡ true → OpStep c f.op (progress c m f n x).flight.op
+op_step : (c : Config) (m : Moment) (seat : Seat) (f : Flight) (n : ℕ) (x : Step) → is_in_range c seat f x ≡ true
+    → OpStep c f.op (progress c m f n x).flight.op
 op_step c m seat f n (step.Enter o) h = either_op c f.op (n == 0) _ _ (Checked h) Same
 op_step c m seat f n (step.Take (Some o)) h = either_op c f.op (n == 0) _ _ (Checked h) Same
 op_step c m seat f n (step.Take None) h = Same
@@ -77,22 +80,27 @@ checked : (c : Config) (old new : Op) → has_operands c old ≡ true → OpStep
 checked c old new h Same = h
 checked c old new h (Checked x) = x
 
-set_operands : (c : Config) (fs : List Flight) (k : ℕ) (f : Flight) → HaveOperands c fs → OpStep c (slice_index_or fs k at_rest).op f.op
+set_operands : (c : Config) (fs : List Flight) (k : ℕ) (f : Flight) → HaveOperands c fs
+    → OpStep c (slice_index_or fs k at_rest).op f.op
     → HaveOperands c (slice_set fs k f)
 set_operands c fs k f h s b = elim (cases_eq b k) [
   | inl e ↦ elim (cases_lt k (length fs)) [
     | inl lt ↦
-        subst (λ (x : Flight). has_operands c x.op ≡ true) (sym (ap (λ j. slice_index_or (slice_set fs k f) j at_rest) e ∙ get_or-set_same fs k f at_rest lt))
+        subst (λ (x : Flight). has_operands c x.op ≡ true) (sym (ap (λ j. slice_index_or (slice_set fs k f) j at_rest) e
+        ∙ get_or-set_same fs k f at_rest lt))
         (checked c (slice_index_or fs k at_rest).op f.op (h k) s)
-    | inr le ↦ subst (λ (xs : List Flight). has_operands c (slice_index_or xs b at_rest).op ≡ true) (sym (set_past fs k f le)) (h b)
+    | inr le ↦ subst (λ (xs : List Flight). has_operands c (slice_index_or xs b at_rest).op ≡ true)
+        (sym (set_past fs k f le)) (h b)
   ]
   | inr ne ↦ subst (λ (x : Flight). has_operands c x.op ≡ true) (sym (get_or-set_other fs k b f at_rest ne)) (h b)
 ]
 
-pub operands_behind : (c : Config) (m : Moment) (seat : Seat) (x : Step) → HaveOperands c m.seats.flights → Meets c m seat x
+pub operands_behind : (c : Config) (m : Moment) (seat : Seat) (x : Step) → HaveOperands c m.seats.flights
+    → Meets c m seat x
     → HaveOperands c (Behind c m seat x).seats.flights
 operands_behind c m (Caller k) x h on =
-    set_operands c m.seats.flights k _ h (op_step c m (Caller k) (flight_of m (Caller k)) (found c m (record { seat = Caller k; step = x })) x on.range)
+    set_operands c m.seats.flights k _ h
+    (op_step c m (Caller k) (flight_of m (Caller k)) (found c m (record { seat = Caller k; step = x })) x on.range)
 operands_behind c m (Marker k) x h on = h
 operands_behind c m Host x h on = h
 
@@ -106,12 +114,20 @@ pub record Operands (o : Op) : Type 0 where
 
 pub operands_of : (c : Config) (o : Op) → has_operands c o ≡ true → Operands o
 operands_of c o h =
-    let a = and_parts (nat_lt (q_of o) 8 && nat_lt (p_of o) 8 && nat_lt (r_of o) 8 && nat_lt (d_of o) 8 && nat_lt (g_of o) 64) (has_type c o) h in
-    let g = and_parts (nat_lt (q_of o) 8 && nat_lt (p_of o) 8 && nat_lt (r_of o) 8 && nat_lt (d_of o) 8) (nat_lt (g_of o) 64) a.0 in
+    let a = and_parts (nat_lt (q_of o) 8 && nat_lt (p_of o) 8 && nat_lt (r_of o) 8 && nat_lt (d_of o) 8
+    && nat_lt (g_of o) 64) (has_type c o) h in
+    let g = and_parts (nat_lt (q_of o) 8 && nat_lt (p_of o) 8 && nat_lt (r_of o) 8 && nat_lt (d_of o) 8)
+    (nat_lt (g_of o) 64) a.0 in
     let d = and_parts (nat_lt (q_of o) 8 && nat_lt (p_of o) 8 && nat_lt (r_of o) 8) (nat_lt (d_of o) 8) g.0 in
     let r = and_parts (nat_lt (q_of o) 8 && nat_lt (p_of o) 8) (nat_lt (r_of o) 8) d.0 in
     let p = and_parts (nat_lt (q_of o) 8) (nat_lt (p_of o) 8) r.0 in
-    record { q = ltb-true (q_of o) 8 p.0; p = ltb-true (p_of o) 8 p.1; r = ltb-true (r_of o) 8 r.1; d = ltb-true (d_of o) 8 d.1; g = ltb-true (g_of o) 64 g.1 }
+    record {
+      q = ltb-true (q_of o) 8 p.0;
+      p = ltb-true (p_of o) 8 p.1;
+      r = ltb-true (r_of o) 8 r.1;
+      d = ltb-true (d_of o) 8 d.1;
+      g = ltb-true (g_of o) 64 g.1;
+    }
 
 -- the register that a `reg` step meets is one of the eight
 pub register_small : (f : Flight) (s : Stage) → Operands f.op → register_met f s < 8

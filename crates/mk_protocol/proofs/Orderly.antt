@@ -36,11 +36,13 @@ pub record Orderly (c : Config) (v : View) : Type 0 where
   pub idle : (k : ℕ) → IdlesOutside (marker_in v k)
 
 -- what a caller shows, at the standing that it is known to have
-pub shows_at : (c : Config) (v : View) (k : ℕ) (s : Standing) → Orderly c v → k < c.callers → standing (flight_in v k) ≡ s → Shows v.turn (gate_in v k) k s
+pub shows_at : (c : Config) (v : View) (k : ℕ) (s : Standing) → Orderly c v → k < c.callers
+    → standing (flight_in v k) ≡ s → Shows v.turn (gate_in v k) k s
 shows_at c v k s h lt is = subst (λ (x : Standing). Shows v.turn (gate_in v k) k x) is (h.each k lt)
 
 -- the holder is named by the turn word
-pub turn_of : (c : Config) (v : View) (seat : Seat) → Orderly c v → HoldsTurn c v seat → v.turn ≡ 1 + holder_number c seat
+pub turn_of : (c : Config) (v : View) (seat : Seat) → Orderly c v → HoldsTurn c v seat
+    → v.turn ≡ 1 + holder_number c seat
 turn_of c v (Caller k) h t = let s = shows_at c v k UnderTurn h t.0 t.1 in s.1
 turn_of c v (Marker k) h t = absurd t
 turn_of c v Host h t = t
@@ -48,9 +50,11 @@ turn_of c v Host h t = t
 -- so no two seats hold it
 pub same_holder : (c : Config) (v : View) (a b : Seat) → Orderly c v → HoldsTurn c v a → HoldsTurn c v b → a ≡ b
 same_holder c v a b p ha hb =
-    by c v a b ha hb (let x = turn_of c v a p ha in let y = turn_of c v b p hb in let e : holder_number c a ≡ holder_number c b = omega arith in e)
+    by c v a b ha hb (let x = turn_of c v a p ha in let y = turn_of c v b p hb in let e : holder_number c a
+    ≡ holder_number c b = omega arith in e)
   where
-    by : (c : Config) (v : View) (a b : Seat) → HoldsTurn c v a → HoldsTurn c v b → holder_number c a ≡ holder_number c b → a ≡ b
+    by : (c : Config) (v : View) (a b : Seat) → HoldsTurn c v a → HoldsTurn c v b
+        → holder_number c a ≡ holder_number c b → a ≡ b
     by c v (Caller j) (Caller k) ha hb e = ap Caller e
     by c v (Caller j) (Marker k) ha hb e = absurd hb
     by c v (Caller j) Host ha hb e = let l = ha.0 in absurd (omega arith)
@@ -60,40 +64,53 @@ same_holder c v a b p ha hb =
     by c v (Marker j) b ha hb e = absurd ha
 
 -- its call; the host has none
-pub holders_flight : (c : Config) (v : View) (seat : Seat) → Orderly c v → HoldsTurn c v seat → flight_in v (v.turn - 1) ≡ flight_at v.flights seat
+pub holders_flight : (c : Config) (v : View) (seat : Seat) → Orderly c v → HoldsTurn c v seat
+    → flight_in v (v.turn - 1) ≡ flight_at v.flights seat
 holders_flight c v (Caller k) h t =
     let turn = turn_of c v (Caller k) h t in
     let e : v.turn - 1 ≡ k = omega arith in
     ap (λ i. flight_in v i) e
 holders_flight c v (Marker k) h t = absurd t
-holders_flight c v Host h t = get_or_past v.flights (v.turn - 1) at_rest (let e : v.turn ≡ 1 + c.callers = t in omega (arith, h.flights))
+holders_flight c v Host h t =
+    get_or_past v.flights (v.turn - 1) at_rest (let e : v.turn ≡ 1 + c.callers = t in omega (arith, h.flights))
 
 -- what the holder shows behind its step, where it goes on, where it gives the turn, and where it takes it
 
 pub holder_shows : (c : Config) (v : View) (seat : Seat) (f : Flight) → Orderly c v → HoldsTurn c v seat
-    → (standing (flight_at v.flights seat) ≡ UnderTurn → standing f ≡ UnderTurn) → OwnShows c v.flights v.turn v.gates seat (standing f)
-holder_shows c v (Caller k) f h t is =
-    (subst (λ n. k < n) (sym h.flights) t.0, subst (λ (x : Standing). Shows v.turn (gate_in v k) k x) (sym (is t.1)) (shows_at c v k UnderTurn h t.0 t.1))
+    → (standing (flight_at v.flights seat) ≡ UnderTurn → standing f ≡ UnderTurn)
+    → OwnShows c v.flights v.turn v.gates seat (standing f)
+holder_shows c v (Caller k) f h t is = (
+  subst (λ n. k < n) (sym h.flights) t.0,
+  subst (λ (x : Standing). Shows v.turn (gate_in v k) k x) (sym (is t.1))
+      (shows_at c v k UnderTurn h t.0 t.1),
+)
 holder_shows c v (Marker k) f h t is = tt
 holder_shows c v Host f h t is = tt
 
-pub giver_shows : (c : Config) (v : View) (seat : Seat) → Orderly c v → HoldsTurn c v seat → OwnShows c v.flights 0 v.gates seat Resting
+pub giver_shows : (c : Config) (v : View) (seat : Seat) → Orderly c v → HoldsTurn c v seat
+    → OwnShows c v.flights 0 v.gates seat Resting
 giver_shows c v (Caller k) h t =
     let s = shows_at c v k UnderTurn h t.0 t.1 in
-    let g : gate_in v k ≡ 0 = s.0 in
-    (subst (λ n. k < n) (sym h.flights) t.0, (λ e. absurd (omega arith), omega arith, λ e. g, λ e. absurd (omega arith)))
+    let g : gate_in v k ≡ 0 = s.0 in (
+      subst (λ n. k < n) (sym h.flights) t.0,
+      (λ e. absurd (omega arith), omega arith, λ e. g, λ e. absurd (omega arith)),
+    )
 giver_shows c v (Marker k) h t = tt
 giver_shows c v Host h t = tt
 
 pub taker_shows : (c : Config) (v : View) (seat : Seat) (f : Flight) → Orderly c v → v.turn ≡ 0 → MayTake c v seat f
     → OwnShows c v.flights (1 + holder_number c seat) v.gates seat (standing f)
 taker_shows c v (Caller k) f h z t =
-    let s = shows_at c v k Resting h t.0 t.1 in
-    (subst (λ n. k < n) (sym h.flights) t.0, subst (λ (x : Standing). Shows (1 + k) (gate_in v k) k x) (sym t.2) (s.2 z, refl))
+    let s = shows_at c v k Resting h t.0 t.1 in (
+      subst (λ n. k < n) (sym h.flights) t.0,
+      subst (λ (x : Standing). Shows (1 + k) (gate_in v k) k x) (sym t.2)
+          (s.2 z, refl),
+    )
 taker_shows c v (Marker k) f h z t = tt
 taker_shows c v Host f h z t = tt
 
-pub taker_number : (c : Config) (v : View) (seat : Seat) (f : Flight) → MayTake c v seat f → holder_number c seat ≤ c.callers
+pub taker_number : (c : Config) (v : View) (seat : Seat) (f : Flight) → MayTake c v seat f
+    → holder_number c seat ≤ c.callers
 taker_number c v (Caller k) f t = omega (arith, t.0)
 taker_number c v (Marker k) f t = omega arith
 taker_number c v Host f t = omega arith

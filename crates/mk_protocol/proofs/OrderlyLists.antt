@@ -27,28 +27,35 @@ use Rattle.mk_protocol.proofs.Sorts.{moves}
 
 -- no call is astray, so each event is someone's
 
-pub not_astray : (c : Config) (m : Moment) → Orderly c (view_of m) → (k : ℕ) → k < c.callers → is_astray (standing (flight_of m (Caller k))) ≡ false
-not_astray c m h k lt = shown_not_astray m.words.turn (gate_in (view_of m) k) k (standing (flight_of m (Caller k))) (h.each k lt)
+pub not_astray : (c : Config) (m : Moment) → Orderly c (view_of m) → (k : ℕ) → k < c.callers
+    → is_astray (standing (flight_of m (Caller k))) ≡ false
+not_astray c m h k lt = shown_not_astray m.words.turn (gate_in (view_of m) k) k (standing (flight_of m (Caller k)))
+    (h.each k lt)
 
-pub actor_of : (c : Config) (m : Moment) (seat : Seat) (x : Step) → Orderly c (view_of m) → Meets c m seat x → Actor c m seat x
+pub actor_of : (c : Config) (m : Moment) (seat : Seat) (x : Step) → Orderly c (view_of m) → Meets c m seat x
+    → Actor c m seat x
 actor_of c m seat x o h = acts c m seat x (not_astray c m o) h
 
-pub event_moves : (c : Config) (m : Moment) (seat : Seat) (x : Step) → Orderly c (view_of m) → Meets c m seat x → Move c (view_of m) seat (view_of (Behind c m seat x))
+pub event_moves : (c : Config) (m : Moment) (seat : Seat) (x : Step) → Orderly c (view_of m) → Meets c m seat x
+    → Move c (view_of m) seat (view_of (Behind c m seat x))
 event_moves c m seat x o h = moves c m seat x (not_astray c m o) (actor_of c m seat x o h) h
 
 -- one event, and many
 
-pub orderly_behind : (c : Config) (m : Moment) (seat : Seat) (x : Step) → c.callers ≤ 16 → Orderly c (view_of m) → Meets c m seat x
+pub orderly_behind : (c : Config) (m : Moment) (seat : Seat) (x : Step) → c.callers ≤ 16 → Orderly c (view_of m)
+    → Meets c m seat x
     → Orderly c (view_of (Behind c m seat x))
 orderly_behind c m seat x small o h =
     kept c (view_of m) seat (view_of (Behind c m seat x)) small o (event_moves c m seat x o h)
 
-pub orderly_from : (c : Config) (w : World) (es : List Event) → c.callers ≤ 16 → Orderly c (view_of w.now) → AreEnabledFrom c w es
+pub orderly_from : (c : Config) (w : World) (es : List Event) → c.callers ≤ 16 → Orderly c (view_of w.now)
+    → AreEnabledFrom c w es
     → Orderly c (view_of (left_from c w es).now)
 unfolding left_from AreEnabledFrom
 orderly_from c w [] small o on = o
 orderly_from c w (e ∷ es) small o on =
-    orderly_from c (world_behind c w e) es small (orderly_behind c w.now e.seat e.step small o (enabled_meets c w.now e on.0)) on.1
+    orderly_from c (world_behind c w e) es small
+    (orderly_behind c w.now e.seat e.step small o (enabled_meets c w.now e on.0)) on.1
 
 pub at_first : {A : Type 0} (n k : ℕ) (x : A) → slice_index_or (replicate n x) k x ≡ x
 at_first n k x = elim (cases_lt k n) [
@@ -63,15 +70,18 @@ orderly_at_first c small =
       gates = refl;
       markers = refl;
       turn = omega arith;
-      each = λ k lt. subst (λ (f : Flight). Shows 0 (slice_index (replicate 16 0) k) k (standing f)) (sym (at_first c.callers k at_rest))
-          (subst (λ (g : ℕ). Shows 0 g k Resting) (sym (at_first 16 k 0)) (λ e. absurd (omega arith), omega arith, λ e. refl, λ e. absurd (omega arith)));
+      each = λ k lt. subst (λ (f : Flight). Shows 0 (slice_index (replicate 16 0) k) k (standing f))
+          (sym (at_first c.callers k at_rest))
+          (subst (λ (g : ℕ). Shows 0 g k Resting) (sym (at_first 16 k 0))
+          (λ e. absurd (omega arith), omega arith, λ e. refl, λ e. absurd (omega arith)));
       served = nothing_served _ _;
       free = λ e. refl;
       phase = refl;
       low = omega arith;
       cycle = λ a b. absurd (omega arith);
       stopped = λ e. absurd (omega arith);
-      attends = λ k a. let e : false ≡ true = ap (λ (x : Marker). is_attending x.presence) (sym (at_first 8 k outside)) ∙ a in cc;
+      attends = λ k a. let e : false ≡ true = ap (λ (x : Marker). is_attending x.presence) (sym (at_first 8 k outside))
+          ∙ a in cc;
       idle = λ k a. record {
         scan = ap (λ (x : Marker). x.scan) (at_first 8 k outside);
         hand = ap (λ (x : Marker). x.hand) (at_first 8 k outside);

@@ -34,7 +34,8 @@ use Rattle.mk_protocol.proofs.Actors.{Actor, InCallOf, AsMarker, CallTakes, Host
 abbrev pub answers_full : Option Answer → Bool
 answers_full a = is_some_and is_full_answer a
 
-either_answer : (b : Bool) (p q : Progress) → answers_full p.answer ≡ false → answers_full q.answer ≡ false → answers_full (if b then p else q).answer ≡ false
+either_answer : (b : Bool) (p q : Progress) → answers_full p.answer ≡ false → answers_full q.answer ≡ false
+    → answers_full (if b then p else q).answer ≡ false
 either_answer true p q hp hq = hp
 either_answer false p q hp hq = hq
 
@@ -57,11 +58,14 @@ read_answer : (f : Flight) (o : Op) (n : ℕ) → answers_full (progress_read f 
 read_answer f (op.GetPtr d q i) n = refl
 read_answer f _ n = refl
 
-call_answer : (c : Config) (m : Moment) (f : Flight) (n : ℕ) (x : Step) → group_of x ≡ group.Callers → answers_full (progress c m f n x).answer ≡ false
-call_answer c m f n (step.Enter o) g = either_answer (n == 0) (record { flight = begun o; answer = None }) (still f) refl refl
+call_answer : (c : Config) (m : Moment) (f : Flight) (n : ℕ) (x : Step) → group_of x ≡ group.Callers
+    → answers_full (progress c m f n x).answer ≡ false
+call_answer c m f n (step.Enter o) g = either_answer (n == 0) (record { flight = begun o; answer = None })
+    (still f) refl refl
 call_answer c m f n step.Leave g = refl
 call_answer c m f n step.Reg g = reg_answer f f.stage n
-call_answer c m f n step.Probe g = either_answer (is_unmapped_header (header_of n)) (refused f answer.Fault) (onward f None) refl refl
+call_answer c m f n step.Probe g = either_answer (is_unmapped_header (header_of n)) (refused f answer.Fault)
+    (onward f None) refl refl
 call_answer c m f n step.Read g = read_answer f f.op n
 call_answer c m f n step.Write g = refl
 call_answer c m f n step.Cas g = refl
@@ -79,12 +83,17 @@ marker_no_end step.End g = cc
 marker_no_end _ g = refl
 
 -- one event of a seat that doesn't hold the turn
-pub counts_nothing : (c : Config) (m : Moment) (seat : Seat) (x : Step) → (HoldsTurn c (view_of m) seat → ⊥) → Actor c m seat x
+pub counts_nothing : (c : Config) (m : Moment) (seat : Seat) (x : Step) → (HoldsTurn c (view_of m) seat → ⊥)
+    → Actor c m seat x
     → (is_end x ≡ false) × (answers_full (answer_decided c m (record { seat = seat; step = x })) ≡ false)
-counts_nothing c m seat x out (InCallOf k _ lt g) = (call_no_end x g, call_answer c m (flight_of m (Caller k)) (found c m (record { seat = Caller k; step = x })) x g)
+counts_nothing c m seat x out (InCallOf k _ lt g) =
+    (call_no_end x g, call_answer c m (flight_of m (Caller k)) (found c m (record { seat = Caller k; step = x })) x g)
 counts_nothing c m seat x out (AsMarker k _ lt g) = (marker_no_end x g, refl)
-counts_nothing c m seat x out (CallTakes k o lt idle is) =
-    (refl, either_answer (m.words.turn == 0) (record { flight = begun o; answer = None }) (still (flight_of m (Caller k))) refl refl)
+counts_nothing c m seat x out (CallTakes k o lt idle is) = (
+  refl,
+  either_answer (m.words.turn == 0) (record { flight = begun o; answer = None })
+      (still (flight_of m (Caller k))) refl refl,
+)
 counts_nothing c m seat x out (HostTakes free) = (refl, refl)
 counts_nothing c m seat x out (AsHolder _ _ t n) = absurd (out t)
 

@@ -14,7 +14,8 @@ pub record PhaseKept (c : Config) (v : View) (p : ℕ) : Type 0 where
   pub stopped : p % 8 ≡ 3 → (k : ℕ) → k < c.callers → v.turn ≢ 1 + k → gate_in v k ≡ 2
   pub attends : (k : ℕ) → is_attending (marker_in v k).presence ≡ true → (p % 8 ≡ 1) ⊎ (p % 8 ≡ 2)
 
-pub phase_kept : (c : Config) (v : View) (seat : Seat) (p : ℕ) → Orderly c v → HoldsTurn c v seat → PhaseStep c v seat p → PhaseKept c v p
+pub phase_kept : (c : Config) (v : View) (seat : Seat) (p : ℕ) → Orderly c v → HoldsTurn c v seat → PhaseStep c v seat p
+    → PhaseKept c v p
 phase_kept c v seat p h t (Begins z) =
     let n = up_one v.phase (count_in v.markers) (v.phase % 8) h.phase h.low (few_in c v h) (omega arith) in
     record {

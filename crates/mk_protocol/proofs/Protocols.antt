@@ -1,5 +1,6 @@
 -- The protocol holds behind every enabled list.
-use Rattle.std.proofs.Common.{◌≡◌, ◌≢◌, ◌↔◌, ℕ, ◌+◌, ◌-◌, ◌<◌, ◌≤◌, Bool, true, false, refl, sym, ◌∙◌, ap, inl, inr, arith}
+use Rattle.std.proofs.Common.{◌≡◌, ◌≢◌, ◌↔◌, ℕ, ◌+◌, ◌-◌, ◌<◌, ◌≤◌, Bool, true, false, refl, sym, ◌∙◌, ap, inl, inr}
+use Rattle.std.proofs.Common.{arith}
 use Rattle.std.specs.Prelude.{Option, is_some}
 use Rattle.std.proofs.lemmas.Bool.{cases_lt}
 use Rattle.std.proofs.lemmas.List.{get_or_past}
@@ -12,7 +13,8 @@ use Rattle.mk_core.specs.NewPlaces.{is_undecided_new}
 use Rattle.mk_core.specs.Moments.{Moment, flight_of}
 use Rattle.mk_core.specs.History.{left}
 use Rattle.mk_protocol.specs.Protocol.{is_decided_new, is_decided_free, SomeCaller, Protocol, ListsKeepTheProtocol}
-use Rattle.mk_protocol.proofs.Standings.{standing, is_standing_in_call, shows_turn, shows_gate, in_call_told, in_turn_told, stage_told}
+use Rattle.mk_protocol.proofs.Standings.{standing, is_standing_in_call, shows_turn, shows_gate, in_call_told}
+use Rattle.mk_protocol.proofs.Standings.{in_turn_told, stage_told}
 use Rattle.mk_protocol.proofs.Views.{view_of, flight_in, gate_in}
 use Rattle.mk_protocol.proofs.Orderly.{Orderly}
 use Rattle.mk_protocol.proofs.OrderlyLists.{not_astray}
@@ -59,11 +61,13 @@ told c m o operands =
       free = o.free;
       placed = λ e. some_caller c m is_undecided_new o refl (o.served.placed e);
       granted = λ e. some_caller c m is_decided_new o refl (o.served.granted e);
-      freed = λ run e. some_caller c m is_decided_free o refl (o.served.freed (ap (λ (x : Option RunPages). is_some x) e));
+      freed = λ run e. some_caller c m is_decided_free o refl
+          (o.served.freed (ap (λ (x : Option RunPages). is_some x) e));
     }
   where
     gates : (k : ℕ) → k < c.callers
-        → (gate_in (view_of m) k ≤ 2) × ((gate_in (view_of m) k ≡ 1) ↔ (is_standing_in_call (standing (flight_of m (Caller k))) ≡ true))
+        → (gate_in (view_of m) k ≤ 2)
+        × ((gate_in (view_of m) k ≡ 1) ↔ (is_standing_in_call (standing (flight_of m (Caller k))) ≡ true))
         × (gate_in (view_of m) k ≡ 2 → (m.words.turn ≢ 0) × (m.words.turn ≢ 1 + k))
     gates k lt = shows_gate m.words.turn (gate_in (view_of m) k) k (standing (flight_of m (Caller k))) (o.each k lt)
 

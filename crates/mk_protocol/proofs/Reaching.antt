@@ -82,18 +82,23 @@ tallied pages _ = tt
 -- the word that a call accesses
 met : (c : Config) (f : Flight) → is_word_met c f ≡ true → (word_met f < 64 * c.pages) × (page_met f < c.pages)
 met c f h =
-    let lt = ltb-true (word_met f) (64 * c.pages) (and_parts (nat_le 65536 f.q) (nat_lt (word_met f) (64 * c.pages)) h).1 in
+    let lt = ltb-true (word_met f) (64 * c.pages)
+    (and_parts (nat_le 65536 f.q) (nat_lt (word_met f) (64 * c.pages)) h).1 in
     (lt, omega arith)
 
-other_gate : (c : Config) (seat : Seat) (j : ℕ) → c.callers ≤ 16 → (nat_lt j c.callers && not (is_number_of seat j)) ≡ true → j < 16
-other_gate c seat j small h = let lt = ltb-true j c.callers (and_parts (nat_lt j c.callers) (not (is_number_of seat j)) h).0 in omega arith
+other_gate : (c : Config) (seat : Seat) (j : ℕ) → c.callers ≤ 16
+    → (nat_lt j c.callers && not (is_number_of seat j)) ≡ true → j < 16
+other_gate c seat j small h = let lt =
+    ltb-true j c.callers (and_parts (nat_lt j c.callers) (not (is_number_of seat j)) h).0 in omega arith
 
 reaches : (c : Config) (m : Moment) (seat : Seat) (x : Step) → Known c m → InHeap c m → Meets c m seat x
     → IsOfTable c.pages (reached c m (record { seat = seat; step = x }))
 reaches c m seat (step.Enter o) known heap h = number_small c seat known.small h.seat
 reaches c m seat step.Leave known heap h = number_small c seat known.small h.seat
-reaches c m seat step.Reg known heap h =
-    (number_small c seat known.small h.seat, register_small (flight_of m seat) (flight_of m seat).stage (seat_operands c m seat known))
+reaches c m seat step.Reg known heap h = (
+  number_small c seat known.small h.seat,
+  register_small (flight_of m seat) (flight_of m seat).stage (seat_operands c m seat known),
+)
 reaches c m seat step.Probe known heap h = (met c (flight_of m seat) h.range).1
 reaches c m seat step.Read known heap h = (met c (flight_of m seat) h.range).0
 reaches c m seat step.Write known heap h = (met c (flight_of m seat) h.range).0
@@ -116,19 +121,23 @@ reaches c m seat (step.Undirty p) known heap h = ltb-true p c.pages h.range
 reaches c m seat (step.Black p v) known heap h = ltb-true p c.pages h.range
 reaches c m seat (step.Unblack p) known heap h = ltb-true p c.pages h.range
 reaches c m seat (step.Mlook w) known heap h = looked_at c w known.small h.range
-reaches c m seat (step.Claim p i) known heap h = ltb-true p c.pages (and_parts (nat_lt p c.pages) (nat_lt i 32) h.range).0
+reaches c m seat (step.Claim p i) known heap h =
+    ltb-true p c.pages (and_parts (nat_lt p c.pages) (nat_lt i 32) h.range).0
 reaches c m seat step.Mload known heap h =
-    next_in_heap c (marker_at m seat).scan (and_parts (has_next_word (marker_at m seat).scan) (is_none (marker_at m seat).hand) h.marker).0
+    next_in_heap c (marker_at m seat).scan
+    (and_parts (has_next_word (marker_at m seat).scan) (is_none (marker_at m seat).hand) h.marker).0
     (seat_marker c m seat heap).end
 reaches c m seat step.Mmark known heap h = seen_page_in_heap c (marker_at m seat).seen (marker_at m seat).hand h.marker
 reaches c m seat step.Mblack known heap h =
-    scan_page_in_heap c (marker_at m seat).scan (and_parts (is_scanned (marker_at m seat).scan) (is_none (marker_at m seat).hand) h.marker).0
+    scan_page_in_heap c (marker_at m seat).scan
+    (and_parts (is_scanned (marker_at m seat).scan) (is_none (marker_at m seat).hand) h.marker).0
     (seat_marker c m seat heap).page
 reaches c m seat _ known heap h = tt
 
 pub events_reach_the_table : EventsReachTheTable
 events_reach_the_table c es e limits on now =
-    reaches c (left c es).now e.seat e.step (known_left c es limits on) (in_heap_left c es limits on) (enabled_meets c (left c es).now e now)
+    reaches c (left c es).now e.seat e.step (known_left c es limits on) (in_heap_left c es limits on)
+    (enabled_meets c (left c es).now e now)
 
 -- the access is the same where the call, the marker and a New's place are
 
@@ -136,7 +145,8 @@ abbrev is_grant : Step → Bool
 is_grant step.Grant = true
 is_grant _ = false
 
-placing_apart : (c : Config) (n : ℕ) (f : Flight) (p q : Placing) (x : MarkerState) (s : Step) → is_grant s ≡ false → access_by c n f p x s ≡ access_by c n f q x s
+placing_apart : (c : Config) (n : ℕ) (f : Flight) (p q : Placing) (x : MarkerState) (s : Step) → is_grant s ≡ false
+    → access_by c n f p x s ≡ access_by c n f q x s
 placing_apart c n f p q x step.Grant g = cc
 placing_apart c n f p q x _ g = refl
 
@@ -144,10 +154,14 @@ granter_holds : (c : Config) (m : Moment) (seat : Seat) → Meets c m seat step.
 granter_holds c m seat h =
     let new = grants_new c m seat h in
     let own = new_holds c m seat step.Grant h new in
-    subst (λ (s : Seat). Holds c m s) (sym own.2)
-    (own.1, new_in_turn (flight_of m (Caller own.0)).stage (flight_of m (Caller own.0)).op (subst (λ (s : Seat). is_undecided_new (flight_of m s) ≡ true) own.2 new))
+    subst (λ (s : Seat). Holds c m s) (sym own.2) (
+      own.1,
+      new_in_turn (flight_of m (Caller own.0)).stage (flight_of m (Caller own.0)).op
+          (subst (λ (s : Seat). is_undecided_new (flight_of m s) ≡ true) own.2 new),
+    )
 
-same_access : (c : Config) (m n : Moment) (seat : Seat) (x : Step) → flight_of n seat ≡ flight_of m seat → marker_at n seat ≡ marker_at m seat
+same_access : (c : Config) (m n : Moment) (seat : Seat) (x : Step) → flight_of n seat ≡ flight_of m seat
+    → marker_at n seat ≡ marker_at m seat
     → (is_grant x ≡ true → n.seats.holding ≡ m.seats.holding)
     → access c n (record { seat = seat; step = x }) ≡ access c m (record { seat = seat; step = x })
 same_access c m n seat x flight marker holding =
@@ -158,15 +172,19 @@ same_access c m n seat x flight marker holding =
     by : (b : Bool) → is_grant x ≡ b
         → access_by c (holder_number c seat) (flight_of m seat) n.seats.holding.placing (marker_at m seat) x
         ≡ access_by c (holder_number c seat) (flight_of m seat) m.seats.holding.placing (marker_at m seat) x
-    by true g = ap (λ (h : Holding). access_by c (holder_number c seat) (flight_of m seat) h.placing (marker_at m seat) x) (holding g)
-    by false g = placing_apart c (holder_number c seat) (flight_of m seat) n.seats.holding.placing m.seats.holding.placing (marker_at m seat) x g
+    by true g = ap (λ (h : Holding). access_by c (holder_number c seat) (flight_of m seat) h.placing
+        (marker_at m seat) x) (holding g)
+    by false g = placing_apart c (holder_number c seat) (flight_of m seat) n.seats.holding.placing
+        m.seats.holding.placing (marker_at m seat) x g
 
 pub others_leave_accesses : OthersLeaveAccesses
 others_leave_accesses c es more e limits on others now =
     let l = (others_leave c es more e.seat limits on others).own in
     record {
-      word = ap (λ (f : Flight). word_reached c (caller_number e.seat) f (marker_at (left c (es ++ more)).now e.seat) e.step) l.flight
-          ∙ ap (λ (y : MarkerState). word_reached c (caller_number e.seat) (flight_of (left c es).now e.seat) y e.step) l.marker;
+      word = ap (λ (f : Flight). word_reached c (caller_number e.seat) f (marker_at (left c (es ++ more)).now e.seat)
+          e.step) l.flight
+          ∙ ap (λ (y : MarkerState). word_reached c (caller_number e.seat) (flight_of (left c es).now e.seat) y e.step)
+          l.marker;
       access =
           same_access c (left c es).now (left c (es ++ more)).now e.seat e.step l.flight l.marker
           (λ g. (l.holding (granting e.step g (enabled_meets c (left c es).now e now))).1);

@@ -1,5 +1,6 @@
 -- What a look at the turn, at a gate and at the phase tells.
-use Rattle.std.proofs.Common.{◌≡◌, ℕ, ◌-◌, ◌/◌, ◌<◌, ◌≤◌, true, false, List, length, refl, sym, ◌∙◌, ap, inl, inr, arith}
+use Rattle.std.proofs.Common.{◌≡◌, ℕ, ◌-◌, ◌/◌, ◌<◌, ◌≤◌, true, false, List, length, refl, sym, ◌∙◌, ap, inl, inr}
+use Rattle.std.proofs.Common.{arith}
 use Rattle.std.specs.Prelude.{not}
 use Rattle.std.proofs.lemmas.Bool.{cases_Bool, cases_eq, cases_lt}
 use Rattle.std.proofs.lemmas.List.{get_or_past}
@@ -46,7 +47,8 @@ attending_in _ h = cc
 pub in_counts : (c : Config) (m : Moment) (k : ℕ) → Protocol c m → is_in (marker_of m k) ≡ true → 1 ≤ m.words.phase / 8
 in_counts c m k p is = elim (cases_lt k (length m.seats.markers)) [
   | inl lt ↦ let one = count_in-at m.seats.markers k lt is in let high = p.high in omega arith
-  | inr past ↦ let f : false ≡ true = ap (λ (x : MarkerState). is_in x) (sym (get_or_past m.seats.markers k outside past)) ∙ is in cc
+  | inr past ↦ let f : false ≡ true =
+      ap (λ (x : MarkerState). is_in x) (sym (get_or_past m.seats.markers k outside past)) ∙ is in cc
 ]
 
 phase_tells : (c : Config) (m : Moment) → Protocol c m → PhaseTells c m
@@ -54,7 +56,8 @@ phase_tells c m p =
     record {
       low = p.low;
       high = p.high;
-      none_in = λ z k. none k (λ a. let one = in_counts c m k p (attending_in (marker_of m k).presence a) in absurd (omega arith));
+      none_in = λ z k. none k
+          (λ a. let one = in_counts c m k p (attending_in (marker_of m k).presence a) in absurd (omega arith));
       attends = λ n1 n2 k. none k (λ a. elim (p.attends k a) [ inl e ↦ n1 e | inr e ↦ n2 e ]);
       under_the_turn = p.cycle;
       stopped = p.stopped;
@@ -64,7 +67,12 @@ phase_tells c m p =
     none k no_one = elim (cases_Bool (is_attending (marker_of m k).presence)) [ inl a ↦ absurd (no_one a) | inr a ↦ a ]
 
 gate_tells : (c : Config) (es : List Event) (k : ℕ) → Protocol c (left c es).now → k < c.callers → GateTells c es k
-gate_tells c es k p lt = record { least = p.gate k lt; in_call = p.in_call k lt; held = gates_tell_holds c es k; by_another = p.held k lt }
+gate_tells c es k p lt = record {
+  least = p.gate k lt;
+  in_call = p.in_call k lt;
+  held = gates_tell_holds c es k;
+  by_another = p.held k lt;
+}
 
 pub words_tell : WordsTell
 words_tell c es limits on =

@@ -27,7 +27,8 @@ pub data RegisterStep (w : Words) : Seat → List ℕ → Type 0 where
   KeepsRegisters : {seat : Seat} → RegisterStep w seat w.registers
   SetsOwn : {k : ℕ} (r v : ℕ) → r < 8 → RegisterStep w (Caller k) (slice_set w.registers (8 * k + r) v)
 
-tally_registers : (w : Words) (n : Tally) (v : ℕ) → (accessed w (Named (tally_word n)) (Store v)).registers ≡ w.registers
+tally_registers : (w : Words) (n : Tally) (v : ℕ)
+    → (accessed w (Named (tally_word n)) (Store v)).registers ≡ w.registers
 tally_registers w tally.Held v = refl
 tally_registers w _ v = refl
 
@@ -37,20 +38,26 @@ reg_registers w k f stage.Store o = SetsOwn (register_met f stage.Store) _ (regi
 reg_registers w k f stage.Put o = SetsOwn (register_met f stage.Put) _ (register_small f stage.Put o)
 reg_registers w k f _ o = KeepsRegisters
 
-pub register_step : (c : Config) (m : Moment) (seat : Seat) (x : Step) → HaveOperands c m.seats.flights → Meets c m seat x
+pub register_step : (c : Config) (m : Moment) (seat : Seat) (x : Step) → HaveOperands c m.seats.flights
+    → Meets c m seat x
     → RegisterStep m.words seat (Behind c m seat x).words.registers
 register_step c m (Caller k) step.Reg ops h =
-    reg_registers m.words k (flight_of m (Caller k)) (flight_of m (Caller k)).stage (operands_of c (flight_of m (Caller k)).op (ops k))
+    reg_registers m.words k (flight_of m (Caller k)) (flight_of m (Caller k)).stage
+    (operands_of c (flight_of m (Caller k)).op (ops k))
 register_step c m (Marker k) step.Reg ops h = let kind = h.kind in cc
 register_step c m Host step.Reg ops h = let kind = h.kind in cc
-register_step c m (Caller k) step.Grant ops h = SetsOwn (d_of (flight_of m (Caller k)).op) _ (operands_of c (flight_of m (Caller k)).op (ops k)).d
+register_step c m (Caller k) step.Grant ops h =
+    SetsOwn (d_of (flight_of m (Caller k)).op) _ (operands_of c (flight_of m (Caller k)).op (ops k)).d
 register_step c m (Marker k) step.Grant ops h = let kind = h.kind in cc
 register_step c m Host step.Grant ops h = let new = grants_new c m Host h in cc
-register_step c m seat (step.Tally n v) ops h = subst (λ (rs : List ℕ). RegisterStep m.words seat rs) (sym (tally_registers m.words n v)) KeepsRegisters
+register_step c m seat (step.Tally n v) ops h =
+    subst (λ (rs : List ℕ). RegisterStep m.words seat rs) (sym (tally_registers m.words n v)) KeepsRegisters
 register_step c m seat _ ops h = KeepsRegisters
 
-pub others_registers : (w : Words) (seat : Seat) (rs : List ℕ) (k r : ℕ) → RegisterStep w seat rs → seat ≢ Caller k → r < 8
+pub others_registers : (w : Words) (seat : Seat) (rs : List ℕ) (k r : ℕ) → RegisterStep w seat rs → seat ≢ Caller k
+    → r < 8
     → slice_index rs (8 * k + r) ≡ slice_index w.registers (8 * k + r)
 others_registers w seat rs k r KeepsRegisters ne lt = refl
 others_registers w seat rs k r (SetsOwn {k = j} s v ls) ne lt =
-    get_or-set_other w.registers (8 * j + s) (8 * k + r) v 0 (λ e. ne (ap (λ i. Caller i) (let same : j ≡ k = omega arith in same)))
+    get_or-set_other w.registers (8 * j + s) (8 * k + r) v 0
+    (λ e. ne (ap (λ i. Caller i) (let same : j ≡ k = omega arith in same)))

@@ -43,10 +43,31 @@ tally_keeps w tally.Held v = record { turn = refl; phase = refl; gates = refl }
 tally_keeps w _ v = record { turn = refl; phase = refl; gates = refl }
 
 -- a move, where the words of the protocol are the same
-pub with_words : (c : Config) (v : View) (seat : Seat) (w x : Words) (fs : List Flight) (h : Holding) (ms : List MarkerState) → Keeps w x
-    → Move c v seat (record { turn = w.turn; phase = w.phase; gates = w.gates; flights = fs; holding = h; markers = ms })
-    → Move c v seat (record { turn = x.turn; phase = x.phase; gates = x.gates; flights = fs; holding = h; markers = ms })
+pub with_words : (c : Config) (v : View) (seat : Seat) (w x : Words) (fs : List Flight) (h : Holding)
+    (ms : List MarkerState) → Keeps w x
+    → Move c v seat (record {
+      turn = w.turn;
+      phase = w.phase;
+      gates = w.gates;
+      flights = fs;
+      holding = h;
+      markers = ms;
+    })
+    → Move c v seat (record {
+      turn = x.turn;
+      phase = x.phase;
+      gates = x.gates;
+      flights = fs;
+      holding = h;
+      markers = ms;
+    })
 with_words c v seat w x fs h ms same move =
-    subst (λ t. Move c v seat (record { turn = t; phase = x.phase; gates = x.gates; flights = fs; holding = h; markers = ms })) (sym same.turn)
-    (subst (λ p. Move c v seat (record { turn = w.turn; phase = p; gates = x.gates; flights = fs; holding = h; markers = ms })) (sym same.phase)
-    (subst (λ (gs : List ℕ). Move c v seat (record { turn = w.turn; phase = w.phase; gates = gs; flights = fs; holding = h; markers = ms })) (sym same.gates) move))
+    subst (λ t. Move c v seat
+    (record { turn = t; phase = x.phase; gates = x.gates; flights = fs; holding = h; markers = ms }))
+    (sym same.turn)
+    (subst (λ p. Move c v seat
+    (record { turn = w.turn; phase = p; gates = x.gates; flights = fs; holding = h; markers = ms }))
+    (sym same.phase)
+    (subst (λ (gs : List ℕ). Move c v seat
+    (record { turn = w.turn; phase = w.phase; gates = gs; flights = fs; holding = h; markers = ms }))
+    (sym same.gates) move))

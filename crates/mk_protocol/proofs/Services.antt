@@ -28,14 +28,17 @@ Served f h = Serves f.stage f.op h.placing h.freed
 pub data Service (f : Flight) (h : Holding) : Flight → Holding → Type 0 where
   Goes : (g : Holding) → g.placing ≡ h.placing → g.freed ≡ h.freed → Service f h f g
   Loads : (g : Flight) → f.stage ≡ stage.LoadP → standing g ≡ UnderTurn → is_undecided_new g ≡ false → Service f h g h
-  Places : (g : Holding) → is_undecided_new f ≡ true → (is_granted g.placing ≡ true → is_granted h.placing ≡ true) → g.freed ≡ h.freed → Service f h f g
+  Places : (g : Holding) → is_undecided_new f ≡ true → (is_granted g.placing ≡ true → is_granted h.placing ≡ true)
+      → g.freed ≡ h.freed → Service f h f g
   Fills : is_undecided_new f ≡ true → h.placing ≡ Unplaced → Service f h (record f { stage = stage.Give }) h
   Grants : is_undecided_new f ≡ true → Service f h (record f { stage = stage.Give }) (record h { placing = Granted })
-  Frees : (g : Holding) → is_undecided_free f ≡ true → g.placing ≡ h.placing → Service f h (record f { stage = stage.Give }) g
+  Frees : (g : Holding) → is_undecided_free f ≡ true → g.placing ≡ h.placing
+      → Service f h (record f { stage = stage.Give }) g
 
 -- the call stays under the turn, and a seat without a call has none
 
-pub service_stands : (f : Flight) (h : Holding) (g : Flight) (i : Holding) → standing f ≡ UnderTurn → Service f h g i → standing g ≡ UnderTurn
+pub service_stands : (f : Flight) (h : Holding) (g : Flight) (i : Holding) → standing f ≡ UnderTurn → Service f h g i
+    → standing g ≡ UnderTurn
 service_stands f h g i is (Goes _ p q) = is
 service_stands f h g i is (Loads _ at stands no_new) = stands
 service_stands f h g i is (Places _ new p q) = is
@@ -43,13 +46,17 @@ service_stands f h g i is (Fills new p) = gives_stand f.stage f.op is
 service_stands f h g i is (Grants new) = gives_stand f.stage f.op is
 service_stands f h g i is (Frees _ free p) = gives_stand f.stage f.op is
 
-pub service_rests : (f : Flight) (h : Holding) (g : Flight) (i : Holding) → f.stage ≡ stage.Idle → Service f h g i → g ≡ f
+pub service_rests : (f : Flight) (h : Holding) (g : Flight) (i : Holding) → f.stage ≡ stage.Idle → Service f h g i
+    → g ≡ f
 service_rests f h g i idle (Goes _ p q) = refl
 service_rests f h g i idle (Loads _ at stands no_new) = let e : stage.Idle ≡ stage.LoadP = sym idle ∙ at in cc
 service_rests f h g i idle (Places _ new p q) = refl
-service_rests f h g i idle (Fills new p) = let e : false ≡ true = ap (λ (s : Stage). is_new_at s f.op) (sym idle) ∙ new in cc
-service_rests f h g i idle (Grants new) = let e : false ≡ true = ap (λ (s : Stage). is_new_at s f.op) (sym idle) ∙ new in cc
-service_rests f h g i idle (Frees _ free p) = let e : false ≡ true = ap (λ (s : Stage). is_free_at s f.op) (sym idle) ∙ free in cc
+service_rests f h g i idle (Fills new p) = let e : false ≡ true = ap (λ (s : Stage). is_new_at s f.op) (sym idle)
+    ∙ new in cc
+service_rests f h g i idle (Grants new) = let e : false ≡ true = ap (λ (s : Stage). is_new_at s f.op) (sym idle)
+    ∙ new in cc
+service_rests f h g i idle (Frees _ free p) = let e : false ≡ true = ap (λ (s : Stage). is_free_at s f.op) (sym idle)
+    ∙ free in cc
 
 -- what the stages exclude
 
@@ -61,21 +68,28 @@ free_decided : (s : Stage) (o : Op) → is_free_at s o ≡ true → is_decided_f
 free_decided stage.Turn (op.Free p) h = refl
 free_decided _ _ h = cc
 
-new_gives_none : (s : Stage) (o : Op) → is_new_at s o ≡ true → (is_decided_new_at s o ≡ false) × (is_decided_free_at s o ≡ false)
+new_gives_none : (s : Stage) (o : Op) → is_new_at s o ≡ true
+    → (is_decided_new_at s o ≡ false) × (is_decided_free_at s o ≡ false)
 new_gives_none stage.Turn (op.New d ty full) h = (refl, refl)
 new_gives_none _ _ h = cc
 
-free_gives_none : (s : Stage) (o : Op) → is_free_at s o ≡ true → (is_new_at s o ≡ false) × (is_decided_new_at s o ≡ false)
+free_gives_none : (s : Stage) (o : Op) → is_free_at s o ≡ true
+    → (is_new_at s o ≡ false) × (is_decided_new_at s o ≡ false)
 free_gives_none stage.Turn (op.Free p) h = (refl, refl)
 free_gives_none _ _ h = cc
 
-load_gives_none : (s : Stage) (o : Op) → s ≡ stage.LoadP → (is_new_at s o ≡ false) × (is_decided_new_at s o ≡ false) × (is_decided_free_at s o ≡ false)
+load_gives_none : (s : Stage) (o : Op) → s ≡ stage.LoadP
+    → (is_new_at s o ≡ false) × (is_decided_new_at s o ≡ false) × (is_decided_free_at s o ≡ false)
 load_gives_none stage.LoadP o h = (refl, refl, refl)
 load_gives_none _ o h = cc
 
 pub served_on : (f : Flight) (h : Holding) (g : Flight) (i : Holding) → Served f h → Service f h g i → Served g i
 served_on f h g i s (Goes _ p q) =
-    record { placed = λ e. s.placed (ap has_place (sym p) ∙ e); granted = λ e. s.granted (ap is_granted (sym p) ∙ e); freed = λ e. s.freed (ap is_some (sym q) ∙ e) }
+    record {
+      placed = λ e. s.placed (ap has_place (sym p) ∙ e);
+      granted = λ e. s.granted (ap is_granted (sym p) ∙ e);
+      freed = λ e. s.freed (ap is_some (sym q) ∙ e);
+    }
 served_on f h g i s (Loads _ at stands no_new) =
     let none = load_gives_none f.stage f.op at in
     record {
@@ -94,7 +108,11 @@ served_on f h g i s (Fills new p) =
     }
 served_on f h g i s (Grants new) =
     let none = new_gives_none f.stage f.op new in
-    record { placed = λ e. cc; granted = λ e. new_decided f.stage f.op new; freed = λ e. let x : true ≡ false = sym (s.freed e) ∙ none.1 in cc }
+    record {
+      placed = λ e. cc;
+      granted = λ e. new_decided f.stage f.op new;
+      freed = λ e. let x : true ≡ false = sym (s.freed e) ∙ none.1 in cc;
+    }
 served_on f h g i s (Frees _ free p) =
     let none = free_gives_none f.stage f.op free in
     record {

@@ -7,7 +7,8 @@ use Rattle.mk_core.specs.declared.seats.Stage.{Stage}
 use Rattle.mk_core.specs.declared.seats.Stage.TheVariants as stage
 use Rattle.mk_core.specs.declared.seats.Flight.{Flight}
 use Rattle.mk_core.specs.declared.seats.Progress.{Progress}
-use Rattle.mk_core.specs.Calls.{steps_of, stage_behind, is_under_turn, stage_refused, begun, progress_reg, progress_read}
+use Rattle.mk_core.specs.Calls.{steps_of, stage_behind, is_under_turn, stage_refused, begun, progress_reg}
+use Rattle.mk_core.specs.Calls.{progress_read}
 use Rattle.mk_core.specs.NewPlaces.{is_new_at, is_undecided_new}
 use Rattle.mk_protocol.proofs.Standings.{Standing, Resting, InCall, UnderTurn, standing_at, standing, is_astray}
 
@@ -41,12 +42,14 @@ goes_on _ = true
 
 -- what a stage says of the standing, where the call isn't astray
 
-pub calls_stand : (s : Stage) (o : Op) → is_call_stage s ≡ true → is_astray (standing_at s o) ≡ false → standing_at s o ≡ InCall
+pub calls_stand : (s : Stage) (o : Op) → is_call_stage s ≡ true → is_astray (standing_at s o) ≡ false
+    → standing_at s o ≡ InCall
 calls_stand stage.Idle _ c h = cc
 calls_stand _ (op.Free p) c h = cc
 calls_stand _ _ c h = cc
 
-pub turns_stand : (s : Stage) (o : Op) → is_turn_stage s ≡ true → is_astray (standing_at s o) ≡ false → standing_at s o ≡ UnderTurn
+pub turns_stand : (s : Stage) (o : Op) → is_turn_stage s ≡ true → is_astray (standing_at s o) ≡ false
+    → standing_at s o ≡ UnderTurn
 turns_stand stage.Idle _ c h = cc
 turns_stand _ (op.Free p) c h = cc
 turns_stand _ _ c h = cc
@@ -71,7 +74,8 @@ loads_under_turn _ _ c h = cc
 
 -- what follows a stage of a call stands in the call, before its end
 
-pub onward_stands : (s : Stage) (o : Op) → standing_at s o ≡ InCall → goes_on s ≡ true → standing_at (stage_behind s (steps_of o)) o ≡ InCall
+pub onward_stands : (s : Stage) (o : Op) → standing_at s o ≡ InCall → goes_on s ≡ true
+    → standing_at (stage_behind s (steps_of o)) o ≡ InCall
 onward_stands stage.Idle _ h g = cc
 onward_stands _ (op.Free p) h g = cc
 onward_stands _ _ h g = cc
@@ -89,13 +93,15 @@ pub begun_under_turn : (o : Op) → is_under_turn o ≡ true → standing (begun
 begun_under_turn (op.New d ty full) h = cc
 begun_under_turn _ h = cc
 
-pub read_stands : (f : Flight) (o : Op) (x : ℕ) → standing (progress_read f o x).flight ≡ standing_at (stage_behind f.stage (steps_of f.op)) f.op
+pub read_stands : (f : Flight) (o : Op) (x : ℕ)
+    → standing (progress_read f o x).flight ≡ standing_at (stage_behind f.stage (steps_of f.op)) f.op
 read_stands f (op.GetPtr d q i) x = refl
 read_stands f _ x = refl
 
 -- `reg` leaves a call where it stands
 
-pub either_stands : (b : Bool) (p q : Progress) (t : Standing) → standing p.flight ≡ t → standing q.flight ≡ t → standing ((if b then p else q).flight) ≡ t
+pub either_stands : (b : Bool) (p q : Progress) (t : Standing) → standing p.flight ≡ t → standing q.flight ≡ t
+    → standing ((if b then p else q).flight) ≡ t
 either_stands true p q t hp hq = hp
 either_stands false p q t hp hq = hq
 
@@ -122,7 +128,8 @@ either_no_new : (b : Bool) (p q : Progress) → is_undecided_new p.flight ≡ fa
 either_no_new true p q hp hq = hp
 either_no_new false p q hp hq = hq
 
-pub reg_no_new : (s : Stage) (o : Op) (q p r l x : ℕ) → is_reg_stage s ≡ true → standing_at s o ≡ UnderTurn → is_undecided_new (behind_reg s o q p r l x) ≡ false
+pub reg_no_new : (s : Stage) (o : Op) (q p r l x : ℕ) → is_reg_stage s ≡ true → standing_at s o ≡ UnderTurn
+    → is_undecided_new (behind_reg s o q p r l x) ≡ false
 reg_no_new stage.LoadP (op.Free p') q p r l x c h = either_no_new (x == 0) _ _ refl refl
 reg_no_new _ (op.Free p') q p r l x c h = cc
 reg_no_new stage.Idle _ q p r l x c h = cc

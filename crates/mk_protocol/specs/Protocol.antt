@@ -1,5 +1,6 @@
 -- Who holds what: the turn, the gates, the phase and the markers, behind every enabled list of events.
-use Rattle.std.specs.Prelude.{◌≡◌, ◌≢◌, ◌⊎◌, ◌↔◌, ℕ, ◌+◌, ◌/◌, ◌<◌, ◌≤◌, Bool, true, false, List, length, slice_index, Some, None, count_by}
+use Rattle.std.specs.Prelude.{◌≡◌, ◌≢◌, ◌⊎◌, ◌↔◌, ℕ, ◌+◌, ◌/◌, ◌<◌, ◌≤◌, Bool, true, false, List, length, slice_index}
+use Rattle.std.specs.Prelude.{Some, None, count_by}
 use Rattle.std.specs.List.{list_any}
 use Rattle.mk_never.specs.declared.operations.Op.{Op}
 use Rattle.mk_never.specs.declared.operations.Op.TheVariants as op
@@ -76,7 +77,8 @@ pub record Protocol (c : Config) (m : Moment) : Type 0 where
   pub turn : m.words.turn ≤ 1 + c.callers
   -- A gate is 1 exactly in a call of its caller outside the turn.
   pub gate : (k : ℕ) → k < c.callers → slice_index m.words.gates k ≤ 2
-  pub in_call : (k : ℕ) → k < c.callers → (slice_index m.words.gates k ≡ 1) ↔ (is_in_call (flight_of m (Caller k)) ≡ true)
+  pub in_call : (k : ℕ) → k < c.callers
+      → (slice_index m.words.gates k ≡ 1) ↔ (is_in_call (flight_of m (Caller k)) ≡ true)
   -- A gate is held only while another seat than its caller has the turn.
   pub held : (k : ℕ) → k < c.callers → slice_index m.words.gates k ≡ 2 → (m.words.turn ≢ 0) × (m.words.turn ≢ 1 + k)
   -- The turn word names a caller exactly where it is in a New or a Free.

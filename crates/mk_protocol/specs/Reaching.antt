@@ -22,5 +22,6 @@ pub record ReachesTheSame (c : Config) (es fs : List Event) (e : Event) : Type 0
 -- whatever other seats do before it.
 abbrev pub OthersLeaveAccesses : Type 0
 OthersLeaveAccesses =
-    (c : Config) (es more : List Event) (e : Event) → IsWithinLimits c → AreEnabled c (es ++ more) → AreOfOthers (e.seat ∷ []) more
+    (c : Config) (es more : List Event) (e : Event) → IsWithinLimits c → AreEnabled c (es ++ more)
+    → AreOfOthers (e.seat ∷ []) more
     → IsEnabledBehind c es e → ReachesTheSame c es (es ++ more) e

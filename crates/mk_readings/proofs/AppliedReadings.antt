@@ -22,7 +22,8 @@ use Rattle.mk_core.proofs.EventsAt.{at_number, event_number}
 use Rattle.mk_core.proofs.HistoryParts.{earlier_part_is_history}
 use Rattle.mk_core.proofs.LargeSchedule.{large_freed, three_pages}
 use Rattle.mk_core.proofs.MoreSchedules.{granted_while_marking, two_pages}
-use Rattle.mk_core.proofs.Schedules.{blackened_before_the_move, by, c0, freed_after_begin, host, m0, one_page, pointer_page}
+use Rattle.mk_core.proofs.Schedules.{blackened_before_the_move, by, c0, freed_after_begin, host, m0, one_page}
+use Rattle.mk_core.proofs.Schedules.{pointer_page}
 use Rattle.mk_core.proofs.SmallCycles.{begun_in_stop, marked_in_stop, small, stopped_cycle, three_objects}
 use Rattle.mk_core.proofs.SmallHistories.{stopped_is_history}
 use Rattle.mk_readings.specs.FreeWords.{IsOfNoneMapped}
@@ -57,7 +58,8 @@ pub later_page_has_its_head : (run : RunPages)
     × (1 ≤ 1)
 unfolding by c0 all_below pointed_cell three_pages large_freed left_from
 later_page_has_its_head =
-    (headers_and_quarantine_tell three_pages (take 4 large_freed) run_is_made).later (λ e. eqb-false 0 4 refl e) 1 1 true refl
+    (headers_and_quarantine_tell three_pages (take 4 large_freed) run_is_made).later (λ e. eqb-false 0 4 refl e) 1 1
+    true refl
 
 three_is_history : IsHistory small three_objects
 unfolding begun_in_stop three_objects
@@ -68,7 +70,8 @@ pub freed_bit_is_of_a_freed_one : (a : IsTaken (left small three_objects) third_
     × ((placed_at (left small three_objects).allocations a.number).freed ≡ true)
 unfolding left_from all_below pointed_cell three_objects
 freed_bit_is_of_a_freed_one =
-    (headers_and_quarantine_tell small three_objects three_is_history).freed (λ e. eqb-false 0 4 refl e) third_cell third_is_freed
+    (headers_and_quarantine_tell small three_objects three_is_history).freed (λ e. eqb-false 0 4 refl e) third_cell
+    third_is_freed
 
 -- which has it.
 pub freed_one_has_its_bit : is_freed (left small three_objects).now.words third_cell ≡ true
@@ -105,12 +108,14 @@ bit_is_of_a_quarantined_one = told.is third_cell refl
 pub first_is_released : (allocation_behind one_page first_cycle.releasing 0).released ≡ true
 unfolding by c0 host all_below pointed_cell one_page freed_after_begin left_from event_number at_number first_cycle
 first_is_released =
-    (releases_are_exact one_page freed_after_begin freed_is_history first_cycle.releasing 0 refl).1 (in_first_snapshot, refl)
+    (releases_are_exact one_page freed_after_begin freed_is_history first_cycle.releasing 0 refl).1
+    (in_first_snapshot, refl)
 
 pub second_is_not_released : (allocation_behind one_page first_cycle.releasing 1).released ≡ true → ⊥
 unfolding by c0 host all_below pointed_cell one_page freed_after_begin left_from event_number at_number first_cycle
 second_is_not_released gone =
-    not_in_first_snapshot ((releases_are_exact one_page freed_after_begin freed_is_history first_cycle.releasing 1 refl).0 gone).0
+    not_in_first_snapshot
+    ((releases_are_exact one_page freed_after_begin freed_is_history first_cycle.releasing 1 refl).0 gone).0
 
 -- The other schedule's keeps a freed object to which a word leads: it is marked, and it is reached.
 
@@ -119,10 +124,12 @@ unfolding by c0 m0 host all_below pointed_cell may_turn_black pointer_page black
     event_number at_number cycle_of_blackened
 marked_is_not_released gone =
     false≢true
-    (sym ((releases_are_exact pointer_page blackened_before_the_move blackened_is_history cycle_of_blackened.releasing 2 refl).0 gone).1)
+    (sym ((releases_are_exact pointer_page blackened_before_the_move blackened_is_history cycle_of_blackened.releasing 2
+    refl).0 gone).1)
 
 pub reached_is_not_released : (allocation_behind pointer_page cycle_of_blackened.releasing 2).released ≡ false
-unfolding by c0 m0 host all_below pointed_cell may_turn_black pointer_page blackened_before_the_move left_from calls_from
+unfolding by c0 m0 host all_below pointed_cell may_turn_black pointer_page blackened_before_the_move left_from
+    calls_from
     event_number at_number cycle_of_blackened
 reached_is_not_released =
     releases_none_reached pointer_page blackened_before_the_move blackened_is_history cycle_of_blackened.releasing 2
@@ -132,14 +139,16 @@ reached_is_not_released =
 pub begin_releases_none : (placed_at (left one_page (take 16 freed_after_begin)).allocations 0).released ≡ false
 unfolding by c0 host all_below pointed_cell one_page freed_after_begin left_from
 begin_releases_none =
-    no_others_release one_page freed_after_begin freed_is_history (take 15 freed_after_begin) (drop 16 freed_after_begin)
+    no_others_release one_page freed_after_begin freed_is_history (take 15 freed_after_begin)
+    (drop 16 freed_after_begin)
     (record { seat = c0; step = step.Begin }) refl refl 0 refl
 
 -- Each `release` has its cycle.
 pub release_has_its_cycle : (r : Releasing freed_after_begin) × (before_release r ≡ take 32 freed_after_begin)
 unfolding by c0 host freed_after_begin
 release_has_its_cycle =
-    releases_are_of_cycles one_page freed_after_begin freed_is_history (take 32 freed_after_begin) (drop 33 freed_after_begin)
+    releases_are_of_cycles one_page freed_after_begin freed_is_history (take 32 freed_after_begin)
+    (drop 33 freed_after_begin)
     seat.Host refl
 
 -- Words that are 0: those of the cell that was given back,

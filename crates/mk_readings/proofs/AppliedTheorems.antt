@@ -1,5 +1,6 @@
 -- The theorems over all histories, applied to small schedules: what each says there, read off by computation.
-use Rattle.std.proofs.Common.{◌≡◌, ℕ, ◌≤◌, true, false, List, [], ◌∷◌, ◌++◌, replicate, take, drop, None, Some, refl, sym, ◌∙◌, subst, inl, arith, append_assoc}
+use Rattle.std.proofs.Common.{◌≡◌, ℕ, ◌≤◌, true, false, List, [], ◌∷◌, ◌++◌, replicate, take, drop, None, Some, refl}
+use Rattle.std.proofs.Common.{sym, ◌∙◌, subst, inl, arith, append_assoc}
 use Rattle.std.specs.Prelude.{slice_index}
 use Rattle.std.proofs.lemmas.Bool.{eqb-false, false≢true, leb-true, ltb-true}
 use Rattle.mk_never.specs.NeverHeap.{register_at, replies_of, word_at}
@@ -11,13 +12,15 @@ use Rattle.mk_geom.specs.Storages.{free_page, words_of_storages}
 use Rattle.mk_core.specs.declared.events.Answer.TheVariants as answer
 use Rattle.mk_core.specs.declared.events.Event.{Event}
 use Rattle.mk_core.specs.declared.events.Seat.TheVariants as seat
-use Rattle.mk_core.specs.Allocations.{cell_of_allocation, place_among_allocations, placed_at, storage_of, unreleased_storage}
+use Rattle.mk_core.specs.Allocations.{cell_of_allocation, place_among_allocations, placed_at, storage_of}
+use Rattle.mk_core.specs.Allocations.{unreleased_storage}
 use Rattle.mk_core.specs.Bounded.{all_below}
 use Rattle.mk_core.specs.Cells.{is_used, pointed_cell, points_well, word_points_well}
 use Rattle.mk_core.specs.ClosedMarks.{DirtyIsOwed, IsGuarded, OwesDirty, PageIsDirty, PointsWell}
 use Rattle.mk_core.specs.Cycles.{is_begin}
 use Rattle.mk_core.specs.Decided.{asked}
-use Rattle.mk_core.specs.History.{IsHistory, World, bases_of, calls, calls_from, left, left_from, never_behind, never_first}
+use Rattle.mk_core.specs.History.{IsHistory, World, bases_of, calls, calls_from, left, left_from, never_behind}
+use Rattle.mk_core.specs.History.{never_first}
 use Rattle.mk_core.specs.Image.{answers_of}
 use Rattle.mk_core.specs.StopConditions.{may_turn_black}
 use Rattle.mk_core.specs.Words.{header_at}
@@ -30,7 +33,9 @@ use Rattle.mk_core.proofs.HistoryParts.{earlier_part_is_history}
 use Rattle.mk_core.proofs.LargeSchedule.{large_freed, three_pages}
 use Rattle.mk_core.proofs.MoreSchedules.{before_the_sweep, exchanged, full_then_reused, sweeping_mark}
 use Rattle.mk_core.proofs.Schedules.{answers_freed, by, c0, host, freed_after_begin, one_page, pointer_page}
-use Rattle.mk_core.proofs.SmallCycles.{begun_in_stop, marked_beside, marked_in_stop, page_dirtied, scanned_again, second_cleared, small, stopped_cycle, third_released, three_objects, written_beside}
+use Rattle.mk_core.proofs.SmallCycles.{begun_in_stop, marked_beside, marked_in_stop, page_dirtied, scanned_again}
+use Rattle.mk_core.proofs.SmallCycles.{second_cleared, small, stopped_cycle, third_released, three_objects}
+use Rattle.mk_core.proofs.SmallCycles.{written_beside}
 use Rattle.mk_core.proofs.SmallHistories.{beside_is_history, stopped_is_history}
 use Rattle.mk_layout.specs.Quarantine.{has_bit_of}
 use Rattle.mk_layout.specs.SettledPages.{IsSettled}
@@ -115,7 +120,8 @@ unfolding by c0 all_below pointed_cell may_turn_black one_page full_then_reused 
 full_is_settled = record { releasing = refl; placing = refl; gone = refl }
 
 -- The header and the used word of the page, told by the storage of the two,
-pub page_told_by_storage : words_of_storages (unreleased_storage one_page full.allocations) 0 ≡ record { header = 125; used = 3 }
+pub page_told_by_storage : words_of_storages (unreleased_storage one_page full.allocations) 0
+    ≡ record { header = 125; used = 3 }
 unfolding by c0 all_below pointed_cell may_turn_black one_page full_then_reused left_from
 page_told_by_storage =
     sym ((theorems.pages_show_the_storage one_page full_then_reused full_is_history full_is_settled).words
@@ -168,7 +174,8 @@ closed_is_history = earlier_part_is_history small (take 48 stopped_cycle) (drop 
 pub register_points_well_behind : points_well small.pages (stopped 48).now.words
     (slice_index (stopped 48).now.words.registers 0) ≡ true
 unfolding left_from all_below pointed_cell begun_in_stop three_objects marked_in_stop
-register_points_well_behind = (theorems.marks_stay_closed small (take 48 stopped_cycle) closed_is_history refl).registers 0
+register_points_well_behind =
+    (theorems.marks_stay_closed small (take 48 stopped_cycle) closed_is_history refl).registers 0
 
 -- Header words, and how many pages are resident.
 
@@ -179,8 +186,8 @@ pub one_is_resident : resident_pages (uses_of_pages full.now.words.pages) ≤ 1
 unfolding one_page
 one_is_resident = quarantines.few_pages_are_resident one_page full_then_reused full_is_history
 
--- Before the first `close` the first object, which was freed before the `begin`, has its snapshot bit; the second, freed
--- behind it, has none.
+-- Before the first `close` the first object, which was freed before the `begin`, has its snapshot bit; the second,
+-- freed behind it, has none.
 
 begun_since : IsHistory one_page (take 31 freed_after_begin)
 unfolding by c0 host freed_after_begin

@@ -1,5 +1,6 @@
 -- The words of a cell in which no unreleased allocation stands, and those behind a page's cells, are of none.
-use Rattle.std.proofs.Common.{◌≡◌, ◌≢◌, ◌⊎◌, ℕ, zero, suc, ◌+◌, ◌-◌, ◌*◌, ◌/◌, ◌%◌, ◌<◌, ◌≤◌, Bool, true, refl, sym, ◌∙◌, ap, subst, inl, inr, arith, le_refl}
+use Rattle.std.proofs.Common.{◌≡◌, ◌≢◌, ◌⊎◌, ℕ, zero, suc, ◌+◌, ◌-◌, ◌*◌, ◌/◌, ◌%◌, ◌<◌, ◌≤◌, Bool, true, refl, sym}
+use Rattle.std.proofs.Common.{◌∙◌, ap, subst, inl, inr, arith, le_refl}
 use Rattle.std.specs.Prelude.{not, ◌==◌, slice_index, Option, Some, None}
 use Rattle.std.proofs.lemmas.Bool.{and_from, cases_eq, cases_order, eq-eqb}
 use Rattle.std.proofs.lemmas.Nat.{mul-le}
@@ -88,7 +89,8 @@ begins_there w o base n p k x at known low high = elim (cases_eq x.distance 0) [
       let base_is = base_on_page o base x.begins in
       let size : k * words_under (header_in w p) ≡ k * words_made o = ap (λ m. k * m) words in
       let same : x.begins.index
-      ≡ k = one_part (words_made o) x.begins.index k (n - 64 * p) (omega arith) (omega arith) (omega arith) (omega arith) in
+      ≡ k = one_part (words_made o) x.begins.index k (n - 64 * p) (omega arith) (omega arith) (omega arith)
+      (omega arith) in
       let index : x.begins.index * words_made o ≡ k * words_made o = ap (λ i. i * words_made o) same in
       omega arith
 ]
@@ -135,7 +137,8 @@ within_cells o distance base n x (OfLater mapped far large) b at to = omega arit
 
 module _ (c : Config) (w : World) (n : NeverState) (known : KnownWorld c w) (all : Invariant c w n) where
   on_page : (x : ℕ) (one : IsOfOne c w x)
-      → OnPage w.now.words (object_placed c (placed_at w.allocations one.number)) (placed_at w.allocations one.number).base x
+      → OnPage w.now.words (object_placed c (placed_at w.allocations one.number))
+      (placed_at w.allocations one.number).base x
   on_page x one =
       let a : PlacedAllocation = placed_at w.allocations one.number in
       let o : Object = object_placed c a in
@@ -174,22 +177,26 @@ module _ (c : Config) (w : World) (n : NeverState) (known : KnownWorld c w) (all
   in_run : (o : Object) (base : ℕ) (cell : Cell) (i : ℕ) → OnPage w.now.words o base (first_word w.now.words cell + i)
       → cell.index < cells_under (header_in w.now.words cell.page) → i < cell_words w.now.words cell
       → heads_run (header_in w.now.words cell.page) ≡ true → cell.index ≡ 0
-      → cell_words w.now.words cell ≡ 64 * run_count (header_in w.now.words cell.page) → base ≡ first_word w.now.words cell
+      → cell_words w.now.words cell ≡ 64 * run_count (header_in w.now.words cell.page)
+      → base ≡ first_word w.now.words cell
   in_run o base cell i on lt near heads first_one words =
       let size : ℕ = words_under (header_in w.now.words cell.page) in
       let first : cell.index * size ≡ 0 * size = ap (λ k. k * size) first_one in
       let x : ℕ = first_word w.now.words cell + i in
       elim (cases_eq (i / 64) 0) [
-        | inl here ↦ begins_there w.now.words o base x cell.page cell.index on (omega arith) lt (omega arith) (omega arith)
+        | inl here ↦ begins_there w.now.words o base x cell.page cell.index on (omega arith) lt (omega arith)
+            (omega arith)
         | inr far ↦
             let later = (all.order.runs cell.page heads).later (i / 64) (omega arith) (omega arith) in
             let page = is_free_or_later later in
-            let base_is = run_begins_there w.now.words o base x cell.page (i / 64) on (omega arith) (omega arith) page in
+            let base_is = run_begins_there w.now.words o base x cell.page (i / 64) on (omega arith)
+            (omega arith) page in
             omega arith
       ]
 
   -- So a word of a cell that isn't 0 tells that the cell is taken.
-  pub cell_of_word : phase_of w.now.words ≢ 4 → (cell : Cell) → cell.index < cells_under (header_in w.now.words cell.page)
+  pub cell_of_word : phase_of w.now.words ≢ 4 → (cell : Cell)
+      → cell.index < cells_under (header_in w.now.words cell.page)
       → (i : ℕ) → i < cell_words w.now.words cell → slice_index w.now.words.heap (first_word w.now.words cell + i) ≢ 0
       → IsTaken w cell
   cell_of_word quiet cell lt i near some =

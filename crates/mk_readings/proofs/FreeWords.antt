@@ -1,5 +1,6 @@
 -- While the phase isn't releasing, a word that isn't 0 is one of an unreleased allocation.
-use Rattle.std.proofs.Common.{◌≡◌, ◌≢◌, ℕ, ◌+◌, ◌-◌, ◌*◌, ◌/◌, ◌%◌, ◌<◌, ◌≤◌, true, false, sym, ◌∙◌, ap, inl, inr, arith}
+use Rattle.std.proofs.Common.{◌≡◌, ◌≢◌, ℕ, ◌+◌, ◌-◌, ◌*◌, ◌/◌, ◌%◌, ◌<◌, ◌≤◌, true, false, sym, ◌∙◌, ap, inl, inr}
+use Rattle.std.proofs.Common.{arith}
 use Rattle.std.specs.Prelude.{◌==◌, nat_le, nat_lt, slice_index, Option, Some}
 use Rattle.std.proofs.lemmas.Bool.{and_parts, cases_eq, eqb-true, leb-true, ltb-true}
 use Rattle.mk_never.specs.NeverHeap.{NeverState}
@@ -36,7 +37,8 @@ pub record IsOfOne (c : Config) (w : World) (x : ℕ) : Type 0 where
   pub word : IsWordOf (storage_of c (placed_at w.allocations number)) x
 
 -- The words of a run are those of the large object whose pages it has.
-run_word : (base words pages x : ℕ) → base % 64 ≡ 0 → words ≡ 64 * pages → base / 64 ≤ x / 64 → x / 64 - base / 64 < pages
+run_word : (base words pages x : ℕ) → base % 64 ≡ 0 → words ≡ 64 * pages → base / 64 ≤ x / 64
+    → x / 64 - base / 64 < pages
     → (base ≤ x) × (x < base + words)
 run_word base words pages x aligned is from to = (omega arith, omega arith)
 
@@ -56,7 +58,8 @@ gone_word w run x word gone =
     let there : 64 * run.page + (x - 64 * run.page) ≡ x = omega arith in
     ap (λ i. slice_index w.heap i) (sym there)
     ∙ eqb-true (slice_index w.heap (64 * run.page + (x - 64 * run.page))) 0
-    (all_below-at (64 * run.count) (x - 64 * run.page) (λ i. slice_index w.heap (64 * run.page + i) == 0) parts.1 (omega arith))
+    (all_below-at (64 * run.count) (x - 64 * run.page) (λ i. slice_index w.heap (64 * run.page + i) == 0) parts.1
+    (omega arith))
 
 module _ (c : Config) (w : World) (n : NeverState) (known : KnownWorld c w) (all : Invariant c w n) where
   of_freed_run : (x : ℕ) → IsFreedWord w.now.seats.holding.freed x → IsOfOne c w x
@@ -66,7 +69,8 @@ module _ (c : Config) (w : World) (n : NeverState) (known : KnownWorld c w) (all
       let o : Object = object_placed c a in
       let stands = (standing c w known all.order.laid run.number run.unreleased).stands in
       let aligned = (run_begins o a.base run.large stands.begins).1 in
-      let word : is_in_run (run_of_allocation c a) x ≡ true = ap (λ (r : RunPages). is_in_run r x) (sym run.is) ∙ f.word in
+      let word : is_in_run (run_of_allocation c a) x ≡ true = ap (λ (r : RunPages). is_in_run r x) (sym run.is)
+      ∙ f.word in
       let at = in_run (run_of_allocation c a) x word in
       record {
         number = run.number;
@@ -76,7 +80,11 @@ module _ (c : Config) (w : World) (n : NeverState) (known : KnownWorld c w) (all
 
   of_mapped : (x : ℕ) → IsMappedWord c w.allocations x → IsOfOne c w x
   of_mapped x m =
-      record { number = m.number; unreleased = mapped_stays c (placed_at w.allocations m.number) m.mapped; word = m.word }
+      record {
+        number = m.number;
+        unreleased = mapped_stays c (placed_at w.allocations m.number) m.mapped;
+        word = m.word;
+      }
 
   -- A word that isn't 0 is one of an unreleased allocation,
   pub of_one : phase_of w.now.words ≢ 4 → (x : ℕ) → slice_index w.now.words.heap x ≢ 0 → IsOfOne c w x
@@ -113,9 +121,11 @@ module _ (c : Config) (w : World) (n : NeverState) (known : KnownWorld c w) (all
 
 -- Both of all histories; this is how the invariant is behind each.
 pub of_worlds : {claim : Config → World → Type 0}
-    → ((c : Config) (w : World) (n : NeverState) → KnownWorld c w → Invariant c w n → claim c w) → OfHistories (Leaves claim)
+    → ((c : Config) (w : World) (n : NeverState) → KnownWorld c w → Invariant c w n → claim c w)
+    → OfHistories (Leaves claim)
 of_worlds {claim} known c es h =
-    known c (left c es) (never_behind c es) (known_world c es h.within_limits h.enabled) (histories_keep_the_invariant c es h)
+    known c (left c es) (never_behind c es) (known_world c es h.within_limits h.enabled)
+    (histories_keep_the_invariant c es h)
 
 pub words_of_none_are_zero : OfHistories (Leaves WordsOfNoneAreZero)
 words_of_none_are_zero = of_worlds words_of_none

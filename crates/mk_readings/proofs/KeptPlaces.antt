@@ -7,7 +7,8 @@ use Rattle.mk_core.specs.declared.events.Event.{Event}
 use Rattle.mk_core.specs.declared.events.Seat.{Seat}
 use Rattle.mk_core.specs.declared.events.Step.{Step}
 use Rattle.mk_core.specs.declared.events.Step.TheVariants as step
-use Rattle.mk_core.specs.Allocations.{PlacedAllocation, cell_of_allocation, freed_where_it_stands, granted, no_longer_fresh, placed_at}
+use Rattle.mk_core.specs.Allocations.{PlacedAllocation, cell_of_allocation, freed_where_it_stands, granted}
+use Rattle.mk_core.specs.Allocations.{no_longer_fresh, placed_at}
 use Rattle.mk_core.specs.Cycles.{is_release}
 use Rattle.mk_core.specs.Moments.{flight_of}
 use Rattle.mk_core.specs.TurnConditions.{cell_freed}
@@ -41,9 +42,11 @@ put_step : (c : Config) (w : World) (seat : Seat) (x : Step) (i : ℕ) → is_re
     → (placed_at w.allocations i).released ≡ false
     → StaysPut (placed_at w.allocations i) (placed_at (WorldBehind c w seat x).allocations i)
 put_step c w seat (step.Quar p n) i out u =
-    changed_puts (freed_where_it_stands w.now.words (cell_freed c.pages w.now.words (flight_of w.now seat) p n)) w.allocations i
+    changed_puts (freed_where_it_stands w.now.words (cell_freed c.pages w.now.words (flight_of w.now seat) p n))
+    w.allocations i
     (freed_leaves w.now.words (cell_freed c.pages w.now.words (flight_of w.now seat) p n))
-    (freed_released w.now.words (cell_freed c.pages w.now.words (flight_of w.now seat) p n) (placed_at w.allocations i) ∙ u)
+    (freed_released w.now.words (cell_freed c.pages w.now.words (flight_of w.now seat) p n) (placed_at w.allocations i)
+    ∙ u)
 put_step c w seat step.Begin i out u = changed_puts no_longer_fresh w.allocations i fresh_leaves u
 put_step c w seat step.Grant i out u =
     let still = still_at w.allocations (granted c w.now (flight_of w.now seat)) i u in

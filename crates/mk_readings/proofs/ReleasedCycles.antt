@@ -1,5 +1,6 @@
 -- Each `release` of a history is that of a cycle.
-use Rattle.std.proofs.Common.{◌≡◌, ℕ, Bool, true, false, List, [], ◌∷◌, ◌++◌, refl, sym, ◌∙◌, ap, subst, arith, append_assoc, append-nil}
+use Rattle.std.proofs.Common.{◌≡◌, ℕ, Bool, true, false, List, [], ◌∷◌, ◌++◌, refl, sym, ◌∙◌, ap, subst, arith}
+use Rattle.std.proofs.Common.{append_assoc, append-nil}
 use Rattle.std.specs.Prelude.{◌||◌}
 use Rattle.std.specs.List.{list_any}
 use Rattle.std.proofs.lemmas.Bool.{or_from}
@@ -41,7 +42,8 @@ marking_longer {es} k more = record { begin = at_longer k.begin more; close = ne
 none_longer : (test : Event → Bool) (es : List Event) (e : Event) → list_any test es ≡ false → test e ≡ false
     → list_any test (es ++ e ∷ []) ≡ false
 none_longer test es e none out =
-    list_any-append test es (e ∷ []) ∙ or_from (list_any test es) (test e || false) none (or_from (test e) false out refl)
+    list_any-append test es (e ∷ [])
+    ∙ or_from (list_any test es) (test e || false) none (or_from (test e) false out refl)
 
 -- While marking, a cycle is begun and not closed; where marks are closed, it isn't released.
 
@@ -90,7 +92,10 @@ closed_here es e is b =
 so_far : (seat : Seat) (x : Step) (p : ℕ) (es : List Event) → AsksPhase x p → CycleSoFar p es
     → CycleSoFar (phase_behind x p) (es ++ record { seat = seat; step = x } ∷ [])
 so_far seat step.Begin p es asks k =
-    record { begun = λ m. begun_here es (record { seat = seat; step = step.Begin }) refl; closed = λ e. absurd (omega arith) }
+    record {
+      begun = λ m. begun_here es (record { seat = seat; step = step.Begin }) refl;
+      closed = λ e. absurd (omega arith);
+    }
 so_far seat step.Want p es asks k =
     let m : IsMarking p = record { least = omega arith; most = omega arith } in
     record {

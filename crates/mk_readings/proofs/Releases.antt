@@ -1,5 +1,6 @@
 -- What a cycle's `release` releases.
-use Rattle.std.proofs.Common.{◌≡◌, ℕ, Bool, true, false, List, [], ◌∷◌, ◌++◌, map, refl, sym, ◌∙◌, ap, subst, arith, append_assoc}
+use Rattle.std.proofs.Common.{◌≡◌, ℕ, Bool, true, false, List, [], ◌∷◌, ◌++◌, map, refl, sym, ◌∙◌, ap, subst, arith}
+use Rattle.std.proofs.Common.{append_assoc}
 use Rattle.std.specs.Prelude.{◌||◌, ◌&&◌, ◌↔◌, not, slice_index}
 use Rattle.std.specs.List.{list_any}
 use Rattle.std.proofs.lemmas.Bool.{and_from, and_parts, not-true}
@@ -17,7 +18,8 @@ use Rattle.mk_core.specs.Allocations.{PlacedAllocation, allocations_by, cell_of_
 use Rattle.mk_core.specs.Cells.{is_marked}
 use Rattle.mk_core.specs.Cycles.{At, Releasing, before_release, is_begin, is_close, is_quarantined, is_release}
 use Rattle.mk_core.specs.Decided.{Decided, asked}
-use Rattle.mk_core.specs.History.{AreEnabledFrom, IsHistory, World, call_decided, calls_from, left, left_from, never_behind, world_behind}
+use Rattle.mk_core.specs.History.{AreEnabledFrom, IsHistory, World, call_decided, calls_from, left, left_from}
+use Rattle.mk_core.specs.History.{never_behind, world_behind}
 use Rattle.mk_core.specs.Moments.{Moment, flight_of}
 use Rattle.mk_core.specs.Words.{phase_of}
 use Rattle.mk_core.proofs.BitsWithout.{has_bit_without}
@@ -29,8 +31,10 @@ use Rattle.mk_layout.specs.Quarantine.{has_bit_of}
 use Rattle.mk_invariant.specs.Theorems.{OfHistories}
 use Rattle.mk_invariant.proofs.Quarantines.{snapshot_is_the_cycles}
 use Rattle.mk_invariant.proofs.Theorems.{allocations_stand, reach_is_kept}
-use Rattle.mk_readings.specs.Releases.{NoOthersRelease, ReleasesAreExact, ReleasesNoneReached, allocation_before, allocation_behind}
-use Rattle.mk_readings.proofs.CyclePhases.{IsMarking, IsUnreleased, begin_is, close_is, marking_goes_on, moves_phase, none_is_released, phase_behind, release_is, AsksPhase}
+use Rattle.mk_readings.specs.Releases.{NoOthersRelease, ReleasesAreExact, ReleasesNoneReached, allocation_before}
+use Rattle.mk_readings.specs.Releases.{allocation_behind}
+use Rattle.mk_readings.proofs.CyclePhases.{IsMarking, IsUnreleased, begin_is, close_is, marking_goes_on, moves_phase}
+use Rattle.mk_readings.proofs.CyclePhases.{none_is_released, phase_behind, release_is, AsksPhase}
 use Rattle.mk_readings.proofs.KeptPlaces.{stays_put}
 use Rattle.mk_readings.proofs.Snapshots.{enabled_at, unreleased_cycles}
 
@@ -56,13 +60,15 @@ none_begins c w b x ys zs on begins no_close closes no_release =
     let one : phase_of (world_behind c w b).now.words ≡ 1 = first.1
     ∙ ap (λ (s : Step). phase_behind s (phase_of w.now.words)) (begin_is b.step begins) in
     let parts = enabled_parts c (world_behind c w b) ys (x ∷ zs) first.2 in
-    let begun : IsMarking (phase_of (world_behind c w b).now.words) = record { least = omega arith; most = omega arith } in
+    let begun : IsMarking (phase_of (world_behind c w b).now.words) =
+    record { least = omega arith; most = omega arith } in
     let marking = marking_goes_on c (world_behind c w b) ys parts.0 begun no_close in
     let v : World = left_from c (world_behind c w b) ys in
     let close = moves_phase c v x zs parts.1 in
     let three : phase_of (world_behind c v x).now.words ≡ 3 = close.1
     ∙ ap (λ (s : Step). phase_behind s (phase_of v.now.words)) (close_is x.step closes) in
-    let closed : IsUnreleased (phase_of (world_behind c v x).now.words) = record { least = omega arith; most = omega arith } in
+    let closed : IsUnreleased (phase_of (world_behind c v x).now.words) =
+    record { least = omega arith; most = omega arith } in
     let rest = none_is_released c (world_behind c v x) zs close.2 closed no_release in
     list_any-append (λ (e : Event). is_begin e.step) ys (x ∷ zs)
     ∙ ap (λ b. b || list_any (λ (e : Event). is_begin e.step) (x ∷ zs)) marking.none_begins
@@ -151,7 +157,8 @@ module _ (c : Config) (es : List Event) (h : IsHistory c es) (r : Releasing es) 
   snapshot_is =
       let at = stopped in
       let phase : IsUnreleased (phase_of w.now.words) = record { least = omega arith; most = omega arith } in
-      snapshot_is_the_cycles c front before_is_history begin_at no_other (unreleased_cycles (phase_of w.now.words) phase).0
+      snapshot_is_the_cycles c front before_is_history begin_at no_other
+      (unreleased_cycles (phase_of w.now.words) phase).0
 
   abbrev in_snapshot : ℕ → Bool
   in_snapshot i = is_quarantined (placed_at (left c begin.before).allocations i)
@@ -176,7 +183,8 @@ module _ (c : Config) (es : List Event) (h : IsHistory c es) (r : Releasing es) 
       ap (λ (xs : List PlacedAllocation). (placed_at xs i).released) changed
       ∙ ap (λ (x : PlacedAllocation). x.released) at
       ∙ released_where_left c w.now.words a h.within_limits s.stands s.headers
-      ∙ has_bit_without (slice_index w.now.words.snapshot cell.page) (slice_index w.now.words.marks cell.page) cell.index
+      ∙ has_bit_without (slice_index w.now.words.snapshot cell.page) (slice_index w.now.words.marks cell.page)
+      cell.index
       ∙ ap (λ b. b && not (marked i)) (snapshot_is i u)
 
   pub exact : (i : ℕ) → (allocation_before c r i).released ≡ false
@@ -188,7 +196,8 @@ module _ (c : Config) (es : List Event) (h : IsHistory c es) (r : Releasing es) 
     λ both. released_is i u ∙ and_from (in_snapshot i) (not (marked i)) both.0 (ap not both.1),
   )
 
-  pub none_reached : (number : ℕ) → IsReached (never_behind c front) number → (allocation_behind c r number).released ≡ false
+  pub none_reached : (number : ℕ) → IsReached (never_behind c front) number
+      → (allocation_behind c r number).released ≡ false
   none_reached number reached =
       reach_is_kept c (front ++ last.event ∷ []) behind_is_history number
       (subst (λ (n : NeverState). IsReached n number) (sym (never_stays c front last.event last.of_kind)) reached)

@@ -19,7 +19,8 @@ use Rattle.mk_layout.specs.Quarantine.{IsFreedCell, has_bit_of, is_cycling}
 use Rattle.mk_invariant.specs.Theorems.{KeepsTheInvariant, OfHistories}
 use Rattle.mk_invariant.proofs.Histories.{histories_keep_the_invariant}
 use Rattle.mk_invariant.proofs.Quarantines.{snapshot_is_the_cycles}
-use Rattle.mk_readings.proofs.CyclePhases.{IsUnreleased, NoneIsReleased, begin_is, moves_phase, none_is_released, phase_behind}
+use Rattle.mk_readings.proofs.CyclePhases.{IsUnreleased, NoneIsReleased, begin_is, moves_phase, none_is_released}
+use Rattle.mk_readings.proofs.CyclePhases.{phase_behind}
 use Rattle.mk_readings.proofs.KeptPlaces.{StaysPut, keeps_cell, stays_put}
 use Rattle.mk_readings.proofs.Stands.{freed_cell}
 
@@ -100,9 +101,11 @@ module _ (c : Config) (es : List Event) (h : IsHistory c es) (begin : At is_begi
   snapshot_is : (i : ℕ) → (placed_at w.allocations i).released ≡ false
       → has_bit_of c w.now.words.snapshot (placed_at w.allocations i) ≡ is_quarantined (placed_at olds i)
   snapshot_is =
-      snapshot_is_the_cycles c es h begin (either_kind begin.behind none).0 (unreleased_cycles (phase_of w.now.words) phase).0
+      snapshot_is_the_cycles c es h begin (either_kind begin.behind none).0
+      (unreleased_cycles (phase_of w.now.words) phase).0
 
-  put_quarantined : (i : ℕ) → is_quarantined (placed_at olds i) ≡ true → StaysPut (placed_at olds i) (placed_at w.allocations i)
+  put_quarantined : (i : ℕ) → is_quarantined (placed_at olds i) ≡ true
+      → StaysPut (placed_at olds i) (placed_at w.allocations i)
   put_quarantined i q =
       let a : PlacedAllocation = placed_at olds i in
       put i (not-true a.released (and_parts a.freed (not a.released) q).1)

@@ -50,7 +50,8 @@ module _ (c : Config) (w : World) (n : NeverState) (known : KnownWorld c w) (all
       by (inl o) = o
       by (inr r) = absurd (true≢false (sym r ∙ ap released_when (not_releasing w quiet)))
 
-  later_page : phase_of w.now.words ≢ 4 → (p distance : ℕ) → HasItsHead w.now.words.pages (is_phase w.now.words 4) p distance
+  later_page : phase_of w.now.words ≢ 4 → (p distance : ℕ)
+      → HasItsHead w.now.words.pages (is_phase w.now.words 4) p distance
       → (run : RunPages) × (run_headed (header_in w.now.words (p - distance)) (p - distance) ≡ Some run)
       × (distance < run.count) × (distance ≤ p)
   later_page quiet p distance has = elim has.1 [
@@ -87,7 +88,8 @@ module _ (c : Config) (w : World) (n : NeverState) (known : KnownWorld c w) (all
   words_tell =
       record {
         headers = all.order.words;
-        later = λ quiet p distance mapped is. later_page quiet p distance (all.order.laid.scene.later p distance mapped is);
+        later = λ quiet p distance mapped is. later_page quiet p distance
+            (all.order.laid.scene.later p distance mapped is);
         freed = λ quiet cell bit. taken_freed cell bit (freed_cell quiet cell bit);
         quarantined = λ cell t freed.
             ap (λ (x : Cell). is_freed w.now.words x) (sym (taken cell t).1)
@@ -96,4 +98,5 @@ module _ (c : Config) (w : World) (n : NeverState) (known : KnownWorld c w) (all
 
 pub headers_and_quarantine_tell : OfHistories HeadersAndQuarantineTell
 headers_and_quarantine_tell c es h =
-    words_tell c (left c es) (never_behind c es) (known_world c es h.within_limits h.enabled) (histories_keep_the_invariant c es h)
+    words_tell c (left c es) (never_behind c es) (known_world c es h.within_limits h.enabled)
+    (histories_keep_the_invariant c es h)

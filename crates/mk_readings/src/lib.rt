@@ -4,9 +4,11 @@
 
 ghost use Rattle.mk_core.specs.Readings.{SnapshotsTell};
 ghost use Rattle.mk_invariant.specs.Theorems.{OfHistories};
-ghost use Rattle.mk_readings.specs.FreeWords.{FreeCellsAreZero, Leaves, UnmappedWordsAreZero, WordsBehindCellsAreZero, WordsOfNoneAreZero};
+ghost use Rattle.mk_readings.specs.FreeWords.{FreeCellsAreZero, Leaves, UnmappedWordsAreZero, WordsBehindCellsAreZero};
+ghost use Rattle.mk_readings.specs.FreeWords.{WordsOfNoneAreZero};
 ghost use Rattle.mk_readings.specs.Readings.{HeadersAndQuarantineTell};
-ghost use Rattle.mk_readings.specs.Releases.{NoOthersRelease, ReleasesAreExact, ReleasesAreOfCycles, ReleasesNoneReached};
+ghost use Rattle.mk_readings.specs.Releases.{NoOthersRelease, ReleasesAreExact, ReleasesAreOfCycles};
+ghost use Rattle.mk_readings.specs.Releases.{ReleasesNoneReached};
 
 /// What a look at a header word and at the freed bits of a quarantine word tells.
 pub fn words_tell_what_stands()

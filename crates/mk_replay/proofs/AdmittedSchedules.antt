@@ -1,6 +1,8 @@
--- The history that a schedule makes of a checked program asks for nothing that isn't admitted, so it is a history of the
--- program's heap, and keeps all promises.
-use Rattle.std.proofs.Common.{◌≡◌, ◌≢◌, ℕ, eq-eqb, ◌+◌, ◌<◌, ◌≤◌, Bool, true, false, List, [], ◌∷◌, ◌++◌, length, take, map, get_or, set, replicate, refl, sym, ◌∙◌, ap, subst, append-nil, append_assoc, arith, inl, inr}
+-- The history that a schedule makes of a checked program asks for nothing that isn't admitted, so it is a history of
+-- the program's heap, and keeps all promises.
+use Rattle.std.proofs.Common.{◌≡◌, ◌≢◌, ℕ, eq-eqb, ◌+◌, ◌<◌, ◌≤◌, Bool, true, false, List, [], ◌∷◌, ◌++◌, length, take}
+use Rattle.std.proofs.Common.{map, get_or, set, replicate, refl, sym, ◌∙◌, ap, subst, append-nil, append_assoc, arith}
+use Rattle.std.proofs.Common.{inl, inr}
 use Rattle.std.specs.Prelude.{Option, Some, None, if◌then◌else◌, ◌==◌, ◌&&◌, filter, All}
 use Rattle.std.proofs.lemmas.Bool.{cases_eq, ltb-true}
 use Rattle.std.proofs.lemmas.Bool.Decides.{nat_tests}
@@ -28,7 +30,8 @@ use Rattle.mk_core.specs.Decided.{Decided, asked, entry_of}
 use Rattle.mk_core.specs.Effects.{progress, flights_behind, answer_decided}
 use Rattle.mk_core.specs.Enabled.{IsEnabled}
 use Rattle.mk_core.specs.Growing.{is_same_seat}
-use Rattle.mk_core.specs.History.{World, first_world, left_from, left, AreEnabled, call_decided, calls_from, calls, IsHistory}
+use Rattle.mk_core.specs.History.{World, first_world, left_from, left, AreEnabled, call_decided, calls_from, calls}
+use Rattle.mk_core.specs.History.{IsHistory}
 use Rattle.mk_core.specs.Moments.{Moment, flight_of}
 use Rattle.mk_core.specs.Order.{comes_next, is_in_order}
 use Rattle.mk_core.proofs.Conditions.{enabled_meets}
@@ -52,8 +55,10 @@ use Rattle.mk_replay.proofs.AskedCalls.{Asks, BeginsAsAsked, Waits, same_asks, o
 
 among_more : (k : ℕ) (xs ys : List Decided) → answers_among k (xs ++ ys) ≡ answers_among k xs ++ answers_among k ys
 among_more k xs ys =
-    ap (λ (zs : List Decided). map (λ (x : Decided). x.answer) zs) (filter-append (λ (x : Decided). x.caller == k) xs ys)
-    ∙ map-append (λ (x : Decided). x.answer) (filter (λ (x : Decided). x.caller == k) xs) (filter (λ (x : Decided). x.caller == k) ys)
+    ap (λ (zs : List Decided). map (λ (x : Decided). x.answer) zs)
+    (filter-append (λ (x : Decided). x.caller == k) xs ys)
+    ∙ map-append (λ (x : Decided). x.answer) (filter (λ (x : Decided). x.caller == k) xs)
+    (filter (λ (x : Decided). x.caller == k) ys)
 
 is_same : (j : ℕ) → (j == j) ≡ true
 is_same j = eq-eqb j j refl
@@ -79,7 +84,8 @@ others_among k j xs o a other =
     there (Some b) = rw (is_other j k other) refl
     there None = refl
 
-ended_more : (es : List Event) (e : Event) (k : ℕ) → ended_calls k (es ++ e ∷ []) ≡ counted (ended_calls k es) (ends_call_of k e)
+ended_more : (es : List Event) (e : Event) (k : ℕ)
+    → ended_calls k (es ++ e ∷ []) ≡ counted (ended_calls k es) (ends_call_of k e)
 ended_more es e k = sum_by_push (λ (x : Event). if ends_call_of k x then 1 else 0) es e ∙ counts (ends_call_of k e)
   where
     counts : (b : Bool) → ended_calls k es + (if b then 1 else 0) ≡ counted (ended_calls k es) b
@@ -91,7 +97,8 @@ asked_more xs ys = map-append _ xs ys
 
 -- A caller's event is its script's: where it begins a call, it carries what the script asks for next.
 
-no_new_enters : (s : Stage) (f : Op) (d ty : ℕ) (full : Bool) → comes_next s f (step.Enter (op.New d ty full)) ≡ true → ⊥
+no_new_enters : (s : Stage) (f : Op) (d ty : ℕ) (full : Bool) → comes_next s f (step.Enter (op.New d ty full)) ≡ true
+    → ⊥
 no_new_enters stage.Turn (op.New d' ty' full') d ty full h = cc
 no_new_enters stage.Turn f d ty full h = cc
 no_new_enters s f d ty full h = cc
@@ -116,7 +123,8 @@ pub record AreAsked (program : List Item) (es : List Event) : Type 0 where
   pub each : (k : ℕ) → IsScript program k → AsksBehind program es k
 
 -- Where a step decides that isn't its call's last one, no answer waited.
-once_decided : (n i : ℕ) (before behind : List Answer) (a : Option Answer) (b : Answer) → Waits n before → Waits i behind
+once_decided : (n i : ℕ) (before behind : List Answer) (a : Option Answer) (b : Answer) → Waits n before
+    → Waits i behind
     → i ≡ n → behind ≡ before ++ as_list a → a ≡ Some b → length before ≡ n
 once_decided n i before behind (Some a) b was is same more e =
     let size = ap length more ∙ length-append before (a ∷ []) in
@@ -133,10 +141,12 @@ module _ (program : List Item) (es : List Event) where
   m = (left (config_of program 8) es).now
 
   asked_behind : (e : Event) → asked (calls c (es ++ e ∷ [])) ≡ asked (calls c es) ++ asked (call_decided c m e)
-  asked_behind e = ap (λ (xs : List Decided). asked xs) (calls_more c (first_world c) es e) ∙ asked_more (calls c es) (call_decided c m e)
+  asked_behind e = ap (λ (xs : List Decided). asked xs) (calls_more c (first_world c) es e)
+      ∙ asked_more (calls c es) (call_decided c m e)
 
   flight_behind : (e : Event) (k : ℕ)
-      → flight_of (left c (es ++ e ∷ [])).now (Caller k) ≡ get_or (flights_behind c m e.seat (found c m e) e.step) k at_rest
+      → flight_of (left c (es ++ e ∷ [])).now (Caller k)
+      ≡ get_or (flights_behind c m e.seat (found c m e) e.step) k at_rest
   flight_behind e k = ap (λ (w : World). flight_of w.now (Caller k)) (left_more c (first_world c) es e)
 
   own_more : (j : ℕ) (s : Step) → AreEnabled c (es ++ record { seat = Caller j; step = s } ∷ [])
@@ -150,13 +160,15 @@ module _ (program : List Item) (es : List Event) where
       let all = answers_among j (calls c es) in
       let meets = enabled_meets c m e (last_enabled c (first_world c) es e enabled) in
       let before = (enabled_parts c (first_world c) es (e ∷ []) enabled).0 in
-      let inside : j < length m.seats.flights = subst (λ (i : ℕ). j < i) (sym (serves c es j before).long) (ltb-true j c.callers meets.seat) in
+      let inside : j < length m.seats.flights =
+      subst (λ (i : ℕ). j < i) (sym (serves c es j before).long) (ltb-true j c.callers meets.seat) in
       let ended : ended_calls j (es ++ e ∷ []) ≡ counted n (ends_call s) =
       ended_more es e j ∙ ap (λ (b : Bool). counted n (b && ends_call s)) (is_same j) in
       let answered : answers_among j (calls c (es ++ e ∷ [])) ≡ all ++ as_list p.answer =
       ap (answers_among j) (calls_more c (first_world c) es e) ∙ own_among j (calls c es) f.op p.answer in
       let once = λ (goes : ends_call s ≡ false) (b : Answer) (is : p.answer ≡ Some b).
-      once_decided n _ all _ p.answer b (waits c es j before) (waits c (es ++ e ∷ []) j enabled) (ended ∙ ap (counted n) goes) answered is in
+      once_decided n _ all _ p.answer b (waits c es j before) (waits c (es ++ e ∷ []) j enabled) (ended
+      ∙ ap (counted n) goes) answered is in
       same_asks program j p.flight _ (counted n (ends_call s)) _ (all ++ as_list p.answer) _
       (asked (calls c es) ++ asked (entry_of j f.op p.answer)) _
       (flight_behind e j ∙ get_or-set_same m.seats.flights j p.flight at_rest inside) ended answered (asked_behind e)
@@ -184,22 +196,26 @@ module _ (program : List Item) (es : List Event) where
       let n = ended_calls k es in
       let all = answers_among k (calls c es) in
       let same : calls c (es ++ e ∷ []) ≡ calls c es =
-      calls_more c (first_world c) es e ∙ (ap (λ (xs : List Decided). calls c es ++ xs) none ∙ append-nil (calls c es)) in
+      calls_more c (first_world c) es e
+      ∙ (ap (λ (xs : List Decided). calls c es ++ xs) none ∙ append-nil (calls c es)) in
       same_asks program k (flight_of m (Caller k)) _ n _ all _ (asked (calls c es)) _
       (flight_behind e k ∙ ap (λ (fs : List Flight). get_or fs k at_rest) still)
       (ended_more es e k ∙ ap (λ (b : Bool). counted n (b && ends_call e.step)) other)
       (ap (answers_among k) same) (ap (λ (xs : List Decided). asked xs) same) h
 
-  push_caller : (j : ℕ) (o : Op) (a : Option Answer) → IsScript program j → All (λ call. IsScript program call.caller) (asked (calls c es))
+  push_caller : (j : ℕ) (o : Op) (a : Option Answer) → IsScript program j
+      → All (λ call. IsScript program call.caller) (asked (calls c es))
       → All (λ call. IsScript program call.caller) (asked (calls c es) ++ asked (entry_of j o a))
   push_caller j o (Some a) is h = All-push (λ call. IsScript program call.caller) (asked (calls c es)) _ h is
-  push_caller j o None is h = subst (All (λ call. IsScript program call.caller)) (sym (append-nil (asked (calls c es)))) h
+  push_caller j o None is h = subst (All (λ call. IsScript program call.caller)) (sym (append-nil (asked (calls c es))))
+      h
 
   callers_more : (e : Event) → call_decided c m e ≡ [] → All (λ call. IsScript program call.caller) (asked (calls c es))
       → All (λ call. IsScript program call.caller) (asked (calls c (es ++ e ∷ [])))
   callers_more e none h =
       subst (All (λ call. IsScript program call.caller))
-      (sym (asked_behind e ∙ (ap (λ (xs : List Decided). asked (calls c es) ++ asked xs) none ∙ append-nil (asked (calls c es))))) h
+      (sym (asked_behind e
+      ∙ (ap (λ (xs : List Decided). asked (calls c es) ++ asked xs) none ∙ append-nil (asked (calls c es))))) h
 
   one_more : (seat : Seat) (s : Step) → AreEnabled c (es ++ record { seat = seat; step = s } ∷ [])
       → ((k : ℕ) → seat ≡ Caller k → BeginsAsAsked program k (answers_given c es k) s)
@@ -209,10 +225,12 @@ module _ (program : List Item) (es : List Event) where
       let meets = enabled_meets c m e (last_enabled c (first_world c) es e enabled) in
       record {
         callers = subst (All (λ call. IsScript program call.caller)) (sym (asked_behind e))
-            (push_caller j (flight_of m (Caller j)).op (answer_decided c m e) (ltb-true j c.callers meets.seat) h.callers);
+            (push_caller j (flight_of m (Caller j)).op (answer_decided c m e) (ltb-true j c.callers meets.seat)
+            h.callers);
         each = λ k is. elim (cases_eq j k) [
           | inl same ↦ subst (λ (i : ℕ). AsksBehind program (es ++ e ∷ []) i) same
-              (own_more j s enabled (begins j refl) (subst (λ (i : ℕ). AsksBehind program es i) (sym same) (h.each k is)))
+              (own_more j s enabled (begins j refl)
+              (subst (λ (i : ℕ). AsksBehind program es i) (sym same) (h.each k is)))
           | inr other ↦ others_more j k s other (h.each k is)
         ];
       }
@@ -232,11 +250,14 @@ module _ (program : List Item) (es : List Event) where
       one_more x.seat s enabled (by_seat x.seat meets.order) h
     where
       by_seat : (seat : Seat) → is_in_order c m seat (step_of x.form (op_for program es seat)) ≡ true
-          → (k : ℕ) → seat ≡ Caller k → BeginsAsAsked program k (answers_given c es k) (step_of x.form (op_for program es seat))
+          → (k : ℕ) → seat ≡ Caller k
+          → BeginsAsAsked program k (answers_given c es k) (step_of x.form (op_for program es seat))
       by_seat (Caller j) order k is =
           let same : j ≡ k = cc in
-          subst (λ (i : ℕ). BeginsAsAsked program i (answers_given c es i) (step_of x.form (next_op program j (answers_given c es j)))) same
-          (begins_so program j (answers_given c es j) x.form _ (flight_of m (Caller j)).stage (flight_of m (Caller j)).op refl order)
+          subst (λ (i : ℕ). BeginsAsAsked program i (answers_given c es i)
+          (step_of x.form (next_op program j (answers_given c es j)))) same
+          (begins_so program j (answers_given c es j) x.form _ (flight_of m (Caller j)).stage
+          (flight_of m (Caller j)).op refl order)
       by_seat (Marker j) order k is = cc
       by_seat Host order k is = cc
 
@@ -254,7 +275,8 @@ goes_on program es (x ∷ xs) =
     let later = goes_on program (es ++ e ∷ []) xs in
     record { more = e ∷ later.more; are = later.are ∙ append_assoc es (e ∷ []) later.more }
 
-asked_along : (program : List Item) (es : List Event) (xs : List Entry) → AreEnabled (config_of program 8) (history_from program es xs)
+asked_along : (program : List Item) (es : List Event) (xs : List Entry)
+    → AreEnabled (config_of program 8) (history_from program es xs)
     → AreAsked program es → AreAsked program (history_from program es xs)
 unfolding history_from
 asked_along program es [] enabled h = h
@@ -262,7 +284,8 @@ asked_along program es (x ∷ xs) enabled h =
     let c = config_of program 8 in
     let next = es ++ event_of program es x ∷ [] in
     let later = goes_on program next xs in
-    let front = (enabled_parts c (first_world c) next later.more (subst (λ (all : List Event). AreEnabled c all) later.are enabled)).0 in
+    let front = (enabled_parts c (first_world c) next later.more
+    (subst (λ (all : List Event). AreEnabled c all) later.are enabled)).0 in
     asked_along program next xs enabled (entry_more program es x front h)
 
 none_asked : (program : List Item) → AreAsked program []
@@ -271,13 +294,15 @@ none_asked program = record {
   callers = All-nil (λ call. IsScript program call.caller);
   each = λ k is. record {
     noted = first_are_noted program k;
-    next = λ _ busy. absurd (busy (ap (λ (f : Flight). f.stage) (get_or-replicate (length (script_names program)) k at_rest at_rest is)));
+    next = λ _ busy. absurd
+        (busy (ap (λ (f : Flight). f.stage) (get_or-replicate (length (script_names program)) k at_rest at_rest is)));
   };
 }
 
 -- The history of a checked program's schedule, where its events are enabled, is one of the program's heap.
 pub schedule_is_history : (program : List Item) (schedule : List Entry) → IsChecked program
-    → AreEnabled (config_of program 8) (history_of program schedule) → IsHistory (config_of program 8) (history_of program schedule)
+    → AreEnabled (config_of program 8) (history_of program schedule)
+    → IsHistory (config_of program 8) (history_of program schedule)
 schedule_is_history program schedule checked enabled =
     let c = config_of program 8 in
     let es = history_of program schedule in
@@ -294,6 +319,8 @@ schedule_is_history program schedule checked enabled =
     }
 
 pub schedule_keeps_all_promises : (program : List Item) (schedule : List Entry) → IsChecked program
-    → AreEnabled (config_of program 8) (history_of program schedule) → KeepsAllPromises (config_of program 8) (history_of program schedule)
+    → AreEnabled (config_of program 8) (history_of program schedule)
+    → KeepsAllPromises (config_of program 8) (history_of program schedule)
 schedule_keeps_all_promises program schedule checked enabled =
-    histories_keep_all_promises (config_of program 8) (history_of program schedule) (schedule_is_history program schedule checked enabled)
+    histories_keep_all_promises (config_of program 8) (history_of program schedule)
+    (schedule_is_history program schedule checked enabled)

@@ -1,5 +1,6 @@
 -- A caller's calls are those that its script notes, and its call in flight is what the script asks for next.
-use Rattle.std.proofs.Common.{◌≡◌, ◌≢◌, ℕ, ◌+◌, ◌≤◌, Bool, true, false, List, [], ◌∷◌, ◌++◌, length, take, refl, sym, ◌∙◌, ap, subst, append-nil, arith}
+use Rattle.std.proofs.Common.{◌≡◌, ◌≢◌, ℕ, ◌+◌, ◌≤◌, Bool, true, false, List, [], ◌∷◌, ◌++◌, length, take, refl, sym}
+use Rattle.std.proofs.Common.{◌∙◌, ap, subst, append-nil, arith}
 use Rattle.std.specs.Prelude.{⊤, Option, Some, None, if◌then◌else◌, ◌==◌}
 use Rattle.std.proofs.lemmas.List.{length-append, take_all}
 use Rattle.mk_never.specs.declared.operations.Op.{Op}
@@ -38,7 +39,8 @@ begins_call _ = false
 
 -- A call keeps its operation up to its last step.
 
-either_op : (b : Bool) (x y : Progress) (o : Op) → x.flight.op ≡ o → y.flight.op ≡ o → (if b then x else y).flight.op ≡ o
+either_op : (b : Bool) (x y : Progress) (o : Op) → x.flight.op ≡ o → y.flight.op ≡ o
+    → (if b then x else y).flight.op ≡ o
 either_op true x y o a b = a
 either_op false x y o a b = b
 
@@ -93,24 +95,28 @@ flight s o q p r l = record { stage = s; op = o; q = q; p = p; r = r; loaded = l
 abbrev pub Waits : ℕ → List Answer → Type 0
 Waits n answers = (n ≤ length answers) × (length answers ≤ n + 1)
 
-at_stage : (s : Stage) (o : Op) (q p r l n : ℕ) (answers : List Answer) → Serves 1 (flight s o q p r l ∷ []) 0 n answers → Waits n answers
+at_stage : (s : Stage) (o : Op) (q p r l n : ℕ) (answers : List Answer) → Serves 1 (flight s o q p r l ∷ []) 0 n answers
+    → Waits n answers
 at_stage stage.Idle o q p r l n answers h = let d = h.decided in (omega arith, omega arith)
 at_stage _ o q p r l n answers h = let d = h.decided in (omega arith, omega arith)
 
-pub waits : (c : Config) (es : List Event) (k : ℕ) → AreEnabled c es → Waits (ended_calls k es) (answers_among k (calls c es))
+pub waits : (c : Config) (es : List Event) (k : ℕ) → AreEnabled c es
+    → Waits (ended_calls k es) (answers_among k (calls c es))
 waits c es k enabled =
     let f = flight_of (left c es).now (Caller k) in
     let h = serves c es k enabled in
     at_stage f.stage f.op f.q f.p f.r f.loaded (ended_calls k es) (answers_among k (calls c es))
     (record { long = refl; stage = h.stage; decided = h.decided })
 
--- The caller's calls are those that script k notes, fed with the answers; n of them have ended. Where its call in flight
--- isn't decided, it is what the script asks for next.
-pub record Asks (program : List Item) (k : ℕ) (f : Flight) (n : ℕ) (answers : List Answer) (calls : List Call) : Type 0 where
-  pub noted : AreNotedBy program k answers calls
-  pub next : length answers ≡ n → f.stage ≢ stage.Idle → next_op program k answers ≡ Some f.op
+-- The caller's calls are those that script k notes, fed with the answers; n of them have ended. Where its call in
+-- flight isn't decided, it is what the script asks for next.
+pub record Asks (program : List Item) (k : ℕ) (f : Flight) (n : ℕ) (answers : List Answer) (calls : List Call) : Type 0
+  where
+    pub noted : AreNotedBy program k answers calls
+    pub next : length answers ≡ n → f.stage ≢ stage.Idle → next_op program k answers ≡ Some f.op
 
-pub same_asks : (program : List Item) (k : ℕ) (f g : Flight) (n i : ℕ) (answers given : List Answer) (calls made : List Call)
+pub same_asks : (program : List Item) (k : ℕ) (f g : Flight) (n i : ℕ) (answers given : List Answer)
+    (calls made : List Call)
     → g ≡ f → i ≡ n → given ≡ answers → made ≡ calls → Asks program k f n answers calls → Asks program k g i given made
 same_asks program k f g n i answers given calls made a b d e h = rw (a, b, d, e) h
 
@@ -123,14 +129,17 @@ BeginsAsAsked program k given _ = ⊤
 module _ (program : List Item) (k : ℕ) (f : Flight) (n : ℕ) (answers : List Answer) (calls : List Call)
     (h : Asks program k f n answers calls) where
   -- behind a step that decides nothing
-  quiet : (new : Flight) (i : ℕ) → (length answers ≡ i → new.stage ≢ stage.Idle → next_op program k answers ≡ Some new.op)
+  quiet : (new : Flight) (i : ℕ)
+      → (length answers ≡ i → new.stage ≢ stage.Idle → next_op program k answers ≡ Some new.op)
       → Asks program k new i (answers ++ []) (calls ++ [])
   quiet new i next =
-      same_asks program k new new i i answers (answers ++ []) calls (calls ++ []) refl refl (append-nil answers) (append-nil calls)
+      same_asks program k new new i i answers (answers ++ []) calls (calls ++ []) refl refl (append-nil answers)
+      (append-nil calls)
       (record { noted = h.noted; next = next })
 
   -- behind one that isn't its call's first or last one
-  decides : (new : Flight) (a : Option Answer) → new.op ≡ f.op → f.stage ≢ stage.Idle → ((b : Answer) → a ≡ Some b → length answers ≡ n)
+  decides : (new : Flight) (a : Option Answer) → new.op ≡ f.op → f.stage ≢ stage.Idle
+      → ((b : Answer) → a ≡ Some b → length answers ≡ n)
       → Asks program k new n (answers ++ as_list a) (calls ++ asked (entry_of k f.op a))
   decides new (Some a) same busy once = record {
     noted = answers_are_noted program k answers calls h.noted f.op a (h.next (once a refl) busy);
@@ -152,8 +161,10 @@ module _ (program : List Item) (k : ℕ) (f : Flight) (n : ℕ) (answers : List 
   ends : OwnAsks (n + 1) (record { flight = at_rest; answer = None })
   ends = quiet at_rest (n + 1) (λ _ busy. absurd (busy refl))
 
-  goes : (c : Config) (m : Moment) (found : ℕ) (x : Step) → begins_call x ≡ false → ends_call x ≡ false → comes_next f.stage f.op x ≡ true
-      → ((b : Answer) → (progress c m f found x).answer ≡ Some b → length answers ≡ n) → OwnAsks n (progress c m f found x)
+  goes : (c : Config) (m : Moment) (found : ℕ) (x : Step) → begins_call x ≡ false → ends_call x ≡ false
+      → comes_next f.stage f.op x ≡ true
+      → ((b : Answer) → (progress c m f found x).answer ≡ Some b → length answers ≡ n)
+      → OwnAsks n (progress c m f found x)
   goes c m found x b e order once =
       let p = progress c m f found x in
       decides p.flight p.answer (op_stays c m f found x b e) (not_at_rest f.stage f.op x b order) once
@@ -169,6 +180,11 @@ module _ (program : List Item) (k : ℕ) (f : Flight) (n : ℕ) (answers : List 
   own_step c m found x order begun once = goes c m found x refl refl order (once refl)
 
   -- another's call, if one is decided
-  pub others_step : (j : ℕ) (o : Op) (a : Option Answer) → j ≢ k → Asks program k f n answers (calls ++ asked (entry_of j o a))
-  others_step j o (Some a) other = record { noted = others_are_ignored program k answers calls h.noted _ other; next = h.next }
-  others_step j o None other = same_asks program k f f n n answers answers calls (calls ++ []) refl refl refl (append-nil calls) h
+  pub others_step : (j : ℕ) (o : Op) (a : Option Answer) → j ≢ k
+      → Asks program k f n answers (calls ++ asked (entry_of j o a))
+  others_step j o (Some a) other = record {
+    noted = others_are_ignored program k answers calls h.noted _ other;
+    next = h.next;
+  }
+  others_step j o None other = same_asks program k f f n n answers answers calls (calls ++ []) refl refl refl
+      (append-nil calls) h

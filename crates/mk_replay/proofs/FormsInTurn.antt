@@ -1,5 +1,6 @@
 -- The forms of a line's pieces and its entries, one piece after another.
-use Rattle.std.proofs.Common.{◌≡◌, ℕ, ◌+◌, ◌<◌, List, [], ◌∷◌, ◌++◌, length, get_or, take, map, Bor, Ok, Err, refl, ap, sym, ◌∙◌, arith}
+use Rattle.std.proofs.Common.{◌≡◌, ℕ, ◌+◌, ◌<◌, List, [], ◌∷◌, ◌++◌, length, get_or, take, map, Bor, Ok, Err, refl, ap}
+use Rattle.std.proofs.Common.{sym, ◌∙◌, arith}
 use Rattle.std.specs.declared.result.Result.{Result}
 use Rattle.std.proofs.lemmas.List.{take_more, map-append}
 use Rattle.mk_script.specs.declared.faults.TextKind.{TextKind}
@@ -13,7 +14,8 @@ worse_fault-in_turn : (a b c : TextKind) → worse_fault a (worse_fault b c) ≡
 worse_fault-in_turn a b c = grind arith
 
 in_turn : (first : Result Form TextKind) (forms : Result (List Form) TextKind) (last : Result Form TextKind)
-    → both (λ form forms. form ∷ forms) first (with_form forms last) ≡ with_form (both (λ form forms. form ∷ forms) first forms) last
+    → both (λ form forms. form ∷ forms) first (with_form forms last)
+    ≡ with_form (both (λ form forms. form ∷ forms) first forms) last
 in_turn (Ok x) (Ok xs) (Ok y) = refl
 in_turn (Ok x) (Ok xs) (Err c) = refl
 in_turn (Ok x) (Err b) (Ok y) = refl
@@ -28,14 +30,16 @@ single (Ok y) = refl
 single (Err c) = refl
 
 -- the forms of one piece more
-pub forms_of-push : (pieces : List (List (List ℕ))) (last : List (List ℕ)) → forms_of (pieces ++ last ∷ []) ≡ with_form (forms_of pieces) (form_of last)
+pub forms_of-push : (pieces : List (List (List ℕ))) (last : List (List ℕ))
+    → forms_of (pieces ++ last ∷ []) ≡ with_form (forms_of pieces) (form_of last)
 forms_of-push [] last = single (form_of last)
 forms_of-push (first ∷ pieces) last =
     ap (both (λ form forms. form ∷ forms) (form_of first)) (forms_of-push pieces last)
     ∙ in_turn (form_of first) (forms_of pieces) (form_of last)
 
 -- the same, along the pieces of a line
-pub goes_on : (first : List (List ℕ)) (pieces : List (Bor (List ℕ))) (i : ℕ) (d : Bor (List ℕ)) (words : List (List ℕ)) (before after : Result (List Form) TextKind)
+pub goes_on : (first : List (List ℕ)) (pieces : List (Bor (List ℕ))) (i : ℕ) (d : Bor (List ℕ)) (words : List (List ℕ))
+    (before after : Result (List Form) TextKind)
     → i < length pieces
     → words ≡ words_of (get_or pieces i d).now
     → forms_of (first ∷ map words_of (texts_of (take i pieces))) ≡ before

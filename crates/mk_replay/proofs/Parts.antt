@@ -1,12 +1,14 @@
 -- A text as its script part and the lines behind its schedule line.
-use Rattle.std.proofs.Common.{◌≡◌, ℕ, ◌+◌, ◌-◌, ◌≤◌, List, length, take, drop, Bor, ap, sym, ◌∙◌, arith, length-take, length-drop}
+use Rattle.std.proofs.Common.{◌≡◌, ℕ, ◌+◌, ◌-◌, ◌≤◌, List, length, take, drop, Bor, ap, sym, ◌∙◌, arith, length-take}
+use Rattle.std.proofs.Common.{length-drop}
 use Rattle.std.proofs.lemmas.List.{take_all}
 use Rattle.std.proofs.lemmas.Bool.{le-leb, cond-true}
 use Rattle.std.specs.List.{take-map, drop-map}
 use Rattle.mk_script.specs.Words.{lines_of, texts_of}
 use Rattle.mk_script.specs.Grammar.{items_of_lines, program_of}
 use Rattle.mk_replay.specs.Reading.{text_length, StandsAt}
-use Rattle.mk_replay.specs.Schedules.{entries_of_lines, script_lines, schedule_lines, schedule_behind, with_schedule, replay_of_lines, replay_of}
+use Rattle.mk_replay.specs.Schedules.{entries_of_lines, script_lines, schedule_lines, schedule_behind, with_schedule}
+use Rattle.mk_replay.specs.Schedules.{replay_of_lines, replay_of}
 use Rattle.mk_replay.proofs.ScriptPart.{lines_before}
 
 not_too_long : (text : List ℕ) → length text ≤ 1048576 → program_of text ≡ items_of_lines (lines_of text)
@@ -16,7 +18,8 @@ replay_short : (text : List ℕ) → length text ≤ 1048576 → replay_of text 
 replay_short text short = cond-true _ _ _ (le-leb _ _ short)
 
 -- lines of a text that are borrowed: the first of them, and those behind them
-taken : (lines : List (Bor (List ℕ))) (text : List ℕ) (count : ℕ) → texts_of lines ≡ lines_of text → texts_of (take count lines) ≡ take count (lines_of text)
+taken : (lines : List (Bor (List ℕ))) (text : List ℕ) (count : ℕ) → texts_of lines ≡ lines_of text
+    → texts_of (take count lines) ≡ take count (lines_of text)
 taken lines text count are = sym (take-map (λ line. line.now) count lines) ∙ ap (take count) are
 
 dropped : (lines : List (Bor (List ℕ))) (text : List ℕ) (count : ℕ) → texts_of lines ≡ lines_of text
@@ -26,29 +29,41 @@ dropped lines text count are =
     ∙ sym (drop-map (λ line. line.now) count lines)
     ∙ ap (drop count) are
 
-pub script_within : (lines : List (Bor (List ℕ))) (text : List ℕ) (place : ℕ) → texts_of lines ≡ lines_of text → StandsAt (lines_of text) place → text_length (texts_of (take place lines)) ≤ length text
-script_within lines text place are stands = omega (arith, (lines_before place text stands.inside).within, ap text_length (taken lines text place are))
+pub script_within : (lines : List (Bor (List ℕ))) (text : List ℕ) (place : ℕ) → texts_of lines ≡ lines_of text
+    → StandsAt (lines_of text) place → text_length (texts_of (take place lines)) ≤ length text
+script_within lines text place are stands =
+    omega (arith, (lines_before place text stands.inside).within, ap text_length (taken lines text place are))
 
 -- the program is that of the bytes before the schedule line
 program_before : (text : List ℕ) (place : ℕ) → length text ≤ 1048576 → StandsAt (lines_of text) place
     → program_of (take (text_length (take place (lines_of text))) text) ≡ items_of_lines (script_lines (lines_of text))
 program_before text place short stands =
     let size = text_length (take place (lines_of text)) in
-    not_too_long (take size text) (omega (arith, length-take size text)) ∙ ap items_of_lines ((lines_before place text stands.inside).lines ∙ sym stands.before)
+    not_too_long (take size text) (omega (arith, length-take size text))
+    ∙ ap items_of_lines ((lines_before place text stands.inside).lines ∙ sym stands.before)
 
 entries_behind : (lines : List (List ℕ)) (place : ℕ) → StandsAt lines place
-    → schedule_behind (length (script_lines lines)) (schedule_lines lines) ≡ entries_of_lines (place + 2) (drop (place + 1) lines)
+    → schedule_behind (length (script_lines lines)) (schedule_lines lines)
+    ≡ entries_of_lines (place + 2) (drop (place + 1) lines)
 entries_behind lines place stands =
-    let count : length (script_lines lines) ≡ place = omega (arith, ap length stands.before, length-take place lines, stands.inside) in
-    ap (schedule_behind (length (script_lines lines))) stands.behind ∙ ap (λ n. entries_of_lines (n + 2) (drop (place + 1) lines)) count
+    let count : length (script_lines lines) ≡ place =
+    omega (arith, ap length stands.before, length-take place lines, stands.inside) in
+    ap (schedule_behind (length (script_lines lines))) stands.behind
+    ∙ ap (λ n. entries_of_lines (n + 2) (drop (place + 1) lines)) count
 
 -- A text is read as its bytes before the schedule line and as the lines behind it.
-pub two_parts : (lines : List (Bor (List ℕ))) (text : List ℕ) (place end : ℕ) → length text ≤ 1048576 → texts_of lines ≡ lines_of text → StandsAt (lines_of text) place
+pub two_parts : (lines : List (Bor (List ℕ))) (text : List ℕ) (place end : ℕ) → length text ≤ 1048576
+    → texts_of lines ≡ lines_of text → StandsAt (lines_of text) place
     → end ≡ text_length (texts_of (take place lines))
-    → replay_of text ≡ with_schedule (program_of (take end text)) (entries_of_lines (place + 2) (texts_of (take (length lines - (place + 1)) (drop (place + 1) lines))))
+    → replay_of text ≡ with_schedule (program_of (take end text))
+    (entries_of_lines (place + 2) (texts_of (take (length lines - (place + 1)) (drop (place + 1) lines))))
 two_parts lines text place end short are stands ends =
     let end_is : end ≡ text_length (take place (lines_of text)) = ends ∙ ap text_length (taken lines text place are) in
     replay_short text short
-    ∙ ap (λ program. with_schedule program (schedule_behind (length (script_lines (lines_of text))) (schedule_lines (lines_of text)))) (sym (program_before text place short stands))
-    ∙ ap (λ size. with_schedule (program_of (take size text)) (schedule_behind (length (script_lines (lines_of text))) (schedule_lines (lines_of text)))) (sym end_is)
-    ∙ ap (with_schedule (program_of (take end text))) (entries_behind (lines_of text) place stands ∙ ap (entries_of_lines (place + 2)) (sym (dropped lines text (place + 1) are)))
+    ∙ ap (λ program. with_schedule program
+    (schedule_behind (length (script_lines (lines_of text))) (schedule_lines (lines_of text))))
+    (sym (program_before text place short stands))
+    ∙ ap (λ size. with_schedule (program_of (take size text))
+    (schedule_behind (length (script_lines (lines_of text))) (schedule_lines (lines_of text)))) (sym end_is)
+    ∙ ap (with_schedule (program_of (take end text))) (entries_behind (lines_of text) place stands
+    ∙ ap (entries_of_lines (place + 2)) (sym (dropped lines text (place + 1) are)))

@@ -1,5 +1,6 @@
 -- The pieces of a line, found from left to right.
-use Rattle.std.proofs.Common.{◌≡◌, ℕ, ◌+◌, ◌-◌, ◌<◌, ◌≤◌, ◌==◌, nat_eq, Bool, true, false, ◌&&◌, if◌then◌else◌, List, [], ◌∷◌, ◌++◌, length, get_or, take, drop, refl, ap, sym, ◌∙◌, append_assoc, arith}
+use Rattle.std.proofs.Common.{◌≡◌, ℕ, ◌+◌, ◌-◌, ◌<◌, ◌≤◌, ◌==◌, nat_eq, Bool, true, false, ◌&&◌, if◌then◌else◌, List}
+use Rattle.std.proofs.Common.{[], ◌∷◌, ◌++◌, length, get_or, take, drop, refl, ap, sym, ◌∙◌, append_assoc, arith}
 use Rattle.std.specs.Cmp.Lexicographic.{pointwise}
 use Rattle.std.specs.List.{starts_with}
 use Rattle.std.proofs.lemmas.List.{append-nil, take_more, take_all, drop_all, drop-drop, length-drop, at_drop_more}
@@ -16,7 +17,8 @@ glue_none : (byte : ℕ) (pieces : List (List ℕ)) → glue [] (in_front byte p
 glue_none byte [] = refl
 glue_none byte (piece ∷ pieces) = refl
 
-glue_nothing : (is_cut : Bool) (byte : ℕ) (cut uncut : List (List ℕ)) → glue [] (if is_cut then [] ∷ cut else in_front byte uncut) ≡ (if is_cut then [] ∷ cut else in_front byte uncut)
+glue_nothing : (is_cut : Bool) (byte : ℕ) (cut uncut : List (List ℕ))
+    → glue [] (if is_cut then [] ∷ cut else in_front byte uncut) ≡ (if is_cut then [] ∷ cut else in_front byte uncut)
 glue_nothing true byte cut uncut = refl
 glue_nothing false byte cut uncut = glue_none byte uncut
 
@@ -24,9 +26,11 @@ pub glue_first : (text : List ℕ) → pieces_of text ≡ glue [] (pieces_of tex
 unfolding pieces_of
 glue_first [] = refl
 glue_first (byte ∷ []) = refl
-glue_first (byte ∷ next ∷ rest) = sym (glue_nothing ((byte == 59) && (next == 32)) byte (pieces_of rest) (pieces_of (next ∷ rest)))
+glue_first (byte ∷ next ∷ rest) =
+    sym (glue_nothing ((byte == 59) && (next == 32)) byte (pieces_of rest) (pieces_of (next ∷ rest)))
 
-glue_more : (text : List ℕ) (byte : ℕ) (pieces : List (List ℕ)) → glue text (in_front byte pieces) ≡ glue (text ++ byte ∷ []) pieces
+glue_more : (text : List ℕ) (byte : ℕ) (pieces : List (List ℕ))
+    → glue text (in_front byte pieces) ≡ glue (text ++ byte ∷ []) pieces
 glue_more text byte [] = refl
 glue_more text byte (piece ∷ pieces) = simp append_assoc
 
@@ -36,7 +40,8 @@ is_cut [] = false
 is_cut (byte ∷ []) = false
 is_cut (byte ∷ next ∷ rest) = (byte == 59) && (next == 32)
 
-uncut : (byte : ℕ) (rest : List ℕ) → is_cut (byte ∷ rest) ≡ false → pieces_of (byte ∷ rest) ≡ in_front byte (pieces_of rest)
+uncut : (byte : ℕ) (rest : List ℕ) → is_cut (byte ∷ rest) ≡ false
+    → pieces_of (byte ∷ rest) ≡ in_front byte (pieces_of rest)
 unfolding pieces_of
 uncut byte [] is = refl
 uncut byte (next ∷ rest) is = rw is refl
@@ -54,7 +59,8 @@ pub goes_on : (text : List ℕ) (i : ℕ) → i < length text → is_cut (drop i
 goes_on text i inside is so_far =
     let here : is_cut (get_or text i 0 ∷ drop (i + 1) text) ≡ false = sym (at_drop_more is_cut text i 0 inside) ∙ is in
     so_far
-    ∙ ap (glue (take i text)) (at_drop_more pieces_of text i 0 inside ∙ uncut (get_or text i 0) (drop (i + 1) text) here)
+    ∙ ap (glue (take i text)) (at_drop_more pieces_of text i 0 inside
+    ∙ uncut (get_or text i 0) (drop (i + 1) text) here)
     ∙ glue_more (take i text) (get_or text i 0) (pieces_of (drop (i + 1) text))
     ∙ ap (λ front. glue front (pieces_of (drop (i + 1) text))) (sym (take_more text i 0 inside))
 
@@ -100,4 +106,5 @@ pub tested : (text needle : List ℕ) (i : ℕ) (result : Bool) → needle ≡ 5
 tested text needle i result needle_is is =
     compared (drop i text)
     ∙ sym (is ∙ ap (starts_with nat_eq (take (length text - i) (drop i text))) needle_is
-    ∙ ap (λ rest. starts_with nat_eq rest (59 ∷ 32 ∷ [])) (take_all (length text - i) (drop i text) (omega (arith, length-drop i text))))
+    ∙ ap (λ rest. starts_with nat_eq rest (59 ∷ 32 ∷ []))
+    (take_all (length text - i) (drop i text) (omega (arith, length-drop i text))))

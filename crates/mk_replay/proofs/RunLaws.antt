@@ -1,9 +1,11 @@
 -- What a run's steps say of the histories that it stands for.
-use Rattle.std.proofs.Common.{◌≡◌, ◌≢◌, ℕ, eq-eqb, ◌<◌, true, false, List, [], ◌∷◌, ◌++◌, length, slice_set, slice_index_or, get_or, set, refl, sym, ◌∙◌, ap, subst, arith, inl, inr, IsTrue}
+use Rattle.std.proofs.Common.{◌≡◌, ◌≢◌, ℕ, eq-eqb, ◌<◌, true, false, List, [], ◌∷◌, ◌++◌, length, slice_set}
+use Rattle.std.proofs.Common.{slice_index_or, get_or, set, refl, sym, ◌∙◌, ap, subst, arith, inl, inr, IsTrue}
 use Rattle.std.specs.Prelude.{Option, Some, None, ◌==◌}
 use Rattle.std.proofs.lemmas.Bool.{cases_eq}
 use Rattle.std.proofs.lemmas.Bool.Decides.{nat_tests}
-use Rattle.std.proofs.lemmas.List.{append_cancel_left, length-append, get_or_default, get_or_push, get_or_append_left, get_or-set_same, get_or-set_other}
+use Rattle.std.proofs.lemmas.List.{append_cancel_left, length-append, get_or_default, get_or_push, get_or_append_left}
+use Rattle.std.proofs.lemmas.List.{get_or-set_same, get_or-set_other}
 use Rattle.mk_never.specs.declared.operations.Op.{Op}
 use Rattle.mk_script.specs.declared.items.Item.{Item}
 use Rattle.mk_check.specs.Feed.{Fed, feed, has_ended, take_answer}
@@ -33,7 +35,8 @@ use Rattle.mk_check.specs.Output.{ends_call}
 use Rattle.mk_core.specs.Growing.{is_same_seat}
 use Rattle.std.specs.Option.{option_or}
 use Rattle.mk_replay.specs.Replays.{event_of, IsTextOf, AreFirstTexts}
-use Rattle.mk_replay.specs.Players.{Served, served_by, served_to, IsFed, IsPlayerOf, ArePlayersOf, TakesAnswer, TakesStep, TakeEvent, IsRunOf, TakesEntry}
+use Rattle.mk_replay.specs.Players.{Served, served_by, served_to, IsFed, IsPlayerOf, ArePlayersOf, TakesAnswer}
+use Rattle.mk_replay.specs.Players.{TakesStep, TakeEvent, IsRunOf, TakesEntry}
 use Rattle.mk_replay.proofs.ServedMore.{served_more, served_first}
 
 -- A feed that waits takes the answer.
@@ -43,7 +46,8 @@ fed_more program k old new answers a takes h = record {
   taken = h.taken ++ a ∷ [];
   stands = takes program k h.taken h.stands;
   same = feed_push program k h.taken a
-      ∙ (ap (λ (f : Fed). take_answer (script_scope program k) f f.left a) h.same ∙ sym (feed_push program k answers a));
+      ∙ (ap (λ (f : Fed). take_answer (script_scope program k) f f.left a) h.same
+      ∙ sym (feed_push program k answers a));
 }
 
 -- One that has ended stays as it is.
@@ -53,7 +57,8 @@ pub fed_ended : (program : List Item) (k : ℕ) (s : FeedState) (answers : List 
 fed_ended program k s answers a ended h = record {
   taken = h.taken;
   stands = h.stands;
-  same = h.same ∙ sym (feed_push-ended program k answers a (ap (λ (f : Fed). has_ended f) (sym h.same) ∙ ended h.taken h.stands));
+  same = h.same ∙ sym (feed_push-ended program k answers a (ap (λ (f : Fed). has_ended f) (sym h.same)
+      ∙ ended h.taken h.stands));
 }
 
 first_answer : List Decided → Option Answer
@@ -79,29 +84,35 @@ is_other : (j k : ℕ) → j ≢ k → (k == j) ≡ false
 is_other j k ne = grind (arith, nat_tests)
 
 mine : (players : List Player) (j : ℕ) (old new : Player) (e : Event) (a : Option Answer)
-    → j < length players → old ≡ slice_index_or players j old → e.seat ≡ seat.Caller j → TakesStep (ends_call e.step) a old new
+    → j < length players → old ≡ slice_index_or players j old → e.seat ≡ seat.Caller j
+    → TakesStep (ends_call e.step) a old new
     → (program : List Item) (d : Player) (x : Served) → IsPlayerOf program j x (get_or players j d)
     → IsPlayerOf program j (served_by j e a x) (get_or (set players j new) j d)
 mine players j old new e a lt at is takes program d x h =
-    let mine : is_same_seat (seat.Caller j) e.seat ≡ true = ap (λ (s : Seat). is_same_seat (seat.Caller j) s) is ∙ is_same j in
+    let mine : is_same_seat (seat.Caller j) e.seat ≡ true = ap (λ (s : Seat). is_same_seat (seat.Caller j) s) is
+    ∙ is_same j in
     let here : get_or players j d ≡ old = get_or_default players j d old lt ∙ sym at in
-    rw (mine, get_or-set_same players j new d lt) (takes program j x (subst (λ (p : Player). IsPlayerOf program j x p) here h))
+    rw (mine, get_or-set_same players j new d lt)
+    (takes program j x (subst (λ (p : Player). IsPlayerOf program j x p) here h))
 
 others : (players : List Player) (j : ℕ) (new : Player) (e : Event) (a : Option Answer) → e.seat ≡ seat.Caller j
     → (program : List Item) (k : ℕ) (d : Player) (x : Served) → j ≢ k → IsPlayerOf program k x (get_or players k d)
     → IsPlayerOf program k (served_by k e a x) (get_or (set players j new) k d)
 others players j new e a is program k d x other h =
-    let not_mine : is_same_seat (seat.Caller k) e.seat ≡ false = ap (λ (s : Seat). is_same_seat (seat.Caller k) s) is ∙ is_other j k other in
+    let not_mine : is_same_seat (seat.Caller k) e.seat ≡ false = ap (λ (s : Seat). is_same_seat (seat.Caller k) s) is
+    ∙ is_other j k other in
     rw (not_mine, get_or-set_other players j k new d (λ same. other (sym same))) h
 
 -- One player takes a step of its caller.
 pub one_takes : (players : List Player) (j : ℕ) (old new : Player) (e : Event) (a : Option Answer)
-    → j < length players → old ≡ slice_index_or players j old → e.seat ≡ seat.Caller j → TakesStep (ends_call e.step) a old new
+    → j < length players → old ≡ slice_index_or players j old → e.seat ≡ seat.Caller j
+    → TakesStep (ends_call e.step) a old new
     → TakeEvent e a players (slice_set players j new)
 one_takes players j old new e a lt at is takes = λ program k d x less h.
     elim (cases_eq j k) [
       | inl same ↦ subst (λ (i : ℕ). IsPlayerOf program i (served_by i e a x) (get_or (set players j new) i d)) same
-          (mine players j old new e a lt at is takes program d x (subst (λ (i : ℕ). IsPlayerOf program i x (get_or players i d)) (sym same) h))
+          (mine players j old new e a lt at is takes program d x
+          (subst (λ (i : ℕ). IsPlayerOf program i x (get_or players i d)) (sym same) h))
       | inr other ↦ others players j new e a is program k d x other h
     ]
 
@@ -110,17 +121,22 @@ pub last_takes : (old new : Player) (decided : Option Answer) (a : Answer) → o
     → TakesAnswer a (record old { kept = None }) new → TakesStep true decided old new
 last_takes old new decided a is takes = λ program k x h.
     let given : option_or decided x.kept ≡ Some a = ap (λ (o : Option Answer). option_or decided o) (sym h.kept) ∙ is in
-    rw given (takes program k (record { answers = x.answers; kept = None }) (record { fed = h.fed; kept = refl; ops = h.ops; refused = h.refused }))
+    rw given (takes program k (record { answers = x.answers; kept = None })
+    (record { fed = h.fed; kept = refl; ops = h.ops; refused = h.refused }))
 
 -- One player more.
 pub players_push : (program : List Item) (players : List Player) (p : Player) → ArePlayersOf program [] players
-    → IsPlayerOf program (length players) (record { answers = []; kept = None }) p → ArePlayersOf program [] (players ++ p ∷ [])
+    → IsPlayerOf program (length players) (record { answers = []; kept = None }) p
+    → ArePlayersOf program [] (players ++ p ∷ [])
 players_push program players p h new = λ k d less.
     let total = length-append players (p ∷ []) in
     elim (cases_eq k (length players)) [
-      | inl e ↦ rw (get_or_push players p d k (sym e)) (subst (λ (i : ℕ). IsPlayerOf program i (served_to (config_of program 8) [] i) p) (sym e)
-          (subst (λ (x : Served). IsPlayerOf program (length players) x p) (sym (served_first (config_of program 8) (length players))) new))
-      | inr ne ↦ (let lt : k < length players = omega arith in rw (get_or_append_left players (p ∷ []) d k lt) (h k d lt))
+      | inl e ↦ rw (get_or_push players p d k (sym e))
+          (subst (λ (i : ℕ). IsPlayerOf program i (served_to (config_of program 8) [] i) p) (sym e)
+          (subst (λ (x : Served). IsPlayerOf program (length players) x p)
+          (sym (served_first (config_of program 8) (length players))) new))
+      | inr ne ↦ (let lt : k < length players = omega arith in rw (get_or_append_left players (p ∷ []) d k lt)
+          (h k d lt))
     ]
 
 -- One text more.
@@ -129,13 +145,15 @@ pub texts_push : (program : List Item) (es : List Event) (texts : List Text) (t 
 texts_push program es texts t h new = λ k d less.
     let total = length-append texts (t ∷ []) in
     elim (cases_eq k (length texts)) [
-      | inl e ↦ rw (get_or_push texts t d k (sym e)) (subst (λ (i : ℕ). IsTextOf program es i t.bytes.items t.ops t.refused) (sym e) new)
+      | inl e ↦ rw (get_or_push texts t d k (sym e))
+          (subst (λ (i : ℕ). IsTextOf program es i t.bytes.items t.ops t.refused) (sym e) new)
       | inr ne ↦ (let lt : k < length texts = omega arith in rw (get_or_append_left texts (t ∷ []) d k lt) (h k d lt))
     ]
 
 -- The players behind an event that decides this answer.
 players_more : (program : List Item) (es : List Event) (e : Event) (a : Option Answer) (players new : List Player)
-    → length new ≡ length players → AreEnabled (config_of program 8) (es ++ e ∷ []) → a ≡ answer_decided (config_of program 8) (left (config_of program 8) es).now e
+    → length new ≡ length players → AreEnabled (config_of program 8) (es ++ e ∷ [])
+    → a ≡ answer_decided (config_of program 8) (left (config_of program 8) es).now e
     → TakeEvent e a players new → ArePlayersOf program es players → ArePlayersOf program (es ++ e ∷ []) new
 players_more program es e a players new count enabled is takes h = λ k d less.
     let lt : k < length players = omega arith in
@@ -145,21 +163,27 @@ players_more program es e a players new count enabled is takes h = λ k d less.
     (takes program k d (served_to c es k) lt (h k d lt))
 
 -- A run goes on behind an event of the core.
-pub run_goes : (program : List Item) (es : List Event) (x : Entry) (old new : Run) (core : CoreState) (e : Event) (a : Option Answer)
-    → IsRunOf program es old → (IsTrue (seat_exists (config_of program 8) x.seat) → e ≡ event_of program es x) → e.seat ≡ x.seat
+pub run_goes : (program : List Item) (es : List Event) (x : Entry) (old new : Run) (core : CoreState) (e : Event)
+    (a : Option Answer)
+    → IsRunOf program es old → (IsTrue (seat_exists (config_of program 8) x.seat) → e ≡ event_of program es x)
+    → e.seat ≡ x.seat
     → core.config ≡ old.core.config → CoreStandsFor core (es ++ e ∷ [])
-    → calls old.core.config (es ++ e ∷ []) ≡ calls old.core.config es ++ entry_of (caller_number e.seat) (flight_of (left old.core.config es).now e.seat).op a
-    → new.core ≡ core → length new.players.items ≡ length old.players.items → TakeEvent e a old.players.items new.players.items
+    → calls old.core.config (es ++ e ∷ [])
+    ≡ calls old.core.config es ++ entry_of (caller_number e.seat) (flight_of (left old.core.config es).now e.seat).op a
+    → new.core ≡ core → length new.players.items ≡ length old.players.items
+    → TakeEvent e a old.players.items new.players.items
     → TakesEntry program es x new
 run_goes program es x old new core e a h event seat same stands answers keeps count takes =
     let c = config_of program 8 in
     let config : core.config ≡ c = same ∙ h.config in
     let all : AreEnabled c (es ++ e ∷ []) = subst (λ (k : Config). AreEnabled k (es ++ e ∷ [])) config stands.enabled in
     let enabled : IsEnabled c (left c es).now e = last_enabled c (first_world c) es e all in
-    let is : e ≡ event_of program es x = event (ap (λ (s : Seat). seat_exists c s) (sym seat) ∙ (enabled_meets c (left c es).now e enabled).seat) in
+    let is : e ≡ event_of program es x = event (ap (λ (s : Seat). seat_exists c s) (sym seat)
+    ∙ (enabled_meets c (left c es).now e enabled).seat) in
     let decided : a ≡ answer_decided c (left c es).now e =
     answer_is c es e (caller_number e.seat) (flight_of (left c es).now e.seat).op a
-    (subst (λ (k : Config). calls k (es ++ e ∷ []) ≡ calls k es ++ entry_of (caller_number e.seat) (flight_of (left k es).now e.seat).op a) h.config answers) in
+    (subst (λ (k : Config). calls k (es ++ e ∷ [])
+    ≡ calls k es ++ entry_of (caller_number e.seat) (flight_of (left k es).now e.seat).op a) h.config answers) in
     record {
       enabled = subst (λ (y : Event). failing c (left c es).now y ≡ 0) is enabled;
       run = subst (λ (y : Event). IsRunOf program (es ++ y ∷ []) new) is

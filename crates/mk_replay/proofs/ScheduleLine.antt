@@ -1,5 +1,6 @@
 -- The first line whose only word is `schedule`, and the lines before it and behind it.
-use Rattle.std.proofs.Common.{◌≡◌, ℕ, suc, ◌+◌, Bool, true, false, cond, List, [], ◌∷◌, drop, Some, None, refl, ap, sym, subst, ◌∙◌, arith}
+use Rattle.std.proofs.Common.{◌≡◌, ℕ, suc, ◌+◌, Bool, true, false, cond, List, [], ◌∷◌, drop, Some, None, refl, ap, sym}
+use Rattle.std.proofs.Common.{subst, ◌∙◌, arith}
 use Rattle.std.specs.List.{position_from}
 use Rattle.mk_replay.specs.Reading.{StandsAt, HasNone}
 use Rattle.mk_replay.specs.Schedules.{is_schedule_line, script_lines, schedule_lines}
@@ -14,7 +15,8 @@ here : (line : List ℕ) (lines : List (List ℕ)) → is_schedule_line line ≡
 unfolding script_lines schedule_lines
 here line lines is = record { inside = omega arith; before = rw is refl; behind = rw is refl }
 
-later : (line : List ℕ) (lines : List (List ℕ)) (place : ℕ) → is_schedule_line line ≡ false → StandsAt lines place → StandsAt (line ∷ lines) (suc place)
+later : (line : List ℕ) (lines : List (List ℕ)) (place : ℕ) → is_schedule_line line ≡ false → StandsAt lines place
+    → StandsAt (line ∷ lines) (suc place)
 unfolding script_lines schedule_lines
 later line lines place is first =
     let one_more : suc (place + 1) ≡ suc place + 1 = omega arith in
@@ -26,19 +28,27 @@ later line lines place is first =
 
 found_by : (line : List ℕ) (lines : List (List ℕ)) (from found : ℕ) (is : Bool) → is_schedule_line line ≡ is
     → (position_from is_schedule_line (from + 1) lines ≡ Some found → IsFound lines (from + 1) found)
-    → cond is (Some from) (position_from is_schedule_line (from + 1) lines) ≡ Some found → IsFound (line ∷ lines) from found
+    → cond is (Some from) (position_from is_schedule_line (from + 1) lines) ≡ Some found
+    → IsFound (line ∷ lines) from found
 found_by line lines from found true is behind e =
     let same : found ≡ from = cc in
     record { place = 0; counts = omega arith; first = here line lines is }
 found_by line lines from found false is behind e =
     let rest = behind e in
-    record { place = suc rest.place; counts = omega (arith, rest.counts); first = later line lines rest.place is rest.first }
+    record {
+      place = suc rest.place;
+      counts = omega (arith, rest.counts);
+      first = later line lines rest.place is rest.first;
+    }
 
-found_from : (lines : List (List ℕ)) (from found : ℕ) → position_from is_schedule_line from lines ≡ Some found → IsFound lines from found
+found_from : (lines : List (List ℕ)) (from found : ℕ) → position_from is_schedule_line from lines ≡ Some found
+    → IsFound lines from found
 found_from [] from found e = absurd cc
-found_from (line ∷ lines) from found e = found_by line lines from found (is_schedule_line line) refl (found_from lines (from + 1) found) e
+found_from (line ∷ lines) from found e =
+    found_by line lines from found (is_schedule_line line) refl (found_from lines (from + 1) found) e
 
-pub found_first : (lines : List (List ℕ)) (place : ℕ) → Some place ≡ position_from is_schedule_line 0 lines → StandsAt lines place
+pub found_first : (lines : List (List ℕ)) (place : ℕ) → Some place ≡ position_from is_schedule_line 0 lines
+    → StandsAt lines place
 found_first lines place e =
     let found = found_from lines 0 place (sym e) in
     let same : found.place ≡ place = omega (arith, found.counts) in

@@ -1,5 +1,6 @@
 -- The bytes before a line of a text: their lines are those before it.
-use Rattle.std.proofs.Common.{◌≡◌, ℕ, zero, suc, ◌+◌, ◌<◌, ◌≤◌, ◌==◌, Bool, true, false, if◌then◌else◌, List, [], ◌∷◌, ◌++◌, inl, inr, length, get_or, take, refl, ap, sym, ◌∙◌, subst, arith, length-append}
+use Rattle.std.proofs.Common.{◌≡◌, ℕ, zero, suc, ◌+◌, ◌<◌, ◌≤◌, ◌==◌, Bool, true, false, if◌then◌else◌, List, [], ◌∷◌}
+use Rattle.std.proofs.Common.{◌++◌, inl, inr, length, get_or, take, refl, ap, sym, ◌∙◌, subst, arith, length-append}
 use Rattle.std.specs.List.{All, slice_split, position_or_len, before_first, after_first}
 use Rattle.std.proofs.lemmas.List.Splits.{slice_split_at, slice_split_none, length-slice_split}
 use Rattle.std.proofs.lemmas.List.Sums.{split_at_first, fails_before_first, passes_at_first}
@@ -16,12 +17,14 @@ pub record IsCut (text : List ℕ) (before : List (List ℕ)) : Type 0 where
   pub within : text_length before ≤ length text
   pub lines : lines_of (take (text_length before) text) ≡ before
 
-behind_first : (piece : List ℕ) (pieces : List (List ℕ)) → 0 < length pieces → without_empty_last (piece ∷ pieces) ≡ piece ∷ without_empty_last pieces
+behind_first : (piece : List ℕ) (pieces : List (List ℕ)) → 0 < length pieces
+    → without_empty_last (piece ∷ pieces) ≡ piece ∷ without_empty_last pieces
 behind_first piece [] some = absurd (omega arith)
 behind_first piece (next ∷ pieces) some = refl
 
 -- the lines of a text that begins with a line and its newline
-lines_of_line : (line : List ℕ) (newline : ℕ) (text : List ℕ) → All (λ byte. is_newline byte ≡ false) line → is_newline newline ≡ true → lines_of (line ++ newline ∷ text) ≡ line ∷ lines_of text
+lines_of_line : (line : List ℕ) (newline : ℕ) (text : List ℕ) → All (λ byte. is_newline byte ≡ false) line
+    → is_newline newline ≡ true → lines_of (line ++ newline ∷ text) ≡ line ∷ lines_of text
 lines_of_line line newline text without is =
     ap without_empty_last (slice_split_at is_newline line newline text without is)
     ∙ behind_first line (slice_split is_newline text) (omega (arith, length-slice_split is_newline text))
@@ -41,19 +44,24 @@ first_line text inside = record {
   newline = get_or text (position_or_len is_newline text) 0;
   rest = after_first is_newline text;
   whole = split_at_first is_newline text 0 inside;
-  without = λ k d m. let fails = fails_before_first is_newline text k d (grind (arith, common_steps)) in grind (arith, common_steps);
+  without = λ k d m. let fails = fails_before_first is_newline text k d (grind (arith, common_steps)) in grind
+      (arith, common_steps);
   is_newline = passes_at_first is_newline text 0 inside;
 }
 
-take_line : (line : List ℕ) (newline : ℕ) (text : List ℕ) (size : ℕ) → take (length line + 1 + size) (line ++ newline ∷ text) ≡ line ++ newline ∷ take size text
+take_line : (line : List ℕ) (newline : ℕ) (text : List ℕ) (size : ℕ)
+    → take (length line + 1 + size) (line ++ newline ∷ text) ≡ line ++ newline ∷ take size text
 take_line [] newline text size =
     let one_more : 0 + 1 + size ≡ suc size = omega arith in
     ap (λ n. take n (newline ∷ text)) one_more
 take_line (byte ∷ line) newline text size =
     let one_more : length (byte ∷ line) + 1 + size ≡ suc (length line + 1 + size) = omega arith in
-    ap (λ n. take n (byte ∷ (line ++ newline ∷ text))) one_more ∙ ap (λ rest. byte ∷ rest) (take_line line newline text size)
+    ap (λ n. take n (byte ∷ (line ++ newline ∷ text))) one_more
+    ∙ ap (λ rest. byte ∷ rest) (take_line line newline text size)
 
-cut : (line : List ℕ) (newline : ℕ) (text : List ℕ) (before : List (List ℕ)) → All (λ byte. is_newline byte ≡ false) line → is_newline newline ≡ true → IsCut text before → IsCut (line ++ newline ∷ text) (line ∷ before)
+cut : (line : List ℕ) (newline : ℕ) (text : List ℕ) (before : List (List ℕ))
+    → All (λ byte. is_newline byte ≡ false) line → is_newline newline ≡ true → IsCut text before
+    → IsCut (line ++ newline ∷ text) (line ∷ before)
 cut line newline text before without is inner = record {
   within = omega (arith, inner.within, length-append line (newline ∷ text));
   lines =
@@ -69,17 +77,26 @@ at_most_one false line = omega arith
 -- a text without a newline has no line behind its first
 one_line : (text : List ℕ) → length text ≤ position_or_len is_newline text → length (lines_of text) ≤ 1
 one_line text none =
-    let without : All (λ byte. is_newline byte ≡ false) text = λ k d inside. fails_before_first is_newline text k d (omega arith) in
-    omega (arith, ap (λ pieces. length (without_empty_last pieces)) (slice_split_none is_newline text without), at_most_one (length text == 0) text)
+    let without : All (λ byte. is_newline byte ≡ false) text =
+    λ k d inside. fails_before_first is_newline text k d (omega arith) in
+    omega (
+      arith,
+      ap (λ pieces. length (without_empty_last pieces)) (slice_split_none is_newline text without),
+      at_most_one (length text == 0) text,
+    )
 
-pub lines_before : (place : ℕ) (text : List ℕ) → place < length (lines_of text) → IsCut text (take place (lines_of text))
+pub lines_before : (place : ℕ) (text : List ℕ) → place < length (lines_of text)
+    → IsCut text (take place (lines_of text))
 lines_before zero text inside = record { within = omega arith; lines = refl }
 lines_before (suc place) text inside = elim (cases_lt (position_or_len is_newline text) (length text)) [
   | inl some ↦
       let first = first_line text some in
-      let lines : lines_of text ≡ first.line ∷ lines_of first.rest = ap lines_of first.whole ∙ lines_of_line first.line first.newline first.rest first.without first.is_newline in
+      let lines : lines_of text ≡ first.line ∷ lines_of first.rest = ap lines_of first.whole
+      ∙ lines_of_line first.line first.newline first.rest first.without first.is_newline in
       let inside' : place < length (lines_of first.rest) = omega (arith, ap length lines) in
-      let whole = cut first.line first.newline first.rest (take place (lines_of first.rest)) first.without first.is_newline (lines_before place first.rest inside') in
-      subst (λ ls. IsCut text (take (suc place) ls)) (sym lines) (subst (λ t. IsCut t (first.line ∷ take place (lines_of first.rest))) (sym first.whole) whole)
+      let whole = cut first.line first.newline first.rest (take place (lines_of first.rest)) first.without
+      first.is_newline (lines_before place first.rest inside') in
+      subst (λ ls. IsCut text (take (suc place) ls)) (sym lines)
+      (subst (λ t. IsCut t (first.line ∷ take place (lines_of first.rest))) (sym first.whole) whole)
   | inr none ↦ let few = one_line text none in absurd (omega arith)
 ]

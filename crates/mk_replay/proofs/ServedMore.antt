@@ -14,7 +14,8 @@ use Rattle.mk_replay.specs.Players.{Served, served_behind, served_by, served_to}
 
 both_by : (b b' : Bool) (decided : Option Answer) (xs answers : List Answer) (was kept : Option Answer)
     → answers ≡ xs ++ given_by b b' decided was → kept ≡ waiting_by b b' decided was
-    → ◌≡◌ {A = Served} (record { answers = answers; kept = kept }) (if b then served_behind b' decided (record { answers = xs; kept = was }) else record { answers = xs; kept = was })
+    → ◌≡◌ {A = Served} (record { answers = answers; kept = kept })
+    (if b then served_behind b' decided (record { answers = xs; kept = was }) else record { answers = xs; kept = was })
 both_by true true decided xs answers was kept h i = cc
 both_by true false decided xs answers was kept h i = let j = h ∙ append-nil xs in cc
 both_by false b' decided xs answers was kept h i = let j = h ∙ append-nil xs in cc
@@ -22,7 +23,8 @@ both_by false b' decided xs answers was kept h i = let j = h ∙ append-nil xs i
 pub served_more : (c : Config) (es : List Event) (k : ℕ) (e : Event) → AreEnabled c (es ++ e ∷ [])
     → served_to c (es ++ e ∷ []) k ≡ served_by k e (answer_decided c (left c es).now e) (served_to c es k)
 served_more c es k e h =
-    both_by (is_same_seat (Caller k) e.seat) (ends_call e.step) (answer_decided c (left c es).now e) (answers_given c es k) _ (answer_waiting c es k) _
+    both_by (is_same_seat (Caller k) e.seat) (ends_call e.step) (answer_decided c (left c es).now e)
+    (answers_given c es k) _ (answer_waiting c es k) _
     (given_more c es e k h) (waiting_more c es e k h)
 
 pub served_first : (c : Config) (k : ℕ) → ◌≡◌ {A = Served} (served_to c [] k) (record { answers = []; kept = None })

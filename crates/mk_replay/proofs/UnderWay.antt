@@ -1,5 +1,6 @@
 -- A run behind the first entries of a schedule.
-use Rattle.std.proofs.Common.{◌≡◌, ℕ, ◌+◌, ◌<◌, ◌≤◌, false, List, [], ◌∷◌, ◌++◌, length, drop, get_or, refl, sym, ◌∙◌, ap, subst, arith, add-one, drop-cons}
+use Rattle.std.proofs.Common.{◌≡◌, ℕ, ◌+◌, ◌<◌, ◌≤◌, false, List, [], ◌∷◌, ◌++◌, length, drop, get_or, refl, sym, ◌∙◌}
+use Rattle.std.proofs.Common.{ap, subst, arith, add-one, drop-cons}
 use Rattle.std.specs.Prelude.{Some, None, ◌==◌}
 use Rattle.std.proofs.lemmas.Bool.Decides.{nat_tests}
 use Rattle.std.proofs.lemmas.List.{length-append}
@@ -21,7 +22,8 @@ use Rattle.mk_check.specs.Output.{answers_given}
 use Rattle.mk_check.proofs.GivenAnswers.{few_answers}
 
 -- There are fewer answers than the counts can hold.
-pub room_of : (program : List Item) (schedule : List Entry) (n : ℕ) (run : Run) → IsUnderWay program schedule n run → n < 18446744073709551615 → EachHasRoom run.players.items
+pub room_of : (program : List Item) (schedule : List Entry) (n : ℕ) (run : Run) → IsUnderWay program schedule n run
+    → n < 18446744073709551615 → EachHasRoom run.players.items
 room_of program schedule n run h few = λ k d less.
     let p = h.is_run.players k d less in
     let answers = answers_given (config_of program 8) h.events k in
@@ -37,7 +39,8 @@ refusal_more : (program : List Item) (es : List Event) (x : Entry) (xs : List En
 unfolding refusal_from
 refusal_more program es x xs h = rw h refl
 
-refusal_here : (program : List Item) (es : List Event) (x : Entry) (xs : List Entry) → (failing_entry program es x == 0) ≡ false
+refusal_here : (program : List Item) (es : List Event) (x : Entry) (xs : List Entry)
+    → (failing_entry program es x == 0) ≡ false
     → refusal_from program es (x ∷ xs) ≡ Some (NotEnabled x.line x.place (failing_entry program es x))
 unfolding refusal_from
 refusal_here program es x xs h = rw h refl
@@ -55,8 +58,10 @@ history_none : (program : List Item) (es : List Event) → history_from program 
 unfolding history_from
 history_none program es = refl
 
-pub first_under_way : (program : List Item) (schedule : List Entry) (run : Run) → IsRunOf program [] run → IsUnderWay program schedule 0 run
-first_under_way program schedule run h = record { events = []; is_run = h; so_many = refl; refusal = refl; history = refl }
+pub first_under_way : (program : List Item) (schedule : List Entry) (run : Run) → IsRunOf program [] run
+    → IsUnderWay program schedule 0 run
+first_under_way program schedule run h =
+    record { events = []; is_run = h; so_many = refl; refusal = refl; history = refl }
 
 item_at : (schedule entries : List Entry) (n : ℕ) (d : Entry) → entries ≡ schedule → n < length entries
     → drop n schedule ≡ get_or entries n d ∷ drop (n + 1) schedule
@@ -65,7 +70,8 @@ item_at schedule entries n d same lt =
     rw (same, add-one) (drop-cons schedule n d less)
 
 pub next_under_way : (program : List Item) (schedule entries : List Entry) (n : ℕ) (old new : Run) (d : Entry)
-    → entries ≡ schedule → n < length entries → (h : IsUnderWay program schedule n old) → TakesEntry program h.events (get_or entries n d) new
+    → entries ≡ schedule → n < length entries → (h : IsUnderWay program schedule n old)
+    → TakesEntry program h.events (get_or entries n d) new
     → IsUnderWay program schedule (n + 1) new
 next_under_way program schedule entries n old new d same lt h t =
     let x = get_or entries n d in
@@ -74,12 +80,16 @@ next_under_way program schedule entries n old new d same lt h t =
       events = h.events ++ event_of program h.events x ∷ [];
       is_run = t.run;
       so_many = (let e = length-append h.events (event_of program h.events x ∷ []) in let s = h.so_many in omega arith);
-      refusal = sym (refusal_more program h.events x (drop (n + 1) schedule) t.enabled) ∙ (ap (refusal_from program h.events) (sym at) ∙ h.refusal);
-      history = sym (history_more program h.events x (drop (n + 1) schedule)) ∙ (ap (history_from program h.events) (sym at) ∙ h.history);
+      refusal = sym (refusal_more program h.events x (drop (n + 1) schedule) t.enabled)
+          ∙ (ap (refusal_from program h.events) (sym at) ∙ h.refusal);
+      history = sym (history_more program h.events x (drop (n + 1) schedule))
+          ∙ (ap (history_from program h.events) (sym at) ∙ h.history);
     }
 
-pub refused_here : (program : List Item) (schedule entries : List Entry) (n : ℕ) (run : Run) (d : Entry) (stop : ReplayStop)
-    → entries ≡ schedule → n < length entries → (h : IsUnderWay program schedule n run) → IsNotEnabled program h.events (get_or entries n d) stop
+pub refused_here : (program : List Item) (schedule entries : List Entry) (n : ℕ) (run : Run) (d : Entry)
+    (stop : ReplayStop)
+    → entries ≡ schedule → n < length entries → (h : IsUnderWay program schedule n run)
+    → IsNotEnabled program h.events (get_or entries n d) stop
     → refusal_of program schedule ≡ Some stop
 refused_here program schedule entries n run d stop same lt h t =
     let x = get_or entries n d in
@@ -97,7 +107,8 @@ pub over : (program : List Item) (schedule entries : List Entry) (n : ℕ) (run 
     → entries ≡ schedule → length entries ≤ n → IsUnderWay program schedule n run → IsOver program schedule run
 over program schedule entries n run same le h =
     let none : drop n schedule ≡ [] = drop_of_length-le schedule (subst (λ (xs : List Entry). length xs ≤ n) same le) in
-    let all : h.events ≡ history_of program schedule = sym (history_none program h.events) ∙ (ap (history_from program h.events) (sym none) ∙ h.history) in
+    let all : h.events ≡ history_of program schedule = sym (history_none program h.events)
+    ∙ (ap (history_from program h.events) (sym none) ∙ h.history) in
     let is_run = subst (λ (es : List Event). IsRunOf program es run) all h.is_run in
     record {
       is_run = is_run;

@@ -1,5 +1,6 @@
 -- The history of a run keeps all promises, and its texts are all that is printed of it.
-use Rattle.std.proofs.Common.{◌≡◌, ℕ, suc, ◌+◌, ◌<◌, Bool, true, false, List, [], ◌∷◌, ◌++◌, length, refl, ap, sym, ◌∙◌, arith}
+use Rattle.std.proofs.Common.{◌≡◌, ℕ, suc, ◌+◌, ◌<◌, Bool, true, false, List, [], ◌∷◌, ◌++◌, length, refl, ap, sym, ◌∙◌}
+use Rattle.std.proofs.Common.{arith}
 use Rattle.std.specs.Prelude.{slice_get, Some, ◌==◌}
 use Rattle.std.specs.List.{flat_map, range_with_len}
 use Rattle.std.proofs.lemmas.Bool.Decides.{nat_tests}
@@ -29,7 +30,8 @@ use Rattle.mk_run.specs.Headline.{cycles_go_on, RunsToItsEnd, RunsStandInOneHist
 
 -- A caller has as many answers among the calls as operations.
 
-more_answers : (k : ℕ) (b : Bool) (x : Decided) (xs : List Decided) → length (ops_of_caller k (asked xs)) ≡ length (answers_among k xs)
+more_answers : (k : ℕ) (b : Bool) (x : Decided) (xs : List Decided)
+    → length (ops_of_caller k (asked xs)) ≡ length (answers_among k xs)
     → (x.caller == k) ≡ b → length (ops_of_caller k (asked (x ∷ xs))) ≡ length (answers_among k (x ∷ xs))
 more_answers k true x xs same is = rw is (ap suc same)
 more_answers k false x xs same is = rw is same
@@ -43,7 +45,8 @@ as_many k (x ∷ xs) = more_answers k (x.caller == k) x xs (as_many k xs) refl
 exists : (c : Config) (k : ℕ) → k < c.callers → seat_exists c (Caller k) ≡ true
 exists c k less = grind (arith, nat_tests)
 
-all_given : (c : Config) (es : List Event) (k : ℕ) → IsWhole c es → k < c.callers → answers_given c es k ≡ answers_in c k es
+all_given : (c : Config) (es : List Event) (k : ℕ) → IsWhole c es → k < c.callers
+    → answers_given c es k ≡ answers_in c k es
 all_given c es k whole less =
     let answers = serves c es k whole.history.enabled in
     let rests = (whole.rests (Caller k) (exists c k less)).call in
@@ -61,8 +64,10 @@ pieces f g a (x ∷ xs) each =
     ap (λ piece. piece ++ flat_map f xs) first ∙ ap (λ more. g a ++ more) rest
 
 -- A script of a run has used all its answers.
-pub runs_to_its_end : (on : Bool) (program : List Item) (markers : ℕ) (outcome : Outcome) (k : ℕ) → IsRunOf on program markers outcome
-    → IsScript program k → RunsToItsEnd program k (answers_in (config_of program markers) k (report.history_of outcome.report))
+pub runs_to_its_end : (on : Bool) (program : List Item) (markers : ℕ) (outcome : Outcome) (k : ℕ)
+    → IsRunOf on program markers outcome
+    → IsScript program k
+    → RunsToItsEnd program k (answers_in (config_of program markers) k (report.history_of outcome.report))
 runs_to_its_end on program markers outcome k runs is = record {
   ended = runs.ends k is;
   none_left =
@@ -92,7 +97,8 @@ runs_print_their_texts on program markers outcome runs =
     let es = report.history_of outcome.report in
     let text_of = text_behind program c es in
     let texts = outcome.texts.items in
-    let piece : (k : ℕ) (text : Text) → slice_get texts k ≡ Some text → text.bytes.items ≡ text_of (0 + k) = λ k text is.
+    let piece : (k : ℕ) (text : Text) → slice_get texts k ≡ Some text
+    → text.bytes.items ≡ text_of (0 + k) = λ k text is.
     let inside = slice_get_within texts k text is in
     let count = runs.count in
     (runs.texts k text is).bytes

@@ -1,6 +1,7 @@
 -- The host's last cycle, by the events of the whole list: where its turn and its cycle stand, and that no other `close`
 -- stands behind.
-use Rattle.std.proofs.Common.{◌≡◌, ℕ, ◌<◌, ◌≤◌, Bool, true, false, List, [], ◌∷◌, ◌++◌, refl, sym, ◌∙◌, ap, subst, inl, inr, arith, append-nil, append_assoc}
+use Rattle.std.proofs.Common.{◌≡◌, ℕ, ◌<◌, ◌≤◌, Bool, true, false, List, [], ◌∷◌, ◌++◌, refl, sym, ◌∙◌, ap, subst, inl}
+use Rattle.std.proofs.Common.{inr, arith, append-nil, append_assoc}
 use Rattle.std.specs.Prelude.{Option, None}
 use Rattle.std.proofs.lemmas.Bool.{or_from, or_parts}
 use Rattle.std.proofs.lemmas.List.{append_cancel_left}
@@ -33,7 +34,8 @@ use Rattle.mk_heap.proofs.MovedHosts.{MovesOn, moves_does, moves_more, turn_move
 use Rattle.mk_objects.proofs.JoinedLooks.{does_wider}
 use Rattle.mk_alloc.specs.TurnCycles.{finishes, has_step, within_turn}
 use Rattle.mk_alloc.proofs.CalmStretches.{cycles_in_turn, is_of_cycles}
-use Rattle.mk_alloc.proofs.CycleParts.{BeginIn, EndsIn, FinishIn, begin_does, begin_in, begins_held, finish_does, finish_in}
+use Rattle.mk_alloc.proofs.CycleParts.{BeginIn, EndsIn, FinishIn, begin_does, begin_in, begins_held, finish_does}
+use Rattle.mk_alloc.proofs.CycleParts.{finish_in}
 use Rattle.mk_alloc.proofs.ListParts.{IsAt, Lacks, SomeKind, lacks_append, lacks_first, lacks_second, only_at}
 use Rattle.mk_alloc.proofs.OwnGives.{GivesNone, doing_gives, gives_append, others_give}
 use Rattle.mk_alloc.proofs.Parts.{has_then, history_before, in_turn_then, made_as, others_lack, seen_behind, seen_made}
@@ -118,7 +120,8 @@ stays x h = h
 finish_stays : (p q : PassState) → Does is_of_cycles p q → Does turn_stays p q
 finish_stays p q d = does_wider is_of_cycles turn_stays cycles_in_turn p q d
 
-pub ends_does : (taken idle : PassState) → Has taken.seats taken.seat → EndsCycle taken idle → Does turn_stays taken idle
+pub ends_does : (taken idle : PassState) → Has taken.seats taken.seat → EndsCycle taken idle
+    → Does turn_stays taken idle
 ends_does taken idle own ends =
     let look : Does turn_stays taken ends.looked =
     made_as turn_stays taken ends.looked (step.Look word.Phase) own ends.looks refl in
@@ -367,7 +370,8 @@ module _ (tells : Config → World → Type 0) (p q : PassState) (m : MakesToldC
         behind = m.at_close.behind;
         is =
             sym ends.ends.is
-            ∙ append_cancel_left begun.seen ends.more (m.at_close.before ++ event_of begun step.Close ∷ m.at_close.behind)
+            ∙ append_cancel_left begun.seen ends.more
+            (m.at_close.before ++ event_of begun step.Close ∷ m.at_close.behind)
             (sym ends.is ∙ m.at_close.is
             ∙ append_assoc begun.seen m.at_close.before (event_of begun step.Close ∷ m.at_close.behind));
         of_kind = refl;
@@ -385,7 +389,8 @@ module _ (tells : Config → World → Type 0) (p q : PassState) (m : MakesToldC
       (seen_behind turn_stays taken idle d_idle ∙ ap (λ (l : List Event). l ++ d_idle.more) taken_is))
       ∙ simp append_assoc
 
-  told_then : tells p.table.config (left p.table.config (within_turn the_turn (before_close the_cycle.releasing.marking)))
+  told_then : tells p.table.config
+      (left p.table.config (within_turn the_turn (before_close the_cycle.releasing.marking)))
   told_then =
       subst (λ (l : List Event). tells p.table.config (left p.table.config l)) close_is_there
       (subst (λ (c : Config). tells c (left c (begun.seen ++ m.at_close.before))) ended_config m.at_close.told)
@@ -459,7 +464,8 @@ module _ (tells : Config → World → Type 0) (p q : PassState) (m : MakesToldC
       callers = callers_still;
       cycle = the_cycle;
       last =
-          lacks_append is_close behind_close tail (lacks_first is_close behind_close (give_of p.seat ∷ tail) closes_no_other)
+          lacks_append is_close behind_close tail
+          (lacks_first is_close behind_close (give_of p.seat ∷ tail) closes_no_other)
           (lacks_second is_close behind_close (give_of p.seat ∷ tail) closes_no_other);
       told = told_then;
     }

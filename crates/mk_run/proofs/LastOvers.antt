@@ -1,5 +1,6 @@
 -- Behind the host's last cycle: it says that all is over, and markers are joined. No cycle is begun there.
-use Rattle.std.proofs.Common.{◌≡◌, ℕ, ◌<◌, Bool, true, false, List, [], ◌∷◌, ◌++◌, refl, sym, ◌∙◌, ap, subst, inl, inr, append_assoc}
+use Rattle.std.proofs.Common.{◌≡◌, ℕ, ◌<◌, Bool, true, false, List, [], ◌∷◌, ◌++◌, refl, sym, ◌∙◌, ap, subst, inl, inr}
+use Rattle.std.proofs.Common.{append_assoc}
 use Rattle.std.specs.Prelude.{None}
 use Rattle.std.specs.List.{list_any}
 use Rattle.std.proofs.lemmas.Bool.{or_from, or_parts}
@@ -139,7 +140,8 @@ ends_with_cycle tells w p t history =
     let c : Config = a.table.config in
     let more : List Event = t.behind.more in
     let own : Has a.seats a.seat = subst (λ (x : Seat). Has a.seats x) (sym t.seat) t.own in
-    let callers : HasCallers c a.seats = subst (λ (x : WordsState). HasCallers x.config a.seats) (sym t.table) t.callers in
+    let callers : HasCallers c a.seats =
+    subst (λ (x : WordsState). HasCallers x.config a.seats) (sym t.table) t.callers in
     let made = (cycle_moves a b t.cycle.makes).is in
     let said = (over_moves b s t.over).is in
     let b_seat : b.seat ≡ Host = ap (λ (r : PassState). r.seat) made ∙ t.seat in

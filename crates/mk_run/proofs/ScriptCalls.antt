@@ -209,14 +209,16 @@ module _ (on : Bool) (program : List Item) (k : ℕ) (p : PassState) (seat : p.s
 -- A script under way.
 
 -- The caller of a script exists, whatever its pass has seen.
-pub exists_on : (p q : PassState) (k : ℕ) (program : List Item) → q ≡ record p { seen = q.seen } → number_of p ≡ k → IsScript program k
+pub exists_on : (p q : PassState) (k : ℕ) (program : List Item) → q ≡ record p { seen = q.seen } → number_of p ≡ k
+    → IsScript program k
     → p.table.config ≡ config_of program p.table.config.markers → number_of q < q.table.config.callers
 exists_on p q k program is number script config =
     let callers : p.table.config.callers ≡ length (script_names program) = ap (λ (x : Config). x.callers) config in
     let within : k < length (script_names program) = script in
     subst (λ (r : PassState). number_of r < r.table.config.callers) (sym is) (omega arith)
 
-pub seat_is : (p q : PassState) (k : ℕ) → q ≡ record p { seen = q.seen } → IsIdleCaller q → number_of p ≡ k → p.seat ≡ Caller k
+pub seat_is : (p q : PassState) (k : ℕ) → q ≡ record p { seen = q.seen } → IsIdleCaller q → number_of p ≡ k
+    → p.seat ≡ Caller k
 seat_is p q k is idle number =
     let seat : p.seat ≡ Caller idle.caller = ap (λ (r : PassState). r.seat) (sym is) ∙ idle.seat in
     seat ∙ ap (λ (j : ℕ). Caller j) (sym (ap (λ (s : Seat). caller_number s) seat) ∙ number)

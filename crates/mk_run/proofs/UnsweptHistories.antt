@@ -31,7 +31,8 @@ markers_sweep c j w [] enabled = tt
 markers_sweep c j w (e ∷ es) enabled =
     let meets = (enabled_events_meet_all c w.now e).0 enabled.0 in (
       λ same. other_steps_sweep c w.now (flight_of w.now e.seat) e.step (markers_kind j e.step
-          (subst (λ (s : Seat). is_open_to s (group_of e.step) ≡ true) (sym (same_seat (Marker j) e.seat same)) meets.kind)),
+          (subst (λ (s : Seat). is_open_to s (group_of e.step) ≡ true) (sym (same_seat (Marker j) e.seat same))
+          meets.kind)),
       markers_sweep c j (world_behind c w e) es enabled.1,
     )
 

@@ -57,7 +57,8 @@ script_sweeps w k first s q r at is more same =
     let before = first_sweeps p.table.config p.seat p.seen (ap (λ (x : PassState). x.seen) home ∙ at.seen) in
     subst (λ (x : PassState). SeatSweepsNothing w.config (Caller k) x.seen) (sym same)
     (subst (λ (seat : Seat). SeatSweepsNothing w.config seat q.seen) (ap (λ (x : PassState). x.seat) home ∙ at.seat)
-    (subst (λ (t : WordsState). SeatSweepsNothing t.config p.seat q.seen) (ap (λ (x : PassState). x.table) home ∙ at.table)
+    (subst (λ (t : WordsState). SeatSweepsNothing t.config p.seat q.seen) (ap (λ (x : PassState). x.table) home
+    ∙ at.table)
     (seat_on p q more before)))
 
 -- The host goes on, and the callers are still.
@@ -96,7 +97,8 @@ script_joined program k c seats es fs alone came mine others =
     }
 
 -- before any is made
-pub none_joined : (program : List Item) (k : ℕ) (c : Config) (es : List Event) → es ≡ [] → k ≡ length (script_names program)
+pub none_joined : (program : List Item) (k : ℕ) (c : Config) (es : List Event) → es ≡ []
+    → k ≡ length (script_names program)
     → ScriptsSweepNothing program k c es
 none_joined program k c es none all =
     record {

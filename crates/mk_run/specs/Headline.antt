@@ -40,9 +40,9 @@ pub record StandsInOneHistory (program : List Item) (markers : ℕ) (sweep : Boo
   -- It is a history of one heap of the program's configuration, and tidy, and no call of it is in flight.
   pub whole : IsWhole (config_of program markers) history
   -- Its answers are those of the heap that never reuses storage: a dangling load gives the freed object's own word, or
-  -- Fault for a freed large run. Full stands only where nothing fits beside live and quarantined storage, behind a cycle
-  -- begun and ended in that call; every other object stands at its place. Marks are closed at each `close`, and what is
-  -- released was freed before its cycle and isn't reached.
+  -- Fault for a freed large run. Full stands only where nothing fits beside live and quarantined storage, behind a
+  -- cycle begun and ended in that call; every other object stands at its place. Marks are closed at each `close`, and
+  -- what is released was freed before its cycle and isn't reached.
   pub promises : KeepsAllPromises (config_of program markers) history
   -- Each script's operations are there once and in order: they are those that it asks for, fed with their own answers.
   pub operations :
@@ -55,8 +55,8 @@ pub record StandsInOneHistory (program : List Item) (markers : ℕ) (sweep : Boo
   pub cycles :
       (k : ℕ) → IsScript program k
       → TurnsOfAreExact (cycles_go_on markers) (config_of program markers) (Caller k) history
-  -- Unless a sweep makes the marks, each cycle releases all of its snapshot that no pointer led to from the `begin` to the
-  -- `close`, and behind its `end` that storage counts as free.
+  -- Unless a sweep makes the marks, each cycle releases all of its snapshot that no pointer led to from the `begin` to
+  -- the `close`, and behind its `end` that storage counts as free.
   pub precise : sweep ≡ false → CyclesArePrecise (config_of program markers) history
   -- This is told of it, whole.
   pub told : bytes ≡ tell (config_of program markers) history

@@ -79,8 +79,8 @@ fn with_first(
     Ok(texts)
 }
 
-/// Runs the scripts from `k` on, each on a thread of its own and with a bench of its own, and joins them. A script whose
-/// thread can't be started runs here.
+/// Runs the scripts from `k` on, each on a thread of its own and with a bench of its own, and joins them. A script
+/// whose thread can't be started runs here.
 pub(crate) fn run_from<E: Engine + Send, P: Pace + Sync, R: Threads + Wait + Sync>(
     rt: &R,
     alloc: Global,
@@ -116,7 +116,8 @@ pub(crate) fn run_from<E: Engine + Send, P: Pace + Sync, R: Threads + Wait + Syn
             requires made_for { E.made_for bench.engine ≡ heap.now.config.pages }
             requires book { length bench.book ≡ heap.now.config.pages }
             ensures ran { HasRun E.on program.entry.now heap.entry.now k result }
-            ensures reached { E.sweeps ≡ false → SeatSweepsNothing heap.entry.now.config (seat.Caller k) result.pass.seen }
+            ensures reached { E.sweeps ≡ false
+                → SeatSweepsNothing heap.entry.now.config (seat.Caller k) result.pass.seen }
         { run_alone(rt, alloc, heap, pass, bench, program, k, pace) },
         move || -> Joined
             requires shared { IsSync R.row × IsSync P.row × IsSend E.row }
@@ -126,7 +127,8 @@ pub(crate) fn run_from<E: Engine + Send, P: Pace + Sync, R: Threads + Wait + Syn
             requires made_for { All (λ bench. E.made_for bench.engine ≡ heap.now.config.pages) benches.items }
             requires books { All (λ bench. length bench.book ≡ heap.now.config.pages) benches.items }
             ensures joined { AreJoined E.on program.entry.now heap.entry.now (k + 1) host.markers result }
-            ensures reached { E.sweeps ≡ false → ScriptsSweepNothing program.entry.now (k + 1) heap.entry.now.config result.host.pass.seen }
+            ensures reached { E.sweeps ≡ false
+                → ScriptsSweepNothing program.entry.now (k + 1) heap.entry.now.config result.host.pass.seen }
         { run_from(rt, alloc, heap, program, pace, k + 1, host, benches) },
     );
     let Ran { pass, text } = ran;

@@ -31,8 +31,8 @@ fn benches<E: Engine>(alloc: Global, count: u64, pages: u64) -> Result<Vec<Bench
     Ok(benches)
 }
 
-/// Runs all and closes the heap. Where asked, the host makes a last cycle when the scripts are joined, of which its bench
-/// tells.
+/// Runs all and closes the heap. Where asked, the host makes a last cycle when the scripts are joined, of which its
+/// bench tells.
 fn run<E: Engine + Send, P: Pace + Sync, R: Threads + Wait + Sync>(
     rt: &R,
     alloc: Global,

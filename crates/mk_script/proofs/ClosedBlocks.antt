@@ -1,4 +1,5 @@
--- The lines of a text's program close the blocks that they open. Of each open block it is said here whether it may have an `else`.
+-- The lines of a text's program close the blocks that they open. Of each open block it is said here whether it may have
+-- an `else`.
 use Rattle.std.proofs.Common.{◌≡◌, Bool, true, false, List, [], ◌∷◌, ◌++◌, map, refl, ap, sym, ◌∙◌, subst, append_assoc}
 use Rattle.std.proofs.lemmas.List.{append-nil}
 use Rattle.std.proofs.lemmas.List.Sums.{fold_push}
@@ -50,7 +51,8 @@ none_open (block ∷ blocks) h = cc
 closes_behind : (before items : List Item) → ArePassed before items → has_none (open_blocks (before ++ items)) ≡ true
     → Closes (map may_have_else (open_blocks before)) items
 closes_behind before [] passed closed =
-    none_open (open_blocks before) (ap (λ (xs : List Item). has_none (open_blocks xs)) (sym (append-nil before)) ∙ closed)
+    none_open (open_blocks before) (ap (λ (xs : List Item). has_none (open_blocks xs)) (sym (append-nil before))
+    ∙ closed)
 closes_behind before (item ∷ items) passed closed =
     one_more (open_blocks before) item items passed.0.ends
     (subst (λ (bs : List OpenBlock). Closes (map may_have_else bs) items) (fold_push open_behind [] before item)

@@ -6,6 +6,7 @@ use Rattle.mk_script.specs.declared.faults.LineStop.{LineStop}
 use Rattle.mk_script.specs.declared.faults.LineStop.TheVariants.{Fault}
 use Rattle.mk_script.specs.Stops.{Gives}
 
-pub gives_fault : {A : Type 0} (expected : Result A LineFault) (found : Result A LineStop) (fault : LineFault) → expected ≡ Err fault → IsErrAnd found (λ stop. stop ≡ Fault fault) → Gives expected found
+pub gives_fault : {A : Type 0} (expected : Result A LineFault) (found : Result A LineStop) (fault : LineFault)
+    → expected ≡ Err fault → IsErrAnd found (λ stop. stop ≡ Fault fault) → Gives expected found
 gives_fault expected (Ok item) fault is handed = absurd handed
 gives_fault expected (Err stop) fault is handed = rw handed is

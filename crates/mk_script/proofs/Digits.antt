@@ -1,5 +1,6 @@
 -- The number that digits stand for, digit by digit.
-use Rattle.std.proofs.Common.{◌≡◌, ℕ, ◌+◌, ◌-◌, ◌*◌, ◌^◌, ◌<◌, ◌≤◌, true, false, ltb, List, [], ◌∷◌, length, get_or, drop, Some, None, refl, ◌∙◌, arith}
+use Rattle.std.proofs.Common.{◌≡◌, ℕ, ◌+◌, ◌-◌, ◌*◌, ◌^◌, ◌<◌, ◌≤◌, true, false, ltb, List, [], ◌∷◌, length, get_or}
+use Rattle.std.proofs.Common.{drop, Some, None, refl, ◌∙◌, arith}
 use Rattle.std.proofs.Math.Bool.{and-false}
 use Rattle.std.proofs.lemmas.Bool.{le-ltb, lt-ltb}
 use Rattle.std.proofs.lemmas.List.{at_drop_more, at_drop_all}
@@ -10,11 +11,14 @@ pub value_from-le : (high : ℕ) (digits : List ℕ) → high ≤ value_from hig
 value_from-le high [] = omega arith
 value_from-le high (digit ∷ digits) = omega (arith, value_from-le (10 * high + (digit - 48)) digits)
 
-pub value_from-drop : (high : ℕ) (digits : List ℕ) (i : ℕ) → i < length digits → value_from high (drop i digits) ≡ value_from (10 * high + (get_or digits i 0 - 48)) (drop (i + 1) digits)
+pub value_from-drop : (high : ℕ) (digits : List ℕ) (i : ℕ) → i < length digits
+    → value_from high (drop i digits) ≡ value_from (10 * high + (get_or digits i 0 - 48)) (drop (i + 1) digits)
 value_from-drop high digits i inside = at_drop_more (value_from high) digits i 0 inside
 
 -- the digits so far are too great already
-pub too_great : (high : ℕ) (digits : List ℕ) (i : ℕ) → i < length digits → value_from 0 digits ≡ value_from high (drop i digits) → 2 ^ 64 ≤ 10 * high + (get_or digits i 0 - 48) → value_of_digits digits ≡ None
+pub too_great : (high : ℕ) (digits : List ℕ) (i : ℕ) → i < length digits
+    → value_from 0 digits ≡ value_from high (drop i digits) → 2 ^ 64 ≤ 10 * high + (get_or digits i 0 - 48)
+    → value_of_digits digits ≡ None
 too_great high digits i inside so_far great =
     let last = value_from-drop high digits i inside in
     let rest = value_from-le (10 * high + (get_or digits i 0 - 48)) (drop (i + 1) digits) in
@@ -22,7 +26,9 @@ too_great high digits i inside so_far great =
     rw (test, and-false) refl
 
 -- there are no digits left
-pub from_all : (high : ℕ) (digits : List ℕ) (i : ℕ) → length digits ≤ i → all_ascii_digits digits ≡ all_ascii_digits (drop i digits) → value_from 0 digits ≡ value_from high (drop i digits) → high < 2 ^ 64 → value_of_digits digits ≡ Some high
+pub from_all : (high : ℕ) (digits : List ℕ) (i : ℕ) → length digits ≤ i
+    → all_ascii_digits digits ≡ all_ascii_digits (drop i digits) → value_from 0 digits ≡ value_from high (drop i digits)
+    → high < 2 ^ 64 → value_of_digits digits ≡ Some high
 from_all high digits i all digits_so_far so_far fits =
     let last = at_drop_all (value_from high) digits i all in
     let whole : value_from 0 digits ≡ high = so_far ∙ last in

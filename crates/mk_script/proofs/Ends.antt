@@ -17,13 +17,20 @@ open_is : (b closed : Bool) → b ≡ not closed → b ≡ true → closed ≡ f
 open_is b false e f = refl
 open_is b true e f = cc
 
-pub ends_open : (items : List Item) (some : Bool) (line : ℕ) → some ≡ not (has_none (open_blocks items)) → some ≡ true → line ≡ length items
+pub ends_open : (items : List Item) (some : Bool) (line : ℕ) → some ≡ not (has_none (open_blocks items)) → some ≡ true
+    → line ≡ length items
     → at_end items ≡ Err (Text line End)
 ends_open items some line e t l = rw (open_is some (has_none (open_blocks items)) e t, l) refl
 
-pub ends_without : (items : List Item) (some script : Bool) (line : ℕ) → some ≡ not (has_none (open_blocks items)) → some ≡ false
+pub ends_without : (items : List Item) (some script : Bool) (line : ℕ) → some ≡ not (has_none (open_blocks items))
+    → some ≡ false
     → script ≡ has_script items → script ≡ false → line ≡ length items → at_end items ≡ Err (Limit line Scripts 0)
-ends_without items some script line e t s f l = rw (closed_is some (has_none (open_blocks items)) e t, sym s ∙ f, l) refl
+ends_without items some script line e t s f l = rw (
+  closed_is some (has_none (open_blocks items)) e t,
+  sym s
+      ∙ f,
+  l,
+) refl
 
 pub ends_well : (items : List Item) (some script : Bool) → some ≡ not (has_none (open_blocks items)) → some ≡ false
     → script ≡ has_script items → script ≡ true → at_end items ≡ Ok items

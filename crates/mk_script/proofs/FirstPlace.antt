@@ -1,12 +1,14 @@
 -- What stands around the first `+` of a word.
-use Rattle.std.proofs.Common.{◌≡◌, suc, ◌+◌, ◌-◌, ℕ, Bool, true, false, not, ◌||◌, cond, ltb, List, [], ◌∷◌, length, take, drop, Some, None, position, refl, ap, sym, ◌∙◌, arith}
+use Rattle.std.proofs.Common.{◌≡◌, suc, ◌+◌, ◌-◌, ℕ, Bool, true, false, not, ◌||◌, cond, ltb, List, [], ◌∷◌, length}
+use Rattle.std.proofs.Common.{take, drop, Some, None, position, refl, ap, sym, ◌∙◌, arith}
 use Rattle.std.proofs.lemmas.Bool.{lt-ltb}
 use Rattle.std.proofs.lemmas.Bool.Decides.{nat_tests}
 use Rattle.std.proofs.lemmas.List.{length-drop, take_all}
 use Rattle.std.specs.List.{list_any, position_or_len}
 use Rattle.mk_script.specs.Operands.{is_plus, IsCutAtPlus}
 
-behind : (here : Bool) (rest : Bool) (place count : ℕ) → rest ≡ ltb place count → (here || rest) ≡ ltb (cond (not here) (1 + place) 0) (suc count)
+behind : (here : Bool) (rest : Bool) (place count : ℕ) → rest ≡ ltb place count
+    → (here || rest) ≡ ltb (cond (not here) (1 + place) 0) (suc count)
 behind true rest place count h = sym (lt-ltb 0 (suc count) (omega arith))
 behind false rest place count h = h ∙ grind (arith, nat_tests)
 
@@ -23,12 +25,15 @@ unchosen true place found = cc
 unchosen false place found = refl
 
 pub uncut : (word : List ℕ) → None ≡ position is_plus word → list_any is_plus word ≡ false
-uncut word found = any_from_place is_plus word ∙ unchosen (ltb (position_or_len is_plus word) (length word)) (position_or_len is_plus word) found
+uncut word found = any_from_place is_plus word
+    ∙ unchosen (ltb (position_or_len is_plus word) (length word)) (position_or_len is_plus word) found
 
-pub cut : (word : List ℕ) (plus : ℕ) → Some plus ≡ position is_plus word → IsCutAtPlus word (take plus word) (take (length word - (plus + 1)) (drop (plus + 1) word))
+pub cut : (word : List ℕ) (plus : ℕ) → Some plus ≡ position is_plus word
+    → IsCutAtPlus word (take plus word) (take (length word - (plus + 1)) (drop (plus + 1) word))
 cut word plus found =
     let is = chosen (ltb (position_or_len is_plus word) (length word)) (position_or_len is_plus word) plus found in
-    let all : take (length word - (plus + 1)) (drop (plus + 1) word) ≡ drop (plus + 1) word = take_all (length word - (plus + 1)) (drop (plus + 1) word) (omega (arith, length-drop (plus + 1) word)) in
+    let all : take (length word - (plus + 1)) (drop (plus + 1) word) ≡ drop (plus + 1) word =
+    take_all (length word - (plus + 1)) (drop (plus + 1) word) (omega (arith, length-drop (plus + 1) word)) in
     record {
       has_plus = any_from_place is_plus word ∙ is.0;
       front_is = ap (λ place. take place word) is.1;

@@ -1,5 +1,6 @@
 -- Words of a line: they are not empty, and have neither a space nor a newline.
-use Rattle.std.proofs.Common.{◌≡◌, ℕ, suc, ◌<◌, ◌^◌, Bool, true, false, ◌&&◌, not, nat_eq, nat_lt, List, [], ◌∷◌, ◌++◌, length, refl, ap, ◌∙◌, sym, arith, filter}
+use Rattle.std.proofs.Common.{◌≡◌, ℕ, suc, ◌<◌, ◌^◌, Bool, true, false, ◌&&◌, not, nat_eq, nat_lt, List, [], ◌∷◌, ◌++◌}
+use Rattle.std.proofs.Common.{length, refl, ap, ◌∙◌, sym, arith, filter}
 use Rattle.std.specs.Fmt.{decimal}
 use Rattle.std.specs.Str.{all_ascii_digits}
 use Rattle.std.specs.Char.{is_ascii_digit}
@@ -65,17 +66,22 @@ other_byte : (low byte : ℕ) → low < 33 → nat_lt 32 byte ≡ true → nat_e
 other_byte low byte l p = grind (arith, nat_tests)
 
 pub without : (low : ℕ) (text : List ℕ) → low < 33 → is_solid text ≡ true → All (λ byte. nat_eq byte low ≡ false) text
-without low text l p = All-weaker (λ byte. nat_lt 32 byte ≡ true) (λ byte. nat_eq byte low ≡ false) (λ byte. other_byte low byte l) text (AllPass-from_list_all (λ byte. nat_lt 32 byte) text p)
+without low text l p = All-weaker (λ byte. nat_lt 32 byte ≡ true) (λ byte. nat_eq byte low ≡ false)
+    (λ byte. other_byte low byte l) text (AllPass-from_list_all (λ byte. nat_lt 32 byte) text p)
 
 -- words of a line
 abbrev pub AreWords : List (List ℕ) → Type 0
 AreWords [] = Unit {0}
 AreWords (word ∷ words) = (is_word word ≡ true) × AreWords words
 
-pub split_spaced : (word : List ℕ) (words : List (List ℕ)) → is_word word ≡ true → AreWords words → slice_split (λ byte. nat_eq byte 32) (word ++ spaced_words words) ≡ word ∷ words
-split_spaced word [] p ws = rw append-nil (slice_split_none (λ byte. nat_eq byte 32) word (without 32 word (omega arith) (is_solid-from_is_word word p)))
+pub split_spaced : (word : List ℕ) (words : List (List ℕ)) → is_word word ≡ true → AreWords words
+    → slice_split (λ byte. nat_eq byte 32) (word ++ spaced_words words) ≡ word ∷ words
+split_spaced word [] p ws =
+    rw append-nil (slice_split_none (λ byte. nat_eq byte 32) word
+    (without 32 word (omega arith) (is_solid-from_is_word word p)))
 split_spaced word (next ∷ words) p ws =
-    slice_split_at (λ byte. nat_eq byte 32) word 32 (next ++ spaced_words words) (without 32 word (omega arith) (is_solid-from_is_word word p)) refl
+    slice_split_at (λ byte. nat_eq byte 32) word 32 (next ++ spaced_words words)
+    (without 32 word (omega arith) (is_solid-from_is_word word p)) refl
     ∙ ap (λ rest. word ∷ rest) (split_spaced next words ws.0 ws.1)
 
 not_zero : (n : ℕ) → not (nat_eq (suc n) 0) ≡ true
@@ -84,20 +90,26 @@ not_zero n = grind (arith, nat_tests)
 keeps_words : (words : List (List ℕ)) → AreWords words → filter (λ word. not (is_empty word)) words ≡ words
 keeps_words [] ws = refl
 keeps_words ([] ∷ words) ws = absurd (true≢false (sym ws.0))
-keeps_words ((byte ∷ word) ∷ words) ws = cond-true _ _ _ (not_zero (length word)) ∙ ap (λ rest. (byte ∷ word) ∷ rest) (keeps_words words ws.1)
+keeps_words ((byte ∷ word) ∷ words) ws = cond-true _ _ _ (not_zero (length word))
+    ∙ ap (λ rest. (byte ∷ word) ∷ rest) (keeps_words words ws.1)
 
 -- the words of words with spaces between them
 pub words_of-joined : (words : List (List ℕ)) → AreWords words → words_of (joined_words words) ≡ words
 words_of-joined [] ws = refl
-words_of-joined (word ∷ words) ws = ap (λ parts. filter (λ part. not (is_empty part)) parts) (split_spaced word words ws.0 ws.1) ∙ keeps_words (word ∷ words) ws
+words_of-joined (word ∷ words) ws =
+    ap (λ parts. filter (λ part. not (is_empty part)) parts) (split_spaced word words ws.0 ws.1)
+    ∙ keeps_words (word ∷ words) ws
 
 newline_apart : (words : List (List ℕ)) → AreWords words → All (λ byte. nat_eq byte 10 ≡ false) (spaced_words words)
 newline_apart [] ws = All-nil (λ byte. nat_eq byte 10 ≡ false)
 newline_apart (word ∷ words) ws =
     All-cons (λ byte. nat_eq byte 10 ≡ false) 32 (word ++ spaced_words words) refl
-    (All-append (λ byte. nat_eq byte 10 ≡ false) word (spaced_words words) (without 10 word (omega arith) (is_solid-from_is_word word ws.0)) (newline_apart words ws.1))
+    (All-append (λ byte. nat_eq byte 10 ≡ false) word (spaced_words words)
+    (without 10 word (omega arith) (is_solid-from_is_word word ws.0)) (newline_apart words ws.1))
 
 -- such a line has no newline
-pub without_newline : (words : List (List ℕ)) → AreWords words → All (λ byte. nat_eq byte 10 ≡ false) (joined_words words)
+pub without_newline : (words : List (List ℕ)) → AreWords words
+    → All (λ byte. nat_eq byte 10 ≡ false) (joined_words words)
 without_newline [] ws = All-nil (λ byte. nat_eq byte 10 ≡ false)
-without_newline (word ∷ words) ws = All-append (λ byte. nat_eq byte 10 ≡ false) word (spaced_words words) (without 10 word (omega arith) (is_solid-from_is_word word ws.0)) (newline_apart words ws.1)
+without_newline (word ∷ words) ws = All-append (λ byte. nat_eq byte 10 ≡ false) word (spaced_words words)
+    (without 10 word (omega arith) (is_solid-from_is_word word ws.0)) (newline_apart words ws.1)

@@ -1,5 +1,6 @@
 -- The line that said an item is said again by the item's own words.
-use Rattle.std.proofs.Common.{◌≡◌, ℕ, ◌+◌, ◌≤◌, Bool, true, false, ◌&&◌, nat_le, cond, List, [], ◌∷◌, length, refl, ap, ◌∙◌, sym, subst, Option, Some, None, Ok, Err}
+use Rattle.std.proofs.Common.{◌≡◌, ℕ, ◌+◌, ◌≤◌, Bool, true, false, ◌&&◌, nat_le, cond, List, [], ◌∷◌, length, refl, ap}
+use Rattle.std.proofs.Common.{◌∙◌, sym, subst, Option, Some, None, Ok, Err}
 use Rattle.std.specs.declared.result.Result.{Result}
 use Rattle.std.specs.Str.{bytes_eq}
 use Rattle.std.proofs.lemmas.Bool.{and_from, and_parts, leb-true, cond-true}
@@ -15,7 +16,8 @@ use Rattle.mk_script.specs.declared.faults.Which.TheVariants as which
 use Rattle.mk_script.specs.Keywords.{keyword_of, has_operands}
 use Rattle.mk_script.specs.Operands.{have_form, item_from}
 use Rattle.mk_script.specs.Scopes.{type_names, open_blocks}
-use Rattle.mk_script.specs.Lines.{is_placed, heap_line, placed_item, other_line, line_item, is_twice, at_most, limit_fault, ends_rightly, or_item, checked_item, line_of}
+use Rattle.mk_script.specs.Lines.{is_placed, heap_line, placed_item, other_line, line_item, is_twice, at_most}
+use Rattle.mk_script.specs.Lines.{limit_fault, ends_rightly, or_item, checked_item, line_of}
 use Rattle.mk_script.specs.Canonical.{words_of_item}
 use Rattle.mk_script.proofs.LineWords.{AreWords, is_word-decimal}
 use Rattle.mk_script.proofs.Said.{then_was, then_again, with_number, is_this}
@@ -26,7 +28,8 @@ pub record IsAgain (before : List Item) (line : Item) : Type 0 where
   pub reads : line_item before (words_of_item line) ≡ Ok line
   pub apart : AreWords (words_of_item line)
 
-pub cond_ok : {A E : Type 0} (b : Bool) (r : Result A E) (fault : E) (x : A) → cond b r (Err fault) ≡ Ok x → (b ≡ true) × (r ≡ Ok x)
+pub cond_ok : {A E : Type 0} (b : Bool) (r : Result A E) (fault : E) (x : A) → cond b r (Err fault) ≡ Ok x
+    → (b ≡ true) × (r ≡ Ok x)
 cond_ok true r fault x e = (refl, e)
 cond_ok false r fault x e = absurd cc
 
@@ -51,12 +54,14 @@ heap_again line (a ∷ b ∷ []) e =
 heap_again line operands e = no_item e
 
 first_again : (words : List (List ℕ)) (line : Item) → heap_line words ≡ Ok line → IsAgain [] line
-first_again (word ∷ pages ∷ resident ∷ []) line e = heap_again line (pages ∷ resident ∷ []) (cond_ok (bytes_eq word (codes "heap")) _ _ line e).1
+first_again (word ∷ pages ∷ resident ∷ []) line e =
+    heap_again line (pages ∷ resident ∷ []) (cond_ok (bytes_eq word (codes "heap")) _ _ line e).1
 first_again words line e = no_item e
 
 -- other lines
 
-placed_was : (before : List Item) (form : Option Keyword) (operands : List (List ℕ)) (line : Item) → IsShort line → placed_item before form operands ≡ Ok line → (k : Keyword) × Printed k line × (is_placed before k ≡ true)
+placed_was : (before : List Item) (form : Option Keyword) (operands : List (List ℕ)) (line : Item) → IsShort line
+    → placed_item before form operands ≡ Ok line → (k : Keyword) × Printed k line × (is_placed before k ≡ true)
 placed_was before None operands line short e = no_item e
 placed_was before (Some k) operands line short e =
     let was = cond_ok (has_operands k (length operands) && have_form k operands && is_placed before k) _ _ line e in
@@ -64,26 +69,33 @@ placed_was before (Some k) operands line short e =
     let forms = and_parts _ _ fits.0 in
     (k, said k operands line short forms.0 forms.1 was.1, fits.1)
 
-placed_again : (before : List Item) (k : Keyword) (line : Item) (is : Printed k line) → is_placed before k ≡ true → other_line before (words_of_item line) ≡ Ok line
+placed_again : (before : List Item) (k : Keyword) (line : Item) (is : Printed k line) → is_placed before k ≡ true
+    → other_line before (words_of_item line) ≡ Ok line
 placed_again before k line is place =
     ap (λ ws. other_line before ws) is.words
     ∙ ap (λ form. placed_item before form is.operands) is.keyword
     ∙ cond-true _ _ _ (and_from _ _ (and_from _ _ is.count is.formed) place)
     ∙ is.reads
 
-other_was : (before : List Item) (words : List (List ℕ)) (line : Item) → IsShort line → other_line before words ≡ Ok line → (k : Keyword) × Printed k line × (is_placed before k ≡ true)
+other_was : (before : List Item) (words : List (List ℕ)) (line : Item) → IsShort line
+    → other_line before words ≡ Ok line → (k : Keyword) × Printed k line × (is_placed before k ≡ true)
 other_was before [] line short e = no_item e
 other_was before (word ∷ operands) line short e = placed_was before (keyword_of word) operands line short e
 
-item_again : (before : List Item) (words : List (List ℕ)) (line : Item) → IsShort line → line_item before words ≡ Ok line → IsAgain before line
+item_again : (before : List Item) (words : List (List ℕ)) (line : Item) → IsShort line
+    → line_item before words ≡ Ok line → IsAgain before line
 item_again [] words line short e = first_again words line e
 item_again (first ∷ before) words line short e =
     let was = other_was (first ∷ before) words line short e in
-    record { reads = placed_again (first ∷ before) was.0 line was.1 was.2; apart = subst AreWords (sym was.1.words) was.1.apart }
+    record {
+      reads = placed_again (first ∷ before) was.0 line was.1 was.2;
+      apart = subst AreWords (sym was.1.words) was.1.apart;
+    }
 
 -- The checks of an item change nothing of it.
 
-or_item_was : (fault : Option LineFault) (line found : Item) → or_item fault line ≡ Ok found → (fault ≡ None) × (line ≡ found)
+or_item_was : (fault : Option LineFault) (line found : Item) → or_item fault line ≡ Ok found
+    → (fault ≡ None) × (line ≡ found)
 or_item_was None line found e = let same : line ≡ found = cc in (refl, same)
 or_item_was (Some fault) line found e = no_item e
 
@@ -95,22 +107,30 @@ at_most_was : (found greatest : ℕ) (limit : Which) → at_most found greatest 
 at_most_was found greatest limit e = leb-true found greatest (cond_none (nat_le found greatest) _ e)
 
 is_short : (before : List Item) (line : Item) → limit_fault before line ≡ None → IsShort line
-is_short before (item.TypeLine name words) e = at_most_was (length words) 4096 which.Words (option_or_was (at_most (length (type_names before) + 1) 64 which.Types) _ e)
+is_short before (item.TypeLine name words) e =
+    at_most_was (length words) 4096 which.Words
+    (option_or_was (at_most (length (type_names before) + 1) 64 which.Types) _ e)
 is_short before line e = tt
 
-checked_was : (before : List Item) (line found : Item) → checked_item before line ≡ Ok found → (line ≡ found) × IsShort line
+checked_was : (before : List Item) (line found : Item) → checked_item before line ≡ Ok found
+    → (line ≡ found) × IsShort line
 checked_was before line found e =
     let once = cond_later (is_twice before line) _ _ found e in
     let limits = then_was (or_item (limit_fault before line) line) _ found once in
     let kept = or_item_was (limit_fault before line) line limits.0 limits.1 in
-    let last : ◌≡◌ {A = Result Item LineFault} (Ok limits.0) (Ok found) = (cond_ok (ends_rightly (open_blocks before) line) _ _ found limits.2).1 in
+    let last : ◌≡◌ {A = Result Item LineFault} (Ok limits.0) (Ok found) =
+    (cond_ok (ends_rightly (open_blocks before) line) _ _ found limits.2).1 in
     let same : limits.0 ≡ found = cc in
     (kept.1 ∙ same, is_short before line kept.0)
 
-pub line_again : (before : List Item) (words : List (List ℕ)) (line : Item) → line_of before words ≡ Ok line → (line_of before (words_of_item line) ≡ Ok line) × AreWords (words_of_item line)
+pub line_again : (before : List Item) (words : List (List ℕ)) (line : Item) → line_of before words ≡ Ok line
+    → (line_of before (words_of_item line) ≡ Ok line) × AreWords (words_of_item line)
 line_again before words line e =
     let steps = then_was (line_item before words) (checked_item before) line e in
     let checked = checked_was before steps.0 line steps.2 in
     let again = subst (IsAgain before) checked.0 (item_again before words steps.0 checked.1 steps.1) in
-    let passes : checked_item before line ≡ Ok line = subst (λ x. checked_item before x ≡ Ok line) checked.0 steps.2 in
-    (then_again (line_item before (words_of_item line)) (checked_item before) line (Ok line) again.reads passes, again.apart)
+    let passes : checked_item before line ≡ Ok line =
+    subst (λ x. checked_item before x ≡ Ok line) checked.0 steps.2 in (
+      then_again (line_item before (words_of_item line)) (checked_item before) line (Ok line) again.reads passes,
+      again.apart,
+    )

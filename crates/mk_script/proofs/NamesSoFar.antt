@@ -7,10 +7,12 @@ use Rattle.std.proofs.lemmas.List.Folds.{list_any-append}
 use Rattle.std.proofs.lemmas.List.Sorted.{list_any-IsPermutation, length_permutation}
 use Rattle.mk_script.specs.Lines.{is_among}
 
-pub among : (name : List ℕ) (names set : List (List ℕ)) → IsPermutation names set → is_among name set ≡ is_among name names
+pub among : (name : List ℕ) (names set : List (List ℕ)) → IsPermutation names set
+    → is_among name set ≡ is_among name names
 among name names set same = sym (list_any-IsPermutation (bytes_eq name) names set same)
 
-pub among_both : (name : List ℕ) (names set others other_set : List (List ℕ)) → IsPermutation names set → IsPermutation others other_set
+pub among_both : (name : List ℕ) (names set others other_set : List (List ℕ)) → IsPermutation names set
+    → IsPermutation others other_set
     → (is_among name set || is_among name other_set) ≡ is_among name (names ++ others)
 among_both name names set others other_set same same' =
     ap (λ found. found || is_among name other_set) (among name names set same)
@@ -34,7 +36,9 @@ neither : (a b : Bool) → (a || b) ≡ false → (a ≡ false) × (b ≡ false)
 neither true b fails = cc
 neither false b fails = (refl, fails)
 
-pub among_neither : (name : List ℕ) (names set others other_set : List (List ℕ)) → IsPermutation names set → IsPermutation others other_set
+pub among_neither : (name : List ℕ) (names set others other_set : List (List ℕ)) → IsPermutation names set
+    → IsPermutation others other_set
     → is_among name (names ++ others) ≡ false → (is_among name set ≡ false) × (is_among name other_set ≡ false)
 among_neither name names set others other_set same same' fails =
-    neither (is_among name set) (is_among name other_set) (among_both name names set others other_set same same' ∙ fails)
+    neither (is_among name set) (is_among name other_set) (among_both name names set others other_set same same'
+    ∙ fails)

@@ -6,7 +6,8 @@ use Rattle.mk_script.specs.declared.faults.LineFault.TheVariants.{Text}
 use Rattle.mk_script.specs.declared.faults.TextKind.TheVariants.{Word}
 use Rattle.mk_script.specs.Operands.{item_from}
 
-pub of_no_form : (keyword : Keyword) (words : List (List ℕ)) → keyword ≢ TypeLine → length words ≢ 0 → length words ≢ 1 → length words ≢ 2 → length words ≢ 3 → length words ≢ 5 → item_from keyword words ≡ Err (Text Word)
+pub of_no_form : (keyword : Keyword) (words : List (List ℕ)) → keyword ≢ TypeLine → length words ≢ 0 → length words ≢ 1
+    → length words ≢ 2 → length words ≢ 3 → length words ≢ 5 → item_from keyword words ≡ Err (Text Word)
 unfolding item_from
 of_no_form keyword [] other n0 n1 n2 n3 n5 = absurd (n0 refl)
 of_no_form keyword (a ∷ []) other n0 n1 n2 n3 n5 = absurd (n1 refl)

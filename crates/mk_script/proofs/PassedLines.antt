@@ -1,5 +1,6 @@
 -- What each line of a program of some text keeps, behind the lines before it.
-use Rattle.std.proofs.Common.{◌≡◌, ℕ, ◌+◌, Bool, true, false, List, [], ◌∷◌, ◌++◌, length, refl, ap, sym, ◌∙◌, subst, append_assoc, Ok, Err}
+use Rattle.std.proofs.Common.{◌≡◌, ℕ, ◌+◌, Bool, true, false, List, [], ◌∷◌, ◌++◌, length, refl, ap, sym, ◌∙◌, subst}
+use Rattle.std.proofs.Common.{append_assoc, Ok, Err}
 use Rattle.std.specs.Prelude.{Option, Some, None, if◌then◌else◌, nat_le}
 use Rattle.std.specs.declared.result.Result.{Result}
 use Rattle.std.proofs.lemmas.List.{append-nil}
@@ -9,7 +10,8 @@ use Rattle.mk_script.specs.declared.faults.TextStop.{TextStop}
 use Rattle.mk_script.specs.Words.{lines_of, words_of}
 use Rattle.mk_script.specs.Scopes.{open_blocks}
 use Rattle.mk_script.specs.Operands.{◌>>=◌}
-use Rattle.mk_script.specs.Lines.{line_of, line_item, checked_item, or_item, limit_fault, is_twice, ends_rightly, has_script, has_none}
+use Rattle.mk_script.specs.Lines.{line_of, line_item, checked_item, or_item, limit_fault, is_twice, ends_rightly}
+use Rattle.mk_script.specs.Lines.{has_script, has_none}
 use Rattle.mk_script.specs.Grammar.{go_on, items_behind, items_of_lines, IsOfSomeText}
 
 -- A line behind these: what its words say; it passes no limit, and ends no block that isn't open.
@@ -44,18 +46,22 @@ record Checks (twice right : Bool) (fault : Option LineFault) (found item : Item
   ends : right ≡ true
 
 checks : (twice ends : Bool) (first last : LineFault) (fault : Option LineFault) (found item : Item)
-    → (if twice then Err first else (or_item fault found >>= (λ item'. if ends then Ok item' else Err last))) ≡ Ok item → Checks twice ends fault found item
+    → (if twice then Err first else (or_item fault found >>= (λ item'. if ends then Ok item' else Err last))) ≡ Ok item
+    → Checks twice ends fault found item
 checks true ends first last fault found item h = absurd cc
 checks false true first last None found item h = record { same = cc; within = refl; ends = refl }
 checks false false first last None found item h = absurd cc
 checks false ends first last (Some fault) found item h = absurd cc
 
-passed : (before : List Item) (words : List (List ℕ)) (item : Item) → line_of before words ≡ Ok item → IsPassed before item
+passed : (before : List Item) (words : List (List ℕ)) (item : Item) → line_of before words ≡ Ok item
+    → IsPassed before item
 passed before words item h = by_found (line_item before words) refl h
   where
-    by_found : (r : Result Item LineFault) → line_item before words ≡ r → (r >>= checked_item before) ≡ Ok item → IsPassed before item
+    by_found : (r : Result Item LineFault) → line_item before words ≡ r → (r >>= checked_item before) ≡ Ok item
+        → IsPassed before item
     by_found (Ok found) says e =
-        let c = checks (is_twice before found) (ends_rightly (open_blocks before) found) _ _ (limit_fault before found) found item e in
+        let c = checks (is_twice before found) (ends_rightly (open_blocks before) found) _ _ (limit_fault before found)
+        found item e in
         record {
           words = words;
           reads = h;
@@ -65,7 +71,8 @@ passed before words item h = by_found (line_item before words) refl h
         }
     by_found (Err fault) says e = absurd cc
 
-ended : (closed script : Bool) (first last : TextStop) (before items : List Item) → script ≡ has_script before → closed ≡ has_none (open_blocks before)
+ended : (closed script : Bool) (first last : TextStop) (before items : List Item) → script ≡ has_script before
+    → closed ≡ has_none (open_blocks before)
     → (if closed then (if script then Ok before else Err first) else Err last) ≡ Ok items → Behind before items
 ended true true first last before items has close h =
     let same : before ≡ items = cc in
@@ -80,7 +87,8 @@ ended true false first last before items has close h = absurd cc
 ended false script first last before items has close h = absurd cc
 
 one_more : (line : ℕ) (before items : List Item) (next : Item → Result (List Item) TextStop) (r : Result Item LineFault)
-    → ((item : Item) → r ≡ Ok item → IsPassed before item) → ((item : Item) → next item ≡ Ok items → Behind (before ++ item ∷ []) items)
+    → ((item : Item) → r ≡ Ok item → IsPassed before item)
+    → ((item : Item) → next item ≡ Ok items → Behind (before ++ item ∷ []) items)
     → go_on line r next ≡ Ok items → Behind before items
 one_more line before items next (Ok item) is behind h =
     let b = behind item h in
@@ -93,10 +101,12 @@ one_more line before items next (Ok item) is behind h =
     }
 one_more line before items next (Err fault) is behind h = absurd cc
 
-lines_behind : (lines : List (List ℕ)) (before items : List Item) → items_behind lines before ≡ Ok items → Behind before items
+lines_behind : (lines : List (List ℕ)) (before items : List Item) → items_behind lines before ≡ Ok items
+    → Behind before items
 lines_behind [] before items h = ended (has_none (open_blocks before)) (has_script before) _ _ before items refl refl h
 lines_behind (line ∷ lines) before items h =
-    one_more (length before + 1) before items (λ item. items_behind lines (before ++ item ∷ [])) (line_of before (words_of line))
+    one_more (length before + 1) before items (λ item. items_behind lines (before ++ item ∷ []))
+    (line_of before (words_of line))
     (passed before (words_of line)) (λ item. lines_behind lines (before ++ item ∷ []) items) h
 
 pub whole_lines : (lines : List (List ℕ)) (items : List Item) → items_of_lines lines ≡ Ok items → IsWhole items
@@ -108,6 +118,7 @@ whole_lines (line ∷ lines) items h =
 pub is_whole : (items : List Item) → IsOfSomeText items → IsWhole items
 is_whole items (text, h) = by_size (nat_le (length text) 1048576) _ h
   where
-    by_size : (small : Bool) (stop : TextStop) → (if small then items_of_lines (lines_of text) else Err stop) ≡ Ok items → IsWhole items
+    by_size : (small : Bool) (stop : TextStop) → (if small then items_of_lines (lines_of text) else Err stop) ≡ Ok items
+        → IsWhole items
     by_size true stop e = whole_lines (lines_of text) items e
     by_size false stop e = absurd cc

@@ -1,12 +1,16 @@
 -- Lines in their places.
-use Rattle.std.proofs.Common.{◌≡◌, ◌≢◌, ℕ, suc, ◌<◌, leb, Bool, true, false, ◌&&◌, if◌then◌else◌, List, [], ◌∷◌, length, Some, Ok, Err, refl, sym, arith}
+use Rattle.std.proofs.Common.{◌≡◌, ◌≢◌, ℕ, suc, ◌<◌, leb, Bool, true, false, ◌&&◌, if◌then◌else◌, List, [], ◌∷◌, length}
+use Rattle.std.proofs.Common.{Some, Ok, Err, refl, sym, arith}
 use Rattle.std.proofs.lemmas.Bool.{le-leb}
 use Rattle.std.specs.declared.result.Result.{Result}
 use Rattle.std.proofs.Math.Bool.{and-false}
 use Rattle.mk_script.specs.declared.items.Item.{Item}
 use Rattle.mk_script.specs.declared.items.Item.TheVariants as item
 use Rattle.mk_script.specs.declared.keywords.Keyword.{Keyword}
-use Rattle.mk_script.specs.declared.keywords.Keyword.TheVariants.{Heap, TypeLine, Global, Script, Ptr, Num, New, Free, Getn, Setn, Getp, Setp, Casp, Lea, Move, Clear, Loadg, Storeg, Same, Isnull, Show, Const, Add, Sub, Print, Repeat, If, Else, End}
+use Rattle.mk_script.specs.declared.keywords.Keyword.TheVariants.{Heap, TypeLine, Global, Script, Ptr, Num, New, Free}
+use Rattle.mk_script.specs.declared.keywords.Keyword.TheVariants.{Getn, Setn, Getp, Setp, Casp, Lea, Move, Clear, Loadg}
+use Rattle.mk_script.specs.declared.keywords.Keyword.TheVariants.{Storeg, Same, Isnull, Show, Const, Add, Sub, Print}
+use Rattle.mk_script.specs.declared.keywords.Keyword.TheVariants.{Repeat, If, Else, End}
 use Rattle.mk_script.specs.declared.faults.LineFault.{LineFault}
 use Rattle.mk_script.specs.declared.faults.LineFault.TheVariants.{Text}
 use Rattle.mk_script.specs.declared.faults.TextKind.TheVariants.{Word}
@@ -15,7 +19,8 @@ use Rattle.mk_script.specs.Lines.{is_placed, placed_item}
 use Rattle.mk_script.specs.Operands.{◌>>=◌, name, are_fields, fields_of, have_form, item_from}
 
 -- a line with a number of words that its form hasn't
-miscounted : (keyword : Keyword) (words : List (List ℕ)) → keyword ≢ TypeLine → has_operands keyword (length words) ≡ false → item_from keyword words ≡ Err (Text Word)
+miscounted : (keyword : Keyword) (words : List (List ℕ)) → keyword ≢ TypeLine
+    → has_operands keyword (length words) ≡ false → item_from keyword words ≡ Err (Text Word)
 unfolding item_from
 miscounted TypeLine words other counts = absurd (other refl)
 miscounted Heap (a ∷ b ∷ []) other counts = cc
@@ -52,32 +57,43 @@ have_form-plain : (keyword : Keyword) (words : List (List ℕ)) → keyword ≢ 
 have_form-plain TypeLine words other = absurd (other refl)
 have_form-plain keyword words other = refl
 
-chosen : (counts formed placed : Bool) (found : Result Item LineFault) → formed ≡ true → placed ≡ true → (counts ≡ false → found ≡ Err (Text Word))
+chosen : (counts formed placed : Bool) (found : Result Item LineFault) → formed ≡ true → placed ≡ true
+    → (counts ≡ false → found ≡ Err (Text Word))
     → (if counts && formed && placed then found else Err (Text Word)) ≡ found
 chosen true formed placed found is is' unless = rw (is, is') refl
 chosen false formed placed found is is' unless = sym (unless refl)
 
 -- a line that isn't a type's and stands in its place
-pub placed_plain : (before : List Item) (keyword : Keyword) (words : List (List ℕ)) → keyword ≢ TypeLine → is_placed before keyword ≡ true → placed_item before (Some keyword) words ≡ item_from keyword words
+pub placed_plain : (before : List Item) (keyword : Keyword) (words : List (List ℕ)) → keyword ≢ TypeLine
+    → is_placed before keyword ≡ true → placed_item before (Some keyword) words ≡ item_from keyword words
 placed_plain before keyword words other placed =
-    chosen (has_operands keyword (length words)) (have_form keyword words) (is_placed before keyword) (item_from keyword words) (have_form-plain keyword words other) placed (miscounted keyword words other)
+    chosen (has_operands keyword (length words)) (have_form keyword words) (is_placed before keyword)
+    (item_from keyword words) (have_form-plain keyword words other) placed (miscounted keyword words other)
 
-refused : (counts formed placed : Bool) (found : Result Item LineFault) → placed ≡ false → (if counts && formed && placed then found else Err (Text Word)) ≡ Err (Text Word)
+refused : (counts formed placed : Bool) (found : Result Item LineFault) → placed ≡ false
+    → (if counts && formed && placed then found else Err (Text Word)) ≡ Err (Text Word)
 refused counts formed placed found is = rw (is, and-false) refl
 
-pub unplaced : (before : List Item) (keyword : Keyword) (words : List (List ℕ)) → is_placed before keyword ≡ false → placed_item before (Some keyword) words ≡ Err (Text Word)
-unplaced before keyword words = refused (has_operands keyword (length words)) (have_form keyword words) (is_placed before keyword) (item_from keyword words)
+pub unplaced : (before : List Item) (keyword : Keyword) (words : List (List ℕ)) → is_placed before keyword ≡ false
+    → placed_item before (Some keyword) words ≡ Err (Text Word)
+unplaced before keyword words = refused (has_operands keyword (length words)) (have_form keyword words)
+    (is_placed before keyword) (item_from keyword words)
 
-formed_and_placed : (counts formed placed : Bool) (found : Result Item LineFault) → counts ≡ true → formed ≡ true → placed ≡ true → (if counts && formed && placed then found else Err (Text Word)) ≡ found
+formed_and_placed : (counts formed placed : Bool) (found : Result Item LineFault) → counts ≡ true → formed ≡ true
+    → placed ≡ true → (if counts && formed && placed then found else Err (Text Word)) ≡ found
 formed_and_placed counts formed placed found is is' is'' = rw (is, is', is'') refl
 
 -- a type's line in its place, with a field or more
-pub placed_type : (before : List Item) (word : List ℕ) (fields : List (List ℕ)) → 0 < length fields → is_placed before TypeLine ≡ true → are_fields fields ≡ true → placed_item before (Some TypeLine) (word ∷ fields) ≡ item_from TypeLine (word ∷ fields)
+pub placed_type : (before : List Item) (word : List ℕ) (fields : List (List ℕ)) → 0 < length fields
+    → is_placed before TypeLine ≡ true → are_fields fields ≡ true
+    → placed_item before (Some TypeLine) (word ∷ fields) ≡ item_from TypeLine (word ∷ fields)
 placed_type before word fields some placed formed =
     let counts : leb 2 (suc (length fields)) ≡ true = le-leb 2 (suc (length fields)) (omega arith) in
-    formed_and_placed (has_operands TypeLine (length (word ∷ fields))) (are_fields fields) (is_placed before TypeLine) (item_from TypeLine (word ∷ fields)) counts formed placed
+    formed_and_placed (has_operands TypeLine (length (word ∷ fields))) (are_fields fields) (is_placed before TypeLine)
+    (item_from TypeLine (word ∷ fields)) counts formed placed
 
 -- what the name of a type's line says
-pub named_type : (word : List ℕ) (fields : List (List ℕ)) → item_from TypeLine (word ∷ fields) ≡ (name word >>= (λ t. Ok (item.TypeLine t (fields_of fields))))
+pub named_type : (word : List ℕ) (fields : List (List ℕ))
+    → item_from TypeLine (word ∷ fields) ≡ (name word >>= (λ t. Ok (item.TypeLine t (fields_of fields))))
 unfolding item_from
 named_type word fields = refl

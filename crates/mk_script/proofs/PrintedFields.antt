@@ -1,5 +1,7 @@
 -- The fields of a type's line: what they say, they say again as they are printed.
-use Rattle.std.proofs.Common.{◌≡◌, ℕ, zero, suc, ◌+◌, ◌<◌, ◌^◌, Bool, true, false, nat_eq, nat_le, cond, List, [], ◌∷◌, ◌++◌, length, replicate, refl, ap, ◌∙◌, sym, subst, arith, append_assoc, Option, Some, None, Ok, Err, inl, inr}
+use Rattle.std.proofs.Common.{◌≡◌, ℕ, zero, suc, ◌+◌, ◌<◌, ◌^◌, Bool, true, false, nat_eq, nat_le, cond, List, [], ◌∷◌}
+use Rattle.std.proofs.Common.{◌++◌, length, replicate, refl, ap, ◌∙◌, sym, subst, arith, append_assoc, Option, Some}
+use Rattle.std.proofs.Common.{None, Ok, Err, inl, inr}
 use Rattle.std.specs.declared.result.Result.{Result}
 use Rattle.std.specs.Option.{is_some, option_map, option_and_then, unwrap_or}
 use Rattle.std.specs.Fmt.{decimal}
@@ -33,16 +35,20 @@ pub record IsFieldOf (field : List ℕ) (words : List TypeWord) : Type 0 where
 numbers_again : (count : ℕ) → 0 < count → numbers count ≡ Some (replicate count Number)
 numbers_again count some = cond-true _ _ _ (le-leb 1 count some)
 
-many_numbers : (count : ℕ) → 0 < count → count < 2 ^ 64 → IsFieldOf (codes "n*" ++ decimal count) (replicate count Number)
+many_numbers : (count : ℕ) → 0 < count → count < 2 ^ 64
+    → IsFieldOf (codes "n*" ++ decimal count) (replicate count Number)
 many_numbers count some small = record {
   says = ap (λ o. option_and_then numbers o) (number_of_word-decimal count small) ∙ numbers_again count some;
   word = is_word-append (codes "n*") (decimal count) refl (is_solid-decimal count small);
 }
 
-pub numbers_text_again : (count : ℕ) → 0 < count → count < 2 ^ 64 → IsFieldOf (numbers_text count) (replicate count Number)
+pub numbers_text_again : (count : ℕ) → 0 < count → count < 2 ^ 64
+    → IsFieldOf (numbers_text count) (replicate count Number)
 numbers_text_again count some small =
-    cond_both (nat_eq count 1) (codes "n") (codes "n*" ++ decimal count) (λ field. IsFieldOf field (replicate count Number))
-    (λ one. subst (λ k. IsFieldOf (codes "n") (replicate k Number)) (sym (eqb-true count 1 one)) (record { says = refl; word = refl }))
+    cond_both (nat_eq count 1) (codes "n") (codes "n*" ++ decimal count)
+    (λ field. IsFieldOf field (replicate count Number))
+    (λ one. subst (λ k. IsFieldOf (codes "n") (replicate k Number)) (sym (eqb-true count 1 one))
+    (record { says = refl; word = refl }))
     (λ more. many_numbers count some small)
 
 pub pointer_again : (a : At) → IsPlace a → IsFieldOf (codes "p:" ++ at_text a) (Pointer a ∷ [])
@@ -60,22 +66,28 @@ pub record AreFieldsOf (fields : List (List ℕ)) (words : List TypeWord) : Type
 no_fields : AreFieldsOf [] []
 no_fields = record { say = refl; each = refl; apart = tt }
 
-one_more : (field : List ℕ) (fields : List (List ℕ)) (first words : List TypeWord) → IsFieldOf field first → AreFieldsOf fields words → AreFieldsOf (field ∷ fields) (first ++ words)
+one_more : (field : List ℕ) (fields : List (List ℕ)) (first words : List TypeWord) → IsFieldOf field first
+    → AreFieldsOf fields words → AreFieldsOf (field ∷ fields) (first ++ words)
 one_more field fields first words f fs = record {
   say = ap (λ o. unwrap_or o [] ++ fields_of fields) f.says ∙ ap (λ ws. first ++ ws) fs.say;
   each = and_from _ _ (ap (λ o. is_some o) f.says) fs.each;
   apart = (f.word, fs.apart);
 }
 
-numbers_before_again : (count : ℕ) (fields : List (List ℕ)) (words : List TypeWord) → count < 2 ^ 64 → AreFieldsOf fields words → AreFieldsOf (numbers_before count fields) (replicate count Number ++ words)
+numbers_before_again : (count : ℕ) (fields : List (List ℕ)) (words : List TypeWord) → count < 2 ^ 64
+    → AreFieldsOf fields words → AreFieldsOf (numbers_before count fields) (replicate count Number ++ words)
 numbers_before_again zero fields words small fs = fs
-numbers_before_again (suc count) fields words small fs = one_more (numbers_text (suc count)) fields (replicate (suc count) Number) words (numbers_text_again (suc count) (omega arith) small) fs
+numbers_before_again (suc count) fields words small fs =
+    one_more (numbers_text (suc count)) fields (replicate (suc count) Number) words
+    (numbers_text_again (suc count) (omega arith) small) fs
 
-pub fields_again : (words : List TypeWord) (count : ℕ) → All IsTypeWord words → count + length words < 2 ^ 64 → AreFieldsOf (fields_behind words count) (replicate count Number ++ words)
+pub fields_again : (words : List TypeWord) (count : ℕ) → All IsTypeWord words → count + length words < 2 ^ 64
+    → AreFieldsOf (fields_behind words count) (replicate count Number ++ words)
 fields_again [] count all small = numbers_before_again count [] [] (omega arith) no_fields
 fields_again (Number ∷ words) count all small =
     let later = fields_again words (count + 1) (All-tail IsTypeWord Number words all) (omega arith) in
-    let same : replicate (count + 1) Number ++ words ≡ replicate count Number ++ (Number ∷ words) = rw (← replicate_more count Number) (append_assoc (replicate count Number) (Number ∷ []) words) in
+    let same : replicate (count + 1) Number ++ words ≡ replicate count Number ++ (Number ∷ words) =
+    rw (← replicate_more count Number) (append_assoc (replicate count Number) (Number ∷ []) words) in
     subst (λ ws. AreFieldsOf (fields_behind words (count + 1)) ws) same later
 fields_again (Pointer a ∷ words) count all small =
     let later = fields_again words 0 (All-tail IsTypeWord (Pointer a) words all) (omega arith) in
@@ -83,15 +95,18 @@ fields_again (Pointer a ∷ words) count all small =
     numbers_before_again count ((codes "p:" ++ at_text a) ∷ fields_behind words 0) (Pointer a ∷ words) (omega arith)
     (one_more (codes "p:" ++ at_text a) (fields_behind words 0) (Pointer a ∷ []) words (pointer_again a place) later)
 
-numbers_before_some : (count : ℕ) (fields : List (List ℕ)) → 0 < count + length fields → 0 < length (numbers_before count fields)
+numbers_before_some : (count : ℕ) (fields : List (List ℕ)) → 0 < count + length fields
+    → 0 < length (numbers_before count fields)
 numbers_before_some zero fields some = omega arith
 numbers_before_some (suc count) fields some = omega arith
 
 -- a type that has words has fields
-pub fields_behind_some : (words : List TypeWord) (count : ℕ) → 0 < count + length words → 0 < length (fields_behind words count)
+pub fields_behind_some : (words : List TypeWord) (count : ℕ) → 0 < count + length words
+    → 0 < length (fields_behind words count)
 fields_behind_some [] count some = numbers_before_some count [] some
 fields_behind_some (Number ∷ words) count some = fields_behind_some words (count + 1) (omega arith)
-fields_behind_some (Pointer a ∷ words) count some = numbers_before_some count ((codes "p:" ++ at_text a) ∷ fields_behind words 0) (omega arith)
+fields_behind_some (Pointer a ∷ words) count some =
+    numbers_before_some count ((codes "p:" ++ at_text a) ∷ fields_behind words 0) (omega arith)
 
 -- What fields said.
 
@@ -103,54 +118,72 @@ cond_was : {A : Type 0} (b : Bool) (x y : A) → cond b (Some x) None ≡ Some y
 cond_was true x y e = (refl, cc)
 cond_was false x y e = absurd cc
 
-and_then_was : {A B : Type 0} (f : A → Option B) (o : Option A) (y : B) → option_and_then f o ≡ Some y → (x : A) × (f x ≡ Some y)
+and_then_was : {A B : Type 0} (f : A → Option B) (o : Option A) (y : B) → option_and_then f o ≡ Some y
+    → (x : A) × (f x ≡ Some y)
 and_then_was f None y e = absurd cc
 and_then_was f (Some x) y e = (x, e)
 
-numbers_were : (digits : List ℕ) (words : List TypeWord) → option_and_then numbers (number_of_word digits) ≡ Some words → AreSaid words
+numbers_were : (digits : List ℕ) (words : List TypeWord) → option_and_then numbers (number_of_word digits) ≡ Some words
+    → AreSaid words
 numbers_were digits words e =
     let step = and_then_was numbers (number_of_word digits) words e in
     let was = cond_was (nat_le 1 step.0) (replicate step.0 Number) words step.1 in
     let some : 0 < step.0 = leb-true 1 step.0 was.0 in
-    subst AreSaid was.1 (record { all = All-replicate IsTypeWord step.0 Number tt; some = omega (arith, length-replicate step.0 Number) })
+    subst AreSaid was.1 (record {
+      all = All-replicate IsTypeWord step.0 Number tt;
+      some = omega (arith, length-replicate step.0 Number);
+    })
 
 one_was : (word : TypeWord) (words : List TypeWord) → IsTypeWord word → word ∷ [] ≡ words → AreSaid words
-one_was word words is same = subst AreSaid same (record { all = All-cons IsTypeWord word [] is (All-nil IsTypeWord); some = omega arith })
+one_was word words is same =
+    subst AreSaid same (record { all = All-cons IsTypeWord word [] is (All-nil IsTypeWord); some = omega arith })
 
 starred_was : (rest : List ℕ) (words : List TypeWord) → number_field rest ≡ Some words → AreSaid words
 starred_was [] words e = let same : Number ∷ [] ≡ words = cc in one_was Number words tt same
 starred_was (star ∷ digits) words e =
-    elim (cases_cond (nat_eq star 42) _ _ (Some words) (sym e)) [ inl h ↦ numbers_were digits words (sym h) | inr h ↦ absurd cc ]
+    elim (cases_cond (nat_eq star 42) _ _ (Some words) (sym e)) [
+      | inl h ↦ numbers_were digits words (sym h)
+      | inr h ↦ absurd cc
+    ]
 
-place_was : (r : Result At LineFault) (words : List TypeWord) → option_map (λ a. Pointer a ∷ []) (result_ok r) ≡ Some words → ((a : At) → r ≡ Ok a → IsPlace a) → AreSaid words
+place_was : (r : Result At LineFault) (words : List TypeWord)
+    → option_map (λ a. Pointer a ∷ []) (result_ok r) ≡ Some words → ((a : At) → r ≡ Ok a → IsPlace a) → AreSaid words
 place_was (Ok a) words e is = let same : Pointer a ∷ [] ≡ words = cc in one_was (Pointer a) words (is a refl) same
 place_was (Err fault) words e is = absurd cc
 
 pointed_was : (rest : List ℕ) (words : List TypeWord) → pointer_field rest ≡ Some words → AreSaid words
 pointed_was [] words e = absurd cc
 pointed_was (colon ∷ place) words e =
-    elim (cases_cond (nat_eq colon 58) _ _ (Some words) (sym e)) [ inl h ↦ place_was (at place) words (sym h) (at_was place) | inr h ↦ absurd cc ]
+    elim (cases_cond (nat_eq colon 58) _ _ (Some words) (sym e))
+    [ inl h ↦ place_was (at place) words (sym h) (at_was place) | inr h ↦ absurd cc ]
 
 field_was : (field : List ℕ) (words : List TypeWord) → field_of field ≡ Some words → AreSaid words
 field_was [] words e = absurd cc
 field_was (letter ∷ rest) words e =
     elim (cases_cond (nat_eq letter 110) _ _ (Some words) (sym e)) [
       | inl h ↦ starred_was rest words (sym h)
-      | inr h ↦ elim (cases_cond (nat_eq letter 112) _ _ (Some words) h) [ inl p ↦ pointed_was rest words (sym p) | inr p ↦ absurd cc ]
+      | inr h ↦ elim (cases_cond (nat_eq letter 112) _ _ (Some words) h) [
+        | inl p ↦ pointed_was rest words (sym p)
+        | inr p ↦ absurd cc
+      ]
     ]
 
-some_said : (said : Option (List TypeWord)) → is_some said ≡ true → ((words : List TypeWord) → said ≡ Some words → AreSaid words) → AreSaid (unwrap_or said [])
+some_said : (said : Option (List TypeWord)) → is_some said ≡ true
+    → ((words : List TypeWord) → said ≡ Some words → AreSaid words) → AreSaid (unwrap_or said [])
 some_said None e was = absurd cc
 some_said (Some words) e was = was words refl
 
 -- the words of fields that each say something
-pub fields_were : (fields : List (List ℕ)) → list_all (λ field. is_some (field_of field)) fields ≡ true → All IsTypeWord (fields_of fields)
+pub fields_were : (fields : List (List ℕ)) → list_all (λ field. is_some (field_of field)) fields ≡ true
+    → All IsTypeWord (fields_of fields)
 fields_were [] e = All-nil IsTypeWord
 fields_were (field ∷ fields) e =
     let parts = and_parts _ _ e in
-    All-append IsTypeWord (unwrap_or (field_of field) []) (fields_of fields) (some_said (field_of field) parts.0 (field_was field)).all (fields_were fields parts.1)
+    All-append IsTypeWord (unwrap_or (field_of field) []) (fields_of fields)
+    (some_said (field_of field) parts.0 (field_was field)).all (fields_were fields parts.1)
 
-pub fields_were_some : (field : List ℕ) (fields : List (List ℕ)) → list_all (λ field. is_some (field_of field)) (field ∷ fields) ≡ true → 0 < length (fields_of (field ∷ fields))
+pub fields_were_some : (field : List ℕ) (fields : List (List ℕ))
+    → list_all (λ field. is_some (field_of field)) (field ∷ fields) ≡ true → 0 < length (fields_of (field ∷ fields))
 fields_were_some field fields e =
     let first = (some_said (field_of field) (and_parts _ _ e).0 (field_was field)).some in
     omega (arith, length-append (unwrap_or (field_of field) []) (fields_of fields))

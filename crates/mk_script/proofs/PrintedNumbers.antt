@@ -1,5 +1,6 @@
 -- A number's digits say the number.
-use Rattle.std.proofs.Common.{◌≡◌, ℕ, zero, suc, ◌<◌, ◌^◌, true, ◌||◌, not, nat_eq, List, length, get_or, ap, ◌∙◌, arith, rules, Some}
+use Rattle.std.proofs.Common.{◌≡◌, ℕ, zero, suc, ◌<◌, ◌^◌, true, ◌||◌, not, nat_eq, List, length, get_or, ap, ◌∙◌}
+use Rattle.std.proofs.Common.{arith, rules, Some}
 use Rattle.std.specs.Fmt.{decimal}
 use Rattle.std.specs.Str.{all_ascii_digits}
 use Rattle.std.proofs.lemmas.Fmt.{digits_decimal, digits_value-decimal, decimal_nonempty, first_decimal, decimal_digit}
@@ -18,14 +19,17 @@ pub value_from-decimal : (n : ℕ) → n < 2 ^ 64 → value_from 0 (decimal n) �
 value_from-decimal n small = digits_value-decimal own n small
 
 -- no zero leads, but that of 0 itself
-leads_rightly : (n : ℕ) → n < 2 ^ 64 → ((nat_eq (length (decimal n)) 1) || not (nat_eq (get_or (decimal n) 0 0) 48)) ≡ true
+leads_rightly : (n : ℕ) → n < 2 ^ 64
+    → ((nat_eq (length (decimal n)) 1) || not (nat_eq (get_or (decimal n) 0 0) 48)) ≡ true
 leads_rightly zero small = let one = decimal_digit 0 (omega arith) in rw one
 leads_rightly (suc n) small =
     let first : 48 < get_or (decimal (suc n)) 0 0 = first_decimal (suc n) (omega arith) small in
     or_right _ _ (not_from_false _ (ne_eqb (get_or (decimal (suc n)) 0 0) 48 (λ e. omega arith)))
 
 pub is_numeral-decimal : (n : ℕ) → n < 2 ^ 64 → is_numeral (decimal n) ≡ true
-is_numeral-decimal n small = and_from _ _ (and_from _ _ (all_ascii_digits-decimal n small) (lt-ltb _ _ (decimal_nonempty n small))) (leads_rightly n small)
+is_numeral-decimal n small =
+    and_from _ _ (and_from _ _ (all_ascii_digits-decimal n small) (lt-ltb _ _ (decimal_nonempty n small)))
+    (leads_rightly n small)
 
 pub number_of_word-decimal : (n : ℕ) → n < 2 ^ 64 → number_of_word (decimal n) ≡ Some n
 number_of_word-decimal n small =

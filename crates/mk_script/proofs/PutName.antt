@@ -7,7 +7,8 @@ use Rattle.std.specs.Str.{bytes_eq}
 use Rattle.std.proofs.lemmas.List.Sorted.{IsPermutation-trans, IsPermutation-to_front, IsPermutation-map}
 use Rattle.mk_script.specs.Lines.{is_among}
 
-pub list_any-map : {A B : Type 0} (p : B → Bool) (f : A → B) (xs : List A) → list_any p (map f xs) ≡ list_any (λ x. p (f x)) xs
+pub list_any-map : {A B : Type 0} (p : B → Bool) (f : A → B) (xs : List A)
+    → list_any p (map f xs) ≡ list_any (λ x. p (f x)) xs
 list_any-map p f [] = refl
 list_any-map p f (x ∷ xs) = ap (λ rest. p (f x) || rest) (list_any-map p f xs)
 
@@ -29,7 +30,8 @@ put text before after key false is_new puts absent =
     (sym (list_any-map (bytes_eq (text key)) text before) ∙ absent))
 
 -- the same, at a name that the key's text is, and at the set's view
-pub puts_name : {A : Type 0} (text : A → List ℕ) (before after : List A) (key : A) (added : Bool) (name : List ℕ) (names : List (List ℕ))
+pub puts_name : {A : Type 0} (text : A → List ℕ) (before after : List A) (key : A) (added : Bool) (name : List ℕ)
+    (names : List (List ℕ))
     → text key ≡ name → map text before ≡ names
     → added ≡ not (list_any (λ other. bytes_eq (text key) (text other)) before)
     → MatchBool added (IsPermutation (key ∷ before) after) (after ≡ before)

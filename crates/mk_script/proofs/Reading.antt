@@ -1,5 +1,6 @@
 -- Lines, one behind the others.
-use Rattle.std.proofs.Common.{◌≡◌, ◌≢◌, ◌<◌, ◌+◌, ℕ, Bool, true, false, if◌then◌else◌, List, [], ◌∷◌, ◌++◌, length, get_or, drop, Bor, Option, Some, None, Ok, Err, Result, refl, ap, sym, ◌∙◌, arith}
+use Rattle.std.proofs.Common.{◌≡◌, ◌≢◌, ◌<◌, ◌+◌, ℕ, Bool, true, false, if◌then◌else◌, List, [], ◌∷◌, ◌++◌, length}
+use Rattle.std.proofs.Common.{get_or, drop, Bor, Option, Some, None, Ok, Err, Result, refl, ap, sym, ◌∙◌, arith}
 use Rattle.std.specs.Result.{IfOk, IfErr, MatchResult}
 use Rattle.std.proofs.lemmas.List.{length-map, at_drop_more}
 use Rattle.mk_script.specs.declared.items.Item.{Item}
@@ -21,29 +22,39 @@ use Rattle.mk_script.specs.Words.{words_of, texts_of}
 
 -- an item that is let through declares no name a second time
 passed : (twice rightly : Bool) (limit : Option LineFault) (item found : Item)
-    → (if twice then Err (Text kind.Twice) else (or_item limit item >>= (λ item'. if rightly then Ok item' else Err (Text kind.End)))) ≡ Ok found → (twice ≡ false) × (item ≡ found)
+    → (if twice then Err (Text kind.Twice)
+    else (or_item limit item >>= (λ item'. if rightly then Ok item' else Err (Text kind.End)))) ≡ Ok found
+    → (twice ≡ false) × (item ≡ found)
 passed true rightly limit item found is = cc
 passed false rightly (Some fault) item found is = cc
 passed false true None item found is = (refl, cc)
 passed false false None item found is = cc
 
-let_through : (before : List Item) (read : Result Item LineFault) (item : Item) → (read >>= checked_item before) ≡ Ok item → is_twice before item ≡ false
+let_through : (before : List Item) (read : Result Item LineFault) (item : Item)
+    → (read >>= checked_item before) ≡ Ok item → is_twice before item ≡ false
 let_through before (Ok read) item is =
-    let both = passed (is_twice before read) (ends_rightly (open_blocks before) read) (limit_fault before read) read item is in
+    let both = passed (is_twice before read) (ends_rightly (open_blocks before) read) (limit_fault before read) read
+    item is in
     ap (is_twice before) (sym both.1) ∙ both.0
 let_through before (Err fault) item is = cc
 
-pub is_fresh : (before : List Item) (words : List (List ℕ)) (item : Item) → line_of before words ≡ Ok item → is_twice before item ≡ false
+pub is_fresh : (before : List Item) (words : List (List ℕ)) (item : Item) → line_of before words ≡ Ok item
+    → is_twice before item ≡ false
 is_fresh before words item is = let_through before (line_item before words) item is
 
 -- what a text is read as whose next line has an item, or hasn't
-pub goes_on : (before : List Item) (line : List ℕ) (lines : List (List ℕ)) (item : Item) → line_of before (words_of line) ≡ Ok item → items_behind (line ∷ lines) before ≡ items_behind lines (before ++ item ∷ [])
-goes_on before line lines item is = ap (λ read. go_on (length before + 1) read (λ item'. items_behind lines (before ++ item' ∷ []))) is
+pub goes_on : (before : List Item) (line : List ℕ) (lines : List (List ℕ)) (item : Item)
+    → line_of before (words_of line) ≡ Ok item
+    → items_behind (line ∷ lines) before ≡ items_behind lines (before ++ item ∷ [])
+goes_on before line lines item is =
+    ap (λ read. go_on (length before + 1) read (λ item'. items_behind lines (before ++ item' ∷ []))) is
 
-pub stops : (before : List Item) (line : List ℕ) (lines : List (List ℕ)) (number : ℕ) (found : LineStop) → number ≡ length before + 1 → IsStopOfLine before (words_of line) found → stop_at number found ≢ stop.NoMemory
+pub stops : (before : List Item) (line : List ℕ) (lines : List (List ℕ)) (number : ℕ) (found : LineStop)
+    → number ≡ length before + 1 → IsStopOfLine before (words_of line) found → stop_at number found ≢ stop.NoMemory
     → items_behind (line ∷ lines) before ≡ Err (stop_at number found)
 stops before line lines number (Fault fault) counts is memory =
-    ap (λ read. go_on (length before + 1) read (λ item. items_behind lines (before ++ item ∷ []))) is ∙ ap (λ n. Err (fault_at n fault)) (sym counts)
+    ap (λ read. go_on (length before + 1) read (λ item. items_behind lines (before ++ item ∷ []))) is
+    ∙ ap (λ n. Err (fault_at n fault)) (sym counts)
 stops before line lines number NoMemory counts is memory = absurd (memory refl)
 
 pub from_first : (lines : List (List ℕ)) → 0 < length lines → items_of_lines lines ≡ items_behind lines []
@@ -52,31 +63,43 @@ from_first (line ∷ lines) some = refl
 
 -- the same, along the lines of a text
 at_line : (lines : List (Bor (List ℕ))) (i : ℕ) (before : List Item) (d : Bor (List ℕ)) → i < length lines
-    → items_behind (texts_of (drop i lines)) before ≡ items_behind ((get_or lines i d).now ∷ texts_of (drop (i + 1) lines)) before
+    → items_behind (texts_of (drop i lines)) before
+    ≡ items_behind ((get_or lines i d).now ∷ texts_of (drop (i + 1) lines)) before
 at_line lines i before d inside = at_drop_more (λ left. items_behind (texts_of left) before) lines i d inside
 
-pub step : (lines : List (Bor (List ℕ))) (i : ℕ) (before items : List Item) (scope : Scope) (d : Bor (List ℕ)) → i < length lines
+pub step : (lines : List (Bor (List ℕ))) (i : ℕ) (before items : List Item) (scope : Scope) (d : Bor (List ℕ))
+    → i < length lines
     → ReadsLine before (words_of (get_or lines i d).now) items scope
     → items_behind (texts_of (drop (i + 1) lines)) items ≡ items_behind (texts_of (drop i lines)) before
 step lines i before items scope d inside read =
     ap (λ now. items_behind (texts_of (drop (i + 1) lines)) now) read.items_are
-    ∙ sym (at_line lines i before d inside ∙ goes_on before (get_or lines i d).now (texts_of (drop (i + 1) lines)) read.item read.is_item)
+    ∙ sym (at_line lines i before d inside
+    ∙ goes_on before (get_or lines i d).now (texts_of (drop (i + 1) lines)) read.item read.is_item)
 
-pub stops_at : (lines : List (Bor (List ℕ))) (i : ℕ) (before : List Item) (d : Bor (List ℕ)) (found : LineStop) → i < length lines → length before ≡ i
+pub stops_at : (lines : List (Bor (List ℕ))) (i : ℕ) (before : List Item) (d : Bor (List ℕ)) (found : LineStop)
+    → i < length lines → length before ≡ i
     → IsStopOfLine before (words_of (get_or lines i d).now) found → stop_at (i + 1) found ≢ stop.NoMemory
     → items_behind (texts_of (drop i lines)) before ≡ Err (stop_at (i + 1) found)
 stops_at lines i before d found inside counts is memory =
-    at_line lines i before d inside ∙ stops before (get_or lines i d).now (texts_of (drop (i + 1) lines)) (i + 1) found (ap (λ n. n + 1) (sym counts)) is memory
+    at_line lines i before d inside
+    ∙ stops before (get_or lines i d).now (texts_of (drop (i + 1) lines)) (i + 1) found
+    (ap (λ n. n + 1) (sym counts)) is memory
 
-pub whole : (lines : List (Bor (List ℕ))) (text_lines : List (List ℕ)) → 0 < length lines → texts_of lines ≡ text_lines → items_of_lines text_lines ≡ items_behind (texts_of lines) []
-whole lines text_lines some are = ap items_of_lines (sym are) ∙ from_first (texts_of lines) (omega (arith, length-map lines (λ text. text.now)))
+pub whole : (lines : List (Bor (List ℕ))) (text_lines : List (List ℕ)) → 0 < length lines → texts_of lines ≡ text_lines
+    → items_of_lines text_lines ≡ items_behind (texts_of lines) []
+whole lines text_lines some are = ap items_of_lines (sym are)
+    ∙ from_first (texts_of lines) (omega (arith, length-map lines (λ text. text.now)))
 
-pub ended_well : {A : Type 0} (view : A → List Item) (result : Result A TextStop) (expected found : Result (List Item) TextStop) → expected ≡ found
-    → MatchResult result (λ kept. found ≡ Ok (view kept)) (λ stop. found ≡ Err stop) → IfOk result (λ kept. expected ≡ Ok (view kept))
+pub ended_well : {A : Type 0} (view : A
+    → List Item) (result : Result A TextStop) (expected found : Result (List Item) TextStop) → expected ≡ found
+    → MatchResult result (λ kept. found ≡ Ok (view kept)) (λ stop. found ≡ Err stop)
+    → IfOk result (λ kept. expected ≡ Ok (view kept))
 ended_well view (Ok kept) expected found is ended = is ∙ ended
 ended_well view (Err stop) expected found is ended = tt
 
-pub ended_badly : {A : Type 0} (view : A → List Item) (result : Result A TextStop) (expected found : Result (List Item) TextStop) → expected ≡ found
-    → MatchResult result (λ kept. found ≡ Ok (view kept)) (λ stop. found ≡ Err stop) → IfErr result (λ found_stop. found_stop ≢ stop.NoMemory → expected ≡ Err found_stop)
+pub ended_badly : {A : Type 0} (view : A
+    → List Item) (result : Result A TextStop) (expected found : Result (List Item) TextStop) → expected ≡ found
+    → MatchResult result (λ kept. found ≡ Ok (view kept)) (λ stop. found ≡ Err stop)
+    → IfErr result (λ found_stop. found_stop ≢ stop.NoMemory → expected ≡ Err found_stop)
 ended_badly view (Ok kept) expected found is ended = tt
 ended_badly view (Err stop) expected found is ended = λ memory. is ∙ ended

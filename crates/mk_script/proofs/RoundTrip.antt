@@ -31,12 +31,14 @@ said_again before (line ∷ rest) passed =
 ends_again : (items : List Item) → IsWhole items → at_end items ≡ Ok items
 ends_again items is = rw (is.closed, is.script) refl
 
-items_again : (rest before items : List Item) → AreSaidAgain before rest → before ++ rest ≡ items → at_end items ≡ Ok items → items_behind (lines_of_items rest) before ≡ Ok items
+items_again : (rest before items : List Item) → AreSaidAgain before rest → before ++ rest ≡ items
+    → at_end items ≡ Ok items → items_behind (lines_of_items rest) before ≡ Ok items
 items_again [] before items again whole end =
     let same : before ≡ items = sym (append-nil before) ∙ whole in
     subst (λ b. at_end b ≡ Ok items) (sym same) end
 items_again (line ∷ rest) before items again whole end =
-    let reads : line_of before (words_of (joined_words (words_of_item line))) ≡ Ok line = ap (λ ws. line_of before ws) (words_of-joined (words_of_item line) again.0.apart) ∙ again.0.reads in
+    let reads : line_of before (words_of (joined_words (words_of_item line))) ≡ Ok line =
+    ap (λ ws. line_of before ws) (words_of-joined (words_of_item line) again.0.apart) ∙ again.0.reads in
     ap (λ r. go_on (length before + 1) r (λ x. items_behind (lines_of_items rest) (before ++ x ∷ []))) reads
     ∙ items_again rest (before ++ line ∷ []) items again.1 (append_assoc before (line ∷ []) rest ∙ whole) end
 
@@ -47,9 +49,11 @@ have_words (line ∷ rest) before again = (again.0.apart, have_words rest (befor
 lines_again : (items : List Item) → IsWhole items → items_of_lines (lines_of_items items) ≡ Ok items
 lines_again [] is = absurd (let none = is.script in cc)
 lines_again (line ∷ items) is =
-    items_again (line ∷ items) [] (line ∷ items) (said_again [] (line ∷ items) is.lines) refl (ends_again (line ∷ items) is)
+    items_again (line ∷ items) [] (line ∷ items) (said_again [] (line ∷ items) is.lines) refl
+    (ends_again (line ∷ items) is)
 
-pub program_of-canonical_text : (items : List Item) → IsOfSomeText items → length (canonical_text items) ≤ 1048576 → program_of (canonical_text items) ≡ Ok items
+pub program_of-canonical_text : (items : List Item) → IsOfSomeText items → length (canonical_text items) ≤ 1048576
+    → program_of (canonical_text items) ≡ Ok items
 program_of-canonical_text items text small =
     let is = is_whole items text in
     cond-true _ _ _ (le-leb _ _ small)

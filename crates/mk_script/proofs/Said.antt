@@ -1,12 +1,15 @@
 -- What operands say, they say again as they are printed.
-use Rattle.std.proofs.Common.{ok_or, ◌≡◌, ℕ, zero, suc, ◌+◌, ◌<◌, ◌^◌, Bool, true, false, nat_eq, cond, List, [], ◌∷◌, ◌++◌, length, refl, ap, ◌∙◌, sym, subst, arith, one-add, Option, Some, None, Ok, Err, take, drop, inl, inr}
+use Rattle.std.proofs.Common.{ok_or, ◌≡◌, ℕ, zero, suc, ◌+◌, ◌<◌, ◌^◌, Bool, true, false, nat_eq, cond, List, [], ◌∷◌}
+use Rattle.std.proofs.Common.{◌++◌, length, refl, ap, ◌∙◌, sym, subst, arith, one-add, Option, Some, None, Ok, Err}
+use Rattle.std.proofs.Common.{take, drop, inl, inr}
 use Rattle.std.specs.declared.result.Result.{Result}
 use Rattle.std.specs.Fmt.{decimal}
 use Rattle.std.specs.List.{list_any, list_all, before_first, after_first, position_or_len}
 use Rattle.std.proofs.lemmas.List.{take_at, drop_at, drop-drop}
 use Rattle.std.proofs.lemmas.List.Folds.{list_any-append}
 use Rattle.std.proofs.lemmas.Bool.Decides.{nat_tests}
-use Rattle.std.proofs.lemmas.Bool.{and_from, and_parts, or_from, or_right, not_from_false, ne_eqb, cond-true, cond-false, cases_cond, cond_both}
+use Rattle.std.proofs.lemmas.Bool.{and_from, and_parts, or_from, or_right, not_from_false, ne_eqb, cond-true}
+use Rattle.std.proofs.lemmas.Bool.{cond-false, cases_cond, cond_both}
 use lib.Chars.{codes}
 use Rattle.mk_script.specs.declared.items.At.{At}
 use Rattle.mk_script.specs.declared.faults.LineFault.{LineFault}
@@ -16,14 +19,17 @@ use Rattle.mk_script.specs.Names.{is_name, is_name_byte, name_of, number_of_word
 use Rattle.mk_script.specs.Operands.{◌>>=◌, name, number, at, is_plus}
 use Rattle.mk_script.specs.Canonical.{at_text}
 use Rattle.mk_script.proofs.PrintedNumbers.{number_of_word-decimal, number_of_word-below}
-use Rattle.mk_script.proofs.LineWords.{is_solid, is_word, is_solid-names, is_solid-decimal, is_solid-append, is_word-append}
+use Rattle.mk_script.proofs.LineWords.{is_solid, is_word, is_solid-names, is_solid-decimal, is_solid-append}
+use Rattle.mk_script.proofs.LineWords.{is_word-append}
 
 -- a step that went well, and what comes of it
 
-pub then_again : {A B : Type 0} (r : Result A LineFault) (f : A → Result B LineFault) (x : A) (y : Result B LineFault) → r ≡ Ok x → f x ≡ y → (r >>= f) ≡ y
+pub then_again : {A B : Type 0} (r : Result A LineFault) (f : A → Result B LineFault) (x : A) (y : Result B LineFault)
+    → r ≡ Ok x → f x ≡ y → (r >>= f) ≡ y
 then_again r f x y e g = ap (λ q. q >>= f) e ∙ g
 
-pub then_was : {A B : Type 0} (r : Result A LineFault) (f : A → Result B LineFault) (y : B) → (r >>= f) ≡ Ok y → (x : A) × (r ≡ Ok x) × (f x ≡ Ok y)
+pub then_was : {A B : Type 0} (r : Result A LineFault) (f : A → Result B LineFault) (y : B) → (r >>= f) ≡ Ok y
+    → (x : A) × (r ≡ Ok x) × (f x ≡ Ok y)
 then_was (Ok x) f y e = (x, refl, e)
 then_was (Err fault) f y e = absurd cc
 
@@ -73,14 +79,17 @@ without_plus : (n : List ℕ) → list_all is_name_byte n ≡ true → list_any 
 without_plus [] h = refl
 without_plus (byte ∷ n) h = let parts = and_parts _ _ h in or_from _ _ (no_plus byte parts.0) (without_plus n parts.1)
 
-first_plus : (n digits : List ℕ) → list_all is_name_byte n ≡ true → position_or_len is_plus (n ++ 43 ∷ digits) ≡ length n
+first_plus : (n digits : List ℕ) → list_all is_name_byte n ≡ true
+    → position_or_len is_plus (n ++ 43 ∷ digits) ≡ length n
 first_plus [] digits h = refl
 first_plus (byte ∷ n) digits h =
     let parts = and_parts _ _ h in
-    cond-true _ _ _ (not_from_false _ (no_plus byte parts.0)) ∙ ap (λ k. 1 + k) (first_plus n digits parts.1) ∙ one-add (length n)
+    cond-true _ _ _ (not_from_false _ (no_plus byte parts.0)) ∙ ap (λ k. 1 + k) (first_plus n digits parts.1)
+    ∙ one-add (length n)
 
 before_plus : (n digits : List ℕ) → list_all is_name_byte n ≡ true → before_first is_plus (n ++ 43 ∷ digits) ≡ n
-before_plus n digits h = ap (λ k. take k (n ++ 43 ∷ digits)) (first_plus n digits h) ∙ take_at n (43 ∷ digits) (length n) refl
+before_plus n digits h = ap (λ k. take k (n ++ 43 ∷ digits)) (first_plus n digits h)
+    ∙ take_at n (43 ∷ digits) (length n) refl
 
 behind_plus : (n digits : List ℕ) → list_all is_name_byte n ≡ true → after_first is_plus (n ++ 43 ∷ digits) ≡ digits
 behind_plus n digits h =
@@ -94,13 +103,17 @@ has_plus n digits = list_any-append is_plus n (43 ∷ digits) ∙ or_right _ _ r
 alone : (n : List ℕ) → is_name n ≡ true → at n ≡ Ok (record { name = n; offset = 0 })
 alone n h = cond-false _ _ _ (without_plus n (name_bytes n h)) ∙ then_again (name n) _ n _ (name_again n h) refl
 
-with_offset : (n : List ℕ) (k : ℕ) → is_name n ≡ true → k < 2 ^ 64 → at (n ++ (codes "+" ++ decimal k)) ≡ Ok (record { name = n; offset = k })
+with_offset : (n : List ℕ) (k : ℕ) → is_name n ≡ true → k < 2 ^ 64
+    → at (n ++ (codes "+" ++ decimal k)) ≡ Ok (record { name = n; offset = k })
 with_offset n k h small =
-    let first : name (before_first is_plus (n ++ 43 ∷ decimal k)) ≡ Ok n = ap name (before_plus n (decimal k) (name_bytes n h)) ∙ name_again n h in
-    let second : number (after_first is_plus (n ++ 43 ∷ decimal k)) ≡ Ok k = ap number (behind_plus n (decimal k) (name_bytes n h)) ∙ number_again k small in
+    let first : name (before_first is_plus (n ++ 43 ∷ decimal k)) ≡ Ok n =
+    ap name (before_plus n (decimal k) (name_bytes n h)) ∙ name_again n h in
+    let second : number (after_first is_plus (n ++ 43 ∷ decimal k)) ≡ Ok k =
+    ap number (behind_plus n (decimal k) (name_bytes n h)) ∙ number_again k small in
     cond-true _ _ _ (has_plus n (decimal k)) ∙ then_again _ _ n _ first (then_again _ _ k _ second refl)
 
-at_text_again : (n : List ℕ) (k : ℕ) → is_name n ≡ true → k < 2 ^ 64 → at (at_text (record { name = n; offset = k })) ≡ Ok (record { name = n; offset = k })
+at_text_again : (n : List ℕ) (k : ℕ) → is_name n ≡ true → k < 2 ^ 64
+    → at (at_text (record { name = n; offset = k })) ≡ Ok (record { name = n; offset = k })
 at_text_again n zero h small = alone n h
 at_text_again n (suc k) h small =
     let other : nat_eq (suc k) 0 ≡ false = ne_eqb (suc k) 0 (λ e. omega arith) in
@@ -111,10 +124,12 @@ at_again a place = at_text_again a.name a.offset place.named place.small
 
 -- A line's operands, one after the other.
 
-pub with_name : {A P : Type 0} (w : List ℕ) {f : List ℕ → Result A LineFault} {y : A} → (name w >>= f) ≡ Ok y → ((n : List ℕ) → is_name n ≡ true → f n ≡ Ok y → P) → P
+pub with_name : {A P : Type 0} (w : List ℕ) {f : List ℕ → Result A LineFault} {y : A} → (name w >>= f) ≡ Ok y
+    → ((n : List ℕ) → is_name n ≡ true → f n ≡ Ok y → P) → P
 with_name w {f} {y} e go = let was = then_was (name w) f y e in go was.0 (name_was w was.0 was.1) was.2
 
-pub with_number : {A P : Type 0} (w : List ℕ) {f : ℕ → Result A LineFault} {y : A} → (number w >>= f) ≡ Ok y → ((n : ℕ) → n < 2 ^ 64 → f n ≡ Ok y → P) → P
+pub with_number : {A P : Type 0} (w : List ℕ) {f : ℕ → Result A LineFault} {y : A} → (number w >>= f) ≡ Ok y
+    → ((n : ℕ) → n < 2 ^ 64 → f n ≡ Ok y → P) → P
 with_number w {f} {y} e go = let was = then_was (number w) f y e in go was.0 (number_was w was.0 was.1) was.2
 
 pub is_this : {A : Type 0} {x y : A} → ◌≡◌ {A = Result A LineFault} (Ok x) (Ok y) → (P : A → Type 0) → P x → P y
@@ -123,21 +138,27 @@ is_this {x} {y} e P p = let same : x ≡ y = cc in subst P same p
 pub at_was : (w : List ℕ) (a : At) → at w ≡ Ok a → IsPlace a
 at_was w a e =
     elim (cases_cond (list_any is_plus w) _ _ (Ok a) (sym e)) [
-      | inl h ↦ with_name (before_first is_plus w) (sym h) (λ n named rest. with_number (after_first is_plus w) rest (λ k small done. is_this done IsPlace (record { named = named; small = small })))
-      | inr h ↦ with_name w (sym h) (λ n named done. is_this done IsPlace (record { named = named; small = omega arith }))
+      | inl h ↦ with_name (before_first is_plus w) (sym h)
+          (λ n named rest. with_number (after_first is_plus w) rest
+          (λ k small done. is_this done IsPlace (record { named = named; small = small })))
+      | inr h ↦ with_name w (sym h)
+          (λ n named done. is_this done IsPlace (record { named = named; small = omega arith }))
     ]
 
-pub with_at : {A P : Type 0} (w : List ℕ) {f : At → Result A LineFault} {y : A} → (at w >>= f) ≡ Ok y → ((a : At) → IsPlace a → f a ≡ Ok y → P) → P
+pub with_at : {A P : Type 0} (w : List ℕ) {f : At → Result A LineFault} {y : A} → (at w >>= f) ≡ Ok y
+    → ((a : At) → IsPlace a → f a ≡ Ok y → P) → P
 with_at w {f} {y} e go = let was = then_was (at w) f y e in go was.0 (at_was w was.0 was.1) was.2
 
 pub is_solid-at : (a : At) → IsPlace a → is_solid (at_text a) ≡ true
 is_solid-at a place =
     cond_both (nat_eq a.offset 0) a.name (a.name ++ (codes "+" ++ decimal a.offset)) (λ text. is_solid text ≡ true)
     (λ none. is_solid-name a.name place.named)
-    (λ some. is_solid-append a.name (codes "+" ++ decimal a.offset) (is_solid-name a.name place.named) (is_solid-decimal a.offset place.small))
+    (λ some. is_solid-append a.name (codes "+" ++ decimal a.offset) (is_solid-name a.name place.named)
+    (is_solid-decimal a.offset place.small))
 
 pub is_word-at : (a : At) → IsPlace a → is_word (at_text a) ≡ true
 is_word-at a place =
     cond_both (nat_eq a.offset 0) a.name (a.name ++ (codes "+" ++ decimal a.offset)) (λ text. is_word text ≡ true)
     (λ none. is_word-name a.name place.named)
-    (λ some. is_word-append a.name (codes "+" ++ decimal a.offset) (is_word-name a.name place.named) (is_solid-decimal a.offset place.small))
+    (λ some. is_word-append a.name (codes "+" ++ decimal a.offset) (is_word-name a.name place.named)
+    (is_solid-decimal a.offset place.small))

@@ -12,8 +12,10 @@ use Rattle.mk_script.specs.declared.items.Item.TheVariants.{Heap, TypeLine, Glob
 use Rattle.mk_script.specs.declared.scope.Scope.{Scope}
 use Rattle.mk_script.specs.Lines.{has_script}
 use Rattle.mk_script.specs.ScopeOf.{IsScopeOf, has_lines}
-use Rattle.mk_script.specs.Scopes.{type_names, global_names, script_names, pointer_names, number_names, is_script, is_instruction, this_script, open_behind}
-use Rattle.mk_script.proofs.Pushed.{type_names-push, global_names-push, script_names-push, pointer_names-push, number_names-push, this_script-push, open_blocks-push}
+use Rattle.mk_script.specs.Scopes.{type_names, global_names, script_names, pointer_names, number_names, is_script}
+use Rattle.mk_script.specs.Scopes.{is_instruction, this_script, open_behind}
+use Rattle.mk_script.proofs.Pushed.{type_names-push, global_names-push, script_names-push, pointer_names-push}
+use Rattle.mk_script.proofs.Pushed.{number_names-push, this_script-push, open_blocks-push}
 
 has_lines-push : (before : List Item) (item : Item) → true ≡ has_lines (before ++ item ∷ [])
 has_lines-push [] item = refl
@@ -36,25 +38,35 @@ pub record Adds (item : Item) (types globals scripts pointers numbers : List (Li
   pub numbers_are : number_names (item ∷ []) ≡ numbers
 
 pub heap_adds : (pages resident : ℕ) (item : Item) → item ≡ Heap pages resident → Adds item [] [] [] [] []
-heap_adds pages resident item is = rw is (record { types_are = refl; globals_are = refl; scripts_are = refl; pointers_are = refl; numbers_are = refl })
+heap_adds pages resident item is =
+    rw is (record { types_are = refl; globals_are = refl; scripts_are = refl; pointers_are = refl; numbers_are = refl })
 
-pub type_adds : (name : List ℕ) (words : List TypeWord) (item : Item) → item ≡ TypeLine name words → Adds item (name ∷ []) [] [] [] []
-type_adds name words item is = rw is (record { types_are = refl; globals_are = refl; scripts_are = refl; pointers_are = refl; numbers_are = refl })
+pub type_adds : (name : List ℕ) (words : List TypeWord) (item : Item) → item ≡ TypeLine name words
+    → Adds item (name ∷ []) [] [] [] []
+type_adds name words item is =
+    rw is (record { types_are = refl; globals_are = refl; scripts_are = refl; pointers_are = refl; numbers_are = refl })
 
 pub global_adds : (name ty : List ℕ) (item : Item) → item ≡ Global name ty → Adds item [] (name ∷ []) [] [] []
-global_adds name ty item is = rw is (record { types_are = refl; globals_are = refl; scripts_are = refl; pointers_are = refl; numbers_are = refl })
+global_adds name ty item is =
+    rw is (record { types_are = refl; globals_are = refl; scripts_are = refl; pointers_are = refl; numbers_are = refl })
 
 pub script_adds : (name : List ℕ) (item : Item) → item ≡ Script name → Adds item [] [] (name ∷ []) [] []
-script_adds name item is = rw is (record { types_are = refl; globals_are = refl; scripts_are = refl; pointers_are = refl; numbers_are = refl })
+script_adds name item is =
+    rw is (record { types_are = refl; globals_are = refl; scripts_are = refl; pointers_are = refl; numbers_are = refl })
 
 pub ptr_adds : (name : List ℕ) (at : At) (item : Item) → item ≡ Ptr name at → Adds item [] [] [] (name ∷ []) []
-ptr_adds name at item is = rw is (record { types_are = refl; globals_are = refl; scripts_are = refl; pointers_are = refl; numbers_are = refl })
+ptr_adds name at item is =
+    rw is (record { types_are = refl; globals_are = refl; scripts_are = refl; pointers_are = refl; numbers_are = refl })
 
 pub num_adds : (name : List ℕ) (item : Item) → item ≡ Num name → Adds item [] [] [] [] (name ∷ [])
-num_adds name item is = rw is (record { types_are = refl; globals_are = refl; scripts_are = refl; pointers_are = refl; numbers_are = refl })
+num_adds name item is =
+    rw is (record { types_are = refl; globals_are = refl; scripts_are = refl; pointers_are = refl; numbers_are = refl })
 
 -- any other line is an instruction, and adds none
-pub other_adds : (item : Item) → ((pages resident : ℕ) → item ≡ Heap pages resident → ⊥) → ((name : List ℕ) (words : List TypeWord) → item ≡ TypeLine name words → ⊥) → ((name ty : List ℕ) → item ≡ Global name ty → ⊥) → ((name : List ℕ) → item ≡ Script name → ⊥) → ((name : List ℕ) (at : At) → item ≡ Ptr name at → ⊥) → ((name : List ℕ) → item ≡ Num name → ⊥)
+pub other_adds : (item : Item) → ((pages resident : ℕ) → item ≡ Heap pages resident → ⊥)
+    → ((name : List ℕ) (words : List TypeWord) → item ≡ TypeLine name words → ⊥)
+    → ((name ty : List ℕ) → item ≡ Global name ty → ⊥) → ((name : List ℕ) → item ≡ Script name → ⊥)
+    → ((name : List ℕ) (at : At) → item ≡ Ptr name at → ⊥) → ((name : List ℕ) → item ≡ Num name → ⊥)
     → Adds item [] [] [] [] [] × (is_script item ≡ false) × (is_instruction item ≡ true)
 other_adds (Heap pages resident) heap type global script ptr num = absurd (heap pages resident refl)
 other_adds (TypeLine name words) heap type global script ptr num = absurd (type name words refl)
@@ -62,60 +74,90 @@ other_adds (Global name ty) heap type global script ptr num = absurd (global nam
 other_adds (Script name) heap type global script ptr num = absurd (script name refl)
 other_adds (Ptr name at) heap type global script ptr num = absurd (ptr name at refl)
 other_adds (Num name) heap type global script ptr num = absurd (num name refl)
-other_adds item heap type global script ptr num = (record { types_are = refl; globals_are = refl; scripts_are = refl; pointers_are = refl; numbers_are = refl }, refl, refl)
+other_adds item heap type global script ptr num = (
+  record { types_are = refl; globals_are = refl; scripts_are = refl; pointers_are = refl; numbers_are = refl },
+  refl,
+  refl,
+)
 
 -- a set that no name is put to
 pub kept : (set : List (List ℕ)) → IsPermutation (set ++ []) set
 kept set = rw (append-nil set) (IsPermutation-refl set)
 
-names_added : (names : List Item → List (List ℕ)) → ((before : List Item) (item : Item) → names (before ++ item ∷ []) ≡ names before ++ names (item ∷ []))
-    → (before : List Item) (item : Item) (set set' added : List (List ℕ)) → names (item ∷ []) ≡ added → IsPermutation (names before) set → IsPermutation (set ++ added) set' → IsPermutation (names (before ++ item ∷ [])) set'
+names_added : (names : List Item → List (List ℕ))
+    → ((before : List Item) (item : Item) → names (before ++ item ∷ []) ≡ names before ++ names (item ∷ []))
+    → (before : List Item) (item : Item) (set set' added : List (List ℕ)) → names (item ∷ []) ≡ added
+    → IsPermutation (names before) set → IsPermutation (set ++ added) set'
+    → IsPermutation (names (before ++ item ∷ [])) set'
 names_added names push before item set set' added are said more =
-    let names_are : names (before ++ item ∷ []) ≡ names before ++ added = push before item ∙ ap (λ others. names before ++ others) are in
-    rw names_are (IsPermutation-trans (names before ++ added) (set ++ added) set' (IsPermutation-append_left added (names before) set said) more)
+    let names_are : names (before ++ item ∷ []) ≡ names before ++ added = push before item
+    ∙ ap (λ others. names before ++ others) are in
+    rw names_are (IsPermutation-trans (names before ++ added) (set ++ added) set'
+    (IsPermutation-append_left added (names before) set said) more)
 
-this_script-line : (before : List Item) (item : Item) → is_script item ≡ false → this_script (before ++ item ∷ []) ≡ this_script before ++ item ∷ []
+this_script-line : (before : List Item) (item : Item) → is_script item ≡ false
+    → this_script (before ++ item ∷ []) ≡ this_script before ++ item ∷ []
 this_script-line before item line = this_script-push before item ∙ rw line refl
 
 -- a line that isn't a script's first
-pub after_line : (old new : Scope) (before : List Item) (item : Item) (types globals scripts pointers numbers : List (List ℕ))
+pub after_line : (old new : Scope) (before : List Item) (item : Item)
+    (types globals scripts pointers numbers : List (List ℕ))
     → IsScopeOf old before → Adds item types globals scripts pointers numbers → is_script item ≡ false
-    → new.has_header ≡ true → new.has_script ≡ old.has_script → new.has_instruction ≡ (old.has_instruction || is_instruction item)
-    → IsPermutation (old.types ++ types) new.types → IsPermutation (old.globals ++ globals) new.globals → IsPermutation (old.scripts ++ scripts) new.scripts
+    → new.has_header ≡ true → new.has_script ≡ old.has_script
+    → new.has_instruction ≡ (old.has_instruction || is_instruction item)
+    → IsPermutation (old.types ++ types) new.types → IsPermutation (old.globals ++ globals) new.globals
+    → IsPermutation (old.scripts ++ scripts) new.scripts
     → IsPermutation (old.pointers ++ pointers) new.pointers → IsPermutation (old.numbers ++ numbers) new.numbers
     → reverse new.blocks.items ≡ open_behind (reverse old.blocks.items) item
     → IsScopeOf new (before ++ item ∷ [])
-after_line old new before item types globals scripts pointers numbers scope adds line header script instruction types' globals' scripts' pointers' numbers' blocks =
+after_line old new before item types globals scripts pointers numbers scope adds line header script instruction types'
+    globals' scripts' pointers' numbers' blocks =
     let lines = this_script-line before item line in
     record {
       header = header ∙ has_lines-push before item;
-      script = script ∙ scope.script ∙ sym (list_any-append is_script before (item ∷ []) ∙ or-false (has_script before) (is_script item || false) (rw line refl));
-      instruction = instruction ∙ ap (λ some. some || is_instruction item) scope.instruction ∙ sym (ap (list_any is_instruction) lines ∙ list_any-append is_instruction (this_script before) (item ∷ []) ∙ ap (λ some. list_any is_instruction (this_script before) || some) (or-false (is_instruction item) false refl));
-      types = names_added type_names type_names-push before item old.types new.types types adds.types_are scope.types types';
-      globals = names_added global_names global_names-push before item old.globals new.globals globals adds.globals_are scope.globals globals';
-      scripts = names_added script_names script_names-push before item old.scripts new.scripts scripts adds.scripts_are scope.scripts scripts';
-      pointers = rw lines (names_added pointer_names pointer_names-push (this_script before) item old.pointers new.pointers pointers adds.pointers_are scope.pointers pointers');
-      numbers = rw lines (names_added number_names number_names-push (this_script before) item old.numbers new.numbers numbers adds.numbers_are scope.numbers numbers');
+      script = script ∙ scope.script
+          ∙ sym (list_any-append is_script before (item ∷ [])
+          ∙ or-false (has_script before) (is_script item || false) (rw line refl));
+      instruction = instruction ∙ ap (λ some. some || is_instruction item) scope.instruction
+          ∙ sym (ap (list_any is_instruction) lines ∙ list_any-append is_instruction (this_script before) (item ∷ [])
+          ∙ ap (λ some. list_any is_instruction (this_script before) || some)
+          (or-false (is_instruction item) false refl));
+      types = names_added type_names type_names-push before item old.types new.types types adds.types_are scope.types
+          types';
+      globals = names_added global_names global_names-push before item old.globals new.globals globals adds.globals_are
+          scope.globals globals';
+      scripts = names_added script_names script_names-push before item old.scripts new.scripts scripts adds.scripts_are
+          scope.scripts scripts';
+      pointers = rw lines (names_added pointer_names pointer_names-push (this_script before) item old.pointers
+          new.pointers pointers adds.pointers_are scope.pointers pointers');
+      numbers = rw lines (names_added number_names number_names-push (this_script before) item old.numbers new.numbers
+          numbers adds.numbers_are scope.numbers numbers');
       blocks = blocks ∙ ap (λ open_ones. open_behind open_ones item) scope.blocks ∙ sym (open_blocks-push before item);
     }
 
 -- a script's first line
-pub after_script : (old new : Scope) (before : List Item) (item : Item) (name : List ℕ) → item ≡ Script name → IsScopeOf old before
+pub after_script : (old new : Scope) (before : List Item) (item : Item) (name : List ℕ) → item ≡ Script name
+    → IsScopeOf old before
     → new.has_header ≡ true → new.has_script ≡ true → new.has_instruction ≡ false
     → new.types ≡ old.types → new.globals ≡ old.globals → IsPermutation (old.scripts ++ name ∷ []) new.scripts
     → new.pointers ≡ [] → new.numbers ≡ []
     → reverse new.blocks.items ≡ open_behind (reverse old.blocks.items) item
     → IsScopeOf new (before ++ item ∷ [])
-after_script old new before item name is scope header script instruction types' globals' scripts' pointers' numbers' blocks =
+after_script old new before item name is scope header script instruction types' globals' scripts' pointers' numbers'
+    blocks =
     let adds = script_adds name item is in
     let lines : this_script (before ++ item ∷ []) ≡ [] = this_script-push before item ∙ rw is refl in
     record {
       header = header ∙ has_lines-push before item;
       script = script ∙ sym (list_any-append is_script before (item ∷ []) ∙ rw is (or-true (has_script before)));
       instruction = instruction ∙ sym (ap (list_any is_instruction) lines);
-      types = rw types' (names_added type_names type_names-push before item old.types old.types [] adds.types_are scope.types (kept old.types));
-      globals = rw globals' (names_added global_names global_names-push before item old.globals old.globals [] adds.globals_are scope.globals (kept old.globals));
-      scripts = names_added script_names script_names-push before item old.scripts new.scripts (name ∷ []) adds.scripts_are scope.scripts scripts';
+      types = rw types' (names_added type_names type_names-push before item old.types old.types [] adds.types_are
+          scope.types (kept old.types));
+      globals = rw globals'
+          (names_added global_names global_names-push before item old.globals old.globals [] adds.globals_are
+          scope.globals (kept old.globals));
+      scripts = names_added script_names script_names-push before item old.scripts new.scripts
+          (name ∷ []) adds.scripts_are scope.scripts scripts';
       pointers = rw (lines, pointers') (IsPermutation-refl []);
       numbers = rw (lines, numbers') (IsPermutation-refl []);
       blocks = blocks ∙ ap (λ open_ones. open_behind open_ones item) scope.blocks ∙ sym (open_blocks-push before item);

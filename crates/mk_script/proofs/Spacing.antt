@@ -1,5 +1,6 @@
 -- Words with a space before each, and lines of them.
-use Rattle.std.proofs.Common.{◌≡◌, ℕ, zero, suc, ◌+◌, ◌<◌, List, [], ◌∷◌, ◌++◌, length, get_or, drop, add-one, drop-cons, refl, ap, ◌∙◌, sym, append_assoc, IfOk, Ok, Err}
+use Rattle.std.proofs.Common.{◌≡◌, ℕ, zero, suc, ◌+◌, ◌<◌, List, [], ◌∷◌, ◌++◌, length, get_or, drop, add-one}
+use Rattle.std.proofs.Common.{drop-cons, refl, ap, ◌∙◌, sym, append_assoc, IfOk, Ok, Err}
 use Rattle.std.specs.declared.result.Result.{Result}
 use Rattle.std.proofs.lemmas.List.{append-nil}
 use lib.Chars.{codes}
@@ -11,18 +12,22 @@ pub spaced_words-append : (xs ys : List (List ℕ)) → spaced_words (xs ++ ys) 
 spaced_words-append [] ys = refl
 spaced_words-append (x ∷ xs) ys = ap (λ t. codes " " ++ (x ++ t)) (spaced_words-append xs ys) ∙ simp append_assoc
 
-pub numbers_before-append : (count : ℕ) (fields : List (List ℕ)) → numbers_before count fields ≡ numbers_before count [] ++ fields
+pub numbers_before-append : (count : ℕ) (fields : List (List ℕ))
+    → numbers_before count fields ≡ numbers_before count [] ++ fields
 numbers_before-append zero fields = refl
 numbers_before-append (suc more) fields = refl
 
-pub spaced_words-numbers_before : (count : ℕ) (fields : List (List ℕ)) → spaced_words (numbers_before count fields) ≡ spaced_words (numbers_before count []) ++ spaced_words fields
-spaced_words-numbers_before count fields = ap spaced_words (numbers_before-append count fields) ∙ spaced_words-append (numbers_before count []) fields
+pub spaced_words-numbers_before : (count : ℕ) (fields : List (List ℕ))
+    → spaced_words (numbers_before count fields) ≡ spaced_words (numbers_before count []) ++ spaced_words fields
+spaced_words-numbers_before count fields = ap spaced_words (numbers_before-append count fields)
+    ∙ spaced_words-append (numbers_before count []) fields
 
 -- a line is its words with spaces between them, and a newline
 pub line_text-joined : (words : List (List ℕ)) → line_text words ≡ joined_words words ++ codes "\n"
 line_text-joined [] = refl
 line_text-joined (word ∷ []) = simp append-nil
-line_text-joined (word ∷ next ∷ words) = ap (λ t. word ++ (codes " " ++ t)) (line_text-joined (next ∷ words)) ∙ simp append_assoc
+line_text-joined (word ∷ next ∷ words) = ap (λ t. word ++ (codes " " ++ t)) (line_text-joined (next ∷ words))
+    ∙ simp append_assoc
 
 -- where a text is at hand, another form of it is
 pub then_same : {E : Type 0} (r : Result (List ℕ) E) (x y : List ℕ) → IfOk r (λ p. p ≡ x) → x ≡ y → IfOk r (λ p. p ≡ y)
@@ -30,10 +35,13 @@ then_same (Ok p) x y e f = e ∙ f
 then_same (Err e) x y h f = tt
 
 -- what is left of a list begins with its next item
-pub drop_next : {A : Type 0} (xs : List A) (i : ℕ) (x : A) → i < length xs → x ≡ get_or xs i x → drop i xs ≡ x ∷ drop (i + 1) xs
+pub drop_next : {A : Type 0} (xs : List A) (i : ℕ) (x : A) → i < length xs → x ≡ get_or xs i x
+    → drop i xs ≡ x ∷ drop (i + 1) xs
 drop_next xs i x lt is = rw (add-one, drop-cons xs i x) (ap (λ y. y ∷ drop (suc i) xs) (sym is))
 
 -- the numbers before a pointer, and the pointer
-pub pointer_behind : (p q r s : List ℕ) (count : ℕ) (at : At) (fields : List (List ℕ)) → q ≡ p ++ spaced_words (numbers_before count []) → r ≡ q ++ (codes " " ++ codes "p:") → s ≡ r ++ at_text at
+pub pointer_behind : (p q r s : List ℕ) (count : ℕ) (at : At) (fields : List (List ℕ))
+    → q ≡ p ++ spaced_words (numbers_before count []) → r ≡ q ++ (codes " " ++ codes "p:") → s ≡ r ++ at_text at
     → p ++ spaced_words (numbers_before count ((codes "p:" ++ at_text at) ∷ fields)) ≡ s ++ spaced_words fields
-pointer_behind p q r s count at fields e f g = rw (g, f, e, spaced_words-numbers_before count ((codes "p:" ++ at_text at) ∷ fields)) (simp append_assoc)
+pointer_behind p q r s count at fields e f g =
+    rw (g, f, e, spaced_words-numbers_before count ((codes "p:" ++ at_text at) ∷ fields)) (simp append_assoc)

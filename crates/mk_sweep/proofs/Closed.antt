@@ -5,7 +5,8 @@ use Rattle.std.proofs.lemmas.Bool.{eqb-true}
 use Rattle.mk_geom.specs.declared.addresses.Cell.{Cell}
 use Rattle.mk_core.specs.declared.config.Config.{Config}
 use Rattle.mk_core.specs.declared.events.Event.{Event}
-use Rattle.mk_core.specs.Cells.{cell_words, cells_under, first_word, has_no_pointers, header_in, is_used, points_well, word_points_well}
+use Rattle.mk_core.specs.Cells.{cell_words, cells_under, first_word, has_no_pointers, header_in, is_used, points_well}
+use Rattle.mk_core.specs.Cells.{word_points_well}
 use Rattle.mk_core.specs.History.{IsHistory, left}
 use Rattle.mk_core.specs.Words.{Words}
 use Rattle.mk_core.proofs.AllBelow.{all_below-at}

@@ -1,12 +1,14 @@
 -- Where nothing is on its way, a sweep of all pages looks once at each word of each mapped allocation that isn't leaf,
 -- and at no other word.
-use Rattle.std.proofs.Common.{◌≡◌, ◌≢◌, ◌∙◌, ℕ, ◌+◌, ◌*◌, ◌<◌, ◌≤◌, Bool, true, false, List, length, count_by, refl, sym, ap, inl, inr, arith}
+use Rattle.std.proofs.Common.{◌≡◌, ◌≢◌, ◌∙◌, ℕ, ◌+◌, ◌*◌, ◌<◌, ◌≤◌, Bool, true, false, List, length, count_by, refl}
+use Rattle.std.proofs.Common.{sym, ap, inl, inr, arith}
 use Rattle.std.specs.Prelude.{◌&&◌, not}
 use Rattle.std.proofs.lemmas.Bool.{and_from, and_parts, cases_eq, true≢false}
 use Rattle.mk_geom.specs.declared.addresses.Cell.{Cell}
 use Rattle.mk_core.specs.declared.config.Config.{Config}
 use Rattle.mk_core.specs.declared.events.Event.{Event}
-use Rattle.mk_core.specs.Allocations.{PlacedAllocation, cell_of_allocation, is_mapped, never_granted, placed_at, storage_of, storage_words}
+use Rattle.mk_core.specs.Allocations.{PlacedAllocation, cell_of_allocation, is_mapped, never_granted, placed_at}
+use Rattle.mk_core.specs.Allocations.{storage_of, storage_words}
 use Rattle.mk_core.specs.Cells.{cell_words, first_word, header_in, words_under}
 use Rattle.mk_core.specs.ClosedMarks.{is_scanned_allocation}
 use Rattle.mk_core.specs.History.{IsHistory, left}
@@ -17,7 +19,8 @@ use Rattle.mk_invariant.proofs.Theorems.{allocations_are_disjoint, allocations_s
 use Rattle.mk_cycle.proofs.SumsBelow.{one_if_any}
 use Rattle.mk_sweep.specs.Swept.{IsScannedWord, scanned_words}
 use Rattle.mk_sweep.specs.Sweeping.{words_below}
-use Rattle.mk_sweep.proofs.CountedWords.{HasOnPage, all_words, in_range_from, in_range_is, is_in_range, length_of_all, pages_found, pages_once, same_length, times, times_in_all}
+use Rattle.mk_sweep.proofs.CountedWords.{HasOnPage, all_words, in_range_from, in_range_is, is_in_range, length_of_all}
+use Rattle.mk_sweep.proofs.CountedWords.{pages_found, pages_once, same_length, times, times_in_all}
 use Rattle.mk_sweep.proofs.ScannedCells.{scanned_stands, used_cell}
 
 module _ (c : Config) (es : List Event) (h : IsHistory c es) (settled : IsSettled (left c es)) where

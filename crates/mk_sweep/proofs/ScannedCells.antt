@@ -1,5 +1,6 @@
 -- Where nothing is on its way, the used cells of scanned pages are those of the mapped allocations that aren't leaf.
-use Rattle.std.proofs.Common.{◌≡◌, ◌≢◌, ◌⊎◌, ◌∙◌, ℕ, ◌+◌, ◌*◌, ◌/◌, ◌<◌, Bool, true, false, List, ◌++◌, refl, sym, ap, subst, inl, inr, arith, append-nil}
+use Rattle.std.proofs.Common.{◌≡◌, ◌≢◌, ◌⊎◌, ◌∙◌, ℕ, ◌+◌, ◌*◌, ◌/◌, ◌<◌, Bool, true, false, List, ◌++◌, refl, sym, ap}
+use Rattle.std.proofs.Common.{subst, inl, inr, arith, append-nil}
 use Rattle.std.specs.Prelude.{◌||◌, ◌&&◌, ◌==◌, not, Option, None, Some}
 use Rattle.std.proofs.lemmas.Bool.{and_from, and_parts, eq-eqb, not-true, true≢false}
 use Rattle.mk_never.specs.Types.{is_large, kinds_of}
@@ -12,9 +13,11 @@ use Rattle.mk_core.specs.declared.seats.Object.{Object}
 use Rattle.mk_core.specs.declared.seats.Placing.{Placing}
 use Rattle.mk_core.specs.declared.seats.Placing.TheVariants.{Chosen, Granted, Unplaced, Used}
 use Rattle.mk_core.specs.declared.seats.RunPages.{RunPages}
-use Rattle.mk_core.specs.Allocations.{PlacedAllocation, cell_of_allocation, is_mapped, placed_at, storage_of, storage_words}
+use Rattle.mk_core.specs.Allocations.{PlacedAllocation, cell_of_allocation, is_mapped, placed_at, storage_of}
+use Rattle.mk_core.specs.Allocations.{storage_words}
 use Rattle.mk_core.specs.Bits.{has_bit}
-use Rattle.mk_core.specs.Cells.{cell_words, cells_under, first_word, has_no_pointers, header_in, heads_run, is_freed, is_unmapped_header, is_used, words_are_zero}
+use Rattle.mk_core.specs.Cells.{cell_words, cells_under, first_word, has_no_pointers, header_in, heads_run, is_freed}
+use Rattle.mk_core.specs.Cells.{is_unmapped_header, is_used, words_are_zero}
 use Rattle.mk_core.specs.ClosedMarks.{is_scanned_allocation}
 use Rattle.mk_core.specs.Effects.{is_mapped_cell, is_ungranted}
 use Rattle.mk_core.specs.History.{World, IsHistory, left, never_behind}
@@ -29,7 +32,8 @@ use Rattle.mk_core.proofs.Sizes.{large_count, large_is_not_small, pages_some, wo
 use Rattle.mk_core.proofs.StandingAllocations.{cell_is_known, cells_begin, first_page_shows, typed_size}
 use Rattle.mk_protocol.specs.Ground.{ground_of}
 use Rattle.mk_protocol.specs.Protocol.{has_place}
-use Rattle.mk_layout.specs.Scene.{Among, Claim, HasHeader, IsClaimed, IsShown, Mode, Unmapped, header_on, is_released_in}
+use Rattle.mk_layout.specs.Scene.{Among, Claim, HasHeader, IsClaimed, IsShown, Mode, Unmapped, header_on}
+use Rattle.mk_layout.specs.Scene.{is_released_in}
 use Rattle.mk_layout.specs.SettledPages.{IsSettled, StandsUsed}
 use Rattle.mk_layout.specs.Terrain.{IsCellOf, claim_of, claims_of, claims_on, claims_placed, mode_of, object_now}
 use Rattle.mk_layout.proofs.Claims.{claim_among, claim_is}

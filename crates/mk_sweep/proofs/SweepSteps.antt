@@ -1,5 +1,6 @@
 -- Each step of a sweep goes on with it.
-use Rattle.std.proofs.Common.{◌≡◌, ◌∙◌, ℕ, ◌+◌, ◌*◌, ◌^◌, ◌<◌, Bool, true, false, List, [], ◌∷◌, ◌++◌, Option, option_and_then, refl, sym, ap, subst, arith, append-nil}
+use Rattle.std.proofs.Common.{◌≡◌, ◌∙◌, ℕ, ◌+◌, ◌*◌, ◌^◌, ◌<◌, Bool, true, false, List, [], ◌∷◌, ◌++◌, Option}
+use Rattle.std.proofs.Common.{option_and_then, refl, sym, ap, subst, arith, append-nil}
 use Rattle.std.specs.Prelude.{Some, None, slice_index, if◌then◌else◌, ◌&&◌, not}
 use Rattle.std.proofs.lemmas.Bool.{and_from, and_parts, eq-eqb, lt-ltb, ne_eqb}
 use Rattle.mk_geom.specs.declared.addresses.Cell.{Cell}
@@ -37,7 +38,8 @@ use Rattle.mk_tracing.specs.Tracing.{Traces, Untouched, is_marking, untouched_of
 use Rattle.mk_tracing.proofs.MaySteps.{may_mark_by_hand, marks_by}
 use Rattle.mk_tracing.proofs.Parts.{traces_alike, traces_nothing, traces_then}
 use Rattle.mk_tracing.proofs.Steps.{found_there, step_untouched}
-use Rattle.mk_tracing.proofs.Stilled.{but_phase, found_now, hand_now, is_stopped_step, phase_there, root_hand, still_wanted, stopped_traces, words_there}
+use Rattle.mk_tracing.proofs.Stilled.{but_phase, found_now, hand_now, is_stopped_step, phase_there, root_hand}
+use Rattle.mk_tracing.proofs.Stilled.{still_wanted, stopped_traces, words_there}
 use Rattle.mk_sweep.specs.Swept.{IsScannedWord, IsSweptCell, IsSweptValue, InGlobal, InRegister, InWord, SweepsBy}
 use Rattle.mk_sweep.specs.Sweeping.{HasInHand, IsReachedCell, IsSweeping, SweepsOn, heap_looks, word_looked_at}
 use Rattle.mk_sweep.proofs.Done.{looks_in_parts, looks_of_nothing, looks_of_step}

@@ -1,5 +1,6 @@
 -- A sweep meets the law of engines, and makes what it promises.
-use Rattle.std.proofs.Common.{◌≡◌, ◌∙◌, ℕ, ◌+◌, ◌<◌, ◌≤◌, Bool, true, cond, List, [], ◌∷◌, ◌++◌, length, count_by, refl, sym, ap, subst, arith}
+use Rattle.std.proofs.Common.{◌≡◌, ◌∙◌, ℕ, ◌+◌, ◌<◌, ◌≤◌, Bool, true, cond, List, [], ◌∷◌, ◌++◌, length, count_by, refl}
+use Rattle.std.proofs.Common.{sym, ap, subst, arith}
 use Rattle.std.specs.Prelude.{slice_index}
 use Rattle.std.proofs.lemmas.Bool.{ne_eqb}
 use Rattle.std.proofs.lemmas.List.Sums.{sum_by-cons}
@@ -32,7 +33,8 @@ use Rattle.mk_cycle.specs.Kinds.{begins_marking, closes_marks, is_want as is_wis
 use Rattle.mk_cycle.specs.TurnKeeps.{whole as all_of_it}
 use Rattle.mk_cycle.proofs.KeptInParts.{keeps_at_once}
 use Rattle.mk_turns.proofs.Doing.{does_nothing}
-use Rattle.mk_sweep.specs.Swept.{IsScannedWord, IsSwept, IsSweptValue, InGlobal, InRegister, InWord, SweepsBy, scanned_words}
+use Rattle.mk_sweep.specs.Swept.{IsScannedWord, IsSwept, IsSweptValue, InGlobal, InRegister, InWord, SweepsBy}
+use Rattle.mk_sweep.specs.Swept.{scanned_words}
 use Rattle.mk_sweep.specs.Sweeping.{IsSweeping, PageIsBlack, PointWell, SweepsOn, heap_looks, words_below}
 use Rattle.mk_sweep.specs.Sweeps.{Sweeps}
 use Rattle.mk_sweep.proofs.CountedWords.{some_there, times}

@@ -77,12 +77,14 @@ unswept_is_released p q n s es r rest i history seen is one snapshot unreleased 
     same_world = ap (λ (t : WordsState). left t.config q.seen) (ap (λ (x : PassState). x.table) s.traces.does.is)
 
     more : More c (before_release r) e
-    more = one_more c (before_release r) e (history_through c es (before_release r) r.release.at.behind e history (at_release r))
+    more = one_more c (before_release r) e
+        (history_through c es (before_release r) r.release.at.behind e history (at_release r))
 
     stays : AreOlder (left c (before_release r)).allocations (left c (before_release r ++ e ∷ [])).allocations
     stays =
         subst (λ (w : World). AreOlder (left c (before_release r)).allocations w.allocations) (sym more.left)
-        (older_behind c (left c (before_release r)) e.seat e.step (ap is_grant (release_is e.step r.release.at.of_kind)))
+        (older_behind c (left c (before_release r)) e.seat e.step
+        (ap is_grant (release_is e.step r.release.at.of_kind)))
 
     allocations : (world_of q).allocations ≡ (world_of p).allocations
     allocations = ap (λ (u : Untouched). u.allocations) s.traces.untouched

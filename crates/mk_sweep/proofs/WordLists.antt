@@ -1,5 +1,6 @@
 -- The words of a page's used cells, one after the other; and what points well of them.
-use Rattle.std.proofs.Common.{◌≡◌, ◌∙◌, ℕ, zero, suc, ◌+◌, ◌*◌, ◌≤◌, Bool, true, false, List, [], ◌∷◌, ◌++◌, sym, ap, inl, inr, arith}
+use Rattle.std.proofs.Common.{◌≡◌, ◌∙◌, ℕ, zero, suc, ◌+◌, ◌*◌, ◌≤◌, Bool, true, false, List, [], ◌∷◌, ◌++◌, sym, ap}
+use Rattle.std.proofs.Common.{inl, inr, arith}
 use Rattle.std.specs.Prelude.{Option, Some, slice_index, if◌then◌else◌}
 use Rattle.std.specs.List.{range_with_len}
 use Rattle.std.proofs.lemmas.List.Elements.{Contains-append_cases, Contains-push_cases}
@@ -8,7 +9,8 @@ use Rattle.mk_geom.specs.declared.headers.Header.TheVariants.{Later}
 use Rattle.mk_geom.specs.Addresses.{head_page_under}
 use Rattle.mk_geom.specs.Headers.{header_of}
 use Rattle.mk_core.specs.Bits.{has_bit}
-use Rattle.mk_core.specs.Cells.{cells_under, has_no_pointers, head_page, header_in, points_well, word_points_well, words_under}
+use Rattle.mk_core.specs.Cells.{cells_under, has_no_pointers, head_page, header_in, points_well, word_points_well}
+use Rattle.mk_core.specs.Cells.{words_under}
 use Rattle.mk_core.specs.Words.{Words, header_at, used_at}
 use Rattle.mk_tracing.specs.Grays.{MarksMore}
 use Rattle.mk_tracing.proofs.MoreMarks.{well_more}

@@ -1,5 +1,6 @@
 -- The parts of a sweep: which heap words each looks at, and what it leaves.
-use Rattle.std.specs.Prelude.{◌≡◌, ℕ, zero, suc, ◌+◌, ◌*◌, Bool, true, List, [], ◌∷◌, ◌++◌, if◌then◌else◌, slice_index, Some}
+use Rattle.std.specs.Prelude.{◌≡◌, ℕ, zero, suc, ◌+◌, ◌*◌, Bool, true, List, [], ◌∷◌, ◌++◌, if◌then◌else◌, slice_index}
+use Rattle.std.specs.Prelude.{Some}
 use Rattle.std.specs.List.{range_with_len, Contains}
 use Rattle.mk_geom.specs.declared.addresses.Cell.{Cell}
 use Rattle.mk_core.specs.declared.events.Step.{Step}

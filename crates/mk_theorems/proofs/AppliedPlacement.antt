@@ -26,7 +26,8 @@ kept = histories_keep_all_promises one_page full_then_reused full_is_history
 
 second_grant : StandsAtItsPlace one_page (take 8 full_then_reused) c0
 unfolding by c0 event_number one_page full_then_reused
-second_grant = kept.placed (take 8 full_then_reused) (event_number 8 full_then_reused) (drop 9 full_then_reused) refl refl
+second_grant = kept.placed (take 8 full_then_reused) (event_number 8 full_then_reused) (drop 9 full_then_reused) refl
+    refl
 
 pub record HadItsPlaceAt (base : ℕ) : Type 0 where
   pub front : List Event
@@ -48,12 +49,14 @@ second_had_its_place =
 
 third_full : IsFull one_page (take 31 full_then_reused) c0
 unfolding by c0 event_number one_page full_then_reused
-third_full = kept.full (take 31 full_then_reused) (event_number 31 full_then_reused) (drop 32 full_then_reused) refl refl
+third_full = kept.full (take 31 full_then_reused) (event_number 31 full_then_reused) (drop 32 full_then_reused) refl
+    refl
 
 pub third_had_a_cycle : (t : TurnOf one_page c0 (take 31 full_then_reused)) × BeginsAndEndsIn t
 third_had_a_cycle = (third_full.turn, third_full.cycle)
 
-pub third_fits_nowhere : FitsAmongAllocations one_page 32 true (left one_page (take 31 full_then_reused)).allocations → ⊥
+pub third_fits_nowhere : FitsAmongAllocations one_page 32 true (left one_page (take 31 full_then_reused)).allocations
+    → ⊥
 unfolding by c0 all_below pointed_cell may_turn_black one_page full_then_reused left_from
 third_fits_nowhere = third_full.no_fit
 
@@ -61,7 +64,8 @@ third_fits_nowhere = third_full.no_fit
 
 third_give : TalliesAreExact one_page (take 33 full_then_reused)
 unfolding by c0 event_number one_page full_then_reused
-third_give = kept.tallies (take 33 full_then_reused) (event_number 33 full_then_reused) (drop 34 full_then_reused) refl refl
+third_give = kept.tallies (take 33 full_then_reused) (event_number 33 full_then_reused) (drop 34 full_then_reused) refl
+    refl
 
 pub two_are_held : held_words one_page (left one_page (take 33 full_then_reused)).allocations ≡ 64
 unfolding by c0 all_below pointed_cell may_turn_black one_page full_then_reused left_from

@@ -1,5 +1,5 @@
--- What is promised of every history of a heap, in whatever order callers, markers and the turn's holder step. Each field
--- is one promise.
+-- What is promised of every history of a heap, in whatever order callers, markers and the turn's holder step. Each
+-- field is one promise.
 use Rattle.std.specs.Prelude.{◌≡◌, List, ◌++◌}
 use Rattle.mk_core.specs.declared.config.Config.{Config}
 use Rattle.mk_core.specs.declared.events.Event.{Event}
@@ -7,7 +7,8 @@ use Rattle.mk_core.specs.Exchanges.{ExchangesCompareValues}
 use Rattle.mk_core.specs.History.{RefinesNever}
 use Rattle.mk_core.specs.Placement.{FullsFitNowhere, GrantsStandAtTheirPlaces}
 use Rattle.mk_core.specs.Readings.{SnapshotsTell}
-use Rattle.mk_invariant.specs.Theorems.{AllocationsAreDisjoint, AllocationsStand, ClosesFindMarksClosed, FewPagesAreResident}
+use Rattle.mk_invariant.specs.Theorems.{AllocationsAreDisjoint, AllocationsStand, ClosesFindMarksClosed}
+use Rattle.mk_invariant.specs.Theorems.{FewPagesAreResident}
 use Rattle.mk_invariant.specs.Theorems.{FirstFitFindsThePlace, GuardsBlackCells, KeepsTheReach, PagesShowTheStorage}
 use Rattle.mk_placement.specs.ExactTallies.{TalliesAreExactAtGives}
 use Rattle.mk_precision.specs.Precision.{FreesTheUntouched, ReleasesTheUntouched}
@@ -24,8 +25,8 @@ pub record KeepsAllPromises (c : Config) (es : List Event) : Type 0 where
   pub refined : RefinesNever c es
   -- Reach is kept: what pointers lead to from registers and globals isn't released.
   pub reach : AtEachMoment KeepsTheReach c es
-  -- Disjoint and zero: unreleased allocations stand on the heap, no two have a word in common, and while the phase isn't
-  -- releasing the words of cells without an allocation, and those behind a page's cells, are 0.
+  -- Disjoint and zero: unreleased allocations stand on the heap, no two have a word in common, and while the phase
+  -- isn't releasing the words of cells without an allocation, and those behind a page's cells, are 0.
   pub stand : AtEachMoment AllocationsStand c es
   pub disjoint : AtEachMoment AllocationsAreDisjoint c es
   pub zero_cells : AtEachMoment (Leaves FreeCellsAreZero) c es

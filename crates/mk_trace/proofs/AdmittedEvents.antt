@@ -13,7 +13,8 @@ use Rattle.mk_never.specs.declared.values.Value.{Value}
 use Rattle.mk_never.specs.declared.values.Value.TheVariants.{Null, Num, Ptr}
 use Rattle.mk_never.specs.declared.operations.Op.{Op}
 use Rattle.mk_never.specs.declared.operations.Op.TheVariants.{New, Free, SetNum, SetPtr, Clear, GetGlobal, SetGlobal}
-use Rattle.mk_never.specs.NeverHeap.{NeverState, register_at, global_at, allocation_at, words_of, target_of, after_free, after_op, after_calls}
+use Rattle.mk_never.specs.NeverHeap.{NeverState, register_at, global_at, allocation_at, words_of, target_of, after_free}
+use Rattle.mk_never.specs.NeverHeap.{after_op, after_calls}
 use Rattle.mk_never.specs.Types.{kinds_of}
 use Rattle.mk_never.specs.Admitted.{IsCaller, Meets, IsNumber, IsPointer, IsOfKind, IsBase, IsAdmitted, AreAdmitted}
 use Rattle.mk_never.specs.Typed.{IsSound, IsTypedAllocation, IsTyped}
@@ -105,7 +106,8 @@ module _ (slots : List ℕ) where
         ∙ ap (λ (k : ℕ). slot_type k (get_or slots slot 0)) (omega arith)
 
     -- a word of an object of the slot
-    meets : (n : NeverState) → Stands n → (v : Value) → IsSound n v → IsOfKind v (To slot 0) → (i : ℕ) → i < get_or slots slot 0
+    meets : (n : NeverState) → Stands n → (v : Value) → IsSound n v → IsOfKind v (To slot 0) → (i : ℕ)
+        → i < get_or slots slot 0
         → (P : Kind → Type 0) → P (get_or (slot_type slot (get_or slots slot 0)) i NumKind) → Meets n v i P
     meets n s Null sound of_kind i inside P p = tt
     meets n s (Num m) sound of_kind i inside P p = absurd of_kind
@@ -138,7 +140,12 @@ module _ (slots : List ℕ) where
     new_admitted : (n : NeverState) (full : Bool) → Stands n → IsAdmitted listed n 0 (New 0 slot full)
     new_admitted n full s =
         let count = ap (λ (ts : List (List Kind)). length ts) s.types ∙ length-types_from 0 slots in
-        record { of_a_caller = is_caller n s; in_range = (omega arith, omega (arith, count, within)); access = tt; store = tt }
+        record {
+          of_a_caller = is_caller n s;
+          in_range = (omega arith, omega (arith, count, within));
+          access = tt;
+          store = tt;
+        }
 
     clear_admitted : (n : NeverState) (d : ℕ) → d < 8 → Stands n → IsAdmitted listed n 0 (Clear d)
     clear_admitted n d below s = record { of_a_caller = is_caller n s; in_range = below; access = tt; store = tt }
@@ -146,7 +153,12 @@ module _ (slots : List ℕ) where
     get_admitted : (n : NeverState) (d : ℕ) → d < 8 → Stands n → IsAdmitted listed n 0 (GetGlobal d slot)
     get_admitted n d below s =
         let count = s.globals in
-        record { of_a_caller = is_caller n s; in_range = (below, omega (arith, count, within, few)); access = tt; store = tt }
+        record {
+          of_a_caller = is_caller n s;
+          in_range = (below, omega (arith, count, within, few));
+          access = tt;
+          store = tt;
+        }
 
     set_admitted : (n : NeverState) → Stands n → Points n 0 → IsAdmitted listed n 0 (SetGlobal slot 0)
     set_admitted n s points =
@@ -155,14 +167,21 @@ module _ (slots : List ℕ) where
           of_a_caller = is_caller n s;
           in_range = (omega (arith, count, within, few), omega arith);
           access = tt;
-          store = subst (λ (o : Option ℕ). IfSome o (λ ty. IsOfKind (register_at n 0 0) (To ty 0))) (sym listed_at) points;
+          store = subst (λ (o : Option ℕ). IfSome o (λ ty. IsOfKind (register_at n 0 0) (To ty 0)))
+              (sym listed_at) points;
         }
 
     free_admitted : (n : NeverState) → Stands n → Points n 0 → IsAdmitted listed n 0 (Free 0)
     free_admitted n s points =
-        record { of_a_caller = is_caller n s; in_range = omega arith; access = tt; store = base_of_kind (register_at n 0 0) points }
+        record {
+          of_a_caller = is_caller n s;
+          in_range = omega arith;
+          access = tt;
+          store = base_of_kind (register_at n 0 0) points;
+        }
 
-    number_admitted : (n : NeverState) (index value : ℕ) → 1 ≤ index → index < get_or slots slot 0 → Stands n → Points n 0
+    number_admitted : (n : NeverState) (index value : ℕ) → 1 ≤ index → index < get_or slots slot 0 → Stands n
+        → Points n 0
         → IsAdmitted listed n 0 (SetNum 0 index value)
     number_admitted n index value least inside s points =
         record {
@@ -173,20 +192,23 @@ module _ (slots : List ℕ) where
           store = tt;
         }
 
-    link_admitted : (n : NeverState) → 1 ≤ get_or slots slot 0 → Stands n → Points n 0 → Points n 1 → IsAdmitted listed n 0 (SetPtr 0 0 1)
+    link_admitted : (n : NeverState) → 1 ≤ get_or slots slot 0 → Stands n → Points n 0 → Points n 1
+        → IsAdmitted listed n 0 (SetPtr 0 0 1)
     link_admitted n some s points linked =
         record {
           of_a_caller = is_caller n s;
           in_range = (omega arith, omega arith);
           access = meets n s (register_at n 0 0) (s.typed.registers (8 * 0 + 0)) points 0 (omega arith) IsPointer refl;
-          store = meets n s (register_at n 0 0) (s.typed.registers (8 * 0 + 0)) points 0 (omega arith) (IsOfKind (register_at n 0 1)) linked;
+          store = meets n s (register_at n 0 0) (s.typed.registers (8 * 0 + 0)) points 0 (omega arith)
+              (IsOfKind (register_at n 0 1)) linked;
         }
 
     -- what they leave in registers
 
     new_points : (n : NeverState) → Stands n → Points (after_op n 0 (New 0 slot false)) 0
     new_points n s =
-        subst (λ (v : Value). IsOfKind v (To slot 0)) (sym (new_adds n 0 0 slot (is_caller n s) (omega arith)).register) (refl, refl)
+        subst (λ (v : Value). IsOfKind v (To slot 0)) (sym (new_adds n 0 0 slot (is_caller n s) (omega arith)).register)
+        (refl, refl)
 
     got_points : (n : NeverState) (d : ℕ) → d < 8 → Stands n → Points (after_op n 0 (GetGlobal d slot)) d
     got_points n d below s =
@@ -249,16 +271,20 @@ module _ (slots : List ℕ) where
 
     two_clear : (n : NeverState) → Stands n → ClearFrom n 2 → AreFine n (Clear 0 ∷ Clear 1 ∷ [])
     two_clear n s clear =
-        let first = clear_admitted n 0 (omega arith) s in
-        ((first, (clear_admitted (after_op n 0 (Clear 0)) 1 (omega arith) (stands_on n (Clear 0) s first), tt)), clears_two n clear)
+        let first = clear_admitted n 0 (omega arith) s in (
+          (first, (clear_admitted (after_op n 0 (Clear 0)) 1 (omega arith) (stands_on n (Clear 0) s first), tt)),
+          clears_two n clear,
+        )
 
-    then_all : (n : NeverState) (o : Op) (ops : List Op) → IsAdmitted listed n 0 o → AreFine (after_op n 0 o) ops → AreFine n (o ∷ ops)
+    then_all : (n : NeverState) (o : Op) (ops : List Op) → IsAdmitted listed n 0 o → AreFine (after_op n 0 o) ops
+        → AreFine n (o ∷ ops)
     then_all n o ops first rest = ((first, rest.0), rest.1)
 
     from_more : (n : NeverState) (k j : ℕ) → k ≤ j → ClearFrom n k → ClearFrom n j
     from_more n k j le clear r above = clear r (omega (arith, le, above))
 
-    made_fine : (n : NeverState) → Stands n → ClearFrom n 0 → AreFine n (New 0 slot false ∷ SetGlobal slot 0 ∷ Clear 0 ∷ [])
+    made_fine : (n : NeverState) → Stands n → ClearFrom n 0
+        → AreFine n (New 0 slot false ∷ SetGlobal slot 0 ∷ Clear 0 ∷ [])
     made_fine n s clear =
         let first = new_admitted n false s in
         let m = after_op n 0 (New 0 slot false) in
@@ -291,10 +317,12 @@ module _ (slots : List ℕ) where
         (λ r above. linked_same n2 r ∙ clear2 r above)))))
 
     full_fine : (n : NeverState) → Stands n → ClearFrom n 0 → AreFine n (New 0 slot true ∷ Clear 0 ∷ [])
-    full_fine n s clear = then_all n (New 0 slot true) (Clear 0 ∷ []) (new_admitted n true s) (one_clear n s (from_more n 0 1 (omega arith) clear))
+    full_fine n s clear = then_all n (New 0 slot true) (Clear 0 ∷ []) (new_admitted n true s)
+        (one_clear n s (from_more n 0 1 (omega arith) clear))
 
     full_link_fine : (n : NeverState) → Stands n → ClearFrom n 0 → AreFine n (New 0 slot true ∷ Clear 0 ∷ Clear 1 ∷ [])
-    full_link_fine n s clear = then_all n (New 0 slot true) (Clear 0 ∷ Clear 1 ∷ []) (new_admitted n true s) (two_clear n s (from_more n 0 2 (omega arith) clear))
+    full_link_fine n s clear = then_all n (New 0 slot true) (Clear 0 ∷ Clear 1 ∷ []) (new_admitted n true s)
+        (two_clear n s (from_more n 0 2 (omega arith) clear))
 
     freed_fine : (n : NeverState) → Stands n → ClearFrom n 0 → AreFine n (GetGlobal 0 slot ∷ Free 0 ∷ Clear 0 ∷ [])
     freed_fine n s clear =
@@ -310,7 +338,8 @@ module _ (slots : List ℕ) where
     cleared_fine n s clear =
         ((set_admitted n s (subst (λ (v : Value). IsOfKind v (To slot 0)) (sym (clear 0 (omega arith))) tt), tt), clear)
 
-    written_fine : (n : NeverState) (index value : ℕ) → 1 ≤ index → index < get_or slots slot 0 → Stands n → ClearFrom n 0
+    written_fine : (n : NeverState) (index value : ℕ) → 1 ≤ index → index < get_or slots slot 0 → Stands n
+        → ClearFrom n 0
         → AreFine n (GetGlobal 0 slot ∷ SetNum 0 index value ∷ Clear 0 ∷ [])
     written_fine n index value least inside s clear =
         let m = after_op n 0 (GetGlobal 0 slot) in

@@ -1,5 +1,6 @@
 -- What is held over a call of the caller: no more than before, or than at its end.
-use Rattle.std.proofs.Common.{◌≡◌, ℕ, ◌<◌, Bool, true, false, List, [], ◌∷◌, ◌++◌, refl, sym, ◌∙◌, ap, subst, append_assoc, append-nil, arith}
+use Rattle.std.proofs.Common.{◌≡◌, ℕ, ◌<◌, Bool, true, false, List, [], ◌∷◌, ◌++◌, refl, sym, ◌∙◌, ap, subst}
+use Rattle.std.proofs.Common.{append_assoc, append-nil, arith}
 use Rattle.mk_never.specs.declared.operations.Op.{Op}
 use Rattle.mk_never.specs.declared.operations.Op.TheVariants as op
 use Rattle.mk_core.specs.declared.config.Config.{Config}
@@ -88,7 +89,8 @@ module _ (h : HostState) (on : Bool) (o : Op) (told : Answer) (q : PassState)
   pub held_at_end : Calls c h.pass.seen o told fs → HoldsMostAtEnd c h.pass.seen fs
   held_at_end made =
       subst (λ (l : List Event). HoldsMostAtEnd c h.pass.seen l) (sym own.is)
-      (most_then c (held_words c) (held_falls_at c) (held_rises_at c) h.pass.seen own.more (last_by o a.in_turn (λ other.
+      (most_then c (held_words c) (held_falls_at c) (held_rises_at c) h.pass.seen own.more
+      (last_by o a.in_turn (λ other.
       others_grant_none c h.pass.seen own.more o made.answer whole
       (ap (λ (l : List Event). calls c l) (sym own.is) ∙ made.entry) other)))
 
@@ -106,7 +108,8 @@ call_holds w h p on o told q fs home is answers own came history made =
     (subst (λ (x : WordsState). Calls x.config h.pass.seen o told fs) back made))
 
 -- The host looks between calls.
-module _ (w : WordsState) (h : HostState) (home : IsHome w h) (host : h.pass.seat ≡ Host) (x : Word) (n : ℕ) (k : HostState)
+module _ (w : WordsState) (h : HostState) (home : IsHome w h) (host : h.pass.seat ≡ Host) (x : Word) (n : ℕ)
+    (k : HostState)
     (tells : Tells h.pass x n k.pass) (history : IsHistory h.pass.table.config k.pass.seen) where
   own : Has h.pass.seats h.pass.seat
   own = subst (λ (s : Seat). Has h.pass.seats s) (sym host) (home.all Host refl)
@@ -171,4 +174,5 @@ pub most_told : (trace : Contents) (d : Config) (es fs : List Event) (held : ℕ
 most_told trace d es fs held same config is few =
     word_is held few
     ∙ ap (λ (n : ℕ). in_a_word n)
-    (is ∙ ap (λ (c : Config). most_held c es) config ∙ ap (λ (l : List Event). most_held (config_of trace) l) (sym same))
+    (is ∙ ap (λ (c : Config). most_held c es) config
+    ∙ ap (λ (l : List Event). most_held (config_of trace) l) (sym same))

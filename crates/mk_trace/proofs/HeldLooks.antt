@@ -117,7 +117,8 @@ module _ (p q : PassState) (x : Word) (n : ℕ) (h : Tells p x n q) (own : Has p
 
   taken_seen : taken.seen ≡ p.seen ++ first
   taken_seen =
-      seen_then p.seen waited.seen taken.seen h.takes.waits.more taking (ap (λ (r : PassState). r.seen) h.takes.waits.is)
+      seen_then p.seen waited.seen taken.seen h.takes.waits.more taking
+      (ap (λ (r : PassState). r.seen) h.takes.waits.is)
       (seen_made waited taken (step.Take None) h.takes.takes.makes)
 
   behind_seen : q.seen ≡ taken.seen ++ behind
@@ -186,7 +187,8 @@ module _ (p q : PassState) (x : Word) (n : ℕ) (h : Tells p x n q) (own : Has p
   looks_alone : h.looks.makes.others ≡ []
   looks_alone =
       none_of_others c [] p.seats h.looks.makes.others all
-      (mine_parts c [] h.looks.makes.others (event_of taken (step.Look x) ∷ []) (mine_parts c [] looking giving mine.1).0).0
+      (mine_parts c [] h.looks.makes.others (event_of taken (step.Look x) ∷ [])
+      (mine_parts c [] looking giving mine.1).0).0
       (of_pass taken h.looks.makes.others taken_same h.looks.makes.of_others)
 
   -- and the tally tells how much is held.
@@ -195,4 +197,5 @@ module _ (p q : PassState) (x : Word) (n : ℕ) (h : Tells p x n q) (own : Has p
       h.looks.finds ∙ held_found taken x h.looks.makes.others is looks_alone ∙ exact
       ∙ ap (λ (w : World). held_words c w.allocations)
       (ap (λ (l : List Event). left c l) taken_seen ∙ left_in_parts c p.seen first)
-      ∙ stays c (held_words c) (held_falls_at c) (held_rises_at c) (left c p.seen) first (first_lacks is_grant grants_apart) (first_lacks lets_go lets_go_apart)
+      ∙ stays c (held_words c) (held_falls_at c) (held_rises_at c) (left c p.seen) first
+      (first_lacks is_grant grants_apart) (first_lacks lets_go lets_go_apart)

@@ -37,7 +37,8 @@ pub then_next : {X Y : Type 0} (first : Result X TraceStop) (next : X → Result
 then_next (Ok x) next y h = record { value = x; is = refl; behind = h }
 then_next (Err fault) next y h = absurd cc
 
-pub unless_none : {X : Type 0} (limit : Option LineFault) (x y : X) → ok_unless limit x ≡ Ok y → (limit ≡ None) × (x ≡ y)
+pub unless_none : {X : Type 0} (limit : Option LineFault) (x y : X) → ok_unless limit x ≡ Ok y
+    → (limit ≡ None) × (x ≡ y)
 unless_none None x y h = (refl, cc)
 unless_none (Some fault) x y h = absurd cc
 

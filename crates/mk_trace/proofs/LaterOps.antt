@@ -1,8 +1,10 @@
 -- The operations of an event behind its first one, called one by one.
-use Rattle.std.proofs.Common.{◌≡◌, ℕ, ◌+◌, ◌≤◌, ◌<◌, Bool, true, false, List, [], ◌∷◌, ◌++◌, length, get_or, refl, sym, ◌∙◌}
+use Rattle.std.proofs.Common.{◌≡◌, ℕ, ◌+◌, ◌≤◌, ◌<◌, Bool, true, false, List, [], ◌∷◌, ◌++◌, length, get_or, refl, sym}
+use Rattle.std.proofs.Common.{◌∙◌}
 use Rattle.std.proofs.Common.{ap, subst, arith}
 use Rattle.std.specs.Prelude.{◌||◌, take, drop, All}
-use Rattle.std.proofs.lemmas.List.{take_more, take_all, get_or-drop, length-take, length-drop, take-append-drop, drop_more}
+use Rattle.std.proofs.lemmas.List.{take_more, take_all, get_or-drop, length-take, length-drop, take-append-drop}
+use Rattle.std.proofs.lemmas.List.{drop_more}
 use Rattle.std.proofs.lemmas.List.Elements.{All-nil, All-cons, All-get_or}
 use Rattle.mk_never.specs.declared.operations.Op.{Op}
 use Rattle.mk_never.specs.declared.operations.Op.TheVariants as op
@@ -60,9 +62,11 @@ first_of o a (A slot) is =
 first_of o a (K slot) is =
     subst (BeginsWith a (K slot)) (first_is (K slot) o (op.New 0 slot false) is refl) (linked_first slot a)
 first_of o a (F slot) is =
-    subst (BeginsWith a (F slot)) (first_is (F slot) o (op.GetGlobal 0 slot) is refl) (freed_first slot (is_full_answer a))
+    subst (BeginsWith a (F slot)) (first_is (F slot) o (op.GetGlobal 0 slot) is refl)
+    (freed_first slot (is_full_answer a))
 first_of o a (C slot) is =
-    subst (BeginsWith a (C slot)) (first_is (C slot) o (op.SetGlobal slot 0) is refl) (cleared_first slot (is_full_answer a))
+    subst (BeginsWith a (C slot)) (first_is (C slot) o (op.SetGlobal slot 0) is refl)
+    (cleared_first slot (is_full_answer a))
 first_of o a (W slot index value) is =
     subst (BeginsWith a (W slot index value)) (first_is (W slot index value) o (op.GetGlobal 0 slot) is refl)
     (written_first slot index value (is_full_answer a))
@@ -75,14 +79,17 @@ plain_one : IsPlain (op.Clear 0) → All IsPlain (op.Clear 0 ∷ [])
 plain_one h = All-cons IsPlain (op.Clear 0) [] h (All-nil IsPlain)
 
 plain_two : All IsPlain (op.Clear 0 ∷ op.Clear 1 ∷ [])
-plain_two = All-cons IsPlain (op.Clear 0) (op.Clear 1 ∷ []) (λ a. refl) (All-cons IsPlain (op.Clear 1) [] (λ a. refl) (All-nil IsPlain))
+plain_two = All-cons IsPlain (op.Clear 0) (op.Clear 1 ∷ []) (λ a. refl)
+    (All-cons IsPlain (op.Clear 1) [] (λ a. refl) (All-nil IsPlain))
 
 -- Only the first may be a New.
 later_plain : (full : Bool) (event : TraceEvent) → All IsPlain (drop 1 (ops_of full event))
-later_plain false (A slot) = All-cons IsPlain (op.SetGlobal slot 0) (op.Clear 0 ∷ []) (λ a. refl) (plain_one (λ a. refl))
+later_plain false (A slot) = All-cons IsPlain (op.SetGlobal slot 0) (op.Clear 0 ∷ []) (λ a. refl)
+    (plain_one (λ a. refl))
 later_plain true (A slot) = plain_one (λ a. refl)
 later_plain false (K slot) =
-    All-cons IsPlain (op.GetGlobal 1 slot) (op.SetPtr 0 0 1 ∷ op.SetGlobal slot 0 ∷ op.Clear 0 ∷ op.Clear 1 ∷ []) (λ a. refl)
+    All-cons IsPlain (op.GetGlobal 1 slot) (op.SetPtr 0 0 1 ∷ op.SetGlobal slot 0 ∷ op.Clear 0 ∷ op.Clear 1 ∷ [])
+    (λ a. refl)
     (All-cons IsPlain (op.SetPtr 0 0 1) (op.SetGlobal slot 0 ∷ op.Clear 0 ∷ op.Clear 1 ∷ []) (λ a. refl)
     (All-cons IsPlain (op.SetGlobal slot 0) (op.Clear 0 ∷ op.Clear 1 ∷ []) (λ a. refl) plain_two))
 later_plain true (K slot) = plain_two
@@ -127,21 +134,25 @@ module _ (c : Config) (es : List Event) (full : Bool) (event : TraceEvent) (i : 
       next_may_come c es full (take (i + 1) ops) refused fs o (drop (i + 1 + 1) ops) h
       (subst (λ (l : List Op). AreAdmitted c.globals (never_behind c es) (calls_of_caller l))
       (sym (take-append-drop (i + 1) ops)
-      ∙ ap (λ (l : List Op). take (i + 1) ops ++ l) (drop_more' ∙ ap (λ (x : Op). x ∷ drop (i + 1 + 1) ops) here)) admitted)
+      ∙ ap (λ (l : List Op). take (i + 1) ops ++ l) (drop_more' ∙ ap (λ (x : Op). x ∷ drop (i + 1 + 1) ops) here))
+      admitted)
     where
       drop_more' : drop (i + 1) ops ≡ get_or ops (i + 1) o ∷ drop (i + 1 + 1) ops
       drop_more' = drop_more ops (i + 1) o inside
 
 -- all of them
-pub later_all : (c : Config) (es : List Event) (full : Bool) (event : TraceEvent) (i : ℕ) (refused : Bool) (fs : List Event)
+pub later_all : (c : Config) (es : List Event) (full : Bool) (event : TraceEvent) (i : ℕ) (refused : Bool)
+    (fs : List Event)
     → length (drop 1 (ops_of full event)) ≤ i
-    → CallsAll c es full (take (i + 1) (ops_of full event)) refused fs → CallsAll c es full (ops_of full event) refused fs
+    → CallsAll c es full (take (i + 1) (ops_of full event)) refused fs
+    → CallsAll c es full (ops_of full event) refused fs
 later_all c es full event i refused fs past h =
     subst (λ (l : List Op). CallsAll c es full l refused fs)
     (take_all (i + 1) (ops_of full event) (omega (arith, past, length-drop 1 (ops_of full event)))) h
 
 -- the first one
-pub first_all : (c : Config) (es : List Event) (full : Bool) (event : TraceEvent) (o : Op) (refused : Bool) (fs : List Event)
+pub first_all : (c : Config) (es : List Event) (full : Bool) (event : TraceEvent) (o : Op) (refused : Bool)
+    (fs : List Event)
     → ops_of full event ≡ o ∷ drop 1 (ops_of full event)
     → CallsAll c es full (o ∷ []) refused fs → CallsAll c es full (take (0 + 1) (ops_of full event)) refused fs
 first_all c es full event o refused fs is h =
@@ -175,41 +186,46 @@ plays_event c es event refused fs full h = record {
 }
 
 -- What the loop knows: the first operation was called, and so many of those behind it.
-pub record AreCalled (c : Config) (es : List Event) (event : TraceEvent) (items : List Op) (i : ℕ) (refused : Bool) (fs : List Event) : Type 0 where
+pub record AreCalled (c : Config) (es : List Event) (event : TraceEvent) (items : List Op) (i : ℕ) (refused : Bool)
+    (fs : List Event) : Type 0 where
   pub full : Bool
   pub items_are : items ≡ drop 1 (ops_of full event)
   pub calls : CallsAll c es full (take (i + 1) (ops_of full event)) refused fs
 
-module _ (c : Config) (es : List Event) (event : TraceEvent) (items : List Op) (i : ℕ) (refused : Bool) (fs : List Event)
-    (h : AreCalled c es event items i refused fs) (o : Op) (within : i < length items) (here : o ≡ get_or items i o) where
-  inside_later : i < length (drop 1 (ops_of h.full event))
-  inside_later = subst (λ (l : List Op). i < length l) h.items_are within
+module _ (c : Config) (es : List Event) (event : TraceEvent) (items : List Op) (i : ℕ) (refused : Bool)
+    (fs : List Event)
+    (h : AreCalled c es event items i refused fs) (o : Op) (within : i < length items) (here : o ≡ get_or items i o)
+  where
+    inside_later : i < length (drop 1 (ops_of h.full event))
+    inside_later = subst (λ (l : List Op). i < length l) h.items_are within
 
-  here_later : o ≡ get_or (drop 1 (ops_of h.full event)) i o
-  here_later = here ∙ ap (λ (l : List Op). get_or l i o) h.items_are
+    here_later : o ≡ get_or (drop 1 (ops_of h.full event)) i o
+    here_later = here ∙ ap (λ (l : List Op). get_or l i o) h.items_are
 
-  pub may_come_now : ((full : Bool) → AreAdmitted c.globals (never_behind c es) (calls_of_caller (ops_of full event)))
-      → MayCome c fs o
-  may_come_now admitted =
-      later_may_come c es h.full event i o inside_later here_later refused fs h.calls (admitted h.full)
+    pub may_come_now : ((full : Bool) → AreAdmitted c.globals (never_behind c es) (calls_of_caller (ops_of full event)))
+        → MayCome c fs o
+    may_come_now admitted =
+        later_may_come c es h.full event i o inside_later here_later refused fs h.calls (admitted h.full)
 
-  pub called_one_more : (told : Answer) (gs : List Event) (now : Bool) → Calls c fs o told gs
-      → now ≡ refused || is_refusal told → AreCalled c es event items (i + 1) now gs
-  called_one_more told gs now g is = record {
-    full = h.full;
-    items_are = h.items_are;
-    calls =
-        subst (λ (b : Bool). CallsAll c es h.full (take (i + 1 + 1) (ops_of h.full event)) b gs) (sym is)
-        (later_call c es h.full event i o inside_later here_later refused fs told gs h.calls g);
-  }
+    pub called_one_more : (told : Answer) (gs : List Event) (now : Bool) → Calls c fs o told gs
+        → now ≡ refused || is_refusal told → AreCalled c es event items (i + 1) now gs
+    called_one_more told gs now g is = record {
+      full = h.full;
+      items_are = h.items_are;
+      calls =
+          subst (λ (b : Bool). CallsAll c es h.full (take (i + 1 + 1) (ops_of h.full event)) b gs) (sym is)
+          (later_call c es h.full event i o inside_later here_later refused fs told gs h.calls g);
+    }
 
-pub called_all : (c : Config) (es : List Event) (event : TraceEvent) (items : List Op) (i : ℕ) (refused : Bool) (fs : List Event)
+pub called_all : (c : Config) (es : List Event) (event : TraceEvent) (items : List Op) (i : ℕ) (refused : Bool)
+    (fs : List Event)
     → AreCalled c es event items i refused fs → length items ≤ i → PlaysEvent c es event refused fs
 called_all c es event items i refused fs h past =
     plays_event c es event refused fs h.full
     (later_all c es h.full event i refused fs (subst (λ (l : List Op). length l ≤ i) h.items_are past) h.calls)
 
-pub called_first : (c : Config) (es : List Event) (event : TraceEvent) (o : Op) (told : Answer) (fs : List Event) (full refused : Bool) (items : List Op)
+pub called_first : (c : Config) (es : List Event) (event : TraceEvent) (o : Op) (told : Answer) (fs : List Event)
+    (full refused : Bool) (items : List Op)
     → ops_of false event ≡ o ∷ drop 1 (ops_of false event) → Calls c es o told fs → full ≡ is_full_answer told
     → refused ≡ is_refusal told → items ≡ drop 1 (ops_of full event)
     → AreCalled c es event items 0 refused fs

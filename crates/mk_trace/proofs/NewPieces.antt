@@ -25,7 +25,8 @@ take_grants_none : (s : Step) → is_take s ≡ true → is_grant s ≡ false
 take_grants_none (step.Take o) h = refl
 take_grants_none _ h = cc
 
-module _ (on : Bool) (p : PassState) (d ty : ℕ) (a : Answer) (q : PassState) (h : CalledInTurn on p (op.New d ty false) a q) where
+module _ (on : Bool) (p : PassState) (d ty : ℕ) (a : Answer) (q : PassState)
+    (h : CalledInTurn on p (op.New d ty false) a q) where
   abbrev waits : List Event
   waits = h.takes.waits.more
 

@@ -30,7 +30,8 @@ use Rattle.mk_words.specs.States.{WordsState, PassState}
 use Rattle.mk_words.proofs.Seats.{has_all, has_first, has_right}
 use Rattle.mk_caller.specs.States.{CallerState, at_home, number_of}
 use Rattle.mk_caller.proofs.OwnSteps.{calls_by, others_add_none}
-use Rattle.mk_heap.specs.Hosts.{AllAreJoined, HostState, first_host, pass_for, with_caller_made, with_caller_out, with_joined, with_seen}
+use Rattle.mk_heap.specs.Hosts.{AllAreJoined, HostState, first_host, pass_for, with_caller_made, with_caller_out}
+use Rattle.mk_heap.specs.Hosts.{with_joined, with_seen}
 use Rattle.mk_heap.specs.Turns.{Tells}
 use Rattle.mk_heap.proofs.MovedHosts.{moves_more, turn_moves}
 use Rattle.mk_run.specs.Scripts.{as_told, StaysAdmitted, Answers}
@@ -54,7 +55,8 @@ all_own globals n (x ∷ xs) count admitted =
 pub calls_are_own : (c : Config) (es : List Event) → c.callers ≡ 1 → IsHistory c es
     → calls_by 0 (calls c es) ≡ calls c es
 calls_are_own c es one history =
-    let count : length (replicate (8 * c.callers) Null) ≡ 8 = length-replicate (8 * c.callers) Null ∙ (omega (arith, one)) in
+    let count : length (replicate (8 * c.callers) Null) ≡ 8 = length-replicate (8 * c.callers) Null
+    ∙ (omega (arith, one)) in
     all_own c.globals (never_first c) (calls c es) count history.admitted
 
 -- What may come now may come while the caller makes no call.
@@ -123,7 +125,8 @@ full_as_told a = refl
 pub as_many : (xs : List Decided) (ops : List Op) → asked xs ≡ calls_of_caller ops → length ops ≡ length (answered xs)
 as_many xs ops is =
     sym (length-map ops (λ (o : Op). record { caller = 0; op = o })) ∙ ap (λ (l : List Call). length l) (sym is)
-    ∙ length-map xs (λ (x : Decided). record { caller = x.caller; op = x.op }) ∙ sym (length-map xs (λ (x : Decided). x.answer))
+    ∙ length-map xs (λ (x : Decided). record { caller = x.caller; op = x.op })
+    ∙ sym (length-map xs (λ (x : Decided). x.answer))
 
 any_more : (xs : List Answer) (told a : Answer) → told ≡ as_told a
     → list_any is_refusal (xs ++ a ∷ []) ≡ list_any is_refusal xs || is_refusal told
@@ -148,7 +151,8 @@ begins_alike [] more some = absurd (omega arith)
 begins_alike (a ∷ answers) more some = refl
 
 -- and one more
-module _ (c : Config) (es : List Event) (full : Bool) (ops : List Op) (refused : Bool) (fs : List Event) (h : CallsAll c es full ops refused fs)
+module _ (c : Config) (es : List Event) (full : Bool) (ops : List Op) (refused : Bool) (fs : List Event)
+    (h : CallsAll c es full ops refused fs)
     (o : Op) (told : Answer) (gs : List Event) (g : Calls c fs o told gs) where
   pub calls_more : 1 ≤ length ops → CallsAll c es full (ops ++ flagged o g.answer ∷ []) (refused || is_refusal told) gs
   calls_more some =
@@ -157,7 +161,8 @@ module _ (c : Config) (es : List Event) (full : Bool) (ops : List Op) (refused :
         more = h.more ++ entry;
         begins =
             ap begins_full (map-append (λ (x : Decided). x.answer) h.more entry)
-            ∙ begins_alike (answered h.more) (answered entry) (omega (arith, some, as_many h.more ops h.asks)) ∙ h.begins;
+            ∙ begins_alike (answered h.more) (answered entry) (omega (arith, some, as_many h.more ops h.asks))
+            ∙ h.begins;
         is = g.entry ∙ ap (λ (l : List Decided). l ++ entry) h.is ∙ append_assoc (calls c es) h.more entry;
         asks = map-append (λ (x : Decided). record { caller = x.caller; op = x.op }) h.more entry
             ∙ ap (λ (l : List Call). l ++ record { caller = 0; op = flagged o g.answer } ∷ []) h.asks
@@ -169,7 +174,8 @@ module _ (c : Config) (es : List Event) (full : Bool) (ops : List Op) (refused :
       }
 
 -- What comes next of operations that may come.
-pub next_may_come : (c : Config) (es : List Event) (full : Bool) (ops : List Op) (refused : Bool) (fs : List Event) (o : Op) (rest : List Op)
+pub next_may_come : (c : Config) (es : List Event) (full : Bool) (ops : List Op) (refused : Bool) (fs : List Event)
+    (o : Op) (rest : List Op)
     → CallsAll c es full ops refused fs
     → AreAdmitted c.globals (never_behind c es) (calls_of_caller (ops ++ o ∷ rest))
     → MayCome c fs o
@@ -229,7 +235,8 @@ joined_home w h out g q home is joined seats overs = record {
 }
 
 -- The caller that the host makes again.
-module _ (w : WordsState) (h : HostState) (home : IsHome w h) (s : CallerState) (made : s ≡ at_home (pass_for h (Caller 0))) where
+module _ (w : WordsState) (h : HostState) (home : IsHome w h) (s : CallerState)
+    (made : s ≡ at_home (pass_for h (Caller 0))) where
   is_pass : s.pass ≡ pass_for h (Caller 0)
   is_pass = ap (λ (x : CallerState). x.pass) made
 
@@ -256,7 +263,8 @@ module _ (w : WordsState) (h : HostState) (home : IsHome w h) (s : CallerState) 
 
   pub made_exists : number_of s.pass < s.pass.table.config.callers
   made_exists =
-      let number : number_of s.pass ≡ 0 = ap (λ (x : Seat). caller_number x) made_seat in omega (arith, number, made_one)
+      let number : number_of s.pass ≡ 0 =
+      ap (λ (x : Seat). caller_number x) made_seat in omega (arith, number, made_one)
 
   pub made_admits : (o : Op) → MayCome w.config h.pass.seen o → IsHistory s.pass.table.config s.pass.seen
       → StaysAdmitted s.pass o

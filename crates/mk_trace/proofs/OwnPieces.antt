@@ -87,7 +87,8 @@ others_lack kind c elsewhere seats es all mine others =
     ap (λ (l : List Event). has_step kind l) (none_of_others c elsewhere seats es all mine others)
 
 -- Of all seats one is elsewhere, and comes back.
-pub all_again : (c : Config) (s : Seat) (seats : List Seat) → HasAll c seats → HasTheRest c (without_seat s seats) (s ∷ [])
+pub all_again : (c : Config) (s : Seat) (seats : List Seat) → HasAll c seats
+    → HasTheRest c (without_seat s seats) (s ∷ [])
 all_again c s seats all x exists = ⊎_elim same other (cases_Bool (is_same_seat s x))
   where
     same : is_same_seat s x ≡ true → Has (without_seat s seats ++ s ∷ []) x

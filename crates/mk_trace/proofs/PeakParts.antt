@@ -1,5 +1,5 @@
--- The greatest measure over a history in two parts, where a grant alone makes the measure more, and what lets storage go
--- alone makes it less.
+-- The greatest measure over a history in two parts, where a grant alone makes the measure more, and what lets storage
+-- go alone makes it less.
 use Rattle.std.proofs.Common.{◌≡◌, ⊎_elim, ℕ, ◌≤◌, max, true, false, List, [], ◌∷◌, ◌++◌, refl, sym, ◌∙◌, ap, arith}
 use Rattle.std.proofs.lemmas.Bool.{cases_Bool, or_parts}
 use Rattle.mk_core.specs.declared.config.Config.{Config}

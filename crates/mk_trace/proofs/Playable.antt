@@ -65,7 +65,8 @@ of_lines (first ∷ lines) trace h =
     let header = gone_on (text_fault_at 1) (header_of (words_of first)) _ trace h in
     let written = then_next (written_from 2 lines nothing_written) _ trace header.behind in
     let slots = along_keeps text_fault_at read_behind with_line (λ (w : Written). AreWithin w.slots)
-    (λ before line given holds is. line_more before (words_of line) given is holds) 2 lines nothing_written written.value
+    (λ before line given holds is. line_more before (words_of line) given is holds) 2 lines nothing_written
+    written.value
     (record { few = omega arith; sizes = All-nil SlotIsWithin }) written.is in
     read header.value written.value trace (header_within (words_of first) header.value header.is) slots written.behind
 

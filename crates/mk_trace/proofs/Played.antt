@@ -1,5 +1,6 @@
 -- What was played so far, with one event more, and at the end.
-use Rattle.std.proofs.Common.{◌≡◌, ℕ, zero, suc, ◌+◌, ◌*◌, ◌<◌, ◌≤◌, Bool, true, false, List, [], ◌∷◌, ◌++◌, length, refl, sym, ◌∙◌}
+use Rattle.std.proofs.Common.{◌≡◌, ℕ, zero, suc, ◌+◌, ◌*◌, ◌<◌, ◌≤◌, Bool, true, false, List, [], ◌∷◌, ◌++◌, length}
+use Rattle.std.proofs.Common.{refl, sym, ◌∙◌}
 use Rattle.std.proofs.Common.{ap, subst, arith, get_or}
 use Rattle.std.specs.Prelude.{All, if◌then◌else◌, take, replicate}
 use Rattle.std.specs.List.{list_any}
@@ -25,7 +26,8 @@ use Rattle.mk_trace.specs.declared.trace.TraceEvent.{TraceEvent}
 use Rattle.mk_trace.specs.declared.trace.TraceEvent.TheVariants.{A, K, F, C, W}
 use Rattle.mk_trace.specs.Calls.{AreNull, MayBePlayed, SameCalls, PlaysEvent, EventsAreAdmitted, HasPlayed}
 use Rattle.mk_trace.specs.Laws.{IsEventOf, IsPlayable}
-use Rattle.mk_trace.specs.Playing.{config_of, ops_of, begins_full, calls_of_caller, ops_played, refused_events, is_refusal, IsPlayed}
+use Rattle.mk_trace.specs.Playing.{config_of, ops_of, begins_full, calls_of_caller, ops_played, refused_events}
+use Rattle.mk_trace.specs.Playing.{is_refusal, IsPlayed}
 use Rattle.mk_trace.specs.Traces.{Contents, slot_of}
 use Rattle.mk_trace.proofs.AdmittedEvents.{events_are_admitted}
 use Rattle.mk_caller.proofs.OwnSteps.{calls_by, others_add_none}
@@ -42,52 +44,55 @@ played_none trace = record { ops = refl; refuses = refl; clear = λ r. null_at 8
     null_at (suc count) zero = refl
     null_at (suc count) (suc k) = null_at count k
 
-module _ (trace : Contents) (events : List TraceEvent) (refused : ℕ) (es : List Event) (h : HasPlayed trace events refused es)
-    (event : TraceEvent) (is_refused : Bool) (fs : List Event) (p : PlaysEvent (config_of trace) es event is_refused fs) where
-  abbrev c : Config
-  c = config_of trace
+module _ (trace : Contents) (events : List TraceEvent) (refused : ℕ) (es : List Event)
+    (h : HasPlayed trace events refused es)
+    (event : TraceEvent) (is_refused : Bool) (fs : List Event) (p : PlaysEvent (config_of trace) es event is_refused fs)
+  where
+    abbrev c : Config
+    c = config_of trace
 
-  abbrev answers : List Answer
-  answers = answered (calls c es)
+    abbrev answers : List Answer
+    answers = answered (calls c es)
 
-  abbrev more : List Answer
-  more = answered p.more
+    abbrev more : List Answer
+    more = answered p.more
 
-  answered_more : answered (calls c fs) ≡ answers ++ more
-  answered_more =
-      ap (λ (l : List Decided). answered l) p.is ∙ map-append (λ (x : Decided). x.answer) (calls c es) p.more
+    answered_more : answered (calls c fs) ≡ answers ++ more
+    answered_more =
+        ap (λ (l : List Decided). answered l) p.is ∙ map-append (λ (x : Decided). x.answer) (calls c es) p.more
 
-  count : length (ops_played events answers) ≡ length answers
-  count = as_many (calls c es) (ops_played events answers) h.ops
+    count : length (ops_played events answers) ≡ length answers
+    count = as_many (calls c es) (ops_played events answers) h.ops
 
-  ops : asked (calls c fs) ≡ calls_of_caller (ops_played (events ++ event ∷ []) (answered (calls c fs)))
-  ops =
-      ap (λ (l : List Decided). asked l) p.is
-      ∙ map-append (λ (x : Decided). record { caller = x.caller; op = x.op }) (calls c es) p.more
-      ∙ ap (λ (l : List Call). l ++ asked p.more) h.ops
-      ∙ ap (λ (l : List Call). calls_of_caller (ops_played events answers) ++ l) p.asks
-      ∙ sym (map-append (λ (o : Op). record { caller = 0; op = o }) (ops_played events answers) (ops_of (begins_full more) event))
-      ∙ ap (λ (l : List Op). calls_of_caller l) (sym (ops-played_more event more events answers count))
-      ∙ ap (λ (l : List Answer). calls_of_caller (ops_played (events ++ event ∷ []) l)) (sym answered_more)
+    ops : asked (calls c fs) ≡ calls_of_caller (ops_played (events ++ event ∷ []) (answered (calls c fs)))
+    ops =
+        ap (λ (l : List Decided). asked l) p.is
+        ∙ map-append (λ (x : Decided). record { caller = x.caller; op = x.op }) (calls c es) p.more
+        ∙ ap (λ (l : List Call). l ++ asked p.more) h.ops
+        ∙ ap (λ (l : List Call). calls_of_caller (ops_played events answers) ++ l) p.asks
+        ∙ sym (map-append (λ (o : Op). record { caller = 0; op = o }) (ops_played events answers)
+        (ops_of (begins_full more) event))
+        ∙ ap (λ (l : List Op). calls_of_caller l) (sym (ops-played_more event more events answers count))
+        ∙ ap (λ (l : List Answer). calls_of_caller (ops_played (events ++ event ∷ []) l)) (sym answered_more)
 
-  never_now : never_behind c fs
-      ≡ after_calls (never_behind c es) (calls_of_caller (ops_of (begins_full more) event))
-  never_now = never_then_calls c es fs p.more p.is ∙ ap (λ (l : List Call). after_calls (never_behind c es) l) p.asks
+    never_now : never_behind c fs
+        ≡ after_calls (never_behind c es) (calls_of_caller (ops_of (begins_full more) event))
+    never_now = never_then_calls c es fs p.more p.is ∙ ap (λ (l : List Call). after_calls (never_behind c es) l) p.asks
 
-  pub played_more : EventsAreAdmitted trace → IsHistory c es → IsEventOf trace.slots event
-      → HasPlayed trace (events ++ event ∷ []) (refused + one_if is_refused) fs
-  played_more admitted history of_slots = record {
-    ops = ops;
-    refuses =
-        ap (λ (b : Bool). refused + one_if b) (sym p.refuses)
-        ∙ ap (λ (n : ℕ). n + one_if (list_any is_refusal more)) h.refuses
-        ∙ sym (refused_more event more events answers count
-        (sym (as_many p.more (ops_of (begins_full more) event) p.asks)))
-        ∙ ap (λ (l : List Answer). refused_events (events ++ event ∷ []) l) (sym answered_more);
-    clear = λ r.
-        subst (λ (n : NeverState). register_at n 0 r ≡ Null) (sym never_now)
-        ((admitted es history h.clear event of_slots (begins_full more)).1 r);
-  }
+    pub played_more : EventsAreAdmitted trace → IsHistory c es → IsEventOf trace.slots event
+        → HasPlayed trace (events ++ event ∷ []) (refused + one_if is_refused) fs
+    played_more admitted history of_slots = record {
+      ops = ops;
+      refuses =
+          ap (λ (b : Bool). refused + one_if b) (sym p.refuses)
+          ∙ ap (λ (n : ℕ). n + one_if (list_any is_refusal more)) h.refuses
+          ∙ sym (refused_more event more events answers count
+          (sym (as_many p.more (ops_of (begins_full more) event) p.asks)))
+          ∙ ap (λ (l : List Answer). refused_events (events ++ event ∷ []) l) (sym answered_more);
+      clear = λ r.
+          subst (λ (n : NeverState). register_at n 0 r ≡ Null) (sym never_now)
+          ((admitted es history h.clear event of_slots (begins_full more)).1 r);
+    }
 
 -- When the heap is closed.
 pub is_played : (trace : Contents) (refused : ℕ) (es : List Event) → HasPlayed trace trace.events refused es
@@ -114,7 +119,8 @@ pub may_be_played : (trace : Contents) (c : Config) (es fs : List Event) (event 
     → IsPlayable trace → IsHistory c es → AreNull (never_behind c es) → IsEventOf trace.slots event → SameCalls c es fs
     → MayBePlayed c fs event
 may_be_played trace c es fs event config playable history null of_slots same full =
-    subst (λ (l : List Decided). AreAdmitted c.globals (after_calls (never_first c) (asked l)) (calls_of_caller (ops_of full event)))
+    subst (λ (l : List Decided). AreAdmitted c.globals (after_calls (never_first c) (asked l))
+    (calls_of_caller (ops_of full event)))
     (sym same)
     (subst (λ (d : Config). IsHistory d es → AreNull (never_behind d es)
     → AreAdmitted d.globals (never_behind d es) (calls_of_caller (ops_of full event))) (sym config)
@@ -139,7 +145,8 @@ pub played_same : (trace : Contents) (events : List TraceEvent) (refused : ℕ) 
 played_same trace events refused es fs same h = record {
   ops = subst (λ (l : List Decided). asked l ≡ calls_of_caller (ops_played events (answered l))) (sym same) h.ops;
   refuses = subst (λ (l : List Decided). refused ≡ refused_events events (answered l)) (sym same) h.refuses;
-  clear = subst (λ (l : List Decided). AreNull (after_calls (never_first (config_of trace)) (asked l))) (sym same) h.clear;
+  clear = subst (λ (l : List Decided). AreNull (after_calls (never_first (config_of trace)) (asked l)))
+      (sym same) h.clear;
 }
 
 -- The caller was made, and joined at once: it made no call.

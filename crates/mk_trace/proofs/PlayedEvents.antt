@@ -58,7 +58,8 @@ module _ (event : TraceEvent) (more : List Answer) where
       let left : length rest ≡ length answers - length ops = length-drop (length ops) answers in
       let alike : begins_full (answers ++ more) ≡ begins_full answers =
       begins_alike answers more (omega (arith, some_ops (begins_full answers) x, total)) in
-      ap (λ (full : Bool). ops_of full x ++ ops_played (events ++ event ∷ []) (drop (length (ops_of full x)) (answers ++ more)))
+      ap (λ (full : Bool). ops_of full x ++ ops_played (events ++ event ∷ [])
+      (drop (length (ops_of full x)) (answers ++ more)))
       alike
       ∙ ap (λ (l : List Answer). ops ++ ops_played (events ++ event ∷ []) l)
       (drop-append-le (length ops) answers more (omega (arith, total)))

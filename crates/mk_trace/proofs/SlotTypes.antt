@@ -66,7 +66,8 @@ range_more first count below =
     left_is n h = h
 
 -- The heap that a trace is played on, from its parts.
-pub config_is : (trace : Contents) (pages resident count : ℕ) (slots : List ℕ) (types : List (List Kind)) (globals : List ℕ)
+pub config_is : (trace : Contents) (pages resident count : ℕ) (slots : List ℕ) (types : List (List Kind))
+    (globals : List ℕ)
     → pages ≡ trace.pages → resident ≡ trace.resident → slots ≡ trace.slots → types ≡ types_from 0 slots
     → count ≡ length slots → globals ≡ range_with_len 0 count
     → config_of trace ≡ record {

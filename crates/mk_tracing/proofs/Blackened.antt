@@ -1,5 +1,6 @@
 -- A cell that is blackened: its words point well, and one fewer is white.
-use Rattle.std.proofs.Common.{◌≡◌, ◌⊎◌, ℕ, zero, suc, ◌+◌, ◌^◌, ◌<◌, ◌≤◌, Bool, true, false, List, length, refl, sym, ◌∙◌, ap, subst, inl, inr, arith, lit≤}
+use Rattle.std.proofs.Common.{◌≡◌, ◌⊎◌, ℕ, zero, suc, ◌+◌, ◌^◌, ◌<◌, ◌≤◌, Bool, true, false, List, length, refl, sym}
+use Rattle.std.proofs.Common.{◌∙◌, ap, subst, inl, inr, arith, lit≤}
 use Rattle.std.specs.Prelude.{Option, Some, None, slice_index, slice_set, bit_or, ◌&&◌, ◌||◌, nat_lt, if◌then◌else◌}
 use Rattle.std.proofs.lemmas.Bool.{cases_lt, and_from, lt-ltb, true≢false}
 use Rattle.mk_geom.specs.declared.addresses.Cell.{Cell}
@@ -8,7 +9,8 @@ use Rattle.mk_geom.specs.declared.headers.Header.TheVariants.{Free, Block, Run, 
 use Rattle.mk_geom.specs.Classes.{cells_of}
 use Rattle.mk_core.specs.Bits.{has_bit}
 use Rattle.mk_core.specs.Bounded.{all_below}
-use Rattle.mk_core.specs.Cells.{header_in, cells_under, cell_words, first_word, has_no_pointers, is_marked, points_well, words_point_well}
+use Rattle.mk_core.specs.Cells.{header_in, cells_under, cell_words, first_word, has_no_pointers, is_marked, points_well}
+use Rattle.mk_core.specs.Cells.{words_point_well}
 use Rattle.mk_core.specs.StopConditions.{may_turn_black}
 use Rattle.mk_core.specs.Words.{Words}
 use Rattle.mk_core.proofs.WordBits.{bits_stay, bits_added, bit_for_small, bit_for_has}

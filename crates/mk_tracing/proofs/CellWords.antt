@@ -1,5 +1,6 @@
 -- A word of a scanned cell lies in the heap, and a lookup finds the cell there, where the word isn't 0.
-use Rattle.std.proofs.Common.{◌≡◌, ◌≢◌, ◌⊎◌, ℕ, ◌+◌, ◌-◌, ◌*◌, ◌/◌, ◌%◌, ◌<◌, ◌≤◌, Bool, true, false, List, refl, sym, ◌∙◌, ap, subst, inl, inr, arith, option_and_then}
+use Rattle.std.proofs.Common.{◌≡◌, ◌≢◌, ◌⊎◌, ℕ, ◌+◌, ◌-◌, ◌*◌, ◌/◌, ◌%◌, ◌<◌, ◌≤◌, Bool, true, false, List, refl, sym}
+use Rattle.std.proofs.Common.{◌∙◌, ap, subst, inl, inr, arith, option_and_then}
 use Rattle.std.specs.Prelude.{Option, Some, None, slice_index, nat_le, nat_lt, if◌then◌else◌}
 use Rattle.std.proofs.lemmas.Bool.{and_from, le-leb, lt-ltb, ne_eqb, true≢false}
 use Rattle.std.proofs.Math.Nat.{mul_comm}
@@ -7,13 +8,15 @@ use Rattle.std.proofs.lemmas.Nat.{mul-add-lt, div-mul-add}
 use Rattle.mk_geom.specs.declared.addresses.Cell.{Cell}
 use Rattle.mk_geom.specs.declared.headers.Header.{Header}
 use Rattle.mk_geom.specs.declared.headers.Header.TheVariants.{Free, Block, Run, Later, LeafBlock, LeafRun}
-use Rattle.mk_geom.specs.Addresses.{address_of, is_heap_address, page_at_address, word_at_address, cell_of_block, cell_under}
+use Rattle.mk_geom.specs.Addresses.{address_of, is_heap_address, page_at_address, word_at_address, cell_of_block}
+use Rattle.mk_geom.specs.Addresses.{cell_under}
 use Rattle.mk_geom.specs.Classes.{class_words_of, cells_of}
 use Rattle.mk_geom.proofs.ClassTable.{cell_ends}
 use Rattle.mk_core.specs.declared.config.Config.{Config}
 use Rattle.mk_core.specs.declared.events.Event.{Event}
 use Rattle.mk_core.specs.Words.{Words, phase_of}
-use Rattle.mk_core.specs.Cells.{header_in, cells_under, words_under, head_page, has_no_pointers, pointed_cell, first_word, cell_words}
+use Rattle.mk_core.specs.Cells.{header_in, cells_under, words_under, head_page, has_no_pointers, pointed_cell}
+use Rattle.mk_core.specs.Cells.{first_word, cell_words}
 use Rattle.mk_core.specs.History.{World, left, never_behind, IsHistory}
 use Rattle.mk_core.specs.Moments.{is_phase}
 use Rattle.mk_core.specs.ObjectHeaders.{ShowsPart, OfBlock, OfLeafBlock, OfRun, OfLeafRun, OfLater}

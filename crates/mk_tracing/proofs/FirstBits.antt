@@ -1,5 +1,6 @@
 -- The first cell among those that a word has as bits.
-use Rattle.std.proofs.Common.{◌≡◌, ℕ, ◌^◌, ◌<◌, ◌≤◌, Bool, true, false, not, ◌&&◌, nat_lt, w64, refl, sym, ap, ◌∙◌, subst, arith}
+use Rattle.std.proofs.Common.{◌≡◌, ℕ, ◌^◌, ◌<◌, ◌≤◌, Bool, true, false, not, ◌&&◌, nat_lt, w64, refl, sym, ap, ◌∙◌}
+use Rattle.std.proofs.Common.{subst, arith}
 use Rattle.std.specs.Prelude.{◌==◌, Option, IfSome, IfNone, slice_index}
 use Rattle.std.specs.Bool.{then_some}
 use Rattle.std.specs.Int.{bit_at, trailing_zeros}
@@ -16,7 +17,8 @@ use Rattle.mk_tracing.proofs.NoGrays.{no_gray, no_gray_found}
 
 -- what holds of a value that is told where a test holds, and what holds where it doesn't
 
-if_told : (P : ℕ → Type 0) (test : Bool) (x : ℕ) (o : Option ℕ) → o ≡ then_some test x → (test ≡ true → P x) → IfSome o P
+if_told : (P : ℕ → Type 0) (test : Bool) (x : ℕ) (o : Option ℕ) → o ≡ then_some test x → (test ≡ true → P x)
+    → IfSome o P
 if_told P test x o is told = subst (λ (r : Option ℕ). IfSome r P) (sym is) (by test told)
   where
     by : (b : Bool) → (b ≡ true → P x) → IfSome (then_some b x) P
@@ -56,7 +58,8 @@ none_is_first cells x n o some fits lowest is =
 pub unmarked_are_black : (marks blacks n : ℕ) → marks ≡ 0 → AllAreBlack n marks blacks
 unmarked_are_black marks blacks n none k lt marked = absurd (true≢false (sym marked ∙ no_bit marks k none))
 
-pub ungray_are_black : (marks blacks n : ℕ) → ((k : ℕ) → k < n → has_bit (without marks blacks) k ≡ false) → AllAreBlack n marks blacks
+pub ungray_are_black : (marks blacks n : ℕ) → ((k : ℕ) → k < n → has_bit (without marks blacks) k ≡ false)
+    → AllAreBlack n marks blacks
 ungray_are_black marks blacks n none k lt marked =
     black (has_bit marks k) (has_bit blacks k) marked (sym (has_bit_without marks blacks k) ∙ none k lt)
   where
@@ -75,7 +78,8 @@ gray_is_marked marks blacks k one = by (has_bit marks k) (has_bit blacks k) (sym
     by false b e = e
 
 pub gray_is_not_black : (marks blacks k : ℕ) → has_bit (without marks blacks) k ≡ true → has_bit blacks k ≡ false
-gray_is_not_black marks blacks k one = by (has_bit marks k) (has_bit blacks k) (sym (has_bit_without marks blacks k) ∙ one)
+gray_is_not_black marks blacks k one = by (has_bit marks k) (has_bit blacks k) (sym (has_bit_without marks blacks k)
+    ∙ one)
   where
     by : (a b : Bool) → (a && not b) ≡ true → b ≡ false
     by true false e = refl

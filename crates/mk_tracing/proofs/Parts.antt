@@ -1,5 +1,6 @@
 -- Tracing in parts: nothing, one part behind another, and one step.
-use Rattle.std.proofs.Common.{◌≡◌, ◌+◌, ℕ, Bool, true, false, List, [], ◌∷◌, ◌++◌, refl, sym, ◌∙◌, ap, subst, append-nil, append_assoc, arith}
+use Rattle.std.proofs.Common.{◌≡◌, ◌+◌, ℕ, Bool, true, false, List, [], ◌∷◌, ◌++◌, refl, sym, ◌∙◌, ap, subst}
+use Rattle.std.proofs.Common.{append-nil, append_assoc, arith}
 use Rattle.std.specs.Prelude.{count_by, cond, if◌then◌else◌}
 use Rattle.std.proofs.lemmas.Bool.{and_parts, and_from, true≢false}
 use Rattle.std.proofs.lemmas.List.Sums.{sum_by-append}
@@ -226,7 +227,8 @@ keep_alike rule other c s w (e ∷ es) follows keeps = (
 )
 
 pub kinds_keep : (kinds : Step → Bool) (rule : Config → Moment → Step → Type 0) (c : Config) (s : Seat) (w : World)
-    (es : List Event) → ((m : Moment) (x : Step) → kinds x ≡ true → rule c m x) → are_of kinds (own_from c s w es) ≡ true
+    (es : List Event) → ((m : Moment) (x : Step) → kinds x ≡ true → rule c m x)
+    → are_of kinds (own_from c s w es) ≡ true
     → OwnStepsKeep rule c s w es
 unfolding OwnStepsKeep own_from
 kinds_keep kinds rule c s w [] follows of_kinds = tt

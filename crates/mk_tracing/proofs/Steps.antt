@@ -1,6 +1,8 @@
 -- One step of tracing: it may come, and leaves alone what tracing doesn't touch.
-use Rattle.std.proofs.Common.{◌≡◌, ℕ, ◌+◌, Bool, true, false, List, [], ◌∷◌, ◌++◌, Option, refl, sym, ◌∙◌, ap, subst, arith, append-nil}
-use Rattle.std.specs.Prelude.{Some, None, slice_index, slice_set, slice_index_or, ◌==◌, if◌then◌else◌, not, ◌&&◌, count_by, cond}
+use Rattle.std.proofs.Common.{◌≡◌, ℕ, ◌+◌, Bool, true, false, List, [], ◌∷◌, ◌++◌, Option, refl, sym, ◌∙◌, ap, subst}
+use Rattle.std.proofs.Common.{arith, append-nil}
+use Rattle.std.specs.Prelude.{Some, None, slice_index, slice_set, slice_index_or, ◌==◌, if◌then◌else◌, not, ◌&&◌}
+use Rattle.std.specs.Prelude.{count_by, cond}
 use Rattle.std.proofs.lemmas.Bool.{and_from, lt-ltb, eq-eqb, not-true}
 use Rattle.std.proofs.lemmas.List.{set-get_or}
 use Rattle.std.proofs.lemmas.List.Sums.{sum_by-append}
@@ -39,7 +41,8 @@ use Rattle.mk_core.specs.Frames.{HoldsAll, Steady, Written, steady_of, written_o
 use Rattle.mk_core.specs.History.{World, world_behind, left, first_world, calls}
 use Rattle.mk_core.specs.Moments.{Moment, flight_of, marker_at, outside, is_phase}
 use Rattle.mk_core.specs.NewPlaces.{object_made, bits_made, target}
-use Rattle.mk_core.specs.Order.{seat_exists, comes_next, comes_next_to_host, may_decide, is_of_any_holder, is_of_turn, is_in_order, is_open_to, group_of, host_has_turn}
+use Rattle.mk_core.specs.Order.{seat_exists, comes_next, comes_next_to_host, may_decide, is_of_any_holder, is_of_turn}
+use Rattle.mk_core.specs.Order.{is_in_order, is_open_to, group_of, host_has_turn}
 use Rattle.mk_core.specs.Ranges.{is_in_range, has_gates, has_phase}
 use Rattle.mk_core.specs.Readings.{Holds}
 use Rattle.mk_core.specs.StopConditions.{marks_place}

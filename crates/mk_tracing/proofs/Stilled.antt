@@ -1,5 +1,6 @@
 -- In the stop, where no marker attends, the words are at each step as they were left, but for the phase.
-use Rattle.std.proofs.Common.{◌≡◌, ℕ, ◌%◌, Bool, true, false, List, Option, option_and_then, refl, sym, ◌∙◌, ap, subst, arith}
+use Rattle.std.proofs.Common.{◌≡◌, ℕ, ◌%◌, Bool, true, false, List, Option, option_and_then, refl, sym, ◌∙◌, ap, subst}
+use Rattle.std.proofs.Common.{arith}
 use Rattle.std.specs.Prelude.{Some, None, slice_index_or, if◌then◌else◌, not, ◌&&◌}
 use Rattle.std.proofs.lemmas.Bool.{ne_eqb}
 use Rattle.mk_core.specs.declared.config.Config.{Config}
@@ -30,7 +31,8 @@ use Rattle.mk_words.specs.Seats.{Has}
 use Rattle.mk_words.specs.States.{PassState, now_of, world_of, event_of}
 use Rattle.mk_words.specs.Steps.{Finds}
 use Rattle.mk_words.specs.TurnSteps.{Acts, world_at}
-use Rattle.mk_tracing.specs.Grays.{with_marks, with_blacks, without_blacks, without_dirty, MarksOn, IsInHand, TracesReached}
+use Rattle.mk_tracing.specs.Grays.{with_marks, with_blacks, without_blacks, without_dirty, MarksOn, IsInHand}
+use Rattle.mk_tracing.specs.Grays.{TracesReached}
 use Rattle.mk_tracing.specs.Stops.{IsWanted, is_plain, is_root, still_words, hand_of}
 use Rattle.mk_tracing.specs.Tracing.{Traces, untouched_of, is_marking}
 use Rattle.mk_tracing.proofs.Steps.{is_quiet, is_late, step_counts, step_untouched, still_ready, found_there}

@@ -26,7 +26,8 @@ use Rattle.mk_words.specs.Seats.{Has}
 use Rattle.mk_words.specs.States.{PassState, TurnState, now_of}
 use Rattle.mk_words.specs.Steps.{Finds}
 use Rattle.mk_words.specs.TurnSteps.{Acts}
-use Rattle.mk_tracing.specs.Grays.{ReachedMarksSweepNothing, HasDirtyPart, IsGray, IsGrayWord, IsInHand, IsReached, MarksOn, MarksReached, TracesReached}
+use Rattle.mk_tracing.specs.Grays.{ReachedMarksSweepNothing, HasDirtyPart, IsGray, IsGrayWord, IsInHand, IsReached}
+use Rattle.mk_tracing.specs.Grays.{MarksOn, MarksReached, TracesReached}
 use Rattle.mk_tracing.specs.Stops.{IsWanted, is_plain, is_root, still_words}
 use Rattle.mk_tracing.specs.Tracing.{is_marking}
 use Rattle.mk_tracing.proofs.CellWords.{cell_of_word, words_in_heap}

@@ -1,5 +1,5 @@
-//! Dirty pages: their cells are made unscanned again, and then their dirty words are cleared. A word that is 0 isn't stored
-//! to.
+//! Dirty pages: their cells are made unscanned again, and then their dirty words are cleared. A word that is 0 isn't
+//! stored to.
 ghost use Rattle.std.specs.Prelude.{◌≡◌, ◌≢◌, ℕ, ◌<◌, true, false, slice_index};
 ghost use Rattle.mk_tracing.specs.Grays.{BlacksFewer, HasDirtyPart, IsCleaner, IsUnscanned, MarksOn, without_blacks};
 ghost use Rattle.mk_tracing.specs.Stops.{IsWanted, still_words};

@@ -25,7 +25,8 @@ fn mark_root(words: &Words, stop: &mut Stopped, work: &mut Worklist, x: Word)
     requires root { is_root x ≡ true }
     ensures on { MarksOn stop.old stop.new }
     ensures more { MarksMore (still_words stop.old.pass) (still_words stop.new.pass) }
-    ensures well { points_well words.now.config.pages (still_words stop.new.pass) (named_word (still_words stop.old.pass) x) ≡ true }
+    ensures well { points_well words.now.config.pages (still_words stop.new.pass)
+        (named_word (still_words stop.old.pass) x) ≡ true }
 {
     let value = look_at_root(words, stop, x);
     let marked = mark_value(words, stop, value);
@@ -54,7 +55,8 @@ fn mark_registers(words: &Words, stop: &mut Stopped, work: &mut Worklist)
     requires wanted { IsWanted stop.old.pass }
     ensures on { MarksOn stop.old stop.new }
     ensures more { MarksMore (still_words stop.old.pass) (still_words stop.new.pass) }
-    ensures well { (k : ℕ) → k < words.now.config.callers → RegistersAreWell words.now.config stop.old.pass stop.new.pass k }
+    ensures well { (k : ℕ) → k < words.now.config.callers
+        → RegistersAreWell words.now.config stop.old.pass stop.new.pass k }
 {
     for caller in 0..words.callers() {
         mark_registers_of(words, stop, work, caller);

@@ -4,7 +4,8 @@ ghost use Rattle.mk_core.specs.Cells.{cell_words, first_word, has_no_pointers, h
 ghost use Rattle.mk_core.specs.Ranges.{is_word};
 ghost use Rattle.mk_core.specs.StopConditions.{may_turn_black};
 ghost use Rattle.mk_core.specs.Words.{named_word};
-ghost use Rattle.mk_tracing.specs.Grays.{with_marks, with_blacks, without_blacks, without_dirty, HasDirtyPart, IsGray, IsInHand, IsReached, MarksOn};
+ghost use Rattle.mk_tracing.specs.Grays.{with_marks, with_blacks, without_blacks, without_dirty, HasDirtyPart, IsGray};
+ghost use Rattle.mk_tracing.specs.Grays.{IsInHand, IsReached, MarksOn};
 ghost use Rattle.mk_tracing.specs.Stops.{IsWanted, hand_of, is_plain, is_root, still_words};
 
 use crate::cells::{PAGE_WORDS, bit};
@@ -53,7 +54,8 @@ pub(crate) fn look_at_word(words: &Words, stop: &mut Stopped, cell: Cell, size: 
     ensures on { MarksOn stop.old stop.new }
     ensures words { still_words stop.new.pass ≡ still_words stop.old.pass }
     ensures hand { result ≢ 0 → IsInHand stop.new.pass result }
-    ensures found { result ≡ slice_index (still_words stop.old.pass).heap (first_word (still_words stop.old.pass) cell + i) }
+    ensures found { result
+        ≡ slice_index (still_words stop.old.pass).heap (first_word (still_words stop.old.pass) cell + i) }
 {
     stop.is_in_order();
     let word = PAGE_WORDS * cell.page + cell.index * size + i;

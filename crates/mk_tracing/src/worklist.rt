@@ -5,8 +5,9 @@ use mk_geom::Cell;
 use mk_never::NoMemory;
 use std::alloc::Global;
 
-/// The cells that were marked last and aren't scanned yet, as far as there is room. One that finds no room is forgotten,
-/// and found again where its owner looks for gray cells page by page, from the page where it found the last one.
+/// The cells that were marked last and aren't scanned yet, as far as there is room. One that finds no room is
+/// forgotten, and found again where its owner looks for gray cells page by page, from the page where it found the last
+/// one.
 #[derive(Drop)]
 pub struct Worklist {
     cells: Vec<Cell>,

@@ -1,5 +1,6 @@
 -- What is done in parts, and by one step.
-use Rattle.std.proofs.Common.{◌≡◌, Bool, true, false, List, [], ◌∷◌, ◌++◌, refl, sym, ap, subst, ◌∙◌, append-nil, append_assoc}
+use Rattle.std.proofs.Common.{◌≡◌, Bool, true, false, List, [], ◌∷◌, ◌++◌, refl, sym, ap, subst, ◌∙◌, append-nil}
+use Rattle.std.proofs.Common.{append_assoc}
 use Rattle.std.specs.Prelude.{◌&&◌, if◌then◌else◌}
 use Rattle.std.proofs.lemmas.Bool.{false_from_ne_true}
 use Rattle.std.proofs.lemmas.List.Folds.{list_all-append}
@@ -36,7 +37,8 @@ pub done_in_parts : (p : PassState) (xs ys : List Event)
     → done_in p (xs ++ ys) ≡ done_in p xs ++ done_in (record p { seen = p.seen ++ xs }) ys
 done_in_parts p xs ys =
     own_in_parts p.table.config p.seat (left p.table.config p.seen) xs ys
-    ∙ ap (λ (w : World). done_in p xs ++ own_from p.table.config p.seat w ys) (sym (left_in_parts p.table.config p.seen xs))
+    ∙ ap (λ (w : World). done_in p xs ++ own_from p.table.config p.seat w ys)
+    (sym (left_in_parts p.table.config p.seen xs))
 
 both_true : (a b : Bool) → a ≡ true → b ≡ true → (a && b) ≡ true
 both_true a b one two = ap (λ (x : Bool). x && b) one ∙ two
@@ -55,10 +57,16 @@ own_or_others_in_parts s seats (e ∷ es) ys one two = (one.0, own_or_others_in_
 pub does_nothing : NothingIsDone
 unfolding AreOwnOrOfOthers own_from
 does_nothing kinds p =
-    record { more = []; is = sym (ap (λ (es : List Event). record p { seen = es }) (append-nil p.seen)); own_or_others = tt; of_kinds = refl }
+    record {
+      more = [];
+      is = sym (ap (λ (es : List Event). record p { seen = es }) (append-nil p.seen));
+      own_or_others = tt;
+      of_kinds = refl;
+    }
 
 then_at : (kinds : Step → Bool) (p : PassState) (xs : List Event) → AreOwnOrOfOthers p.seat p.seats xs
-    → are_of kinds (done_in p xs) ≡ true → (r : PassState) → Does kinds (record p { seen = p.seen ++ xs }) r → Does kinds p r
+    → are_of kinds (done_in p xs) ≡ true → (r : PassState) → Does kinds (record p { seen = p.seen ++ xs }) r
+    → Does kinds p r
 then_at kinds p xs own ok r d =
     record {
       more = xs ++ d.more;
@@ -79,7 +87,8 @@ not_own seats s t has out =
     not_both seats t out (subst (λ (x : Seat). Has seats x) (same_seat s t same) has))
 
 -- events of others are none of a seat's own
-pub none_own : (c : Config) (seats : List Seat) (s : Seat) (w : World) (xs : List Event) → Has seats s → AreOfOthers seats xs
+pub none_own : (c : Config) (seats : List Seat) (s : Seat) (w : World) (xs : List Event) → Has seats s
+    → AreOfOthers seats xs
     → own_from c s w xs ≡ []
 unfolding own_from AreOfOthers
 none_own c seats s w [] has others = refl
@@ -89,7 +98,8 @@ none_own c seats s w (e ∷ es) has others =
     ap (λ (b : Bool). if b then first ∷ rest else rest) (not_own seats s e.seat has others.0)
     ∙ none_own c seats s (world_behind c w e) es has others.1
 
-pub others_are_so : (seats : List Seat) (s : Seat) (xs : List Event) → Has seats s → AreOfOthers seats xs → AreOwnOrOfOthers s seats xs
+pub others_are_so : (seats : List Seat) (s : Seat) (xs : List Event) → Has seats s → AreOfOthers seats xs
+    → AreOwnOrOfOthers s seats xs
 unfolding AreOwnOrOfOthers AreOfOthers
 others_are_so seats s [] has others = tt
 others_are_so seats s (e ∷ es) has others =

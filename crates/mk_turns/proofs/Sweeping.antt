@@ -1,5 +1,6 @@
 -- What sweeps nothing, in parts, by kinds of step, and by one step.
-use Rattle.std.proofs.Common.{◌≡◌, Bool, true, false, List, [], ◌∷◌, ◌++◌, refl, sym, ap, subst, ◌∙◌, append-nil, append_assoc}
+use Rattle.std.proofs.Common.{◌≡◌, Bool, true, false, List, [], ◌∷◌, ◌++◌, refl, sym, ap, subst, ◌∙◌, append-nil}
+use Rattle.std.proofs.Common.{append_assoc}
 use Rattle.std.specs.Prelude.{if◌then◌else◌}
 use Rattle.std.proofs.lemmas.Bool.{and_parts, true≢false}
 use Rattle.mk_core.specs.declared.config.Config.{Config}
@@ -111,7 +112,8 @@ step_sweeps p q s m has none =
       is = ap (λ (x : PassState). x.seen) m.is ∙ append_assoc p.seen m.others (event_of p s ∷ []);
       none = sweeps_append c p.seat (world_of p) m.others (event_of p s ∷ [])
           (others_sweep c p.seat p.seats (world_of p) m.others has m.of_others)
-          (subst (λ (v : World). SweepsNothingFrom c p.seat v (event_of p s ∷ [])) (left_in_parts c p.seen m.others) last);
+          (subst (λ (v : World). SweepsNothingFrom c p.seat v (event_of p s ∷ [])) (left_in_parts c p.seen m.others)
+          last);
     }
 
 -- Only its list has grown.

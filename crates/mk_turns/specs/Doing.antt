@@ -41,4 +41,5 @@ abbrev pub DoneInTurn : Type 0
 DoneInTurn = (kinds : Step → Bool) (p q r : PassState) → Does kinds p q → Does kinds q r → Does kinds p r
 
 abbrev pub StepsAreDone : Type 0
-StepsAreDone = (kinds : Step → Bool) (p q : PassState) (s : Step) → Has p.seats p.seat → Makes p s q → kinds s ≡ true → Does kinds p q
+StepsAreDone = (kinds : Step → Bool) (p q : PassState) (s : Step) → Has p.seats p.seat → Makes p s q → kinds s ≡ true
+    → Does kinds p q

@@ -2,7 +2,8 @@
 #![tactic(auto)]
 
 ghost use Rattle.mk_turns.specs.Doing.{NothingIsDone, DoneInTurn, StepsAreDone};
-ghost use Rattle.mk_turns.specs.Sweeping.{NothingSweepsNothing, NothingIsSweptInTurn, OtherKindsSweepNothing, StepsMaySweepNothing};
+ghost use Rattle.mk_turns.specs.Sweeping.{NothingSweepsNothing, NothingIsSweptInTurn, OtherKindsSweepNothing};
+ghost use Rattle.mk_turns.specs.Sweeping.{StepsMaySweepNothing};
 
 /// Nothing done is allowed, what is done one after the other adds up, and a step of an allowed kind is done.
 pub fn what_is_done_adds_up()

@@ -8,7 +8,8 @@ use Rattle.mk_why.specs.declared.kept.Root.{Root}
 use Rattle.mk_why.specs.declared.kept.Root.TheVariants.{Global, Register}
 use Rattle.mk_why.specs.declared.tables.Tables.{Tables}
 use Rattle.mk_why.specs.Chains.{IsRoot, LeadsTo, word_of_root}
-use Rattle.mk_why.specs.Searching.{AreWays, Grows, IsDone, IsExplored, IsFound, IsNoted, IsSearch, IsWithin, at, links_in, links_of}
+use Rattle.mk_why.specs.Searching.{AreWays, Grows, IsDone, IsExplored, IsFound, IsNoted, IsSearch, IsWithin, at}
+use Rattle.mk_why.specs.Searching.{links_in, links_of}
 use Rattle.mk_why.specs.Stops.{View, base_at, world_in}
 use Rattle.mk_why.proofs.Searches.{Stays, links_stay, noted_stays, same_links}
 

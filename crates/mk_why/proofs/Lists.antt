@@ -1,5 +1,6 @@
 -- The kept allocations are those of the cells that are in the snapshot and marked.
-use Rattle.std.proofs.Common.{◌≡◌, ◌≢◌, ◌∙◌, ℕ, ◌+◌, ◌*◌, ◌/◌, ◌^◌, ◌<◌, Bool, true, false, List, refl, sym, ap, subst, inl, inr, arith, length}
+use Rattle.std.proofs.Common.{◌≡◌, ◌≢◌, ◌∙◌, ℕ, ◌+◌, ◌*◌, ◌/◌, ◌^◌, ◌<◌, Bool, true, false, List, refl, sym, ap, subst}
+use Rattle.std.proofs.Common.{inl, inr, arith, length}
 use Rattle.std.specs.Prelude.{Option, None, Some, ◌&&◌, not, slice_index, slice_set}
 use Rattle.std.proofs.lemmas.Bool.{and_from, and_parts, cases_eq, cases_lt, not-true, true≢false}
 use Rattle.std.proofs.lemmas.List.{get_or-set_other, get_or-set_same, length-set}
@@ -64,7 +65,8 @@ module _ (p : PassState) (history : IsHistory p.table.config p.seen) (still : Is
   -- an unreleased allocation's cell is in the snapshot where it is of the cycle's
   snapshot_of : (b : ℕ) → (placed_at (world_of p).allocations b).released ≡ false
       → has_bit
-      (slice_index (now_of p).words.snapshot (cell_of_allocation p.table.config (placed_at (world_of p).allocations b)).page)
+      (slice_index (now_of p).words.snapshot
+      (cell_of_allocation p.table.config (placed_at (world_of p).allocations b)).page)
       (cell_of_allocation p.table.config (placed_at (world_of p).allocations b)).index
       ≡ ((placed_at (world_of p).allocations b).freed && not (placed_at (world_of p).allocations b).fresh)
   snapshot_of b u = all.order.snapshot.quarantined (ap is_cycling still.wanted) b u
@@ -112,7 +114,8 @@ module _ (p : PassState) (history : IsHistory p.table.config p.seen) (still : Is
           → (placed_at (world_of p).allocations b).base < 64 * p.table.config.pages
       begins_below b u =
           let st = stands b u in
-          let some = (words_within (object_placed c (a b)) (typed_size c (a b) history.within_limits st.stands.typed)).0 in
+          let some = (words_within (object_placed c (a b)) (typed_size c (a b) history.within_limits st.stands.typed)).0
+          in
           let end = st.stands.within in
           omega arith
 
@@ -218,7 +221,8 @@ module _ (c : Config) (v : View) (r s : Tables) (cell : Cell) (size : ℕ) (of_k
 
   there : at s.kept.items (64 * cell.page + cell.index * size)
       ≡ Some (record { address = 65536 + 8 * (64 * cell.page + cell.index * size); words = size })
-  there = ap (λ (xs : List (Option Storage)). at xs base) set ∙ get_or-set_same r.kept.items base (Some storage) None within
+  there = ap (λ (xs : List (Option Storage)). at xs base) set
+      ∙ get_or-set_same r.kept.items base (Some storage) None within
 
   elsewhere : (k : ℕ) → k ≢ 64 * cell.page + cell.index * size → at s.kept.items k ≡ at r.kept.items k
   elsewhere k ne =
@@ -291,7 +295,8 @@ pub cells_more : (c : Config) (v : View) (r s : Tables) (page size count snapsho
     → ListsCell c v r s (64 * page + index * size) in_snapshot marked
     → (b : ℕ) → is_kept c (world_in v) b ≡ true → (cell_of_allocation c (placed_at v.allocations b)).page ≡ page
     → (cell_of_allocation c (placed_at v.allocations b)).index < index + 1 → IsListed s.kept.items (base_at v b)
-cells_more c v r s page size count snapshot marks index in_snapshot marked is_in is_marked has before one b kept at_page lt =
+cells_more c v r s page size count snapshot marks index in_snapshot marked is_in is_marked has before one b kept at_page
+    lt =
     elim (cases_lt (cell_of_allocation c (placed_at v.allocations b)).index index) [
       | inl low ↦ one.on.stays (base_at v b) (before b kept at_page low)
       | inr high ↦
@@ -325,7 +330,8 @@ kept_page p history k same b =
         → (cell_of_allocation p.table.config (placed_at (view_by p).allocations b)).page < p.table.config.pages
     here kept =
         let x : PlacedAllocation = placed_at (world_of p).allocations b in
-        let parts = and_parts (is_in_snapshot_of_cycle x) (is_marked_allocation p.table.config (now_of p).words x) kept in
+        let parts = and_parts (is_in_snapshot_of_cycle x) (is_marked_allocation p.table.config (now_of p).words x) kept
+        in
         let cycle = and_parts (x.freed && not x.released) (not x.fresh) parts.0 in
         let u : x.released ≡ false = not-true x.released (and_parts x.freed (not x.released) cycle.0).1 in
         let st = allocations_stand p.table.config p.seen history b u in

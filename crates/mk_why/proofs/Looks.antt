@@ -83,7 +83,8 @@ still_name w word.Phase h = cc
 still_name w _ h = refl
 
 -- Any word may be looked at.
-module _ (p : PassState) (turn : InTurn p) (gates : others_are_held p.table.config.callers (now_of p).words p.seat ≡ true)
+module _ (p : PassState) (turn : InTurn p) (gates : others_are_held p.table.config.callers (now_of p).words p.seat
+    ≡ true)
     (still : IsStill p) where
   pub wanted_now : IsWanted p
   wanted_now = record { ready = ready_of p turn.history turn.holds still.free; phase = still.wanted; none = still.none }

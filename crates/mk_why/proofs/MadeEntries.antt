@@ -1,11 +1,14 @@
 -- Chains followed back, and the entries of the kept allocations.
-use Rattle.std.proofs.Common.{◌≡◌, ◌∙◌, ℕ, ◌+◌, ◌*◌, ◌<◌, Bool, true, false, List, [], ◌∷◌, ◌++◌, refl, sym, ap, subst, inl, inr, arith, length}
-use Rattle.std.specs.Prelude.{Option, None, Some, if◌then◌else◌, is_some, map, reverse, slice_index, slice_index_or, not, ◌&&◌}
+use Rattle.std.proofs.Common.{◌≡◌, ◌∙◌, ℕ, ◌+◌, ◌*◌, ◌<◌, Bool, true, false, List, [], ◌∷◌, ◌++◌, refl, sym, ap, subst}
+use Rattle.std.proofs.Common.{inl, inr, arith, length}
+use Rattle.std.specs.Prelude.{Option, None, Some, if◌then◌else◌, is_some, map, reverse, slice_index, slice_index_or}
+use Rattle.std.specs.Prelude.{not, ◌&&◌}
 use Rattle.std.specs.List.Sorted.{IsStrictlyIncreasing}
 use Rattle.std.proofs.Math.ListN.{get_or-append}
 use Rattle.std.proofs.Math.Seq.{get_or-append_seam}
 use Rattle.std.proofs.lemmas.Bool.{and_parts, cases_lt, lt-ltb, not-true, true≢false}
-use Rattle.std.proofs.lemmas.List.{get_or_read_under, length-append, length-map, length-reverse, map-append, reverse-append}
+use Rattle.std.proofs.lemmas.List.{get_or_read_under, length-append, length-map, length-reverse, map-append}
+use Rattle.std.proofs.lemmas.List.{reverse-append}
 use Rattle.std.proofs.lemmas.List.Elements.{Contains-append_left, Contains-push, Contains-push_cases}
 use Rattle.mk_core.specs.declared.config.Config.{Config}
 use Rattle.mk_core.specs.Allocations.{PlacedAllocation, is_mapped, placed_at, storage_of}
@@ -19,7 +22,8 @@ use Rattle.mk_why.specs.declared.found.Way.TheVariants.{Link, Start}
 use Rattle.mk_why.specs.declared.kept.Kept.{Kept}
 use Rattle.mk_why.specs.declared.kept.Root.{Root}
 use Rattle.mk_why.specs.Chains.{IsEntryOf, IsWhy, LeadsTo, is_kept}
-use Rattle.mk_why.specs.Entries.{AreEntriesBelow, IsLed, IsLedBack, IsMadeOf, IsOneMore, IsToldWhy, IsWayOf, back_to, root_of, step_back}
+use Rattle.mk_why.specs.Entries.{AreEntriesBelow, IsLed, IsLedBack, IsMadeOf, IsOneMore, IsToldWhy, IsWayOf, back_to}
+use Rattle.mk_why.specs.Entries.{root_of, step_back}
 use Rattle.mk_why.specs.Listing.{IsKeptAt, IsTold}
 use Rattle.mk_why.specs.Searching.{AreApart, AreWays, IsOnward, IsWay, at}
 use Rattle.mk_why.specs.Stops.{View, base_at, world_in}

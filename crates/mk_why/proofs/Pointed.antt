@@ -168,7 +168,8 @@ module _ (p : PassState) (history : IsHistory p.table.config p.seen) (still : Is
         let b = is.number in
         let begins : (a b).base ≡ base = is.is in
         let st = stands b is.unreleased in
-        let some = (words_within (object_placed c (a b)) (typed_size c (a b) history.within_limits st.stands.typed)).0 in
+        let some = (words_within (object_placed c (a b)) (typed_size c (a b) history.within_limits st.stands.typed)).0
+        in
         let end = st.stands.within in
         omega arith
 

@@ -1,5 +1,6 @@
 -- What is done behind the scan of an allocation's words.
-use Rattle.std.proofs.Common.{◌≡◌, ◌∙◌, ℕ, ◌+◌, ◌-◌, ◌<◌, ◌≤◌, true, List, refl, sym, ap, subst, inl, inr, arith, length}
+use Rattle.std.proofs.Common.{◌≡◌, ◌∙◌, ℕ, ◌+◌, ◌-◌, ◌<◌, ◌≤◌, true, List, refl, sym, ap, subst, inl, inr, arith}
+use Rattle.std.proofs.Common.{length}
 use Rattle.std.specs.Prelude.{Option, None, Some, count_by, is_some, slice_index, slice_index_or}
 use Rattle.std.proofs.lemmas.Bool.{cases_lt}
 use Rattle.std.proofs.lemmas.List.{get_or_past, get_or_read_under}
@@ -37,7 +38,8 @@ done_from c v found base size links through whole noted a n begins scanned word 
     subst (λ k. IsNoted c v found (slice_index v.words.heap n) (k + 1)) (sym same)
     (subst (λ j. IsNoted c v found (slice_index v.words.heap j) (links + 1)) here (noted (n - base) few))
 
-module _ (c : Config) (v : View) (r : Tables) (place limit : ℕ) (search : IsSearch c v r limit) (known : place < r.count)
+module _ (c : Config) (v : View) (r : Tables) (place limit : ℕ) (search : IsSearch c v r limit)
+    (known : place < r.count)
   where
     pub queued_within : slice_index r.queue.items place < length r.found.items
     queued_within =
@@ -50,7 +52,8 @@ module _ (c : Config) (v : View) (r : Tables) (place limit : ℕ) (search : IsSe
         let y = search.ways (slice_index r.queue.items place) x.entry x.there in
         record { number = y.number; unreleased = y.unreleased; is = y.is }
 
-    module _ (base : ℕ) (is : base ≡ slice_index r.queue.items place) (f : Found) (there : at r.found.items base ≡ Some f)
+    module _ (base : ℕ) (is : base ≡ slice_index r.queue.items place) (f : Found)
+        (there : at r.found.items base ≡ Some f)
       where
         pub links_there : links_of r place ≡ f.links
         links_there = ap (λ n. links_in (at r.found.items n)) (sym is) ∙ ap links_in there

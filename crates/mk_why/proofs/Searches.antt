@@ -1,5 +1,6 @@
 -- The search, one note after the other: what was found stays, and the queue rises.
-use Rattle.std.proofs.Common.{◌≡◌, ◌≢◌, ◌⊎◌, ◌∙◌, ℕ, ◌+◌, ◌*◌, ◌<◌, ◌≤◌, true, false, List, refl, sym, ap, subst, inl, inr, arith, length}
+use Rattle.std.proofs.Common.{◌≡◌, ◌≢◌, ◌⊎◌, ◌∙◌, ℕ, ◌+◌, ◌*◌, ◌<◌, ◌≤◌, true, false, List, refl, sym, ap, subst, inl}
+use Rattle.std.proofs.Common.{inr, arith, length}
 use Rattle.std.specs.Prelude.{Option, None, Some, is_some, slice_index, slice_set}
 use borrow.Author.Count.{below_more}
 use Rattle.std.proofs.lemmas.Bool.{cases_Bool, cases_eq, cases_lt, true≢false}
@@ -10,7 +11,8 @@ use Rattle.mk_why.specs.declared.found.Found.{Found}
 use Rattle.mk_why.specs.declared.found.Way.{Way}
 use Rattle.mk_why.specs.declared.found.Way.TheVariants.{Link, Start}
 use Rattle.mk_why.specs.declared.tables.Tables.{Tables}
-use Rattle.mk_why.specs.Searching.{AreWays, Grows, IsFound, IsFoundAt, IsFoundThrough, IsNoted, IsQueued, IsSearch, IsWay, IsWithin, SearchesOn, at, links_in, links_of}
+use Rattle.mk_why.specs.Searching.{AreWays, Grows, IsFound, IsFoundAt, IsFoundThrough, IsNoted, IsQueued, IsSearch}
+use Rattle.mk_why.specs.Searching.{IsWay, IsWithin, SearchesOn, at, links_in, links_of}
 use Rattle.mk_why.specs.Stops.{IsStill, LooksOn, View, base_at, view_by}
 use Rattle.mk_why.proofs.Looks.{looks_at_nothing, looks_then}
 

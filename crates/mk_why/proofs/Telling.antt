@@ -58,7 +58,8 @@ module _ (tells : Config → World → Type 0) (k : WordsState) (t u : TurnState
       let view : view_of (left c (u.pass.seen ++ others)) ≡ view_by t.pass =
       others_still u.pass turn gates on.still others of_others more ∙ on.view in
       let first : tells c (world_of t.pass) =
-      subst (λ (x : WordsState). tells x.config (world_of t.pass)) (sym on.table) (told_now tells t.pass history told) in
+      subst (λ (x : WordsState). tells x.config (world_of t.pass)) (sym on.table) (told_now tells t.pass history told)
+      in
       let second : IsTold c found kept (view_by t.pass) =
       subst (λ (x : WordsState). IsTold x.config found kept (view_by t.pass)) (sym table) tables in (
         record { before = world_of t.pass; told = first; view = view },

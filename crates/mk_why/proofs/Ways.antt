@@ -44,7 +44,8 @@ found_by c v found value base f x way =
     record { number = x.number; unreleased = x.points.0; is = x.is; way = way x.number x.points }
 
 -- Where that was found, so was whatever the value points into.
-pub noted_by : (c : Config) (v : View) (found : List (Option Found)) (value base limit : ℕ) → PointsAtBase c v value base
+pub noted_by : (c : Config) (v : View) (found : List (Option Found)) (value base limit : ℕ)
+    → PointsAtBase c v value base
     → IsWithin found base limit → IsNoted c v found value limit
 noted_by c v found value base limit x within b points =
     subst (λ n. IsWithin found n limit) (sym (ap (base_at v) (x.only b points) ∙ x.is)) within

@@ -1,5 +1,6 @@
 -- What the steps of a caller's call find and leave.
-use Rattle.std.proofs.Common.{◌≡◌, ◌≢◌, ℕ, ◌+◌, ◌*◌, ◌<◌, ◌≤◌, Bool, true, false, List, ◌++◌, length, refl, sym, ◌∙◌, ap, subst, arith}
+use Rattle.std.proofs.Common.{◌≡◌, ◌≢◌, ℕ, ◌+◌, ◌*◌, ◌<◌, ◌≤◌, Bool, true, false, List, ◌++◌, length, refl, sym, ◌∙◌}
+use Rattle.std.proofs.Common.{ap, subst, arith}
 use Rattle.std.specs.Prelude.{slice_index, slice_set, ◌==◌, Some, None, if◌then◌else◌, not, ◌&&◌}
 use Rattle.std.proofs.lemmas.Bool.{ltb-true, eq-eqb, ne_eqb}
 use Rattle.std.proofs.lemmas.List.{get_or-set_same, get_or-set_other}
@@ -48,7 +49,8 @@ is_callers (Marker k) h = cc
 is_callers Host h = cc
 
 call_behind : (c : Config) (m : Moment) (seat : Seat) (k : ℕ) (s : Step) → seat ≡ Caller k → k < length m.seats.flights
-    → flight_of (moment_behind c m (record { seat = seat; step = s })) seat ≡ (progress c m (flight_of m seat) (found c m (record { seat = seat; step = s })) s).flight
+    → flight_of (moment_behind c m (record { seat = seat; step = s })) seat
+    ≡ (progress c m (flight_of m seat) (found c m (record { seat = seat; step = s })) s).flight
 call_behind c m (Caller j) k s is lt =
     let same : j ≡ k = cc in
     get_or-set_same m.seats.flights j _ at_rest (omega arith)
@@ -56,7 +58,8 @@ call_behind c m (Marker j) k s is lt = cc
 call_behind c m Host k s is lt = cc
 
 answer_behind : (c : Config) (m : Moment) (seat : Seat) (k : ℕ) (s : Step) → seat ≡ Caller k
-    → answer_decided c m (record { seat = seat; step = s }) ≡ (progress c m (flight_of m seat) (found c m (record { seat = seat; step = s })) s).answer
+    → answer_decided c m (record { seat = seat; step = s })
+    ≡ (progress c m (flight_of m seat) (found c m (record { seat = seat; step = s })) s).answer
 answer_behind c m (Caller j) k s is = refl
 answer_behind c m (Marker j) k s is = cc
 answer_behind c m Host k s is = cc
@@ -65,14 +68,16 @@ caller_exists : (c : Config) (seat : Seat) (k : ℕ) → seat ≡ Caller k → s
 caller_exists c seat k is h = ltb-true k c.callers (subst (λ (s : Seat). seat_exists c s ≡ true) is h)
 
 -- How a caller's step makes its call go on.
-pub goes : (p : PassState) (s : Step) (q : PassState) (m : Makes p s q) → Has p.seats p.seat → IsHistory q.table.config q.seen → (k : ℕ) → p.seat ≡ Caller k
+pub goes : (p : PassState) (s : Step) (q : PassState) (m : Makes p s q) → Has p.seats p.seat
+    → IsHistory q.table.config q.seen → (k : ℕ) → p.seat ≡ Caller k
     → Goes p s (progress p.table.config (moment_of m) (call_of p) (found_by m) s) q
 goes p s q m own history k is =
     let c : Config = p.table.config in
     let d = made p s q m own history in
     let n : Moment = moment_of m in
     let same : flight_of n p.seat ≡ call_of p = d.frame.own.flight in
-    let lt : k < length n.seats.flights = subst (λ (i : ℕ). k < i) (sym d.protocol.callers) (caller_exists c p.seat k is d.meets.seat) in
+    let lt : k < length n.seats.flights =
+    subst (λ (i : ℕ). k < i) (sym d.protocol.callers) (caller_exists c p.seat k is d.meets.seat) in
     record {
       makes = m;
       call =
@@ -84,7 +89,8 @@ goes p s q m own history k is =
     }
 
 -- The registers are as the pass knew them.
-pub registers_before : (p : PassState) (s : Step) (q : PassState) (m : Makes p s q) → Has p.seats p.seat → IsHistory q.table.config q.seen → (k : ℕ) → p.seat ≡ Caller k
+pub registers_before : (p : PassState) (s : Step) (q : PassState) (m : Makes p s q) → Has p.seats p.seat
+    → IsHistory q.table.config q.seen → (k : ℕ) → p.seat ≡ Caller k
     → (r : ℕ) → r < 8 → register_word (moment_of m).words k r ≡ register_word (now_of p).words k r
 registers_before p s q m own history k is r lt = (made p s q m own history).frame.own.registers k r is lt
 
@@ -92,16 +98,20 @@ number_is : (s : Seat) (k : ℕ) → s ≡ Caller k → caller_number s ≡ k
 number_is s k is = ap (λ (t : Seat). caller_number t) is
 
 -- What a register is behind the step, from what the access makes of the registers.
-pub register_behind : (p : PassState) (s : Step) (q : PassState) (m : Makes p s q) → Has p.seats p.seat → IsHistory q.table.config q.seen
-    → (r : ℕ) → register_of q r ≡ register_word (moment_behind p.table.config (moment_of m) (event_of p s)).words (caller_number p.seat) r
+pub register_behind : (p : PassState) (s : Step) (q : PassState) (m : Makes p s q) → Has p.seats p.seat
+    → IsHistory q.table.config q.seen
+    → (r : ℕ) → register_of q r ≡ register_word (moment_behind p.table.config (moment_of m) (event_of p s)).words
+    (caller_number p.seat) r
 register_behind p s q m own history r =
     let d = made p s q m own history in
     ap (λ (t : Seat). register_word (now_of q).words (caller_number t) r) d.seat
     ∙ ap (λ (w : World). register_word w.now.words (caller_number p.seat) r) d.world
 
 -- A step whose access leaves the registers alone leaves those of its seat as the pass knew them.
-pub keeps_registers : (p : PassState) (s : Step) (q : PassState) (m : Makes p s q) → Has p.seats p.seat → IsHistory q.table.config q.seen → (k : ℕ) → p.seat ≡ Caller k
-    → (moment_behind p.table.config (moment_of m) (event_of p s)).words.registers ≡ (moment_of m).words.registers → KeepsRegisters p q
+pub keeps_registers : (p : PassState) (s : Step) (q : PassState) (m : Makes p s q) → Has p.seats p.seat
+    → IsHistory q.table.config q.seen → (k : ℕ) → p.seat ≡ Caller k
+    → (moment_behind p.table.config (moment_of m) (event_of p s)).words.registers ≡ (moment_of m).words.registers
+    → KeepsRegisters p q
 keeps_registers p s q m own history k is same r lt =
     register_behind p s q m own history r
     ∙ ap (λ (xs : List ℕ). slice_index xs (8 * caller_number p.seat + r)) same
@@ -110,30 +120,36 @@ keeps_registers p s q m own history k is same r lt =
     ∙ sym (ap (λ (j : ℕ). register_word (now_of p).words j r) (number_is p.seat k is))
 
 -- The same, from what a call tells.
-module _ (p : PassState) (s : Step) (n : ℕ) (q : PassState) (t : Tells p s n q) (own : Has p.seats p.seat) (history : IsHistory q.table.config q.seen)
+module _ (p : PassState) (s : Step) (n : ℕ) (q : PassState) (t : Tells p s n q) (own : Has p.seats p.seat)
+    (history : IsHistory q.table.config q.seen)
     (kind : group_of s ≡ group.Callers) where
   pub caller_is : (k : ℕ) × (p.seat ≡ Caller k)
   caller_is =
       is_callers p.seat
       (subst (λ (g : Group). is_open_to p.seat g ≡ true) kind (made p s q t.makes own history).meets.kind)
 
-  pub goes_on : (x : Progress) → progress p.table.config (moment_of t.makes) (call_of p) (found_by t.makes) s ≡ x → Goes p s x q
+  pub goes_on : (x : Progress) → progress p.table.config (moment_of t.makes) (call_of p) (found_by t.makes) s ≡ x
+      → Goes p s x q
   goes_on x is = let k = caller_is in subst (λ (y : Progress). Goes p s y q) is (goes p s q t.makes own history k.0 k.1)
 
-  pub keeps : (moment_behind p.table.config (moment_of t.makes) (event_of p s)).words.registers ≡ (moment_of t.makes).words.registers → KeepsRegisters p q
+  pub keeps : (moment_behind p.table.config (moment_of t.makes) (event_of p s)).words.registers
+      ≡ (moment_of t.makes).words.registers → KeepsRegisters p q
   keeps same = let k = caller_is in keeps_registers p s q t.makes own history k.0 k.1 same
 
   pub same_call : flight_of (moment_of t.makes) p.seat ≡ call_of p
   same_call = (made p s q t.makes own history).frame.own.flight
 
-  pub same_register : (r : ℕ) → r < 8 → register_word (moment_of t.makes).words (caller_number p.seat) r ≡ register_of p r
+  pub same_register : (r : ℕ) → r < 8
+      → register_word (moment_of t.makes).words (caller_number p.seat) r ≡ register_of p r
   same_register r lt =
       let k = caller_is in
       ap (λ (j : ℕ). register_word (moment_of t.makes).words j r) (number_is p.seat k.0 k.1)
       ∙ registers_before p s q t.makes own history k.0 k.1 r lt
       ∙ sym (ap (λ (j : ℕ). register_word (now_of p).words j r) (number_is p.seat k.0 k.1))
 
-  pub register_now : (r : ℕ) → register_of q r ≡ register_word (moment_behind p.table.config (moment_of t.makes) (event_of p s)).words (caller_number p.seat) r
+  pub register_now : (r : ℕ)
+      → register_of q r ≡ register_word (moment_behind p.table.config (moment_of t.makes) (event_of p s)).words
+      (caller_number p.seat) r
   register_now r = register_behind p s q t.makes own history r
 
 -- A store's progress doesn't read what was there.
@@ -145,19 +161,24 @@ unread f _ v n h = cc
 -- `reg`, by the access that the call makes at its stage
 
 -- the access is the one that the pass's own list gives
-reg_access_is : (p : PassState) (q : PassState) (m : Makes p step.Reg q) (a : Access) → flight_of (moment_of m) p.seat ≡ call_of p → reg_access (call_of p) (call_of p).stage ≡ a
+reg_access_is : (p : PassState) (q : PassState) (m : Makes p step.Reg q) (a : Access)
+    → flight_of (moment_of m) p.seat ≡ call_of p → reg_access (call_of p) (call_of p).stage ≡ a
     → access p.table.config (moment_of m) (event_of p step.Reg) ≡ a
 reg_access_is p q m a same is = ap (λ (f : Flight). reg_access f f.stage) same ∙ is
 
-reg_reaches : (p : PassState) (q : PassState) (m : Makes p step.Reg q) (r : ℕ) → flight_of (moment_of m) p.seat ≡ call_of p → r ≡ register_met (call_of p) (call_of p).stage
+reg_reaches : (p : PassState) (q : PassState) (m : Makes p step.Reg q) (r : ℕ)
+    → flight_of (moment_of m) p.seat ≡ call_of p → r ≡ register_met (call_of p) (call_of p).stage
     → reached p.table.config (moment_of m) (event_of p step.Reg) ≡ Named (word.Reg (caller_number p.seat) r)
-reg_reaches p q m r same is = ap (λ (f : Flight). Named (word.Reg (caller_number p.seat) (register_met f f.stage))) same ∙ ap (λ (i : ℕ). Named (word.Reg (caller_number p.seat) i)) (sym is)
+reg_reaches p q m r same is = ap (λ (f : Flight). Named (word.Reg (caller_number p.seat) (register_met f f.stage))) same
+    ∙ ap (λ (i : ℕ). Named (word.Reg (caller_number p.seat) i)) (sym is)
 
 reg_goes : (p : PassState) (q : PassState) (m : Makes p step.Reg q) (n : ℕ) → n ≡ found_by m
-    → progress p.table.config (moment_of m) (call_of p) (found_by m) step.Reg ≡ progress_reg (call_of p) (call_of p).stage n
+    → progress p.table.config (moment_of m) (call_of p) (found_by m) step.Reg
+    ≡ progress_reg (call_of p) (call_of p).stage n
 reg_goes p q m n is = ap (λ (i : ℕ). progress_reg (call_of p) (call_of p).stage i) (sym is)
 
-module _ (p : PassState) (n : ℕ) (q : PassState) (t : Tells p step.Reg n q) (own : Has p.seats p.seat) (history : IsHistory q.table.config q.seen)
+module _ (p : PassState) (n : ℕ) (q : PassState) (t : Tells p step.Reg n q) (own : Has p.seats p.seat)
+    (history : IsHistory q.table.config q.seen)
     (r : ℕ) (met : r ≡ register_met (call_of p) (call_of p).stage) where
   same : flight_of (moment_of t.makes) p.seat ≡ call_of p
   same = same_call p step.Reg n q t own history refl
@@ -166,7 +187,8 @@ module _ (p : PassState) (n : ℕ) (q : PassState) (t : Tells p step.Reg n q) (o
   reaches = reg_reaches p q t.makes r same met
 
   small : r < 8
-  small = (subst (λ (x : TableWord). IsOfTable p.table.config.pages x) reaches (made p step.Reg q t.makes own history).of_table).1
+  small = (subst (λ (x : TableWord). IsOfTable p.table.config.pages x) reaches
+      (made p step.Reg q t.makes own history).of_table).1
 
   module _ (loads : reg_access (call_of p) (call_of p).stage ≡ Load) where
     found_is : n ≡ found_by t.makes
@@ -181,18 +203,26 @@ module _ (p : PassState) (n : ℕ) (q : PassState) (t : Tells p step.Reg n q) (o
     pub load_keeps : KeepsRegisters p q
     load_keeps =
         keeps p step.Reg n q t own history refl
-        (ap (λ (a : Access). (accessed (moment_of t.makes).words (reached p.table.config (moment_of t.makes) (event_of p step.Reg)) a).registers) (reg_access_is p q t.makes Load same loads))
+        (ap (λ (a : Access).
+        (accessed (moment_of t.makes).words (reached p.table.config (moment_of t.makes) (event_of p step.Reg))
+        a).registers) (reg_access_is p q t.makes Load same loads))
 
     pub load_own : n ≡ register_of p r
-    load_own = found_is ∙ ap (λ (x : TableWord). word_in (moment_of t.makes).words x) reaches ∙ same_register p step.Reg n q t own history refl r small
+    load_own = found_is ∙ ap (λ (x : TableWord). word_in (moment_of t.makes).words x) reaches
+        ∙ same_register p step.Reg n q t own history refl r small
 
   module _ (v : ℕ) (stores : reg_access (call_of p) (call_of p).stage ≡ Store v) where
-    words_now : (moment_behind p.table.config (moment_of t.makes) (event_of p step.Reg)).words ≡ with_named (moment_of t.makes).words (word.Reg (caller_number p.seat) r) v
+    words_now : (moment_behind p.table.config (moment_of t.makes) (event_of p step.Reg)).words
+        ≡ with_named (moment_of t.makes).words (word.Reg (caller_number p.seat) r) v
     words_now =
-        ap (λ (a : Access). accessed (moment_of t.makes).words (reached p.table.config (moment_of t.makes) (event_of p step.Reg)) a) (reg_access_is p q t.makes (Store v) same stores)
+        ap (λ (a : Access). accessed (moment_of t.makes).words
+        (reached p.table.config (moment_of t.makes) (event_of p step.Reg)) a)
+        (reg_access_is p q t.makes (Store v) same stores)
         ∙ ap (λ (x : TableWord). accessed (moment_of t.makes).words x (Store v)) reaches
 
-    register_set : (x : ℕ) → register_of q x ≡ slice_index (slice_set (moment_of t.makes).words.registers (8 * caller_number p.seat + r) v) (8 * caller_number p.seat + x)
+    register_set : (x : ℕ)
+        → register_of q x ≡ slice_index (slice_set (moment_of t.makes).words.registers (8 * caller_number p.seat + r) v)
+        (8 * caller_number p.seat + x)
     register_set x =
         register_now p step.Reg n q t own history refl x
         ∙ ap (λ (w : Words). register_word w (caller_number p.seat) x) words_now
@@ -205,7 +235,8 @@ module _ (p : PassState) (n : ℕ) (q : PassState) (t : Tells p step.Reg n q) (o
     pub store_keeps : KeepsOtherRegisters r p q
     store_keeps x lt ne =
         register_set x
-        ∙ get_or-set_other (moment_of t.makes).words.registers (8 * caller_number p.seat + r) (8 * caller_number p.seat + x) v 0 (λ e. ne (omega arith))
+        ∙ get_or-set_other (moment_of t.makes).words.registers (8 * caller_number p.seat + r)
+        (8 * caller_number p.seat + x) v 0 (λ e. ne (omega arith))
         ∙ same_register p step.Reg n q t own history refl x lt
 
     pub store_stored : register_of q r ≡ v
@@ -229,18 +260,24 @@ cas_goes f n found expected is old =
 
 -- `enter`
 
-pub begins : (f : Flight) (o : Op) (n found : ℕ) → n ≡ found → n ≡ 0 → begins_where_free f o found ≡ record { flight = begun o; answer = None }
-begins f o n found is free = ap (λ (b : Bool). if b then record { flight = begun o; answer = None } else still f) (eq-eqb found 0 (sym is ∙ free))
+pub begins : (f : Flight) (o : Op) (n found : ℕ) → n ≡ found → n ≡ 0
+    → begins_where_free f o found ≡ record { flight = begun o; answer = None }
+begins f o n found is free = ap (λ (b : Bool). if b then record { flight = begun o; answer = None } else still f)
+    (eq-eqb found 0 (sym is ∙ free))
 
 pub waits : (f : Flight) (o : Op) (n found : ℕ) → n ≡ found → n ≢ 0 → begins_where_free f o found ≡ still f
-waits f o n found is held = ap (λ (b : Bool). if b then record { flight = begun o; answer = None } else still f) (ne_eqb found 0 (λ z. held (is ∙ z)))
+waits f o n found is held = ap (λ (b : Bool). if b then record { flight = begun o; answer = None } else still f)
+    (ne_eqb found 0 (λ z. held (is ∙ z)))
 
-module _ (p : PassState) (o : Op) (n : ℕ) (q : PassState) (t : Tells p (step.Enter o) n q) (own : Has p.seats p.seat) (history : IsHistory q.table.config q.seen) where
+module _ (p : PassState) (o : Op) (n : ℕ) (q : PassState) (t : Tells p (step.Enter o) n q) (own : Has p.seats p.seat)
+    (history : IsHistory q.table.config q.seen) where
   pub enter_goes : n ≡ 0 → Goes p (step.Enter o) (record { flight = begun o; answer = None }) q
-  enter_goes free = goes_on p (step.Enter o) n q t own history refl _ (begins (call_of p) o n (found_by t.makes) t.tells free)
+  enter_goes free = goes_on p (step.Enter o) n q t own history refl _
+      (begins (call_of p) o n (found_by t.makes) t.tells free)
 
   pub enter_waits : n ≢ 0 → Goes p (step.Enter o) (still (call_of p)) q
-  enter_waits held = goes_on p (step.Enter o) n q t own history refl _ (waits (call_of p) o n (found_by t.makes) t.tells held)
+  enter_waits held = goes_on p (step.Enter o) n q t own history refl _
+      (waits (call_of p) o n (found_by t.makes) t.tells held)
 
   pub enter_keeps : KeepsRegisters p q
   enter_keeps = keeps p (step.Enter o) n q t own history refl refl
@@ -253,18 +290,21 @@ module _ (p : PassState) (o : Op) (n : ℕ) (q : PassState) (t : Tells p (step.E
       let m : Moment = moment_of t.makes in
       let within : k.0 < c.callers = caller_exists c p.seat k.0 k.1 d.meets.seat in
       let number : caller_number p.seat ≡ k.0 = number_is p.seat k.0 k.1 in
-      let order : is_in_order c m (Caller k.0) (step.Enter o) ≡ true = subst (λ (s : Seat). is_in_order c m s (step.Enter o) ≡ true) k.1 d.meets.order in
+      let order : is_in_order c m (Caller k.0) (step.Enter o) ≡ true =
+      subst (λ (s : Seat). is_in_order c m s (step.Enter o) ≡ true) k.1 d.meets.order in
       let idle = (at_enter (flight_of m (Caller k.0)).stage (flight_of m (Caller k.0)).op o order).0 in
       let gate : ℕ = slice_index m.words.gates k.0 in
       let is : n ≡ gate = t.tells ∙ ap (λ (i : ℕ). slice_index m.words.gates i) number in
       let not_one : gate ≢ 1 = λ one.
       let calls = (d.protocol.in_call k.0 within).0 one in
-      let rests : is_in_call (flight_of m (Caller k.0)) ≡ false = ap (λ (s : Stage). not (is_idle s) && not (is_under_turn (flight_of m (Caller k.0)).op)) idle in
+      let rests : is_in_call (flight_of m (Caller k.0)) ≡ false =
+      ap (λ (s : Stage). not (is_idle s) && not (is_under_turn (flight_of m (Caller k.0)).op)) idle in
       cc in
       let least : gate ≤ 2 = d.protocol.gate k.0 within in
       let two : gate ≡ 2 = omega arith in
       record {
         makes = t.makes;
         found = ap (λ (i : ℕ). slice_index m.words.gates i) number ∙ two;
-        held = subst (λ (i : ℕ). is_gate_held c i (p.seen ++ t.makes.others) ≡ true) (sym number) ((gates_tell_holds c (p.seen ++ t.makes.others) k.0).0 two);
+        held = subst (λ (i : ℕ). is_gate_held c i (p.seen ++ t.makes.others) ≡ true) (sym number)
+            ((gates_tell_holds c (p.seen ++ t.makes.others) k.0).0 two);
       }

@@ -1,5 +1,6 @@
 -- What is known of a table that has ended.
-use Rattle.std.proofs.Common.{◌≡◌, ℕ, zero, suc, ◌+◌, ◌*◌, ◌<◌, ◌≤◌, List, [], ◌∷◌, refl, sym, ◌∙◌, ap, subst, add-one, arith}
+use Rattle.std.proofs.Common.{◌≡◌, ℕ, zero, suc, ◌+◌, ◌*◌, ◌<◌, ◌≤◌, List, [], ◌∷◌, refl, sym, ◌∙◌, ap, subst, add-one}
+use Rattle.std.proofs.Common.{arith}
 use Rattle.std.specs.Prelude.{◌%◌, ◌^◌, slice_index, count_ones}
 use Rattle.std.proofs.Math.Nat.{add-mul-mod_self_left}
 use mathlib.Core.Option.{some, some-injective, some-ne-none}
@@ -24,7 +25,8 @@ found_at [] i n e = absurd (some-ne-none n (sym e))
 found_at (x ∷ l) zero n e = sym (some-injective x n e)
 found_at (x ∷ l) (suc i) n e = found_at l i n e
 
-pub one_page_more : (ws : List ℕ) (pages page freed word : ℕ) → freed ≡ freed_bits_in ws pages page → word ≡ slice_index ws (640 + 2 * pages + page)
+pub one_page_more : (ws : List ℕ) (pages page freed word : ℕ) → freed ≡ freed_bits_in ws pages page
+    → word ≡ slice_index ws (640 + 2 * pages + page)
     → freed + count_ones (word % 2 ^ 32) ≡ freed_bits_in ws pages (page + 1)
 one_page_more ws pages page freed word counted is =
     ap (λ (n : ℕ). n + count_ones (word % 2 ^ 32)) counted
@@ -33,43 +35,81 @@ one_page_more ws pages page freed word counted is =
 
 -- the freed bits by the list, and by the words
 
-freed_are : (pages : ℕ) (w : Words) (n : ℕ) → AreOfPages pages w → n ≤ pages → freed_bits_in (in_order w) pages n ≡ freed_cells w n
+freed_are : (pages : ℕ) (w : Words) (n : ℕ) → AreOfPages pages w → n ≤ pages
+    → freed_bits_in (in_order w) pages n ≡ freed_cells w n
 freed_are pages w zero of le = refl
 freed_are pages w (suc n) of le =
     let lt : n < pages = omega arith in
     let at = words_stand pages w (Named (word.Quar n)) of lt in
-    ap (λ (k : ℕ). k + count_ones (slice_index (in_order w) (640 + 2 * pages + n) % 2 ^ 32)) (freed_are pages w n of (omega arith))
+    ap (λ (k : ℕ). k + count_ones (slice_index (in_order w) (640 + 2 * pages + n) % 2 ^ 32))
+    (freed_are pages w n of (omega arith))
     ∙ ap (λ (k : ℕ). freed_cells w n + count_ones (k % 2 ^ 32)) at
-    ∙ ap (λ (k : ℕ). freed_cells w n + count_ones k) (add-mul-mod_self_left (slice_index w.freed n) (2 ^ 32) (slice_index w.snapshot n))
+    ∙ ap (λ (k : ℕ). freed_cells w n + count_ones k)
+    (add-mul-mod_self_left (slice_index w.freed n) (2 ^ 32) (slice_index w.snapshot n))
 
-tally_at : (pages : ℕ) (w : Words) (ws : List ℕ) (x : TableWord) (n : ℕ) → AreOfPages pages w → IsOfTable pages x → ws ≡ in_order w
+tally_at : (pages : ℕ) (w : Words) (ws : List ℕ) (x : TableWord) (n : ℕ) → AreOfPages pages w → IsOfTable pages x
+    → ws ≡ in_order w
     → get_elem? ws (index_of pages x) ≡ some n → n ≡ word_in w x
 tally_at pages w ws x n of table is at =
-    found_at ws (index_of pages x) n at ∙ ap (λ (l : List ℕ). slice_index l (index_of pages x)) is ∙ words_stand pages w x of table
+    found_at ws (index_of pages x) n at ∙ ap (λ (l : List ℕ). slice_index l (index_of pages x)) is
+    ∙ words_stand pages w x of table
 
-pub tallies_are : (c : Config) (es : List Event) (ws : List ℕ) (held fresh quarantined cycles released full : ℕ) (memory : Token (Unit {0}) View)
-    → ws ≡ in_order (left c es).now.words → get_elem? ws 32 ≡ some held → get_elem? ws 33 ≡ some fresh → quarantined ≡ freed_bits_in ws c.pages c.pages
+pub tallies_are : (c : Config) (es : List Event) (ws : List ℕ) (held fresh quarantined cycles released full : ℕ)
+    (memory : Token (Unit {0}) View)
+    → ws ≡ in_order (left c es).now.words → get_elem? ws 32 ≡ some held → get_elem? ws 33 ≡ some fresh
+    → quarantined ≡ freed_bits_in ws c.pages c.pages
     → get_elem? ws 34 ≡ some cycles → get_elem? ws 35 ≡ some released → get_elem? ws 36 ≡ some full
-    → HasTallies (left c es).now.words c.pages (record { held = held; fresh = fresh; quarantined = quarantined; cycles = cycles; released = released; full = full; memory = memory })
+    → HasTallies (left c es).now.words c.pages
+    (record {
+      held = held;
+      fresh = fresh;
+      quarantined = quarantined;
+      cycles = cycles;
+      released = released;
+      full = full;
+      memory = memory;
+    })
 tallies_are c es ws held fresh quarantined cycles released full memory is a b q d e f =
     let w : Words = (left c es).now.words in
     let of = histories_keep_lengths c es in
     record {
       held = tally_at c.pages w ws (Named word.Held) held of tt is a;
       fresh = tally_at c.pages w ws (Named word.Fresh) fresh of tt is b;
-      quarantined = q ∙ ap (λ (l : List ℕ). freed_bits_in l c.pages c.pages) is ∙ freed_are c.pages w c.pages of (omega arith);
+      quarantined = q ∙ ap (λ (l : List ℕ). freed_bits_in l c.pages c.pages) is
+          ∙ freed_are c.pages w c.pages of (omega arith);
       cycles = tally_at c.pages w ws (Named word.Cycles) cycles of tt is d;
       released = tally_at c.pages w ws (Named word.Released) released of tt is e;
       full = tally_at c.pages w ws (Named word.Full) full of tt is f;
     }
 
 -- The same, where a call names the configuration and the list in its own way.
-pub tallies_told : (c of_pass of_words : Config) (es seen : List Event) (ws : List ℕ) (held fresh quarantined cycles released full : ℕ) (memory : Token (Unit {0}) View)
-    → of_pass ≡ c → of_words ≡ c → seen ≡ es → ws ≡ in_order (left c es).now.words → get_elem? ws 32 ≡ some held → get_elem? ws 33 ≡ some fresh
-    → quarantined ≡ freed_bits_in ws c.pages c.pages → get_elem? ws 34 ≡ some cycles → get_elem? ws 35 ≡ some released → get_elem? ws 36 ≡ some full
-    → HasTallies (left of_pass seen).now.words of_words.pages (record { held = held; fresh = fresh; quarantined = quarantined; cycles = cycles; released = released; full = full; memory = memory })
-tallies_told c of_pass of_words es seen ws held fresh quarantined cycles released full memory pass_is words_is seen_is is a b q d e f =
-    let it : Final = record { held = held; fresh = fresh; quarantined = quarantined; cycles = cycles; released = released; full = full; memory = memory } in
+pub tallies_told : (c of_pass of_words : Config) (es seen : List Event) (ws : List ℕ)
+    (held fresh quarantined cycles released full : ℕ) (memory : Token (Unit {0}) View)
+    → of_pass ≡ c → of_words ≡ c → seen ≡ es → ws ≡ in_order (left c es).now.words → get_elem? ws 32 ≡ some held
+    → get_elem? ws 33 ≡ some fresh
+    → quarantined ≡ freed_bits_in ws c.pages c.pages → get_elem? ws 34 ≡ some cycles → get_elem? ws 35 ≡ some released
+    → get_elem? ws 36 ≡ some full
+    → HasTallies (left of_pass seen).now.words of_words.pages
+    (record {
+      held = held;
+      fresh = fresh;
+      quarantined = quarantined;
+      cycles = cycles;
+      released = released;
+      full = full;
+      memory = memory;
+    })
+tallies_told c of_pass of_words es seen ws held fresh quarantined cycles released full memory pass_is words_is seen_is
+    is a b q d e f =
+    let it : Final = record {
+      held = held;
+      fresh = fresh;
+      quarantined = quarantined;
+      cycles = cycles;
+      released = released;
+      full = full;
+      memory = memory;
+    } in
     subst (λ (x : Config). HasTallies (left x seen).now.words of_words.pages it) (sym pass_is)
     (subst (λ (x : Config). HasTallies (left c seen).now.words x.pages it) (sym words_is)
     (subst (λ (l : List Event). HasTallies (left c l).now.words c.pages it) (sym seen_is)

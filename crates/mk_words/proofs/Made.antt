@@ -24,7 +24,8 @@ use Rattle.mk_words.specs.Laws.{StepsStandBehindOthers}
 use Rattle.mk_frames.proofs.Frames.{admitted_others_leave}
 use Rattle.mk_words.proofs.Seats.{others_own}
 
--- The events of others leave the seat its own; the event met its conditions behind them, and the new list leaves what it leaves there.
+-- The events of others leave the seat its own; the event met its conditions behind them, and the new list leaves what
+-- it leaves there.
 pub record Made (p : PassState) (s : Step) (q : PassState) (m : Makes p s q) : Type 0 where
   pub others : AreOfOthers (p.seat ∷ []) m.others
   pub history : IsHistory p.table.config (p.seen ++ m.others)
@@ -33,11 +34,13 @@ pub record Made (p : PassState) (s : Step) (q : PassState) (m : Makes p s q) : T
   pub known : Known p.table.config (left p.table.config (p.seen ++ m.others)).now
   pub protocol : Protocol p.table.config (left p.table.config (p.seen ++ m.others)).now
   pub meets : MeetsAll p.table.config (left p.table.config (p.seen ++ m.others)).now (event_of p s)
-  pub of_table : IsOfTable p.table.config.pages (reached p.table.config (left p.table.config (p.seen ++ m.others)).now (event_of p s))
+  pub of_table : IsOfTable p.table.config.pages
+      (reached p.table.config (left p.table.config (p.seen ++ m.others)).now (event_of p s))
   pub world : world_of q ≡ world_behind p.table.config (left p.table.config (p.seen ++ m.others)) (event_of p s)
   pub seat : q.seat ≡ p.seat
 
-pub made : (p : PassState) (s : Step) (q : PassState) (m : Makes p s q) → Has p.seats p.seat → IsHistory q.table.config q.seen → Made p s q m
+pub made : (p : PassState) (s : Step) (q : PassState) (m : Makes p s q) → Has p.seats p.seat
+    → IsHistory q.table.config q.seen → Made p s q m
 made p s q m own history =
     let c : Config = p.table.config in
     let es : List Event = p.seen ++ m.others in

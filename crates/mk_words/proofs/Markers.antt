@@ -33,7 +33,8 @@ use Rattle.mk_words.proofs.Seats.{others_own}
 use Rattle.mk_words.proofs.Made.{Made, made}
 
 -- no access of a marker's is a store
-told_found : (c : Config) (n : ℕ) (f : Flight) (placing : Placing) (x : MarkerState) (s : Step) (k : ℕ) → is_markers (group_of s) ≡ true → told_by (access_by c n f placing x s) k ≡ k
+told_found : (c : Config) (n : ℕ) (f : Flight) (placing : Placing) (x : MarkerState) (s : Step) (k : ℕ)
+    → is_markers (group_of s) ≡ true → told_by (access_by c n f placing x s) k ≡ k
 told_found c n f placing x step.Attend k h = refl
 told_found c n f placing x step.Quit k h = refl
 told_found c n f placing x (step.Mlook w) k h = refl
@@ -51,7 +52,8 @@ marker_steps (Caller k) group.Markers m h = cc
 marker_steps Host group.Markers m h = cc
 marker_steps seat _ m h = cc
 
-other_steps : (c : Config) (m : Moment) (seat : Seat) (s : Step) → is_markers (group_of s) ≡ false → is_open_to seat (group_of s) ≡ true → (n : Moment) → marker_at n seat ≡ outside
+other_steps : (c : Config) (m : Moment) (seat : Seat) (s : Step) → is_markers (group_of s) ≡ false
+    → is_open_to seat (group_of s) ≡ true → (n : Moment) → marker_at n seat ≡ outside
 other_steps c m (Caller k) s g h n = refl
 other_steps c m Host s g h n = refl
 other_steps c m (Marker k) s g h n = by (group_of s) g h
@@ -61,13 +63,15 @@ other_steps c m (Marker k) s g h n = by (group_of s) g h
     by _ g h = cc
 
 behind_own : (c : Config) (m : Moment) (seat : Seat) (k : ℕ) (s : Step) → seat ≡ Marker k → k < length m.seats.markers
-    → marker_at (moment_behind c m (record { seat = seat; step = s })) seat ≡ marker_behind c (found c m (record { seat = seat; step = s })) s (marker_at m seat)
+    → marker_at (moment_behind c m (record { seat = seat; step = s })) seat
+    ≡ marker_behind c (found c m (record { seat = seat; step = s })) s (marker_at m seat)
 behind_own c m (Marker j) k s is lt = let same : j ≡ k = cc in get_or-set_same m.seats.markers j _ outside (omega arith)
 behind_own c m (Caller j) k s is lt = cc
 behind_own c m Host k s is lt = cc
 
 -- a step of another kind leaves nothing of a marker
-no_marker : (p : PassState) (s : Step) (q : PassState) (m : Makes p s q) → Has p.seats p.seat → IsHistory q.table.config q.seen → is_markers (group_of s) ≡ false
+no_marker : (p : PassState) (s : Step) (q : PassState) (m : Makes p s q) → Has p.seats p.seat
+    → IsHistory q.table.config q.seen → is_markers (group_of s) ≡ false
     → marker_in q ≡ marker_in p
 no_marker p s q m own history kind =
     let d = made p s q m own history in
@@ -75,7 +79,8 @@ no_marker p s q m own history kind =
     ∙ other_steps p.table.config (now_of p) p.seat s kind d.meets.kind (now_of q)
     ∙ sym (other_steps p.table.config (now_of p) p.seat s kind d.meets.kind (now_of p))
 
-module _ (p : PassState) (s : Step) (n : ℕ) (q : PassState) (t : Tells p s n q) (own : Has p.seats p.seat) (history : IsHistory q.table.config q.seen) where
+module _ (p : PassState) (s : Step) (n : ℕ) (q : PassState) (t : Tells p s n q) (own : Has p.seats p.seat)
+    (history : IsHistory q.table.config q.seen) where
   d : Made p s q t.makes
   d = made p s q t.makes own history
 
@@ -84,7 +89,9 @@ module _ (p : PassState) (s : Step) (n : ℕ) (q : PassState) (t : Tells p s n q
       let c : Config = p.table.config in
       let k = marker_steps p.seat (group_of s) kind d.meets.kind in
       let lt : k.0 < 8 = ltb-true k.0 8 (subst (λ (x : Seat). seat_exists c x ≡ true) k.1 d.meets.seat) in
-      let found_is : n ≡ found_by t.makes = t.tells ∙ told_found c (holder_number c p.seat) (flight_of (now_of p) p.seat) (now_of p).seats.holding.placing (marker_at (now_of p) p.seat) s (found_by t.makes) kind in
+      let found_is : n ≡ found_by t.makes = t.tells
+      ∙ told_found c (holder_number c p.seat) (flight_of (now_of p) p.seat) (now_of p).seats.holding.placing
+      (marker_at (now_of p) p.seat) s (found_by t.makes) kind in
       record {
         finds = record { makes = t.makes; finds = found_is };
         marker =
@@ -96,7 +103,8 @@ module _ (p : PassState) (s : Step) (n : ℕ) (q : PassState) (t : Tells p s n q
       }
 
 -- others leave it
-pub marker_stays : (c : Config) (seen more : List Event) (seat : Seat) → IsHistory c (seen ++ more) → AreOfOthers (seat ∷ []) more
+pub marker_stays : (c : Config) (seen more : List Event) (seat : Seat) → IsHistory c (seen ++ more)
+    → AreOfOthers (seat ∷ []) more
     → marker_at (left c (seen ++ more)).now seat ≡ marker_at (left c seen).now seat
 marker_stays c seen more seat h others = (others_leave c seen more seat h.within_limits h.enabled others).own.marker
 
@@ -105,7 +113,8 @@ marker_stays c seen more seat h others = (others_leave c seen more seat h.within
 pub first_pass : (c : Config) (me : Mine) → me ≡ (first_view c, []) → IsInOrder me Host → IsPass me Host outside
 first_pass c me is order = record { order = order; keeps = refl }
 
-pub stays_pass : (me n : Mine) (seat : Seat) (marker : MarkerState) → IsPass me seat marker → n.0.config ≡ me.0.config → n.0.own.seen ≡ me.0.own.seen → IsInOrder n seat → IsPass n seat marker
+pub stays_pass : (me n : Mine) (seat : Seat) (marker : MarkerState) → IsPass me seat marker → n.0.config ≡ me.0.config
+    → n.0.own.seen ≡ me.0.own.seen → IsInOrder n seat → IsPass n seat marker
 stays_pass me n seat marker pass config_is seen_is order =
     record {
       order = order;
@@ -114,7 +123,8 @@ stays_pass me n seat marker pass config_is seen_is order =
           ∙ ap (λ (es : List Event). marker_at (left n.0.config es).now seat) (sym seen_is);
     }
 
-pub out_pass : (me n : Mine) (seat : Seat) → n.0.config ≡ me.0.config → n.0.own.seen ≡ me.0.own.seen → marker_at (left me.0.config me.0.own.seen).now seat ≡ outside → IsInOrder n seat
+pub out_pass : (me n : Mine) (seat : Seat) → n.0.config ≡ me.0.config → n.0.own.seen ≡ me.0.own.seen
+    → marker_at (left me.0.config me.0.own.seen).now seat ≡ outside → IsInOrder n seat
     → IsPass n seat outside
 out_pass me n seat config_is seen_is out order =
     record {
@@ -124,33 +134,49 @@ out_pass me n seat config_is seen_is out order =
           ∙ ap (λ (es : List Event). marker_at (left n.0.config es).now seat) (sym seen_is);
     }
 
-pub joined_pass : (me n : Mine) (seat : Seat) (marker : MarkerState) → IsPass me seat marker → n.0.config ≡ me.0.config → Grows me.0.own.seats me.0.own.seen n.0.own.seen → IsInOrder n seat
+pub joined_pass : (me n : Mine) (seat : Seat) (marker : MarkerState) → IsPass me seat marker → n.0.config ≡ me.0.config
+    → Grows me.0.own.seats me.0.own.seen n.0.own.seen → IsInOrder n seat
     → IsPass n seat marker
 joined_pass me n seat marker pass config_is grows order =
     let whole : IsHistory me.0.config (me.0.own.seen ++ grows.more) =
-    subst (λ (es : List Event). IsHistory me.0.config es) grows.is (subst (λ (c : Config). IsHistory c n.0.own.seen) config_is order.history) in
+    subst (λ (es : List Event). IsHistory me.0.config es) grows.is
+    (subst (λ (c : Config). IsHistory c n.0.own.seen) config_is order.history) in
     record {
       order = order;
       keeps = pass.keeps
-          ∙ sym (marker_stays me.0.config me.0.own.seen grows.more seat whole (others_own me.0.own.seats seat grows.more pass.order.own grows.of_others))
+          ∙ sym (marker_stays me.0.config me.0.own.seen grows.more seat whole
+          (others_own me.0.own.seats seat grows.more pass.order.own grows.of_others))
           ∙ ap (λ (es : List Event). marker_at (left me.0.config es).now seat) (sym grows.is)
           ∙ ap (λ (c : Config). marker_at (left c n.0.own.seen).now seat) (sym config_is);
     }
 
-pub other_pass_made : (tid qid : TableId) (me n : Mine) (seat : Seat) (marker : MarkerState) (s : Step) → IsPass me seat marker → IsInOrder n seat
+pub other_pass_made : (tid qid : TableId) (me n : Mine) (seat : Seat) (marker : MarkerState) (s : Step)
+    → IsPass me seat marker → IsInOrder n seat
     → Makes (state_of tid me seat) s (state_of qid n seat) → is_markers (group_of s) ≡ false → IsPass n seat marker
 other_pass_made tid qid me n seat marker s pass order m kind =
-    record { order = order; keeps = pass.keeps ∙ sym (no_marker (state_of tid me seat) s (state_of qid n seat) m pass.order.own order.history kind) }
+    record {
+      order = order;
+      keeps = pass.keeps
+          ∙ sym (no_marker (state_of tid me seat) s (state_of qid n seat) m pass.order.own order.history kind);
+    }
 
-pub other_pass : (tid qid : TableId) (me n : Mine) (seat : Seat) (marker : MarkerState) (s : Step) (k : ℕ) → IsPass me seat marker → IsInOrder n seat
+pub other_pass : (tid qid : TableId) (me n : Mine) (seat : Seat) (marker : MarkerState) (s : Step) (k : ℕ)
+    → IsPass me seat marker → IsInOrder n seat
     → Tells (state_of tid me seat) s k (state_of qid n seat) → is_markers (group_of s) ≡ false → IsPass n seat marker
-other_pass tid qid me n seat marker s k pass order t kind = other_pass_made tid qid me n seat marker s pass order t.makes kind
+other_pass tid qid me n seat marker s k pass order t kind =
+    other_pass_made tid qid me n seat marker s pass order t.makes kind
 
-pub marking_pass : (tid qid : TableId) (me n : Mine) (seat : Seat) (marker behind : MarkerState) (s : Step) (k : ℕ) → IsPass me seat marker → IsInOrder n seat
-    → Tells (state_of tid me seat) s k (state_of qid n seat) → is_markers (group_of s) ≡ true → behind ≡ marker_behind me.0.config k s marker → IsPass n seat behind
+pub marking_pass : (tid qid : TableId) (me n : Mine) (seat : Seat) (marker behind : MarkerState) (s : Step) (k : ℕ)
+    → IsPass me seat marker → IsInOrder n seat
+    → Tells (state_of tid me seat) s k (state_of qid n seat) → is_markers (group_of s) ≡ true
+    → behind ≡ marker_behind me.0.config k s marker → IsPass n seat behind
 marking_pass tid qid me n seat marker behind s k pass order t kind is =
     let m = marks (state_of tid me seat) s k (state_of qid n seat) t pass.order.own order.history kind in
-    record { order = order; keeps = is ∙ ap (λ (x : MarkerState). marker_behind me.0.config k s x) pass.keeps ∙ sym m.marker }
+    record {
+      order = order;
+      keeps = is ∙ ap (λ (x : MarkerState). marker_behind me.0.config k s x) pass.keeps
+          ∙ sym m.marker;
+    }
 
 -- what an enabled step of a marker's is asked of what the marker is at
 pub own_met : (p : PassState) (s : Step) → IsEnabledTo p s → marker_may p.table.config (marker_in p) s ≡ true

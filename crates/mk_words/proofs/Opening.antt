@@ -1,5 +1,6 @@
 -- All gates are opened, one after the other.
-use Rattle.std.proofs.Common.{◌≡◌, ◌≢◌, ◌⊎◌, ℕ, ◌+◌, ◌<◌, ◌≤◌, true, false, List, [], ◌∷◌, ◌++◌, length, refl, sym, ◌∙◌, ap, subst, inl, inr, ⊎_elim, append_assoc, append-nil, arith}
+use Rattle.std.proofs.Common.{◌≡◌, ◌≢◌, ◌⊎◌, ℕ, ◌+◌, ◌<◌, ◌≤◌, true, false, List, [], ◌∷◌, ◌++◌, length, refl, sym, ◌∙◌}
+use Rattle.std.proofs.Common.{ap, subst, inl, inr, ⊎_elim, append_assoc, append-nil, arith}
 use Rattle.std.specs.Prelude.{slice_index, slice_set, ◌==◌, not, Option}
 use Rattle.std.proofs.lemmas.Bool.{cases_Bool, cases_lt, cases_eq, eqb-true, eqb-false, ne_eqb, false_from_ne_true}
 use Rattle.std.proofs.lemmas.List.{get_or-set_same, get_or-set_other, get_or_past, length-set, set-get_or}
@@ -42,23 +43,54 @@ use Rattle.mk_words.proofs.LongerLists.{longer_lists}
 
 -- one gate that is opened leaves the others to be opened
 
-behind_open : (c : Config) (m : Moment) (seat : Seat) (k : ℕ) → moment_behind c m (record { seat = seat; step = step.Open k }) ≡ record m { words = record m.words { gates = slice_set m.words.gates k 0 } }
+behind_open : (c : Config) (m : Moment) (seat : Seat) (k : ℕ)
+    → moment_behind c m (record { seat = seat; step = step.Open k })
+    ≡ record m { words = record m.words { gates = slice_set m.words.gates k 0 } }
 behind_open c m (Caller i) k =
-    ap (λ (fs : List Flight). record { words = record m.words { gates = slice_set m.words.gates k 0 }; seats = record m.seats { flights = fs }; fresh_words = m.fresh_words })
+    ap (λ (fs : List Flight). record {
+      words = record m.words { gates = slice_set m.words.gates k 0 };
+      seats = record m.seats { flights = fs };
+      fresh_words = m.fresh_words;
+    })
     (set-get_or m.seats.flights i at_rest)
 behind_open c m (Marker i) k =
-    ap (λ (xs : List MarkerState). record { words = record m.words { gates = slice_set m.words.gates k 0 }; seats = record m.seats { markers = xs }; fresh_words = m.fresh_words })
+    ap (λ (xs : List MarkerState). record {
+      words = record m.words { gates = slice_set m.words.gates k 0 };
+      seats = record m.seats { markers = xs };
+      fresh_words = m.fresh_words;
+    })
     (set-get_or m.seats.markers i outside)
 behind_open c m Host k = refl
 
-open_elsewhere : (c : Config) (m : Moment) (seat : Seat) (j : ℕ) (gs : List ℕ) → slice_index gs j ≡ slice_index m.words.gates j
+open_elsewhere : (c : Config) (m : Moment) (seat : Seat) (j : ℕ) (gs : List ℕ)
+    → slice_index gs j ≡ slice_index m.words.gates j
     → MeetsAll c m (record { seat = seat; step = step.Open j })
     → MeetsAll c (record m { words = record m.words { gates = gs } }) (record { seat = seat; step = step.Open j })
 open_elsewhere c m (Caller i) j gs same h =
-    record { seat = h.seat; kind = h.kind; order = h.order; range = h.range; gates = ap (λ (n : ℕ). n == 2) same ∙ h.gates; phase = h.phase; marker = h.marker; holder = h.holder }
+    record {
+      seat = h.seat;
+      kind = h.kind;
+      order = h.order;
+      range = h.range;
+      gates = ap (λ (n : ℕ). n == 2) same
+          ∙ h.gates;
+      phase = h.phase;
+      marker = h.marker;
+      holder = h.holder;
+    }
 open_elsewhere c m (Marker i) j gs same h = (let kind = h.kind in cc)
 open_elsewhere c m Host j gs same h =
-    record { seat = h.seat; kind = h.kind; order = h.order; range = h.range; gates = ap (λ (n : ℕ). n == 2) same ∙ h.gates; phase = h.phase; marker = h.marker; holder = h.holder }
+    record {
+      seat = h.seat;
+      kind = h.kind;
+      order = h.order;
+      range = h.range;
+      gates = ap (λ (n : ℕ). n == 2) same
+          ∙ h.gates;
+      phase = h.phase;
+      marker = h.marker;
+      holder = h.holder;
+    }
 
 -- What was seen goes on by others' events and the gate that is opened.
 
@@ -71,26 +103,40 @@ only_one : (seats : List Seat) (seat : Seat) (k : ℕ) → OnlyOpen seats (recor
 unfolding OnlyOpen
 only_one seats seat k = (inr refl, tt)
 
-only_append : (seats : List Seat) (es fs : List Event) → OnlyOpen seats es → OnlyOpen seats fs → OnlyOpen seats (es ++ fs)
+only_append : (seats : List Seat) (es fs : List Event) → OnlyOpen seats es → OnlyOpen seats fs
+    → OnlyOpen seats (es ++ fs)
 unfolding OnlyOpen
 only_append seats [] fs h k = k
 only_append seats (e ∷ es) fs h k = (h.0, only_append seats es fs h.1 k)
 
 pub opens_none : (p : PassState) → Opens p p
 unfolding OnlyOpen
-opens_none p = record { more = []; is = ap (λ (es : List Event). record p { seen = es }) (sym (append-nil p.seen)); only = tt; steady = refl; holding = refl; call = refl; counts = record { ends = refl; fulls = refl } }
+opens_none p = record {
+  more = [];
+  is = ap (λ (es : List Event). record p { seen = es }) (sym (append-nil p.seen));
+  only = tt;
+  steady = refl;
+  holding = refl;
+  call = refl;
+  counts = record { ends = refl; fulls = refl };
+}
 
 -- An `open` counts nothing.
 
-open_answers : (c : Config) (m : Moment) (seat : Seat) (k : ℕ) → answers_full (answer_decided c m (record { seat = seat; step = step.Open k })) ≡ false
+open_answers : (c : Config) (m : Moment) (seat : Seat) (k : ℕ)
+    → answers_full (answer_decided c m (record { seat = seat; step = step.Open k })) ≡ false
 open_answers c m (Caller i) k = refl
 open_answers c m (Marker i) k = refl
 open_answers c m Host k = refl
 
-open_counts_nothing : (c : Config) (w : World) (seat : Seat) (k : ℕ) → CountsNothing c w (record { seat = seat; step = step.Open k })
+open_counts_nothing : (c : Config) (w : World) (seat : Seat) (k : ℕ)
+    → CountsNothing c w (record { seat = seat; step = step.Open k })
 open_counts_nothing c w seat k =
     record {
-      alike = record { tallies = record { held = refl; fresh = refl; cycles = refl; released = refl; full = refl }; allocations = refl };
+      alike = record {
+        tallies = record { held = refl; fresh = refl; cycles = refl; released = refl; full = refl };
+        allocations = refl;
+      };
       no_end = refl;
       no_full = open_answers c w.now seat k;
     }
@@ -112,13 +158,16 @@ opens_more p q r k o a =
     record {
       steady = ap (λ (w : World). steady_of w) a.world ∙ a.turn.steady ∙ o.steady;
       holding =
-          ap (λ (w : World). w.now.seats.holding) a.world ∙ ap (λ (m : Moment). m.seats.holding) opened ∙ a.holding ∙ o.holding;
+          ap (λ (w : World). w.now.seats.holding) a.world ∙ ap (λ (m : Moment). m.seats.holding) opened ∙ a.holding
+          ∙ o.holding;
       call =
           ap (λ (s : Seat). flight_of (now_of r) s) (ap (λ (x : PassState). x.seat) a.makes.is)
-          ∙ ap (λ (w : World). flight_of w.now q.seat) a.world ∙ ap (λ (m : Moment). flight_of m q.seat) opened ∙ a.own.flight ∙ o.call;
+          ∙ ap (λ (w : World). flight_of w.now q.seat) a.world ∙ ap (λ (m : Moment). flight_of m q.seat) opened
+          ∙ a.own.flight ∙ o.call;
       counts = record {
         ends = ap ends seen_then ∙ sym (same_ends c fs last nothing) ∙ counts.ends ∙ o.counts.ends;
-        fulls = ap (λ (es : List Event). fulls c es) seen_then ∙ sym (same_fulls c fs last nothing) ∙ counts.fulls ∙ o.counts.fulls;
+        fulls = ap (λ (es : List Event). fulls c es) seen_then ∙ sym (same_fulls c fs last nothing) ∙ counts.fulls
+            ∙ o.counts.fulls;
       };
       more = more;
       is =
@@ -130,34 +179,42 @@ opens_more p q r k o a =
           ∙ append_assoc p.seen o.more (a.makes.others ++ last ∷ []));
       only = only_append p.seats o.more (a.makes.others ++ last ∷ []) o.only
           (only_append p.seats a.makes.others (last ∷ [])
-          (only_others p.seats a.makes.others (subst (λ (seats : List Seat). AreOfOthers seats a.makes.others) seats_are a.makes.of_others)) (only_one p.seats q.seat k));
+          (only_others p.seats a.makes.others
+          (subst (λ (seats : List Seat). AreOfOthers seats a.makes.others) seats_are a.makes.of_others))
+          (only_one p.seats q.seat k));
     }
 
 -- The others may still be opened.
-still_may : (p q : PassState) (k : ℕ) → Acts p (step.Open k) q → Has p.seats p.seat → IsHistory p.table.config p.seen → IsHistory q.table.config q.seen
+still_may : (p q : PassState) (k : ℕ) → Acts p (step.Open k) q → Has p.seats p.seat → IsHistory p.table.config p.seen
+    → IsHistory q.table.config q.seen
     → (j : ℕ) → j ≢ k → IsEnabledTo p (step.Open j) → IsEnabledTo q (step.Open j)
 still_may p q k a own before behind j other on =
     let c : Config = p.table.config in
     let d = made p (step.Open k) q a.makes own behind in
     let e : Event = event_of p (step.Open j) in
-    let short = history_more p (step.Open j) before (record { enabled = on; admitted = λ h. cc; tidy = λ h. cc; home = λ h. cc }) in
+    let short = history_more p (step.Open j) before
+    (record { enabled = on; admitted = λ h. cc; tidy = λ h. cc; home = λ h. cc }) in
     let long = longer_lists c p.seen a.makes.others e short d.history d.others in
     let then_on = last_enabled c (first_world c) (p.seen ++ a.makes.others) e long.history.enabled in
     let m : Moment = (world_at a.makes).now in
-    let meets = open_elsewhere c m p.seat j (slice_set m.words.gates k 0) (get_or-set_other m.words.gates k j 0 0 other) (enabled_meets c m e then_on) in
+    let meets = open_elsewhere c m p.seat j (slice_set m.words.gates k 0) (get_or-set_other m.words.gates k j 0 0 other)
+    (enabled_meets c m e then_on) in
     let now : IsEnabled c (moment_behind c m (event_of p (step.Open k))) e =
-    subst (λ (n : Moment). IsEnabled c n e) (sym (behind_open c m p.seat k)) (meets_enabled c (record m { words = record m.words { gates = slice_set m.words.gates k 0 } }) e meets) in
+    subst (λ (n : Moment). IsEnabled c n e) (sym (behind_open c m p.seat k))
+    (meets_enabled c (record m { words = record m.words { gates = slice_set m.words.gates k 0 } }) e meets) in
     let there : IsEnabled c (now_of q) e = subst (λ (w : World). IsEnabled c w.now e) (sym a.world) now in
     subst (λ (r : PassState). IsEnabled r.table.config (now_of q) (event_of r (step.Open j))) (sym a.makes.is) there
 
 -- the gates behind it
-gates_behind : (p q : PassState) (k : ℕ) (a : Acts p (step.Open k) q) → (now_of q).words.gates ≡ slice_set (world_at a.makes).now.words.gates k 0
+gates_behind : (p q : PassState) (k : ℕ) (a : Acts p (step.Open k) q)
+    → (now_of q).words.gates ≡ slice_set (world_at a.makes).now.words.gates k 0
 gates_behind p q k a = ap (λ (w : World). w.now.words.gates) a.world
 
 not_held : (gs : List ℕ) (j : ℕ) → (slice_index gs j == 2) ≡ false → slice_index gs j ≢ 2
 not_held gs j h = eqb-false (slice_index gs j) 2 h
 
-opened_then : (p q : PassState) (k j : ℕ) → Acts p (step.Open k) q → (is_held (now_of p).words j ≡ false) ⊎ (j ≡ k) → is_held (now_of q).words j ≡ false
+opened_then : (p q : PassState) (k j : ℕ) → Acts p (step.Open k) q → (is_held (now_of p).words j ≡ false) ⊎ (j ≡ k)
+    → is_held (now_of q).words j ≡ false
 opened_then p q k j a h = by (cases_eq j k)
   where
     gs : List ℕ
@@ -174,7 +231,8 @@ opened_then p q k j a h = by (cases_eq j k)
         ap (λ (xs : List ℕ). slice_index xs j == 2) (gates_behind p q k a)
         ∙ ap (λ (i : ℕ). slice_index (slice_set gs k 0) i == 2) same ∙ ap (λ (n : ℕ). n == 2) (zero_there gs k)
     by (inr other) =
-        let free_now : is_held (now_of p).words j ≡ false = ⊎_elim (λ (t : is_held (now_of p).words j ≡ false). t) (λ (t : j ≡ k). absurd (other t)) h in
+        let free_now : is_held (now_of p).words j ≡ false =
+        ⊎_elim (λ (t : is_held (now_of p).words j ≡ false). t) (λ (t : j ≡ k). absurd (other t)) h in
         let free = a.turn.other_gates j (not_held (now_of p).words.gates j free_now) in
         ap (λ (xs : List ℕ). slice_index xs j == 2) (gates_behind p q k a)
         ∙ ap (λ (n : ℕ). n == 2) (get_or-set_other gs k j 0 0 other) ∙ ne_eqb (slice_index gs j) 2 free
@@ -186,8 +244,10 @@ pub record Round (p q r : PassState) (k : ℕ) : Type 0 where
   pub may : OthersMayOpen r (k + 1)
   pub opened : AreOpened r (k + 1)
 
-pub one_round : (p q r : PassState) (k : ℕ) → Opens p q → OthersMayOpen q k → AreOpened q k → (is_number_of q.seat k ≡ false → Acts q (step.Open k) r)
-    → (is_number_of q.seat k ≡ true → r ≡ q) → Has q.seats q.seat → IsHistory q.table.config q.seen → IsHistory r.table.config r.seen → Round p q r k
+pub one_round : (p q r : PassState) (k : ℕ) → Opens p q → OthersMayOpen q k → AreOpened q k
+    → (is_number_of q.seat k ≡ false → Acts q (step.Open k) r)
+    → (is_number_of q.seat k ≡ true → r ≡ q) → Has q.seats q.seat → IsHistory q.table.config q.seen
+    → IsHistory r.table.config r.seen → Round p q r k
 one_round p q r k o may opened acts same own before behind = elim (cases_Bool (is_number_of q.seat k)) [
   | inl mine ↦ subst (λ (x : PassState). Round p q x k) (sym (same mine)) (record {
     opens = o;
@@ -200,7 +260,8 @@ one_round p q r k o may opened acts same own before behind = elim (cases_Bool (i
   | inr another ↦ (
       let a = acts another in
       let seat_is : r.seat ≡ q.seat = ap (λ (x : PassState). x.seat) a.makes.is in
-      let callers_are : r.table.config.callers ≡ q.table.config.callers = ap (λ (x : PassState). x.table.config.callers) a.makes.is in
+      let callers_are : r.table.config.callers ≡ q.table.config.callers =
+      ap (λ (x : PassState). x.table.config.callers) a.makes.is in
       record {
         opens = opens_more p q r k o a;
         may = λ j le lt other. still_may q r k a own before behind j (λ e. absurd (omega arith))
@@ -213,11 +274,14 @@ one_round p q r k o may opened acts same own before behind = elim (cases_Bool (i
 ]
 
 -- at the end
-pub all_opened : (p q : PassState) (o : Option Op) → Opens p q → AreOpened q p.table.config.callers → IsTurn q o → IsHistory q.table.config q.seen
+pub all_opened : (p q : PassState) (o : Option Op) → Opens p q → AreOpened q p.table.config.callers → IsTurn q o
+    → IsHistory q.table.config q.seen
     → none_is_held p.table.config.callers (now_of q).words ≡ true
 all_opened p q o opens opened t history =
-    all_from p.table.config.callers (λ j. not (is_held (now_of q).words j)) (λ j lt. ap not (elim (cases_Bool (is_number_of q.seat j)) [
-      | inl mine ↦ false_from_ne_true (is_held (now_of q).words j) (λ two. own_held q.seat j mine t.holds lt (eqb-true (slice_index (now_of q).words.gates j) 2 two))
+    all_from p.table.config.callers (λ j. not (is_held (now_of q).words j))
+    (λ j lt. ap not (elim (cases_Bool (is_number_of q.seat j)) [
+      | inl mine ↦ false_from_ne_true (is_held (now_of q).words j)
+          (λ two. own_held q.seat j mine t.holds lt (eqb-true (slice_index (now_of q).words.gates j) 2 two))
       | inr another ↦ opened j lt another
     ]))
   where
@@ -227,7 +291,8 @@ all_opened p q o opens opened t history =
     protocol : Protocol q.table.config (now_of q)
     protocol = lists_keep_the_protocol q.table.config q.seen history.within_limits history.enabled
 
-    own_held : (s : Seat) (j : ℕ) → is_number_of s j ≡ true → Holds q.table.config (now_of q) s → j < p.table.config.callers → slice_index (now_of q).words.gates j ≡ 2 → ⊥
+    own_held : (s : Seat) (j : ℕ) → is_number_of s j ≡ true → Holds q.table.config (now_of q) s
+        → j < p.table.config.callers → slice_index (now_of q).words.gates j ≡ 2 → ⊥
     own_held (Caller i) j mine holds lt two =
         let e : i ≡ j = eqb-true i j mine in
         let named = (protocol.holder i holds.0).1 holds.1 in

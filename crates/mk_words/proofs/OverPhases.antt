@@ -20,7 +20,8 @@ not_over step.End p out ne = λ h. absurd (omega arith)
 not_over step.Over p out ne = cc
 not_over _ p out ne = ne
 
-never_over : (c : Config) (w : World) (es : List Event) → AreEnabledFrom c w es → has_over es ≡ false → phase_of w.now.words ≢ 5
+never_over : (c : Config) (w : World) (es : List Event) → AreEnabledFrom c w es → has_over es ≡ false
+    → phase_of w.now.words ≢ 5
     → phase_of (left_from c w es).now.words ≢ 5
 unfolding left_from
 never_over c w [] on none ne = ne
@@ -32,4 +33,5 @@ never_over c w (e ∷ es) on none ne =
 
 pub end_is_behind_over : EndIsBehindOver
 end_is_behind_over c es h five =
-    true_from_ne_false (has_over es) (λ none. never_over c (first_world c) es h.enabled none (λ e. absurd (omega arith)) five)
+    true_from_ne_false (has_over es)
+    (λ none. never_over c (first_world c) es h.enabled none (λ e. absurd (omega arith)) five)

@@ -1,5 +1,6 @@
 -- An `over` is the host's, who has the seats of all callers then, so no caller steps behind one.
-use Rattle.std.proofs.Common.{◌≡◌, ◌≢◌, ◌⊎◌, ℕ, zero, suc, ◌<◌, Bool, true, false, List, [], ◌∷◌, ◌++◌, refl, sym, ◌∙◌, ap, subst, set, inl, inr, ⊎_elim}
+use Rattle.std.proofs.Common.{◌≡◌, ◌≢◌, ◌⊎◌, ℕ, zero, suc, ◌<◌, Bool, true, false, List, [], ◌∷◌, ◌++◌, refl, sym, ◌∙◌}
+use Rattle.std.proofs.Common.{ap, subst, set, inl, inr, ⊎_elim}
 use Rattle.std.specs.Prelude.{◌||◌}
 use Rattle.std.proofs.lemmas.Bool.{or_cases, false_from_ne_true}
 use Rattle.std.proofs.lemmas.List.Folds.{list_any-append}
@@ -35,13 +36,15 @@ hosts_alone Host h = refl
 
 pub over_is_hosts : (c : Config) (m : Moment) (e : Event) → IsEnabled c m e → is_over e.step ≡ true → e.seat ≡ Host
 over_is_hosts c m e on h =
-    hosts_alone e.seat (ap (λ (s : Step). is_open_to e.seat (group_of s)) (sym (over_step e.step h)) ∙ (enabled_meets c m e on).kind)
+    hosts_alone e.seat (ap (λ (s : Step). is_open_to e.seat (group_of s)) (sym (over_step e.step h))
+    ∙ (enabled_meets c m e on).kind)
 
 neither : (a b : Bool) → a ≡ false → b ≡ false → (a || b) ≡ false
 neither a b one two = ap (λ (x : Bool). x || b) one ∙ two
 
 -- no `over` is among the events of others than the host
-pub none_over : (c : Config) (w : World) (seats : List Seat) (es : List Event) → Has seats Host → AreOfOthers seats es → AreEnabledFrom c w es
+pub none_over : (c : Config) (w : World) (seats : List Seat) (es : List Event) → Has seats Host → AreOfOthers seats es
+    → AreEnabledFrom c w es
     → has_over es ≡ false
 unfolding AreOfOthers AreEnabledFrom
 none_over c w seats [] has others on = refl
@@ -61,7 +64,8 @@ none_in_parts xs ys one two = in_parts xs ys ∙ neither (has_over xs) (has_over
 later : (es : List Event) (e : Event) → has_over (es ++ e ∷ []) ≡ true → (has_over es ≡ true) ⊎ (is_over e.step ≡ true)
 later es e h =
     ⊎_elim (λ (t : has_over es ≡ true). inl t)
-    (λ (t : has_over (e ∷ []) ≡ true). ⊎_elim (λ (u : is_over e.step ≡ true). inr u) (λ (u : false ≡ true). cc) (or_cases (is_over e.step) false t))
+    (λ (t : has_over (e ∷ []) ≡ true). ⊎_elim (λ (u : is_over e.step ≡ true). inr u) (λ (u : false ≡ true). cc)
+    (or_cases (is_over e.step) false t))
     (or_cases (has_over es) (has_over (e ∷ [])) (sym (in_parts es (e ∷ [])) ∙ h))
 
 -- So it is with all of these views.
@@ -70,17 +74,21 @@ AllBeforeOver c vs es = (id : ℕ) (v : View) → get_elem? vs id ≡ some v →
 
 abbrev pub NoneTwice : List View → Type 0
 NoneTwice vs =
-    (i j : ℕ) (v w : View) (x : Seat) → get_elem? vs i ≡ some v → get_elem? vs j ≡ some w → Has (seats_of v) x → Has (seats_of w) x → i ≡ j
+    (i j : ℕ) (v w : View) (x : Seat) → get_elem? vs i ≡ some v → get_elem? vs j ≡ some w → Has (seats_of v) x
+    → Has (seats_of w) x → i ≡ j
 
 -- One view goes on by an event, with the same seats.
-pub overs_later : (c : Config) (m : Moment) (vs : List View) (id : ℕ) (v w : View) (es : List Event) (e : Event) → get_elem? vs id ≡ some v
+pub overs_later : (c : Config) (m : Moment) (vs : List View) (id : ℕ) (v w : View) (es : List Event) (e : Event)
+    → get_elem? vs id ≡ some v
     → seats_of w ≡ seats_of v → NoneTwice vs → AllBeforeOver c vs es → IsEnabled c m e → Has (seats_of v) e.seat
     → (is_over e.step ≡ true → HasCallers c (seats_of v)) → AllBeforeOver c (set vs id w) (es ++ e ∷ [])
 overs_later c m vs id v w es e at same apart before on has home j d p k lt h over =
     let back : (x : Seat) → w ≡ d → Has (seats_of d) x → Has (seats_of v) x =
-    λ x is there. subst (λ (seats : List Seat). Has seats x) same (subst (λ (z : View). Has (seats_of z) x) (sym is) there) in
+    λ x is there. subst (λ (seats : List Seat). Has seats x) same
+    (subst (λ (z : View). Has (seats_of z) x) (sym is) there) in
     let forth : (x : Seat) → w ≡ d → Has (seats_of v) x → Has (seats_of d) x =
-    λ x is there. subst (λ (z : View). Has (seats_of z) x) is (subst (λ (seats : List Seat). Has seats x) (sym same) there) in
+    λ x is there. subst (λ (z : View). Has (seats_of z) x) is
+    (subst (λ (seats : List Seat). Has seats x) (sym same) there) in
     ⊎_elim
     (λ (old : has_over es ≡ true).
     ⊎_elim
@@ -89,7 +97,8 @@ overs_later c m vs id v w es e at same apart before on has home j d p k lt h ove
     (at_set vs id j w d p))
     (λ (new : is_over e.step ≡ true).
     ⊎_elim
-    (λ (t : (j ≡ id) × (w ≡ d)). forth Host t.1 (subst (λ (s : Seat). Has (seats_of v) s) (over_is_hosts c m e on new) has))
+    (λ (t : (j ≡ id) × (w ≡ d)). forth Host t.1
+    (subst (λ (s : Seat). Has (seats_of v) s) (over_is_hosts c m e on new) has))
     (λ (t : (j ≢ id) × (get_elem? vs j ≡ some d)). absurd (t.0 (apart j id d v (Caller k) t.1 at h (home new k lt))))
     (at_set vs id j w d p))
     (later es e over)

@@ -24,7 +24,8 @@ use Rattle.mk_protocol.proofs.Reaching.{events_reach_the_table}
 use Rattle.mk_words.specs.declared.rule.View.{View}
 use Rattle.mk_words.specs.Seats.{CallersAreBeforeOver, Has, HasAll, has_over, is_caller}
 use Rattle.mk_words.specs.States.{WordsState, PassState, now_of, event_of}
-use Rattle.mk_words.specs.Rule.{Kept, Mine, told_by, no_step, adds, stores, settles, stays_with, goes_with, copy_of, beside, nobody, first_view}
+use Rattle.mk_words.specs.Rule.{Kept, Mine, told_by, no_step, adds, stores, settles, stays_with, goes_with, copy_of}
+use Rattle.mk_words.specs.Rule.{beside, nobody, first_view}
 use Rattle.mk_words.specs.Passes.{state_of, IsInOrder}
 use Rattle.mk_words.specs.Steps.{May, Tells, Finds}
 use Rattle.mk_words.proofs.Tidy.{none_tidy}
@@ -33,7 +34,8 @@ use Rattle.mk_words.proofs.Keeps.{performs_at, settles_at, splits, hands_over, r
 use Rattle.mk_words.proofs.Seats.{has_all, has_first, has_left, only_one, without_keeps, without_less}
 
 -- with the event the pass's list is a history
-pub history_more : (p : PassState) (s : Step) → IsHistory p.table.config p.seen → May p s → IsHistory p.table.config (p.seen ++ event_of p s ∷ [])
+pub history_more : (p : PassState) (s : Step) → IsHistory p.table.config p.seen → May p s
+    → IsHistory p.table.config (p.seen ++ event_of p s ∷ [])
 history_more p s h may =
     record {
       within_limits = h.within_limits;
@@ -42,39 +44,54 @@ history_more p s h may =
     }
 
 -- the word that the pass's event reaches is one of the table
-pub word_of_table : (p : PassState) (s : Step) → IsHistory p.table.config p.seen → May p s → IsOfTable p.table.config.pages (reached p.table.config (now_of p) (event_of p s))
-word_of_table p s h may = events_reach_the_table p.table.config p.seen (event_of p s) h.within_limits h.enabled may.enabled
+pub word_of_table : (p : PassState) (s : Step) → IsHistory p.table.config p.seen → May p s
+    → IsOfTable p.table.config.pages (reached p.table.config (now_of p) (event_of p s))
+word_of_table p s h may =
+    events_reach_the_table p.table.config p.seen (event_of p s) h.within_limits h.enabled may.enabled
 
 -- what a step owes
-pub event_call : (config key : Config) (tid : TableId) (words slots id : ℕ) (me : Mine) (seat : Seat) (s : Step) (i : ℕ) (x : TableWord) (a : Access) (picked : Event)
-    → IsInOrder me seat → me.0.config ≡ config → key ≡ config → words ≡ count_of_words config.pages → picked ≡ event_of (state_of tid me seat) s
-    → May (state_of tid me seat) s → x ≡ reached me.0.config (now_of (state_of tid me seat)) (event_of (state_of tid me seat) s)
-    → a ≡ access me.0.config (now_of (state_of tid me seat)) (event_of (state_of tid me seat) s) → i ≡ index_of config.pages x
+pub event_call : (config key : Config) (tid : TableId) (words slots id : ℕ) (me : Mine) (seat : Seat) (s : Step) (i : ℕ)
+    (x : TableWord) (a : Access) (picked : Event)
+    → IsInOrder me seat → me.0.config ≡ config → key ≡ config → words ≡ count_of_words config.pages
+    → picked ≡ event_of (state_of tid me seat) s
+    → May (state_of tid me seat) s
+    → x ≡ reached me.0.config (now_of (state_of tid me seat)) (event_of (state_of tid me seat) s)
+    → a ≡ access me.0.config (now_of (state_of tid me seat)) (event_of (state_of tid me seat) s)
+    → i ≡ index_of config.pages x
     → (i < words) × Allows (Kept key) slots id me i (becomes a) (λ n m. adds picked no_step me n m)
-event_call config key tid words slots id me seat s i x a picked order config_is key_is words_are picked_is may x_is a_is i_is =
+event_call config key tid words slots id me seat s i x a picked order config_is key_is words_are picked_is may x_is a_is
+    i_is =
     let c : Config = me.0.config in
     let p : PassState = state_of tid me seat in
     let y : TableWord = reached c (now_of p) (event_of p s) in
     let b : Access = access c (now_of p) (event_of p s) in
     let j : ℕ = index_of c.pages y in
-    let at : i ≡ j = i_is ∙ ap (λ (d : Config). index_of d.pages x) (sym config_is) ∙ ap (λ (z : TableWord). index_of c.pages z) x_is in
+    let at : i ≡ j = i_is ∙ ap (λ (d : Config). index_of d.pages x) (sym config_is)
+    ∙ ap (λ (z : TableWord). index_of c.pages z) x_is in
     let within : j < count_of_words c.pages = indexes_within c.pages y (word_of_table p s order.history may) in
-    let as_many : words ≡ count_of_words c.pages = words_are ∙ ap (λ (d : Config). count_of_words d.pages) (sym config_is) in
+    let as_many : words ≡ count_of_words c.pages = words_are
+    ∙ ap (λ (d : Config). count_of_words d.pages) (sym config_is) in
     let same_key : key ≡ c = key_is ∙ sym config_is in
-    let all = performs_at slots id me (event_of p s) no_step order.settled order.own (history_more p s order.history may) may.tidy may.home in
+    let all = performs_at slots id me (event_of p s) no_step order.settled order.own
+    (history_more p s order.history may) may.tidy may.home in
     let at_access : Allows (Kept c) slots id me j (becomes a) (λ n m. adds (event_of p s) no_step me n m) =
-    subst (λ (d : Access). Allows (Kept c) slots id me j (becomes d) (λ n m. adds (event_of p s) no_step me n m)) (sym a_is) all in
+    subst (λ (d : Access). Allows (Kept c) slots id me j (becomes d) (λ n m. adds (event_of p s) no_step me n m))
+    (sym a_is) all in
     let at_index : Allows (Kept c) slots id me i (becomes a) (λ n m. adds (event_of p s) no_step me n m) =
-    subst (λ (k : ℕ). Allows (Kept c) slots id me k (becomes a) (λ n m. adds (event_of p s) no_step me n m)) (sym at) at_access in
+    subst (λ (k : ℕ). Allows (Kept c) slots id me k (becomes a) (λ n m. adds (event_of p s) no_step me n m))
+    (sym at) at_access in
     let at_event : Allows (Kept c) slots id me i (becomes a) (λ n m. adds picked no_step me n m) =
-    subst (λ (e : Event). Allows (Kept c) slots id me i (becomes a) (λ n m. adds e no_step me n m)) (sym picked_is) at_index in (
+    subst (λ (e : Event). Allows (Kept c) slots id me i (becomes a) (λ n m. adds e no_step me n m))
+    (sym picked_is) at_index in (
       omega arith,
-      subst (λ (d : Config). Allows (Kept d) slots id me i (becomes a) (λ n m. adds picked no_step me n m)) (sym same_key) at_event,
+      subst (λ (d : Config). Allows (Kept d) slots id me i (becomes a) (λ n m. adds picked no_step me n m))
+          (sym same_key) at_event,
     )
 
 -- what a step tells, and that the pass is in order behind it
 
-in_order_still : (me n : Mine) (seat : Seat) (e : Event) (answer : ℕ) → IsInOrder me seat → adds e no_step me answer n → IsInOrder n seat
+in_order_still : (me n : Mine) (seat : Seat) (e : Event) (answer : ℕ) → IsInOrder me seat → adds e no_step me answer n
+    → IsInOrder n seat
 in_order_still me n seat e answer order on =
     let add = on.1 in
     record {
@@ -83,24 +100,32 @@ in_order_still me n seat e answer order on =
       own = subst (λ (w : View). Has w.own.seats seat) (sym add.is) order.own;
       history = subst (λ (w : View). IsHistory w.config w.own.seen) (sym add.is) add.history;
       tidy = subst (λ (w : View). IsTidy w.config w.own.seen) (sym add.is) add.tidy;
-      before_over = subst (λ (w : View). CallersAreBeforeOver w.config w.own.seats w.own.seen) (sym add.is) add.before_over;
+      before_over = subst (λ (w : View). CallersAreBeforeOver w.config w.own.seats w.own.seen)
+          (sym add.is) add.before_over;
     }
 
 pub record Learnt (tid : TableId) (me n : Mine) (seat : Seat) (s : Step) (a : Access) (answer : ℕ) : Type 0 where
   pub tells : Tells (state_of tid me seat) s answer (state_of tid n seat)
   pub order : IsInOrder n seat
 
-pub event_learnt : (tid : TableId) (me n : Mine) (seat : Seat) (s : Step) (a : Access) (answer : ℕ) (picked : Event) → picked ≡ event_of (state_of tid me seat) s
+pub event_learnt : (tid : TableId) (me n : Mine) (seat : Seat) (s : Step) (a : Access) (answer : ℕ) (picked : Event)
+    → picked ≡ event_of (state_of tid me seat) s
     → a ≡ access me.0.config (now_of (state_of tid me seat)) (event_of (state_of tid me seat) s)
-    → IsInOrder me seat → (found : ℕ) → adds picked no_step me found n → answer ≡ told_by a found → Learnt tid me n seat s a answer
+    → IsInOrder me seat → (found : ℕ) → adds picked no_step me found n → answer ≡ told_by a found
+    → Learnt tid me n seat s a answer
 event_learnt tid me n seat s a answer picked picked_is a_is order found on_picked answer_is =
     let e : Event = event_of (state_of tid me seat) s in
     let on : adds e no_step me found n = subst (λ (d : Event). adds d no_step me found n) picked_is on_picked in
     record {
       tells = record {
-        makes = record { others = on.1.others; of_others = on.1.of_others; is = ap (λ (w : View). state_of tid (w, []) seat) on.1.is };
+        makes = record {
+          others = on.1.others;
+          of_others = on.1.of_others;
+          is = ap (λ (w : View). state_of tid (w, []) seat) on.1.is;
+        };
         tells = answer_is ∙ ap (λ (d : Access). told_by d found) a_is
-            ∙ ap (λ (k : ℕ). told_by (access me.0.config (now_of (state_of tid me seat)) (event_of (state_of tid me seat) s)) k) on.1.finds;
+            ∙ ap (λ (k : ℕ). told_by
+            (access me.0.config (now_of (state_of tid me seat)) (event_of (state_of tid me seat) s)) k) on.1.finds;
       };
       order = in_order_still me n seat e found order on;
     }
@@ -110,44 +135,55 @@ event_learnt tid me n seat s a answer picked picked_is a_is order found on_picke
 pub some_words : (words pages : ℕ) → words ≡ count_of_words pages → 0 < words
 some_words words pages e = omega arith
 
-pub split_call : (config key : Config) (words id : ℕ) (me : Mine) (seat x picked : Seat) → IsInOrder me seat → me.0.config ≡ config → key ≡ config
-    → words ≡ count_of_words config.pages → picked ≡ x → Has me.0.own.seats x → Has me.0.own.seats Host → is_same_seat x Host ≡ false
+pub split_call : (config key : Config) (words id : ℕ) (me : Mine) (seat x picked : Seat) → IsInOrder me seat
+    → me.0.config ≡ config → key ≡ config
+    → words ≡ count_of_words config.pages → picked ≡ x → Has me.0.own.seats x → Has me.0.own.seats Host
+    → is_same_seat x Host ≡ false
     → (is_caller x ≡ true → has_over me.0.own.seen ≡ false)
     → (0 < words) × Splits (Kept key) id me.0 (stays_with picked me.0) (goes_with picked me.0)
 split_call config key words id me seat x picked order config_is key_is words_are picked_is has host another early = (
   some_words words config.pages words_are,
   subst (λ (d : Config). Splits (Kept d) id me.0 (stays_with picked me.0) (goes_with picked me.0)) (sym key_is)
       (subst (λ (y : Seat). Splits (Kept config) id me.0 (stays_with y me.0) (goes_with y me.0)) (sym picked_is)
-      (splits config id me.0 (stays_with x me.0) (goes_with x me.0) (hands_over x me.0 order.settled has host another early))),
+      (splits config id me.0 (stays_with x me.0) (goes_with x me.0)
+      (hands_over x me.0 order.settled has host another early))),
 )
 
 pub copy_call : (config key : Config) (words id : ℕ) (me : Mine) → key ≡ config → words ≡ count_of_words config.pages
     → (0 < words) × Splits (Kept key) id me.0 me.0 (copy_of me.0)
 copy_call config key words id me key_is words_are = (
   some_words words config.pages words_are,
-  subst (λ (d : Config). Splits (Kept d) id me.0 me.0 (copy_of me.0)) (sym key_is) (splits config id me.0 me.0 (copy_of me.0) (remembers me.0)),
+  subst (λ (d : Config). Splits (Kept d) id me.0 me.0 (copy_of me.0)) (sym key_is)
+      (splits config id me.0 me.0 (copy_of me.0) (remembers me.0)),
 )
 
 -- a join, and the look behind it
 
-pub join_call : (config key : Config) (words id : ℕ) (me : Mine) (other : ℕ) (from : Mine) (seat there : Seat) → IsInOrder me seat → IsInOrder from there → key ≡ config
-    → words ≡ count_of_words config.pages → (0 < words) × Joins (Kept key) id me.0 other from.0 (beside me.0 from.0) nobody
+pub join_call : (config key : Config) (words id : ℕ) (me : Mine) (other : ℕ) (from : Mine) (seat there : Seat)
+    → IsInOrder me seat → IsInOrder from there → key ≡ config
+    → words ≡ count_of_words config.pages
+    → (0 < words) × Joins (Kept key) id me.0 other from.0 (beside me.0 from.0) nobody
 join_call config key words id me other from seat there mine theirs key_is words_are = (
   some_words words config.pages words_are,
-  subst (λ (d : Config). Joins (Kept d) id me.0 other from.0 (beside me.0 from.0) nobody) (sym key_is) (joins config id me.0 other from.0 mine.settled theirs.settled),
+  subst (λ (d : Config). Joins (Kept d) id me.0 other from.0 (beside me.0 from.0) nobody) (sym key_is)
+      (joins config id me.0 other from.0 mine.settled theirs.settled),
 )
 
-pub settle_call : (config key : Config) (words slots id : ℕ) (me : Mine) → me.0.config ≡ config → key ≡ config → words ≡ count_of_words config.pages
+pub settle_call : (config key : Config) (words slots id : ℕ) (me : Mine) → me.0.config ≡ config → key ≡ config
+    → words ≡ count_of_words config.pages
     → (0 < words) × Allows (Kept key) slots id me 0 (λ n. n) (settles no_step me)
 settle_call config key words slots id me config_is key_is words_are = (
   some_words words config.pages words_are,
-  subst (λ (d : Config). Allows (Kept d) slots id me 0 (λ n. n) (settles no_step me)) (sym (key_is ∙ sym config_is)) (settles_at slots id me no_step),
+  subst (λ (d : Config). Allows (Kept d) slots id me 0 (λ n. n) (settles no_step me)) (sym (key_is ∙ sym config_is))
+      (settles_at slots id me no_step),
 )
 
 -- the end
-pub close_call : (config key : Config) (id : ℕ) (me : Mine) (ws : List ℕ) (xs : List (Unit {0})) → key ≡ config → HasAll config me.0.own.seats
+pub close_call : (config key : Config) (id : ℕ) (me : Mine) (ws : List ℕ) (xs : List (Unit {0})) → key ≡ config
+    → HasAll config me.0.own.seats
     → Final (Seen (Kept key) id me.0) ws xs → Ended config me.0.own.seen ws
-close_call config key id me ws xs key_is all f = closes config id me ws xs all (subst (λ (d : Config). Final (Seen (Kept d) id me.0) ws xs) key_is f)
+close_call config key id me ws xs key_is all f =
+    closes config id me ws xs all (subst (λ (d : Config). Final (Seen (Kept d) id me.0) ws xs) key_is f)
 
 abbrev pub made_of : TableId → Config → WordsState
 made_of tid config = record { id = tid; config = config }
@@ -164,15 +200,21 @@ module _ (w : WordsState) (p : PassState) (tid pid : TableId) (config key : Conf
   pub same_config : me.0.config ≡ config
   same_config = ap (λ (x : WordsState). x.config) same_table
 
-  pub names_word : (s : Step) (x : TableWord) → IsInOrder me seat → May p s → x ≡ reached p.table.config (now_of p) (event_of p s) → IsOfTable config.pages x
+  pub names_word : (s : Step) (x : TableWord) → IsInOrder me seat → May p s
+      → x ≡ reached p.table.config (now_of p) (event_of p s) → IsOfTable config.pages x
   names_word s x order may x_is =
       let q : PassState = state_of pid me seat in
       let named = word_of_table q s order.history (subst (λ (r : PassState). May r s) (sym p_is) may) in
-      let is : x ≡ reached q.table.config (now_of q) (event_of q s) = x_is ∙ ap (λ (r : PassState). reached r.table.config (now_of r) (event_of r s)) (sym p_is) in
-      subst (λ (y : TableWord). IsOfTable config.pages y) (sym is) (subst (λ (d : Config). IsOfTable d.pages (reached q.table.config (now_of q) (event_of q s))) same_config named)
+      let is : x ≡ reached q.table.config (now_of q) (event_of q s) = x_is
+      ∙ ap (λ (r : PassState). reached r.table.config (now_of r) (event_of r s)) (sym p_is) in
+      subst (λ (y : TableWord). IsOfTable config.pages y) (sym is)
+      (subst (λ (d : Config). IsOfTable d.pages (reached q.table.config (now_of q) (event_of q s))) same_config
+      named)
 
-  pub perform_call : (words slots id : ℕ) (s : Step) (i : ℕ) (x : TableWord) (a : Access) (picked : Event) → IsInOrder me seat → key ≡ config
-      → words ≡ count_of_words config.pages → picked ≡ event_of p s → May p s → x ≡ reached p.table.config (now_of p) (event_of p s)
+  pub perform_call : (words slots id : ℕ) (s : Step) (i : ℕ) (x : TableWord) (a : Access) (picked : Event)
+      → IsInOrder me seat → key ≡ config
+      → words ≡ count_of_words config.pages → picked ≡ event_of p s → May p s
+      → x ≡ reached p.table.config (now_of p) (event_of p s)
       → a ≡ access p.table.config (now_of p) (event_of p s) → i ≡ index_of config.pages x
       → (i < words) × Allows (Kept key) slots id me i (becomes a) (λ n m. adds picked no_step me n m)
   perform_call words slots id s i x a picked order key_is words_are picked_is may x_is a_is i_is =
@@ -184,31 +226,41 @@ module _ (w : WordsState) (p : PassState) (tid pid : TableId) (config key : Conf
       (a_is ∙ ap (λ (r : PassState). access r.table.config (now_of r) (event_of r s)) back)
       i_is
 
-pub perform_learns : (p : PassState) (pid qid : TableId) (me n : Mine) (seat : Seat) (s : Step) (a : Access) (answer : ℕ) (picked : Event) → state_of pid me seat ≡ p → qid ≡ pid
+pub perform_learns : (p : PassState) (pid qid : TableId) (me n : Mine) (seat : Seat) (s : Step) (a : Access)
+    (answer : ℕ) (picked : Event) → state_of pid me seat ≡ p → qid ≡ pid
     → picked ≡ event_of p s → a ≡ access p.table.config (now_of p) (event_of p s) → IsInOrder me seat
     → (found : ℕ) × adds picked no_step me found n × (answer ≡ told_by a found) → Tells p s answer (state_of qid n seat)
 perform_learns p pid qid me n seat s a answer picked p_is q_is picked_is a_is order on =
     let back : p ≡ state_of pid me seat = sym p_is in
     let learnt = event_learnt pid me n seat s a answer picked (picked_is ∙ ap (λ (r : PassState). event_of r s) back)
     (a_is ∙ ap (λ (r : PassState). access r.table.config (now_of r) (event_of r s)) back) order on.0 on.1 on.2 in
-    subst (λ (z : TableId). Tells p s answer (state_of z n seat)) (sym q_is) (subst (λ (r : PassState). Tells r s answer (state_of pid n seat)) p_is learnt.tells)
+    subst (λ (z : TableId). Tells p s answer (state_of z n seat)) (sym q_is)
+    (subst (λ (r : PassState). Tells r s answer (state_of pid n seat)) p_is learnt.tells)
 
-pub perform_finds : (pid qid : TableId) (me n : Mine) (seat : Seat) (s : Step) (found : ℕ) (picked : Event) → qid ≡ pid → picked ≡ event_of (state_of pid me seat) s
+pub perform_finds : (pid qid : TableId) (me n : Mine) (seat : Seat) (s : Step) (found : ℕ) (picked : Event) → qid ≡ pid
+    → picked ≡ event_of (state_of pid me seat) s
     → adds picked no_step me found n → Finds (state_of pid me seat) s found (state_of qid n seat)
 perform_finds pid qid me n seat s found picked q_is picked_is on_picked =
-    let on : adds (event_of (state_of pid me seat) s) no_step me found n = subst (λ (d : Event). adds d no_step me found n) picked_is on_picked in
+    let on : adds (event_of (state_of pid me seat) s) no_step me found n =
+    subst (λ (d : Event). adds d no_step me found n) picked_is on_picked in
     subst (λ (z : TableId). Finds (state_of pid me seat) s found (state_of z n seat)) (sym q_is)
     (record {
-      makes = record { others = on.1.others; of_others = on.1.of_others; is = ap (λ (w : View). state_of pid (w, []) seat) on.1.is };
+      makes = record {
+        others = on.1.others;
+        of_others = on.1.of_others;
+        is = ap (λ (w : View). state_of pid (w, []) seat) on.1.is;
+      };
       finds = on.1.finds;
     })
 
-pub perform_keeps : (me n : Mine) (seat : Seat) (found : ℕ) (picked : Event) → IsInOrder me seat → adds picked no_step me found n → IsInOrder n seat
+pub perform_keeps : (me n : Mine) (seat : Seat) (found : ℕ) (picked : Event) → IsInOrder me seat
+    → adds picked no_step me found n → IsInOrder n seat
 perform_keeps me n seat found picked order on = in_order_still me n seat picked found order on
 
 -- a store
 pub allows_store : (key : Config) (slots id : ℕ) (me : Mine) (i : ℕ) (e : Event) (value : ℕ)
-    → Allows (Kept key) slots id me i (λ n. value) (λ n m. adds e no_step me n m) → Allows (Kept key) slots id me i (λ n. value) (λ n m. stores e no_step me value m)
+    → Allows (Kept key) slots id me i (λ n. value) (λ n m. adds e no_step me n m)
+    → Allows (Kept key) slots id me i (λ n. value) (λ n m. stores e no_step me value m)
 allows_store key slots id me i e value allows s k long at small =
     let a = allows s k long at small in
     (a.0, a.1, a.2, a.3, (slice_index s.words i, a.4))
@@ -219,17 +271,27 @@ pub none_is_history : (c : Config) → IsWithinLimits c → IsHistory c []
 unfolding AreEnabledFrom calls_from
 none_is_history c limits = record { within_limits = limits; enabled = tt; admitted = tt }
 
-pub first_call : (c : Config) (zeros : List ℕ) → IsWithinLimits c → zeros ≡ replicate (count_of_words c.pages) 0 → Kept c (opening {S = Unit {0}} zeros [] (first_view c))
-first_call c zeros limits are = opens c (opening {S = Unit {0}} zeros [] (first_view c)) limits (are ∙ sym (first_are_zero c.pages)) refl
+pub first_call : (c : Config) (zeros : List ℕ) → IsWithinLimits c → zeros ≡ replicate (count_of_words c.pages) 0
+    → Kept c (opening {S = Unit {0}} zeros [] (first_view c))
+first_call c zeros limits are = opens c (opening {S = Unit {0}} zeros [] (first_view c)) limits (are
+    ∙ sym (first_are_zero c.pages)) refl
 
 pub first_in_order : (c : Config) (me : Mine) → IsWithinLimits c → me ≡ (first_view c, []) → IsInOrder me Host
 first_in_order c me limits is =
     subst (λ (m : Mine). IsInOrder m Host) (sym is)
-    (record { no_slot = refl; settled = refl; own = has_all c Host refl; history = none_is_history c limits; tidy = none_tidy c; before_over = λ k lt h over. cc })
+    (record {
+      no_slot = refl;
+      settled = refl;
+      own = has_all c Host refl;
+      history = none_is_history c limits;
+      tidy = none_tidy c;
+      before_over = λ k lt h over. cc;
+    })
 
 -- behind a split
 
-pub kept_by_split : (me n : Mine) (seat x picked : Seat) → IsInOrder me seat → picked ≡ x → is_same_seat x seat ≡ false → is_same_seat x Host ≡ false → n ≡ (stays_with picked me.0, me.1) → IsInOrder n seat
+pub kept_by_split : (me n : Mine) (seat x picked : Seat) → IsInOrder me seat → picked ≡ x → is_same_seat x seat ≡ false
+    → is_same_seat x Host ≡ false → n ≡ (stays_with picked me.0, me.1) → IsInOrder n seat
 kept_by_split me n seat x picked order picked_is other another is =
     subst (λ (m : Mine). IsInOrder m seat) (sym (is ∙ ap (λ (y : Seat). (stays_with y me.0, me.1)) picked_is))
     (record {
@@ -238,10 +300,12 @@ kept_by_split me n seat x picked order picked_is other another is =
       own = without_keeps x me.0.own.seats seat other order.own;
       history = order.history;
       tidy = order.tidy;
-      before_over = λ k lt h over. without_keeps x me.0.own.seats Host another (order.before_over k lt (without_less x me.0.own.seats (Caller k) h) over);
+      before_over = λ k lt h over. without_keeps x me.0.own.seats Host another
+          (order.before_over k lt (without_less x me.0.own.seats (Caller k) h) over);
     })
 
-pub made_by_split : (me n : Mine) (seat x picked : Seat) → IsInOrder me seat → picked ≡ x → (is_caller x ≡ true → has_over me.0.own.seen ≡ false) → n ≡ (goes_with picked me.0, []) → IsInOrder n x
+pub made_by_split : (me n : Mine) (seat x picked : Seat) → IsInOrder me seat → picked ≡ x
+    → (is_caller x ≡ true → has_over me.0.own.seen ≡ false) → n ≡ (goes_with picked me.0, []) → IsInOrder n x
 made_by_split me n seat x picked order picked_is early is =
     subst (λ (m : Mine). IsInOrder m x) (sym (is ∙ ap (λ (y : Seat). (goes_with y me.0, [])) picked_is))
     (record {
@@ -258,12 +322,16 @@ made_by_split me n seat x picked order picked_is early is =
 -- behind a join
 
 pub record Joined (tid : TableId) (me from n : Mine) (seat : Seat) : Type 0 where
-  pub pass : state_of tid n seat ≡ record (state_of tid me seat) { seats = me.0.own.seats ++ from.0.own.seats; seen = n.0.own.seen }
+  pub pass : state_of tid n seat ≡ record (state_of tid me seat) {
+    seats = me.0.own.seats ++ from.0.own.seats;
+    seen = n.0.own.seen;
+  }
   pub own : Grows me.0.own.seats me.0.own.seen n.0.own.seen
   pub came : Grows from.0.own.seats from.0.own.seen n.0.own.seen
   pub order : IsInOrder n seat
 
-joined_as : (tid : TableId) (me from n : Mine) (seat : Seat) (slots : List (ℕ × Unit {0})) → slots ≡ [] → (answer : ℕ) → IsInOrder me seat
+joined_as : (tid : TableId) (me from n : Mine) (seat : Seat) (slots : List (ℕ × Unit {0})) → slots ≡ [] → (answer : ℕ)
+    → IsInOrder me seat
     → settles no_step (beside me.0 from.0, slots) answer n → Joined tid me from n seat
 joined_as tid me from n seat slots none answer order on =
     let s = on.1 in
@@ -274,14 +342,18 @@ joined_as tid me from n seat slots none answer order on =
       order = record {
         no_slot = on.0 ∙ none;
         settled = ap (λ (w : View). w.came) s.is;
-        own = subst (λ (w : View). Has w.own.seats seat) (sym s.is) (has_left me.0.own.seats from.0.own.seats seat order.own);
+        own = subst (λ (w : View). Has w.own.seats seat) (sym s.is)
+            (has_left me.0.own.seats from.0.own.seats seat order.own);
         history = subst (λ (w : View). IsHistory w.config w.own.seen) (sym s.is) s.history;
         tidy = subst (λ (w : View). IsTidy w.config w.own.seen) (sym s.is) s.tidy;
-        before_over = subst (λ (w : View). CallersAreBeforeOver w.config w.own.seats w.own.seen) (sym s.is) s.before_over;
+        before_over = subst (λ (w : View). CallersAreBeforeOver w.config w.own.seats w.own.seen)
+            (sym s.is) s.before_over;
       };
     }
 
-pub joined : (tid : TableId) (me from m n : Mine) (seat : Seat) (answer : ℕ) → IsInOrder me seat → m ≡ (beside me.0 from.0, me.1)
+pub joined : (tid : TableId) (me from m n : Mine) (seat : Seat) (answer : ℕ) → IsInOrder me seat
+    → m ≡ (beside me.0 from.0, me.1)
     → settles no_step m answer n → Joined tid me from n seat
 joined tid me from m n seat answer order is on =
-    joined_as tid me from n seat me.1 order.no_slot answer order (subst (λ (x : Mine). settles no_step x answer n) is on)
+    joined_as tid me from n seat me.1 order.no_slot answer order
+    (subst (λ (x : Mine). settles no_step x answer n) is on)

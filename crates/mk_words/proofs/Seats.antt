@@ -1,5 +1,6 @@
 -- Lists of seats, and lists of others' events.
-use Rattle.std.proofs.Common.{◌≡◌, ◌⊎◌, ℕ, ◌<◌, zero, suc, Bool, true, false, List, [], ◌∷◌, ◌++◌, refl, sym, ◌∙◌, ap, subst, inl, inr, ⊎_elim, arith}
+use Rattle.std.proofs.Common.{◌≡◌, ◌⊎◌, ℕ, ◌<◌, zero, suc, Bool, true, false, List, [], ◌∷◌, ◌++◌, refl, sym, ◌∙◌, ap}
+use Rattle.std.proofs.Common.{subst, inl, inr, ⊎_elim, arith}
 use Rattle.std.specs.Prelude.{◌||◌, if◌then◌else◌}
 use Rattle.std.proofs.lemmas.Bool.{cases_eq, or_cases, eqb-true, eq-eqb, ltb-true, false_from_ne_true}
 use Rattle.std.proofs.lemmas.List.Folds.{list_any-append}
@@ -34,13 +35,15 @@ pub has_later : (x : Seat) (xs : List Seat) (s : Seat) → Has xs s → Has (x �
 has_later x xs s h = ap (λ b. is_same_seat s x || b) h ∙ or_true (is_same_seat s x)
 
 pub has_here : (x : Seat) (xs : List Seat) (s : Seat) → Has (x ∷ xs) s → (s ≡ x) ⊎ Has xs s
-has_here x xs s h = ⊎_elim (λ (t : is_same_seat s x ≡ true). inl (same_seat s x t)) (λ (t : is_one_of xs s ≡ true). inr t) (or_cases (is_same_seat s x) (is_one_of xs s) h)
+has_here x xs s h = ⊎_elim (λ (t : is_same_seat s x ≡ true). inl (same_seat s x t))
+    (λ (t : is_one_of xs s ≡ true). inr t) (or_cases (is_same_seat s x) (is_one_of xs s) h)
 
 pub has_left : (xs ys : List Seat) (s : Seat) → Has xs s → Has (xs ++ ys) s
 has_left xs ys s h = list_any-append (is_same_seat s) xs ys ∙ ap (λ b. b || is_one_of ys s) h
 
 pub has_right : (xs ys : List Seat) (s : Seat) → Has ys s → Has (xs ++ ys) s
-has_right xs ys s h = list_any-append (is_same_seat s) xs ys ∙ ap (λ b. is_one_of xs s || b) h ∙ or_true (is_one_of xs s)
+has_right xs ys s h = list_any-append (is_same_seat s) xs ys ∙ ap (λ b. is_one_of xs s || b) h
+    ∙ or_true (is_one_of xs s)
 
 pub has_either : (xs ys : List Seat) (s : Seat) → Has (xs ++ ys) s → Has xs s ⊎ Has ys s
 has_either xs ys s h = or_cases (is_one_of xs s) (is_one_of ys s) (sym (list_any-append (is_same_seat s) xs ys) ∙ h)
@@ -60,31 +63,41 @@ pub without_less : (x : Seat) (xs : List Seat) (s : Seat) → Has (without_seat 
 without_less x [] s h = h
 without_less x (y ∷ ys) s h = by (is_same_seat x y) (λ u. without_less x ys s u) h
   where
-    by : (b : Bool) → (Has (without_seat x ys) s → Has ys s) → Has (if b then without_seat x ys else y ∷ without_seat x ys) s → Has (y ∷ ys) s
+    by : (b : Bool) → (Has (without_seat x ys) s → Has ys s)
+        → Has (if b then without_seat x ys else y ∷ without_seat x ys) s → Has (y ∷ ys) s
     by true next h = has_later y ys s (next h)
-    by false next h = ⊎_elim (λ (t : s ≡ y). subst (λ (z : Seat). Has (z ∷ ys) s) t (has_first s ys)) (λ (t : Has (without_seat x ys) s). has_later y ys s (next t)) (has_here y (without_seat x ys) s h)
+    by false next h = ⊎_elim (λ (t : s ≡ y). subst (λ (z : Seat). Has (z ∷ ys) s) t (has_first s ys))
+        (λ (t : Has (without_seat x ys) s). has_later y ys s (next t)) (has_here y (without_seat x ys) s h)
 
 pub without_it : (x : Seat) (xs : List Seat) → Has (without_seat x xs) x → ⊥
 without_it x [] h = cc
 without_it x (y ∷ ys) h = by (is_same_seat x y) refl (λ u. without_it x ys u) h
   where
-    by : (b : Bool) → is_same_seat x y ≡ b → (Has (without_seat x ys) x → ⊥) → Has (if b then without_seat x ys else y ∷ without_seat x ys) x → ⊥
+    by : (b : Bool) → is_same_seat x y ≡ b → (Has (without_seat x ys) x → ⊥)
+        → Has (if b then without_seat x ys else y ∷ without_seat x ys) x → ⊥
     by true is next h = next h
-    by false is next h = ⊎_elim (λ (t : x ≡ y). let e : true ≡ false = sym (subst (λ (z : Seat). is_same_seat x z ≡ true) t (same_self x)) ∙ is in cc) (λ (t : Has (without_seat x ys) x). next t) (has_here y (without_seat x ys) x h)
+    by false is next h =
+        ⊎_elim (λ (t : x ≡ y). let e : true
+        ≡ false = sym (subst (λ (z : Seat). is_same_seat x z ≡ true) t (same_self x))
+        ∙ is in cc) (λ (t : Has (without_seat x ys) x). next t) (has_here y (without_seat x ys) x h)
 
-pub without_keeps : (x : Seat) (xs : List Seat) (s : Seat) → is_same_seat x s ≡ false → Has xs s → Has (without_seat x xs) s
+pub without_keeps : (x : Seat) (xs : List Seat) (s : Seat) → is_same_seat x s ≡ false → Has xs s
+    → Has (without_seat x xs) s
 without_keeps x [] s ne h = h
 without_keeps x (y ∷ ys) s ne h = by (is_same_seat x y) refl (λ u. without_keeps x ys s ne u) (has_here y ys s h)
   where
-    by : (b : Bool) → is_same_seat x y ≡ b → (Has ys s → Has (without_seat x ys) s) → (s ≡ y) ⊎ Has ys s → Has (if b then without_seat x ys else y ∷ without_seat x ys) s
-    by true is next (inl t) = let e : false ≡ true = sym ne ∙ subst (λ (z : Seat). is_same_seat x z ≡ true) (sym t) is in cc
+    by : (b : Bool) → is_same_seat x y ≡ b → (Has ys s → Has (without_seat x ys) s) → (s ≡ y) ⊎ Has ys s
+        → Has (if b then without_seat x ys else y ∷ without_seat x ys) s
+    by true is next (inl t) = let e : false ≡ true = sym ne
+        ∙ subst (λ (z : Seat). is_same_seat x z ≡ true) (sym t) is in cc
     by true is next (inr t) = next t
     by false is next (inl t) = subst (λ (z : Seat). Has (z ∷ without_seat x ys) s) t (has_first s (without_seat x ys))
     by false is next (inr t) = has_later y (without_seat x ys) s (next t)
 
 -- events of others
 
-pub others_append : (seats : List Seat) (xs ys : List Event) → AreOfOthers seats xs → AreOfOthers seats ys → AreOfOthers seats (xs ++ ys)
+pub others_append : (seats : List Seat) (xs ys : List Event) → AreOfOthers seats xs → AreOfOthers seats ys
+    → AreOfOthers seats (xs ++ ys)
 unfolding AreOfOthers
 others_append seats [] ys a b = b
 others_append seats (x ∷ xs) ys a b = (a.0, others_append seats xs ys a.1 b)
@@ -97,13 +110,17 @@ pub others_one : (seats : List Seat) (e : Event) → (Has seats e.seat → ⊥) 
 unfolding AreOfOthers
 others_one seats e out = (has_not seats e.seat out, tt)
 
-pub others_fewer : (seats fewer : List Seat) (es : List Event) → ((s : Seat) → Has fewer s → Has seats s) → AreOfOthers seats es → AreOfOthers fewer es
+pub others_fewer : (seats fewer : List Seat) (es : List Event) → ((s : Seat) → Has fewer s → Has seats s)
+    → AreOfOthers seats es → AreOfOthers fewer es
 unfolding AreOfOthers
 others_fewer seats fewer [] sub a = tt
-others_fewer seats fewer (e ∷ es) sub a = (has_not fewer e.seat (λ h. not_both seats e.seat a.0 (sub e.seat h)), others_fewer seats fewer es sub a.1)
+others_fewer seats fewer (e ∷ es) sub a =
+    (has_not fewer e.seat (λ h. not_both seats e.seat a.0 (sub e.seat h)), others_fewer seats fewer es sub a.1)
 
-pub others_own : (seats : List Seat) (s : Seat) (es : List Event) → Has seats s → AreOfOthers seats es → AreOfOthers (s ∷ []) es
-others_own seats s es has a = others_fewer seats (s ∷ []) es (λ x h. subst (λ (z : Seat). Has seats z) (sym (only_one s x h)) has) a
+pub others_own : (seats : List Seat) (s : Seat) (es : List Event) → Has seats s → AreOfOthers seats es
+    → AreOfOthers (s ∷ []) es
+others_own seats s es has a =
+    others_fewer seats (s ∷ []) es (λ x h. subst (λ (z : Seat). Has seats z) (sym (only_one s x h)) has) a
 
 pub others_nobody : (es : List Event) → AreOfOthers [] es
 unfolding AreOfOthers

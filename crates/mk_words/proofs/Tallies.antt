@@ -111,7 +111,8 @@ fresh_is_told = holds_of_histories FreshIsTold fresh_at_first fresh_kept
 
 -- Where nothing is under way, exact tallies are those of the words;
 pub settled_tallies : (c : Config) (es : List Event) → IsHistory c es → IsSettled (left c es) → TalliesAreExact c es
-    → ((left c es).now.words.held ≡ words_held (left c es).now.words) × ((left c es).now.words.fresh ≡ (left c es).now.fresh_words)
+    → ((left c es).now.words.held ≡ words_held (left c es).now.words)
+    × ((left c es).now.words.fresh ≡ (left c es).now.fresh_words)
 settled_tallies c es h settled exact =
     let pages = (left c es).now.words.pages in
     let shown = pages_show_the_storage c es h settled in (
@@ -120,8 +121,10 @@ settled_tallies c es h settled exact =
     )
 
 -- so they are where nobody holds the turn.
-pub free_tallies : (c : Config) (es : List Event) → IsHistory c es → Protocol c (left c es).now → (left c es).now.words.turn ≡ 0
-    → ((left c es).now.words.held ≡ words_held (left c es).now.words) × ((left c es).now.words.fresh ≡ (left c es).now.fresh_words)
+pub free_tallies : (c : Config) (es : List Event) → IsHistory c es → Protocol c (left c es).now
+    → (left c es).now.words.turn ≡ 0
+    → ((left c es).now.words.held ≡ words_held (left c es).now.words)
+    × ((left c es).now.words.fresh ≡ (left c es).now.fresh_words)
 free_tallies c es h protocol free =
     let m : Moment = (left c es).now in
     let nothing = protocol.free free in

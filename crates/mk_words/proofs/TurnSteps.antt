@@ -1,10 +1,13 @@
 -- What the steps of the turn's holder leave.
-use Rattle.std.proofs.Common.{◌≡◌, ◌≢◌, ◌⊎◌, ⊎_elim, inl, inr, w64, ℕ, zero, suc, ◌+◌, ◌<◌, ◌≤◌, Bool, true, false, List, [], ◌∷◌, ◌++◌, length, Option, refl, sym, ◌∙◌, ap, subst, arith}
+use Rattle.std.proofs.Common.{◌≡◌, ◌≢◌, ◌⊎◌, ⊎_elim, inl, inr, w64, ℕ, zero, suc, ◌+◌, ◌<◌, ◌≤◌, Bool, true, false}
+use Rattle.std.proofs.Common.{List, [], ◌∷◌, ◌++◌, length, Option, refl, sym, ◌∙◌, ap, subst, arith}
 use Rattle.std.specs.Int.{trailing_zeros, bit_at}
 use Rattle.std.proofs.lemmas.Nat.{and_le_r, pow_pos}
 use Rattle.std.proofs.lemmas.Nat.Bits.{bit_at-trailing_zeros}
-use Rattle.std.specs.Prelude.{slice_index, slice_set, bit_and, nat_lt, ◌-◌, ◌%◌, ◌^◌, ◌||◌, ◌==◌, Some, None, if◌then◌else◌, not, ◌&&◌}
-use Rattle.std.proofs.lemmas.Bool.{and_from, and_parts, false_from_ne_true, lt-ltb, ltb-true, eq-eqb, ne_eqb, eqb-true, eqb-false, not-true}
+use Rattle.std.specs.Prelude.{slice_index, slice_set, bit_and, nat_lt, ◌-◌, ◌%◌, ◌^◌, ◌||◌, ◌==◌, Some, None}
+use Rattle.std.specs.Prelude.{if◌then◌else◌, not, ◌&&◌}
+use Rattle.std.proofs.lemmas.Bool.{and_from, and_parts, false_from_ne_true, lt-ltb, ltb-true, eq-eqb, ne_eqb, eqb-true}
+use Rattle.std.proofs.lemmas.Bool.{eqb-false, not-true}
 use Rattle.std.proofs.lemmas.List.{get_or-set_same, set-get_or}
 use Rattle.mk_never.specs.declared.operations.Op.{Op}
 use Rattle.mk_never.specs.declared.operations.Op.TheVariants as op
@@ -28,12 +31,15 @@ use Rattle.mk_geom.specs.declared.pages.Place.{Place}
 use Rattle.mk_core.specs.Bounded.{all_below}
 use Rattle.mk_core.specs.Words.{used_at, phase_of}
 use Rattle.mk_core.specs.Ranges.{has_phase}
-use Rattle.mk_core.specs.Calls.{at_rest, has_type, q_of, p_of, r_of, d_of, g_of, progress_q, progress_p, progress_reg, progress_read}
+use Rattle.mk_core.specs.Calls.{at_rest, has_type, q_of, p_of, r_of, d_of, g_of, progress_q, progress_p, progress_reg}
+use Rattle.mk_core.specs.Calls.{progress_read}
 use Rattle.mk_core.specs.Order.{seat_exists, is_in_order}
 use Rattle.mk_core.specs.Accesses.{access, found, register_met, reg_access, caller_number, granted_base}
-use Rattle.mk_core.specs.Moments.{Moment, flight_of, holder_number, nothing_done, none_is_held, is_held, is_number_of, is_phase, others_are_held}
+use Rattle.mk_core.specs.Moments.{Moment, flight_of, holder_number, nothing_done, none_is_held, is_held, is_number_of}
+use Rattle.mk_core.specs.Moments.{is_phase, others_are_held}
 use Rattle.mk_core.specs.Effects.{progress, progress_freed, begins_where_free, chosen, taken, holding_behind}
-use Rattle.mk_core.specs.TurnConditions.{cell_freed, words_held, place_now, is_used_once, takes_cell, gives_back, are_wiped}
+use Rattle.mk_core.specs.TurnConditions.{cell_freed, words_held, place_now, is_used_once, takes_cell, gives_back}
+use Rattle.mk_core.specs.TurnConditions.{are_wiped}
 use Rattle.mk_core.specs.Cells.{are_left_unmarked}
 use Rattle.mk_core.specs.Bits.{has_bit}
 use Rattle.mk_core.specs.NewPlaces.{object_made, place_stands, is_undecided_new}
@@ -61,13 +67,15 @@ use Rattle.mk_protocol.proofs.Protocols.{lists_keep_the_protocol}
 use Rattle.mk_words.specs.Seats.{Has}
 use Rattle.mk_words.specs.States.{PassState, now_of, call_of, world_of, event_of}
 use Rattle.mk_words.specs.Steps.{IsEnabledTo, Makes, moment_of, found_by, Finds, Tells}
-use Rattle.mk_words.specs.TurnSteps.{op_for, IsTurn, begun_for, IsFresh, turn_stays, gates_stay, world_at, Acts, may_take_cell, KnowsCell, KeepsTurn, cell_behind, register_granted, cell_base}
+use Rattle.mk_words.specs.TurnSteps.{op_for, IsTurn, begun_for, IsFresh, turn_stays, gates_stay, world_at, Acts}
+use Rattle.mk_words.specs.TurnSteps.{may_take_cell, KnowsCell, KeepsTurn, cell_behind, register_granted, cell_base}
 use Rattle.mk_words.proofs.Made.{Made, made}
 use Rattle.mk_words.proofs.CallSteps.{begins, goes, waits}
 
 -- who holds the turn, by the turn word
 
-holds_named : (c : Config) (m : Moment) (seat : Seat) → Protocol c m → Holds c m seat → m.words.turn ≡ 1 + holder_number c seat
+holds_named : (c : Config) (m : Moment) (seat : Seat) → Protocol c m → Holds c m seat
+    → m.words.turn ≡ 1 + holder_number c seat
 holds_named c m (Caller k) p h = (p.holder k h.0).1 h.1
 holds_named c m (Marker k) p h = absurd h
 holds_named c m Host p h = h
@@ -76,7 +84,8 @@ abbrev is_marker : Seat → Bool
 is_marker (Marker k) = true
 is_marker _ = false
 
-named_holds : (c : Config) (m : Moment) (seat : Seat) → Protocol c m → seat_exists c seat ≡ true → is_marker seat ≡ false
+named_holds : (c : Config) (m : Moment) (seat : Seat) → Protocol c m → seat_exists c seat ≡ true
+    → is_marker seat ≡ false
     → m.words.turn ≡ 1 + holder_number c seat → Holds c m seat
 named_holds c m (Caller k) p exists one named = let lt = ltb-true k c.callers exists in (lt, (p.holder k lt).0 named)
 named_holds c m (Marker k) p exists one named = cc
@@ -88,28 +97,33 @@ holder_is_no_marker c m (Marker k) h = absurd h
 holder_is_no_marker c m Host h = refl
 
 -- The turn word is another only behind `take` and `give`.
-turn_word_stays : (c : Config) (m : Moment) (seat : Seat) (s : Step) → turn_stays s ≡ true → (Behind c m seat s).words.turn ≡ m.words.turn
+turn_word_stays : (c : Config) (m : Moment) (seat : Seat) (s : Step) → turn_stays s ≡ true
+    → (Behind c m seat s).words.turn ≡ m.words.turn
 turn_word_stays c m seat (step.Take o) h = cc
 turn_word_stays c m seat step.Give h = cc
 turn_word_stays c m seat step.Reg h =
-    (reg_keeps m.words (caller_number seat) (register_met (flight_of m seat) (flight_of m seat).stage) (reg_access (flight_of m seat) (flight_of m seat).stage)).turn
+    (reg_keeps m.words (caller_number seat) (register_met (flight_of m seat) (flight_of m seat).stage)
+    (reg_access (flight_of m seat) (flight_of m seat).stage)).turn
 turn_word_stays c m seat (step.Tally n v) h = (tally_keeps m.words n v).turn
 turn_word_stays c m seat _ h = refl
 
 -- No gate is changed but by `enter`, `leave`, `hold` and `open`.
-gates_are_kept : (c : Config) (m : Moment) (seat : Seat) (s : Step) → gates_stay s ≡ true → (Behind c m seat s).words.gates ≡ m.words.gates
+gates_are_kept : (c : Config) (m : Moment) (seat : Seat) (s : Step) → gates_stay s ≡ true
+    → (Behind c m seat s).words.gates ≡ m.words.gates
 gates_are_kept c m seat (step.Enter o) h = cc
 gates_are_kept c m seat step.Leave h = cc
 gates_are_kept c m seat (step.Hold j) h = cc
 gates_are_kept c m seat (step.Open j) h = cc
 gates_are_kept c m seat step.Reg h =
-    (reg_keeps m.words (caller_number seat) (register_met (flight_of m seat) (flight_of m seat).stage) (reg_access (flight_of m seat) (flight_of m seat).stage)).gates
+    (reg_keeps m.words (caller_number seat) (register_met (flight_of m seat) (flight_of m seat).stage)
+    (reg_access (flight_of m seat) (flight_of m seat).stage)).gates
 gates_are_kept c m seat (step.Tally n v) h = (tally_keeps m.words n v).gates
 gates_are_kept c m seat _ h = refl
 
 -- A call keeps its operation up to its end.
 
-either_op : (b : Bool) (x y : Progress) (o : Op) → x.flight.op ≡ o → y.flight.op ≡ o → (if b then x else y).flight.op ≡ o
+either_op : (b : Bool) (x y : Progress) (o : Op) → x.flight.op ≡ o → y.flight.op ≡ o
+    → (if b then x else y).flight.op ≡ o
 either_op true x y o a b = a
 either_op false x y o a b = b
 
@@ -136,7 +150,8 @@ freed_op : (f : Flight) (x : Option Cell) → (progress_freed f x).flight.op ≡
 freed_op f (Some cell) = refl
 freed_op f None = refl
 
-op_stays : (c : Config) (m : Moment) (f : Flight) (n : ℕ) (s : Step) → turn_stays s ≡ true → (progress c m f n s).flight.op ≡ f.op
+op_stays : (c : Config) (m : Moment) (f : Flight) (n : ℕ) (s : Step) → turn_stays s ≡ true
+    → (progress c m f n s).flight.op ≡ f.op
 op_stays c m f n (step.Enter o) h = cc
 op_stays c m f n (step.Take o) h = cc
 op_stays c m f n step.Leave h = cc
@@ -148,7 +163,8 @@ op_stays c m f n (step.Look x) h = either_op _ _ _ f.op refl refl
 op_stays c m f n (step.Quar p v) h = freed_op f (cell_freed c.pages m.words f p v)
 op_stays c m f n _ h = refl
 
-op_behind : (c : Config) (m : Moment) (seat : Seat) (s : Step) → Protocol c m → seat_exists c seat ≡ true → turn_stays s ≡ true
+op_behind : (c : Config) (m : Moment) (seat : Seat) (s : Step) → Protocol c m → seat_exists c seat ≡ true
+    → turn_stays s ≡ true
     → op_for seat (flight_of (Behind c m seat s) seat) ≡ op_for seat (flight_of m seat)
 op_behind c m (Caller k) s p exists h =
     let lt : k < length m.seats.flights = subst (λ (i : ℕ). k < i) (sym p.callers) (ltb-true k c.callers exists) in
@@ -158,7 +174,8 @@ op_behind c m (Marker k) s p exists h = refl
 op_behind c m Host s p exists h = refl
 
 -- the step of whoever holds the turn
-module _ (p : PassState) (s : Step) (q : PassState) (m : Makes p s q) (own : Has p.seats p.seat) (history : IsHistory q.table.config q.seen) where
+module _ (p : PassState) (s : Step) (q : PassState) (m : Makes p s q) (own : Has p.seats p.seat)
+    (history : IsHistory q.table.config q.seen) where
   d : Made p s q m
   d = made p s q m own history
 
@@ -188,8 +205,11 @@ module _ (p : PassState) (s : Step) (q : PassState) (m : Makes p s q) (own : Has
   still_turn o stays t =
       let c : Config = p.table.config in
       let named : (world_of q).now.words.turn ≡ 1 + holder_number c p.seat =
-      ap (λ (w : World). w.now.words.turn) d.world ∙ turn_word_stays c (moment_of m) p.seat s stays ∙ holds_named c (moment_of m) p.seat d.protocol (holds_then t.holds) in
-      let holds : Holds c (world_of q).now p.seat = named_holds c (world_of q).now p.seat protocol_now d.meets.seat (holder_is_no_marker c (now_of p) p.seat t.holds) named in
+      ap (λ (w : World). w.now.words.turn) d.world ∙ turn_word_stays c (moment_of m) p.seat s stays
+      ∙ holds_named c (moment_of m) p.seat d.protocol (holds_then t.holds) in
+      let holds : Holds c (world_of q).now p.seat =
+      named_holds c (world_of q).now p.seat protocol_now d.meets.seat
+      (holder_is_no_marker c (now_of p) p.seat t.holds) named in
       let same : op_for p.seat (call_of p) ≡ op_for p.seat (flight_of (world_of q).now p.seat) =
       sym (ap (λ (w : World). op_for p.seat (flight_of w.now p.seat)) d.world
       ∙ op_behind c (moment_of m) p.seat s d.protocol d.meets.seat stays
@@ -203,13 +223,17 @@ module _ (p : PassState) (s : Step) (q : PassState) (m : Makes p s q) (own : Has
 pub gates_left : (p : PassState) (s : Step) (q : PassState) → Acts p s q → gates_stay s ≡ true
     → HoldsAll p.table.config (now_of p) p.seat → (world_of q).now.words.gates ≡ (now_of p).words.gates
 gates_left p s q a stays all =
-    ap (λ (w : World). w.now.words.gates) a.world ∙ gates_are_kept p.table.config (world_at a.makes).now p.seat s stays ∙ ap (λ (y : Written). y.gates) (a.stop all)
+    ap (λ (w : World). w.now.words.gates) a.world ∙ gates_are_kept p.table.config (world_at a.makes).now p.seat s stays
+    ∙ ap (λ (y : Written). y.gates) (a.stop all)
 
-pub still_stopped : (p : PassState) (s : Step) (q : PassState) → Acts p s q → gates_stay s ≡ true → Holds p.table.config (now_of p) p.seat
-    → others_are_held p.table.config.callers (now_of p).words p.seat ≡ true → others_are_held q.table.config.callers (now_of q).words q.seat ≡ true
+pub still_stopped : (p : PassState) (s : Step) (q : PassState) → Acts p s q → gates_stay s ≡ true
+    → Holds p.table.config (now_of p) p.seat
+    → others_are_held p.table.config.callers (now_of p).words p.seat ≡ true
+    → others_are_held q.table.config.callers (now_of q).words q.seat ≡ true
 still_stopped p s q a stays holds all =
     ap (λ (r : PassState). others_are_held r.table.config.callers (now_of q).words r.seat) a.makes.is
-    ∙ ap (λ (gs : List ℕ). all_below p.table.config.callers (λ j. is_number_of p.seat j || (slice_index gs j == 2))) (gates_left p s q a stays (holds, all))
+    ∙ ap (λ (gs : List ℕ). all_below p.table.config.callers (λ j. is_number_of p.seat j || (slice_index gs j == 2)))
+    (gates_left p s q a stays (holds, all))
     ∙ all
 
 pub turn_stays_too : (s : Step) → gates_stay s ≡ true → turn_stays s ≡ true
@@ -218,21 +242,28 @@ turn_stays_too (step.Open j) h = cc
 turn_stays_too s h = h
 
 -- `hold` finds the gate open, or its caller in a call
-pub hold_finds : (p : PassState) (j n : ℕ) (q : PassState) → Tells p (step.Hold j) n q → Has p.seats p.seat → IsHistory q.table.config q.seen → n ≢ 0 → n ≡ 1
+pub hold_finds : (p : PassState) (j n : ℕ) (q : PassState) → Tells p (step.Hold j) n q → Has p.seats p.seat
+    → IsHistory q.table.config q.seen → n ≢ 0 → n ≡ 1
 hold_finds p j n q t own history some =
     let d = made p (step.Hold j) q t.makes own history in
-    let lt : j < p.table.config.callers = ltb-true j p.table.config.callers (and_parts (nat_lt j p.table.config.callers) (not (is_number_of p.seat j)) d.meets.range).0 in
+    let lt : j < p.table.config.callers =
+    ltb-true j p.table.config.callers
+    (and_parts (nat_lt j p.table.config.callers) (not (is_number_of p.seat j)) d.meets.range).0 in
     let least = d.protocol.gate j lt in
-    let two : slice_index (moment_of t.makes).words.gates j ≢ 2 = eqb-false (slice_index (moment_of t.makes).words.gates j) 2 (not-true (slice_index (moment_of t.makes).words.gates j == 2) d.meets.gates) in
+    let two : slice_index (moment_of t.makes).words.gates j ≢ 2 =
+    eqb-false (slice_index (moment_of t.makes).words.gates j) 2
+    (not-true (slice_index (moment_of t.makes).words.gates j == 2) d.meets.gates) in
     let is : n ≡ slice_index (moment_of t.makes).words.gates j = t.tells in
     omega arith
 
-pub hold_holds : (p : PassState) (j n : ℕ) (q : PassState) → Tells p (step.Hold j) n q → Has p.seats p.seat → IsHistory q.table.config q.seen → n ≡ 0
+pub hold_holds : (p : PassState) (j n : ℕ) (q : PassState) → Tells p (step.Hold j) n q → Has p.seats p.seat
+    → IsHistory q.table.config q.seen → n ≡ 0
     → is_held (now_of q).words j ≡ true
 hold_holds p j n q t own history none =
     let d = made p (step.Hold j) q t.makes own history in
     let c : Config = p.table.config in
-    let lt : j < c.callers = ltb-true j c.callers (and_parts (nat_lt j c.callers) (not (is_number_of p.seat j)) d.meets.range).0 in
+    let lt : j < c.callers =
+    ltb-true j c.callers (and_parts (nat_lt j c.callers) (not (is_number_of p.seat j)) d.meets.range).0 in
     let long = (histories_keep_lengths c (p.seen ++ t.makes.others)).gates in
     let few = d.known.small in
     let gs : List ℕ = (moment_of t.makes).words.gates in
@@ -241,12 +272,14 @@ hold_holds p j n q t own history none =
     (get_or-set_same gs j (if slice_index gs j == 0 then 2 else slice_index gs j) 0 (omega arith)
     ∙ ap (λ (b : Bool). if b then 2 else slice_index gs j) (eq-eqb (slice_index gs j) 0 (sym t.tells ∙ none)))
 
-pub hold_misses : (p : PassState) (j n : ℕ) (q : PassState) → Tells p (step.Hold j) n q → Has p.seats p.seat → IsHistory q.table.config q.seen → n ≢ 0
+pub hold_misses : (p : PassState) (j n : ℕ) (q : PassState) → Tells p (step.Hold j) n q → Has p.seats p.seat
+    → IsHistory q.table.config q.seen → n ≢ 0
     → is_held (now_of q).words j ≡ false
 hold_misses p j n q t own history some =
     let d = made p (step.Hold j) q t.makes own history in
     let c : Config = p.table.config in
-    let lt : j < c.callers = ltb-true j c.callers (and_parts (nat_lt j c.callers) (not (is_number_of p.seat j)) d.meets.range).0 in
+    let lt : j < c.callers =
+    ltb-true j c.callers (and_parts (nat_lt j c.callers) (not (is_number_of p.seat j)) d.meets.range).0 in
     let long = (histories_keep_lengths c (p.seen ++ t.makes.others)).gates in
     let few = d.known.small in
     let gs : List ℕ = (moment_of t.makes).words.gates in
@@ -264,14 +297,17 @@ hold_misses p j n q t own history some =
 pub all_from : (n : ℕ) (test : ℕ → Bool) → ((k : ℕ) → k < n → test k ≡ true) → all_below n test ≡ true
 unfolding all_below
 all_from zero test h = refl
-all_from (suc n) test h = and_from (all_below n test) (test n) (all_from n test (λ k lt. h k (omega arith))) (h n (omega arith))
+all_from (suc n) test h = and_from (all_below n test) (test n) (all_from n test (λ k lt. h k (omega arith)))
+    (h n (omega arith))
 
 -- a seat that takes the turn where it finds it free
 
-takes_for : (c : Config) (m : Moment) (seat : Seat) (o : Option Op) → is_open_to seat (group_of (step.Take o)) ≡ true → is_in_order c m seat (step.Take o) ≡ true
+takes_for : (c : Config) (m : Moment) (seat : Seat) (o : Option Op) → is_open_to seat (group_of (step.Take o)) ≡ true
+    → is_in_order c m seat (step.Take o) ≡ true
     → (is_marker seat ≡ false) × (op_for seat (begun_for o) ≡ o)
 takes_for c m (Caller k) (Some o) kind order = (refl, refl)
-takes_for c m (Caller k) None kind order = absurd (at_no_take (flight_of m (Caller k)).stage (flight_of m (Caller k)).op order)
+takes_for c m (Caller k) None kind order =
+    absurd (at_no_take (flight_of m (Caller k)).stage (flight_of m (Caller k)).op order)
 takes_for c m (Marker k) o kind order = cc
 takes_for c m Host None kind order = (refl, refl)
 takes_for c m Host (Some o) kind order = absurd (never (host_has_turn c m) order)
@@ -280,13 +316,16 @@ takes_for c m Host (Some o) kind order = absurd (never (host_has_turn c m) order
     never true e = cc
     never false e = cc
 
-takes_call : (c : Config) (m : Moment) (seat : Seat) (o : Option Op) → Protocol c m → seat_exists c seat ≡ true → is_open_to seat (group_of (step.Take o)) ≡ true
-    → is_in_order c m seat (step.Take o) ≡ true → m.words.turn ≡ 0 → flight_of (Behind c m seat (step.Take o)) seat ≡ begun_for o
+takes_call : (c : Config) (m : Moment) (seat : Seat) (o : Option Op) → Protocol c m → seat_exists c seat ≡ true
+    → is_open_to seat (group_of (step.Take o)) ≡ true
+    → is_in_order c m seat (step.Take o) ≡ true → m.words.turn ≡ 0
+    → flight_of (Behind c m seat (step.Take o)) seat ≡ begun_for o
 takes_call c m (Caller k) (Some o) p exists kind order free =
     let lt : k < length m.seats.flights = subst (λ (i : ℕ). k < i) (sym p.callers) (ltb-true k c.callers exists) in
     get_or-set_same m.seats.flights k _ at_rest lt
     ∙ ap (λ (x : Progress). x.flight) (begins (flight_of m (Caller k)) o m.words.turn m.words.turn refl free)
-takes_call c m (Caller k) None p exists kind order free = absurd (at_no_take (flight_of m (Caller k)).stage (flight_of m (Caller k)).op order)
+takes_call c m (Caller k) None p exists kind order free =
+    absurd (at_no_take (flight_of m (Caller k)).stage (flight_of m (Caller k)).op order)
 takes_call c m (Marker k) o p exists kind order free = cc
 takes_call c m Host None p exists kind order free = refl
 takes_call c m Host (Some o) p exists kind order free = absurd (never (host_has_turn c m) order)
@@ -303,7 +342,8 @@ none_held_free c m p free =
 
 -- nor is a stop on
 free_phase : (c : Config) (m : Moment) → Protocol c m → m.words.turn ≡ 0 → has_phase (phase_of m.words) step.Give ≡ true
-free_phase c m p free = by (phase_of m.words) p.low (λ (two : 2 ≤ phase_of m.words) (four : phase_of m.words ≤ 4). p.cycle two four free)
+free_phase c m p free =
+    by (phase_of m.words) p.low (λ (two : 2 ≤ phase_of m.words) (four : phase_of m.words ≤ 4). p.cycle two four free)
   where
     by : (n : ℕ) → n ≤ 5 → (2 ≤ n → n ≤ 4 → ⊥) → ((n == 0) || (n == 1) || (n == 5)) ≡ true
     by zero low out = refl
@@ -314,7 +354,8 @@ free_phase c m p free = by (phase_of m.words) p.low (λ (two : 2 ≤ phase_of m.
     by (suc (suc (suc (suc (suc zero))))) low out = refl
     by (suc (suc (suc (suc (suc (suc n)))))) low out = absurd (omega arith)
 
-module _ (p : PassState) (o : Option Op) (n : ℕ) (q : PassState) (t : Tells p (step.Take o) n q) (own : Has p.seats p.seat) (history : IsHistory q.table.config q.seen) where
+module _ (p : PassState) (o : Option Op) (n : ℕ) (q : PassState) (t : Tells p (step.Take o) n q)
+    (own : Has p.seats p.seat) (history : IsHistory q.table.config q.seen) where
   e : Made p (step.Take o) q t.makes
   e = made p (step.Take o) q t.makes own history
 
@@ -330,12 +371,15 @@ module _ (p : PassState) (o : Option Op) (n : ℕ) (q : PassState) (t : Tells p 
         let c : Config = p.table.config in
         let m : Moment = moment_of t.makes in
         let named : (world_of q).now.words.turn ≡ 1 + holder_number c p.seat =
-        ap (λ (w : World). w.now.words.turn) e.world ∙ ap (λ (b : Bool). if b then 1 + holder_number c p.seat else m.words.turn) (eq-eqb m.words.turn 0 free) in
+        ap (λ (w : World). w.now.words.turn) e.world
+        ∙ ap (λ (b : Bool). if b then 1 + holder_number c p.seat else m.words.turn) (eq-eqb m.words.turn 0 free) in
         let for = takes_for c m p.seat o e.meets.kind e.meets.order in
         let holds : Holds c (world_of q).now p.seat =
-        named_holds c (world_of q).now p.seat (protocol_now p (step.Take o) q t.makes own history) e.meets.seat for.0 named in
+        named_holds c (world_of q).now p.seat (protocol_now p (step.Take o) q t.makes own history) e.meets.seat for.0
+        named in
         let call : flight_of (world_of q).now p.seat ≡ begun_for o =
-        ap (λ (w : World). flight_of w.now p.seat) e.world ∙ takes_call c m p.seat o e.protocol e.meets.seat e.meets.kind e.meets.order free in
+        ap (λ (w : World). flight_of w.now p.seat) e.world
+        ∙ takes_call c m p.seat o e.protocol e.meets.seat e.meets.kind e.meets.order free in
         record {
           holds = subst (λ (r : PassState). Holds r.table.config (world_of q).now r.seat) (sym t.makes.is) holds;
           op =
@@ -360,53 +404,85 @@ module _ (p : PassState) (o : Option Op) (n : ℕ) (q : PassState) (t : Tells p 
               ap (λ (r : PassState). none_is_held r.table.config.callers (world_of q).now.words) t.makes.is
               ∙ ap (λ (w : World). none_is_held c.callers w.now.words) e.world
               ∙ none_held_free c m e.protocol free;
-          phase = ap (λ (w : World). has_phase (phase_of w.now.words) step.Give) e.world ∙ free_phase c m e.protocol free;
-          held = ap (λ (w : World). w.now.words.held) e.world ∙ (free_tallies c (p.seen ++ t.makes.others) e.history e.protocol free).0 ∙ sym (ap (λ (w : World). words_held w.now.words) e.world);
-          fresh = ap (λ (w : World). w.now.words.fresh) e.world ∙ (free_tallies c (p.seen ++ t.makes.others) e.history e.protocol free).1 ∙ sym (ap (λ (w : World). w.now.fresh_words) e.world);
+          phase = ap (λ (w : World). has_phase (phase_of w.now.words) step.Give) e.world
+              ∙ free_phase c m e.protocol free;
+          held = ap (λ (w : World). w.now.words.held) e.world
+              ∙ (free_tallies c (p.seen ++ t.makes.others) e.history e.protocol free).0
+              ∙ sym (ap (λ (w : World). words_held w.now.words) e.world);
+          fresh = ap (λ (w : World). w.now.words.fresh) e.world
+              ∙ (free_tallies c (p.seen ++ t.makes.others) e.history e.protocol free).1
+              ∙ sym (ap (λ (w : World). w.now.fresh_words) e.world);
         }
 
 pub fresh_knows : (p : PassState) (o : Option Op) → IsFresh p o → KnowsCell p None
-fresh_knows p o fresh x e = let no_place : Unplaced ≡ Used x = ap (λ (h : Holding). h.placing) (sym fresh.holding) ∙ e in cc
+fresh_knows p o fresh x e = let no_place : Unplaced ≡ Used x = ap (λ (h : Holding). h.placing) (sym fresh.holding)
+    ∙ e in cc
 
 -- a `take` that finds another holder leaves all as it was
 
-same_flights : (c : Config) (m : Moment) (k : ℕ) (o : Op) (n : ℕ) → n ≢ 0 → slice_set m.seats.flights k (begins_where_free (flight_of m (Caller k)) o n).flight ≡ m.seats.flights
+same_flights : (c : Config) (m : Moment) (k : ℕ) (o : Op) (n : ℕ) → n ≢ 0
+    → slice_set m.seats.flights k (begins_where_free (flight_of m (Caller k)) o n).flight ≡ m.seats.flights
 same_flights c m k o n some =
-    ap (λ (x : Progress). slice_set m.seats.flights k x.flight) (waits (flight_of m (Caller k)) o n n refl some) ∙ set-get_or m.seats.flights k at_rest
+    ap (λ (x : Progress). slice_set m.seats.flights k x.flight) (waits (flight_of m (Caller k)) o n n refl some)
+    ∙ set-get_or m.seats.flights k at_rest
 
-missed : (c : Config) (m : Moment) (seat : Seat) (o : Option Op) → is_open_to seat (group_of (step.Take o)) ≡ true → is_in_order c m seat (step.Take o) ≡ true
+missed : (c : Config) (m : Moment) (seat : Seat) (o : Option Op) → is_open_to seat (group_of (step.Take o)) ≡ true
+    → is_in_order c m seat (step.Take o) ≡ true
     → m.words.turn ≢ 0 → Behind c m seat (step.Take o) ≡ m
 missed c m seat o kind order some =
-    ap (λ (t : ℕ). record { words = record m.words { turn = t }; seats = (Behind c m seat (step.Take o)).seats; fresh_words = m.fresh_words })
+    ap (λ (t : ℕ). record {
+      words = record m.words { turn = t };
+      seats = (Behind c m seat (step.Take o)).seats;
+      fresh_words = m.fresh_words;
+    })
     (ap (λ (b : Bool). if b then 1 + holder_number c seat else m.words.turn) (ne_eqb m.words.turn 0 some))
-    ∙ ap (λ (h : Holding). record { words = m.words; seats = record (Behind c m seat (step.Take o)).seats { holding = h }; fresh_words = m.fresh_words })
+    ∙ ap (λ (h : Holding). record {
+      words = m.words;
+      seats = record (Behind c m seat (step.Take o)).seats { holding = h };
+      fresh_words = m.fresh_words;
+    })
     (ap (λ (b : Bool). if b then nothing_done else m.seats.holding) (ne_eqb m.words.turn 0 some))
     ∙ by seat o kind order
   where
-    by : (seat : Seat) (o : Option Op) → is_open_to seat (group_of (step.Take o)) ≡ true → is_in_order c m seat (step.Take o) ≡ true
-        → record { words = m.words; seats = record (Behind c m seat (step.Take o)).seats { holding = m.seats.holding }; fresh_words = m.fresh_words } ≡ m
+    by : (seat : Seat) (o : Option Op) → is_open_to seat (group_of (step.Take o)) ≡ true
+        → is_in_order c m seat (step.Take o) ≡ true
+        → record {
+          words = m.words;
+          seats = record (Behind c m seat (step.Take o)).seats { holding = m.seats.holding };
+          fresh_words = m.fresh_words;
+        } ≡ m
     by (Caller k) (Some o) kind order =
-        ap (λ (fs : List Flight). record { words = m.words; seats = record m.seats { flights = fs }; fresh_words = m.fresh_words }) (same_flights c m k o m.words.turn some)
+        ap (λ (fs : List Flight). record {
+          words = m.words;
+          seats = record m.seats { flights = fs };
+          fresh_words = m.fresh_words;
+        }) (same_flights c m k o m.words.turn some)
     by (Caller k) None kind order = absurd (at_no_take (flight_of m (Caller k)).stage (flight_of m (Caller k)).op order)
     by (Marker k) o kind order = cc
     by Host o kind order = refl
 
-pub take_waits : (p : PassState) (o : Option Op) (n : ℕ) (q : PassState) → Tells p (step.Take o) n q → Has p.seats p.seat → IsHistory q.table.config q.seen → n ≢ 0
+pub take_waits : (p : PassState) (o : Option Op) (n : ℕ) (q : PassState) → Tells p (step.Take o) n q
+    → Has p.seats p.seat → IsHistory q.table.config q.seen → n ≢ 0
     → (call_of q ≡ call_of p) × IsEnabledTo q (step.Take o)
 take_waits p o n q t own history some =
     let c : Config = p.table.config in
     let x = made p (step.Take o) q t.makes own history in
     let m : Moment = moment_of t.makes in
     let other : m.words.turn ≢ 0 = λ z. some (t.tells ∙ z) in
-    let same : now_of q ≡ m = ap (λ (w : World). w.now) x.world ∙ missed c m p.seat o x.meets.kind x.meets.order other in (
-      ap (λ (s : Seat). flight_of (now_of q) s) x.seat ∙ ap (λ (y : Moment). flight_of y p.seat) same ∙ x.frame.own.flight,
+    let same : now_of q ≡ m = ap (λ (w : World). w.now) x.world
+    ∙ missed c m p.seat o x.meets.kind x.meets.order other in (
+      ap (λ (s : Seat). flight_of (now_of q) s) x.seat ∙ ap (λ (y : Moment). flight_of y p.seat) same
+          ∙ x.frame.own.flight,
       subst (λ (r : PassState). IsEnabled r.table.config (now_of q) (event_of r (step.Take o))) (sym t.makes.is)
-          (subst (λ (y : Moment). IsEnabled c y (event_of p (step.Take o))) (sym same) (meets_enabled c m (event_of p (step.Take o)) x.meets)),
+          (subst (λ (y : Moment). IsEnabled c y (event_of p (step.Take o))) (sym same)
+          (meets_enabled c m (event_of p (step.Take o)) x.meets)),
     )
 
 -- where the turn is taken, the tallies are those of the counts
-pub take_counts : (p : PassState) (o : Option Op) (n : ℕ) (q : PassState) → Tells p (step.Take o) n q → Has p.seats p.seat → IsHistory q.table.config q.seen
-    → IsTidy q.table.config q.seen → n ≡ 0 → TalliesAreExact q.table.config q.seen × TalliesAreTidy q.table.config q.seen
+pub take_counts : (p : PassState) (o : Option Op) (n : ℕ) (q : PassState) → Tells p (step.Take o) n q
+    → Has p.seats p.seat → IsHistory q.table.config q.seen
+    → IsTidy q.table.config q.seen → n ≡ 0
+    → TalliesAreExact q.table.config q.seen × TalliesAreTidy q.table.config q.seen
 take_counts p o n q t own history tidy none =
     let c : Config = p.table.config in
     let es : List Event = p.seen ++ t.makes.others in
@@ -415,25 +491,32 @@ take_counts p o n q t own history tidy none =
     let free : (left c es).now.words.turn ≡ 0 = sym t.tells ∙ none in
     let told = tallies_tell c es x.history free in
     let nothing = others_count_nothing c (left c es) e x.known x.meets free in
-    let whole_tidy : IsTidy c (es ++ e ∷ []) = subst (λ (r : PassState). IsTidy r.table.config r.seen) t.makes.is tidy in
-    subst (λ (r : PassState). TalliesAreExact r.table.config r.seen × TalliesAreTidy r.table.config r.seen) (sym t.makes.is)
+    let whole_tidy : IsTidy c (es ++ e ∷ []) =
+    subst (λ (r : PassState). IsTidy r.table.config r.seen) t.makes.is tidy in
+    subst (λ (r : PassState). TalliesAreExact r.table.config r.seen × TalliesAreTidy r.table.config r.seen)
+    (sym t.makes.is)
     (exact_more c es e nothing told.0, counts_tidy_more c es e nothing (told.1 (tidy_part c es (e ∷ []) whole_tidy)))
 
 -- `give`
-pub gives_rest : (p : PassState) (q : PassState) (m : Makes p step.Give q) → Has p.seats p.seat → IsHistory q.table.config q.seen → call_of q ≡ at_rest
+pub gives_rest : (p : PassState) (q : PassState) (m : Makes p step.Give q) → Has p.seats p.seat
+    → IsHistory q.table.config q.seen → call_of q ≡ at_rest
 gives_rest p q m own history =
     let d = made p step.Give q m own history in
-    ap (λ (s : Seat). flight_of (world_of q).now s) d.seat ∙ ap (λ (w : World). flight_of w.now p.seat) d.world ∙ by p.seat d.meets.seat d.protocol
+    ap (λ (s : Seat). flight_of (world_of q).now s) d.seat ∙ ap (λ (w : World). flight_of w.now p.seat) d.world
+    ∙ by p.seat d.meets.seat d.protocol
   where
-    by : (s : Seat) → seat_exists p.table.config s ≡ true → Protocol p.table.config (moment_of m) → flight_of (Behind p.table.config (moment_of m) s step.Give) s ≡ at_rest
+    by : (s : Seat) → seat_exists p.table.config s ≡ true → Protocol p.table.config (moment_of m)
+        → flight_of (Behind p.table.config (moment_of m) s step.Give) s ≡ at_rest
     by (Caller k) exists protocol =
-        get_or-set_same (moment_of m).seats.flights k _ at_rest (subst (λ (i : ℕ). k < i) (sym protocol.callers) (ltb-true k p.table.config.callers exists))
+        get_or-set_same (moment_of m).seats.flights k _ at_rest
+        (subst (λ (i : ℕ). k < i) (sym protocol.callers) (ltb-true k p.table.config.callers exists))
     by (Marker k) exists protocol = refl
     by Host exists protocol = refl
 
 -- the cell that a New has taken
 
-either_placing : (b : Bool) (p q : Placing) (x : Place) → (p ≡ Used x → p ≡ Used x) → (if b then p else q) ≡ Used x → (p ≡ Used x) ⊎ (q ≡ Used x)
+either_placing : (b : Bool) (p q : Placing) (x : Place) → (p ≡ Used x → p ≡ Used x) → (if b then p else q) ≡ Used x
+    → (p ≡ Used x) ⊎ (q ≡ Used x)
 either_placing true p q x f e = inl e
 either_placing false p q x f e = inr e
 
@@ -444,27 +527,35 @@ chosen_used (Chosen y) place x e = e
 chosen_used (Used y) place x e = e
 chosen_used Granted place x e = e
 
-placing_then : (c : Config) (m : Moment) (seat : Seat) (f : Flight) (n : ℕ) (s : Step) (h : Holding) (x : Place) → turn_stays s ≡ true → may_take_cell s ≡ false
+placing_then : (c : Config) (m : Moment) (seat : Seat) (f : Flight) (n : ℕ) (s : Step) (h : Holding) (x : Place)
+    → turn_stays s ≡ true → may_take_cell s ≡ false
     → (holding_behind c m seat f n s h).placing ≡ Used x → h.placing ≡ Used x
 placing_then c m seat f n (step.Take o) h x stays none e = cc
 placing_then c m seat f n step.Give h x stays none e = cc
 placing_then c m seat f n (step.Used p v) h x stays none e = cc
 placing_then c m seat f n (step.Head p v) h x stays none e =
-    ⊎_elim (λ (t : h.placing ≡ Used x). t) (λ (t : chosen h.placing (place_now c m f) ≡ Used x). chosen_used h.placing (place_now c m f) x t)
+    ⊎_elim (λ (t : h.placing ≡ Used x). t)
+    (λ (t : chosen h.placing (place_now c m f) ≡ Used x). chosen_used h.placing (place_now c m f) x t)
     (either_placing (is_phase m.words 4) h.placing (chosen h.placing (place_now c m f)) x (λ t. t) e)
 placing_then c m seat f n (step.Mark p v) h x stays none e =
-    ⊎_elim (λ (t : chosen h.placing (place_now c m f) ≡ Used x). chosen_used h.placing (place_now c m f) x t) (λ (t : h.placing ≡ Used x). t)
-    (either_placing (marks_place m.words (object_made c f.op) (place_now c m f) p v) (chosen h.placing (place_now c m f)) h.placing x (λ t. t) e)
+    ⊎_elim (λ (t : chosen h.placing (place_now c m f) ≡ Used x). chosen_used h.placing (place_now c m f) x t)
+    (λ (t : h.placing ≡ Used x). t)
+    (either_placing (marks_place m.words (object_made c f.op) (place_now c m f) p v)
+    (chosen h.placing (place_now c m f)) h.placing x (λ t. t) e)
 placing_then c m seat f n step.Grant h x stays none e = cc
 placing_then c m seat f n _ h x stays none e = e
 
 module _ (p : PassState) (s : Step) (q : PassState) (a : Acts p s q) where
-  placing_now : (now_of q).seats.holding.placing ≡ (holding_behind p.table.config (world_at a.makes).now p.seat (flight_of (world_at a.makes).now p.seat) (found_by a.makes) s (world_at a.makes).now.seats.holding).placing
+  placing_now : (now_of q).seats.holding.placing
+      ≡ (holding_behind p.table.config (world_at a.makes).now p.seat (flight_of (world_at a.makes).now p.seat)
+      (found_by a.makes) s (world_at a.makes).now.seats.holding).placing
   placing_now = ap (λ (w : World). w.now.seats.holding.placing) a.world
 
-  pub knows_still : (cell : Option Cell) → turn_stays s ≡ true → may_take_cell s ≡ false → KnowsCell p cell → KnowsCell q cell
+  pub knows_still : (cell : Option Cell) → turn_stays s ≡ true → may_take_cell s ≡ false → KnowsCell p cell
+      → KnowsCell q cell
   knows_still cell stays none knows x is =
-      let before = placing_then p.table.config (world_at a.makes).now p.seat (flight_of (world_at a.makes).now p.seat) (found_by a.makes) s (world_at a.makes).now.seats.holding x stays none (sym placing_now ∙ is) in
+      let before = placing_then p.table.config (world_at a.makes).now p.seat (flight_of (world_at a.makes).now p.seat)
+      (found_by a.makes) s (world_at a.makes).now.seats.holding x stays none (sym placing_now ∙ is) in
       knows x (ap (λ (h : Holding). h.placing) (sym a.holding) ∙ before)
 
 -- one bit more
@@ -474,37 +565,50 @@ power_trails k small =
     let t = bit_at-trailing_zeros w64 (2 ^ k) (pow_pos k) small in
     bit_of_power k (trailing_zeros w64 (2 ^ k)) (eq-eqb (bit_at (2 ^ k) (trailing_zeros w64 (2 ^ k))) 1 t.1)
 
-cell_told : (page v n k : ℕ) (cell : Option Cell) → v < 2 ^ 64 → v ≡ n + 2 ^ k → cell_behind page v n cell ≡ Some (record { page = page; index = k })
+cell_told : (page v n k : ℕ) (cell : Option Cell) → v < 2 ^ 64 → v ≡ n + 2 ^ k
+    → cell_behind page v n cell ≡ Some (record { page = page; index = k })
 cell_told page v n k cell small is =
     let some : 0 < 2 ^ k = pow_pos k in
     let rest : v - n ≡ 2 ^ k = omega arith in
-    ap (λ (b : Bool). if b then Some (record { page = page; index = trailing_zeros w64 (v - n) }) else cell) (lt-ltb n v (omega arith))
+    ap (λ (b : Bool). if b then Some (record { page = page; index = trailing_zeros w64 (v - n) }) else cell)
+    (lt-ltb n v (omega arith))
     ∙ ap (λ (i : ℕ). Some (record { page = page; index = trailing_zeros w64 i })) rest
     ∙ ap (λ (i : ℕ). Some (record { page = page; index = i })) (power_trails k (omega arith))
 
 cell_kept : (page v n : ℕ) (cell : Option Cell) → v ≤ n → cell_behind page v n cell ≡ cell
-cell_kept page v n cell le = ap (λ (b : Bool). if b then Some (record { page = page; index = trailing_zeros w64 (v - n) }) else cell) (false_from_ne_true (nat_lt n v) (λ h. (let lt = ltb-true n v h in absurd (omega arith))))
+cell_kept page v n cell le =
+    ap (λ (b : Bool). if b then Some (record { page = page; index = trailing_zeros w64 (v - n) }) else cell)
+    (false_from_ne_true (nat_lt n v) (λ h. (let lt = ltb-true n v h in absurd (omega arith))))
 
-taken_place : (c : Config) (m : Moment) (f : Flight) (h : Placing) (page v : ℕ) (x : Place) → takes_cell m.words (object_made c f.op) (place_now c m f) page v ≡ true
+taken_place : (c : Config) (m : Moment) (f : Flight) (h : Placing) (page v : ℕ) (x : Place)
+    → takes_cell m.words (object_made c f.op) (place_now c m f) page v ≡ true
     → taken h (place_now c m f) ≡ Used x → (page ≡ x.page) × (v ≡ used_at m.words page + 2 ^ x.index)
 taken_place c m f h page v x t e = by (place_now c m f) t e
   where
-    by : (place : Option Place) → takes_cell m.words (object_made c f.op) place page v ≡ true → taken h place ≡ Used x → (page ≡ x.page) × (v ≡ used_at m.words page + 2 ^ x.index)
+    by : (place : Option Place) → takes_cell m.words (object_made c f.op) place page v ≡ true → taken h place ≡ Used x
+        → (page ≡ x.page) × (v ≡ used_at m.words page + 2 ^ x.index)
     by None t e = cc
     by (Some y) t e =
         let same : y ≡ x = cc in
-        let last = and_parts ((page == y.page) && place_stands m.words (object_made c f.op) y && not (has_bit (used_at m.words page) y.index)) (v == used_at m.words page + 2 ^ y.index) t in
-        let others = and_parts ((page == y.page) && place_stands m.words (object_made c f.op) y) (not (has_bit (used_at m.words page) y.index)) last.0 in
+        let last = and_parts
+        ((page == y.page) && place_stands m.words (object_made c f.op) y
+        && not (has_bit (used_at m.words page) y.index)) (v == used_at m.words page + 2 ^ y.index) t in
+        let others = and_parts ((page == y.page) && place_stands m.words (object_made c f.op) y)
+        (not (has_bit (used_at m.words page) y.index)) last.0 in
         let first = and_parts (page == y.page) (place_stands m.words (object_made c f.op) y) others.0 in (
           eqb-true page y.page first.0 ∙ ap (λ (z : Place). z.page) same,
-          eqb-true v (used_at m.words page + 2 ^ y.index) last.1 ∙ ap (λ (z : Place). used_at m.words page + 2 ^ z.index) same,
+          eqb-true v (used_at m.words page + 2 ^ y.index) last.1
+              ∙ ap (λ (z : Place). used_at m.words page + 2 ^ z.index) same,
         )
 
 -- `used`
-pub used_knows : (p : PassState) (page v n : ℕ) (q : PassState) (a : Acts p (step.Used page v) q) (cell : Option Cell) → n ≡ found_by a.makes
-    → holder_may p.table.config (world_at a.makes).now (flight_of (world_at a.makes).now p.seat) (step.Used page v) ≡ true → v < 2 ^ 64
+pub used_knows : (p : PassState) (page v n : ℕ) (q : PassState) (a : Acts p (step.Used page v) q) (cell : Option Cell)
+    → n ≡ found_by a.makes
+    → holder_may p.table.config (world_at a.makes).now (flight_of (world_at a.makes).now p.seat) (step.Used page v)
+    ≡ true → v < 2 ^ 64
     → KnowsCell p cell → KnowsCell q (cell_behind page v n cell)
-used_knows p page v n q a cell is may small knows x e = by (is_phase m.words 4) may (sym (placing_now p (step.Used page v) q a) ∙ e)
+used_knows p page v n q a cell is may small knows x e =
+    by (is_phase m.words 4) may (sym (placing_now p (step.Used page v) q a) ∙ e)
   where
     c : Config
     c = p.table.config
@@ -516,27 +620,37 @@ used_knows p page v n q a cell is may small knows x e = by (is_phase m.words 4) 
     f = flight_of m p.seat
 
     by : (b : Bool)
-        → (if b then gives_back m.words page v else not (is_used_once m.seats.holding.placing) && takes_cell m.words (object_made c f.op) (place_now c m f) page v) ≡ true
+        → (if b then gives_back m.words page v
+        else not (is_used_once m.seats.holding.placing) && takes_cell m.words (object_made c f.op)
+        (place_now c m f) page v) ≡ true
         → (if b then m.seats.holding.placing else taken m.seats.holding.placing (place_now c m f)) ≡ Used x
         → cell_behind page v n cell ≡ Some (record { page = x.page; index = x.index })
     by true back e =
-        let rest = and_parts ((bit_and v (used_at m.words page) == v) && are_left_unmarked m.words page (used_at m.words page - v)) (are_wiped m.words page (used_at m.words page - v)) back in
-        let first = and_parts (bit_and v (used_at m.words page) == v) (are_left_unmarked m.words page (used_at m.words page - v)) rest.0 in
+        let rest = and_parts
+        ((bit_and v (used_at m.words page) == v) && are_left_unmarked m.words page (used_at m.words page - v))
+        (are_wiped m.words page (used_at m.words page - v)) back in
+        let first = and_parts (bit_and v (used_at m.words page) == v)
+        (are_left_unmarked m.words page (used_at m.words page - v)) rest.0 in
         let same : bit_and v (used_at m.words page) ≡ v = eqb-true (bit_and v (used_at m.words page)) v first.0 in
         let le : bit_and v (used_at m.words page) ≤ used_at m.words page = and_le_r v (used_at m.words page) in
         let found : n ≡ used_at m.words page = is in
         cell_kept page v n cell (omega arith) ∙ knows x (ap (λ (h : Holding). h.placing) (sym a.holding) ∙ e)
     by false takes e =
-        let t = taken_place c m f m.seats.holding.placing page v x (and_parts (not (is_used_once m.seats.holding.placing)) (takes_cell m.words (object_made c f.op) (place_now c m f) page v) takes).1 e in
+        let t = taken_place c m f m.seats.holding.placing page v x
+        (and_parts (not (is_used_once m.seats.holding.placing))
+        (takes_cell m.words (object_made c f.op) (place_now c m f) page v) takes).1 e in
         let found : n ≡ used_at m.words page = is in
         cell_told page v n x.index cell small (t.1 ∙ ap (λ (i : ℕ). i + 2 ^ x.index) (sym found))
         ∙ ap (λ (i : ℕ). Some (record { page = i; index = x.index })) t.0
 
-pub used_turn : (p : PassState) (page v n : ℕ) (q : PassState) (m : Makes p (step.Used page v) q) (own : Has p.seats p.seat) (history : IsHistory q.table.config q.seen) (cell : Option Cell)
-    → Holds p.table.config (now_of p) p.seat → n ≡ found_by m → v < 2 ^ 64 → KnowsCell p cell → KnowsCell q (cell_behind page v n cell)
+pub used_turn : (p : PassState) (page v n : ℕ) (q : PassState) (m : Makes p (step.Used page v) q)
+    (own : Has p.seats p.seat) (history : IsHistory q.table.config q.seen) (cell : Option Cell)
+    → Holds p.table.config (now_of p) p.seat → n ≡ found_by m → v < 2 ^ 64 → KnowsCell p cell
+    → KnowsCell q (cell_behind page v n cell)
 unfolding acts
 used_turn p page v n q m own history cell holds is small knows =
-    used_knows p page v n q (acts p (step.Used page v) q m own history holds) cell is (made p (step.Used page v) q m own history).meets.holder small knows
+    used_knows p page v n q (acts p (step.Used page v) q m own history holds) cell is
+    (made p (step.Used page v) q m own history).meets.holder small knows
 
 -- `grant`
 
@@ -545,7 +659,8 @@ holders_op (Caller k) f o is = cc
 holders_op (Marker k) f o is = cc
 holders_op Host f o is = cc
 
-pub turn_has_type : (p : PassState) (o : Option Op) → IsTurn p o → IsHistory p.table.config p.seen → (x : Op) → o ≡ Some x → has_type p.table.config x ≡ true
+pub turn_has_type : (p : PassState) (o : Option Op) → IsTurn p o → IsHistory p.table.config p.seen → (x : Op)
+    → o ≡ Some x → has_type p.table.config x ≡ true
 turn_has_type p o t history x is =
     let c : Config = p.table.config in
     let known = known_left c p.seen history.within_limits history.enabled in
@@ -554,8 +669,12 @@ turn_has_type p o t history x is =
   where
     typed : (s : Seat) → has_type p.table.config (flight_of (now_of p) s).op ≡ true
     typed (Caller k) =
-        (and_parts (nat_lt (q_of (flight_of (now_of p) (Caller k)).op) 8 && nat_lt (p_of (flight_of (now_of p) (Caller k)).op) 8 && nat_lt (r_of (flight_of (now_of p) (Caller k)).op) 8
-        && nat_lt (d_of (flight_of (now_of p) (Caller k)).op) 8 && nat_lt (g_of (flight_of (now_of p) (Caller k)).op) 64) (has_type p.table.config (flight_of (now_of p) (Caller k)).op)
+        (and_parts (nat_lt (q_of (flight_of (now_of p) (Caller k)).op) 8
+        && nat_lt (p_of (flight_of (now_of p) (Caller k)).op) 8
+        && nat_lt (r_of (flight_of (now_of p) (Caller k)).op) 8
+        && nat_lt (d_of (flight_of (now_of p) (Caller k)).op) 8
+        && nat_lt (g_of (flight_of (now_of p) (Caller k)).op) 64)
+        (has_type p.table.config (flight_of (now_of p) (Caller k)).op)
         ((known_left p.table.config p.seen history.within_limits history.enabled).operands k)).1
     typed (Marker k) = refl
     typed Host = refl
@@ -569,7 +688,8 @@ used_placing : (placing : Placing) → is_used_once placing ≡ true → (x : Pl
 used_placing (Used x) h = (x, refl)
 used_placing _ h = cc
 
-pub grants : (p : PassState) (o : Option Op) (cell : Option Cell) → KeepsTurn p o cell → IsEnabledTo p step.Grant → Grants p o cell
+pub grants : (p : PassState) (o : Option Op) (cell : Option Cell) → KeepsTurn p o cell → IsEnabledTo p step.Grant
+    → Grants p o cell
 grants p o cell t on =
     let c : Config = p.table.config in
     let m = enabled_meets c (now_of p) (event_of p step.Grant) on in
@@ -585,15 +705,19 @@ grants p o cell t on =
           ∙ ap (λ (y : Option Op). cell_base c y cell) (sym op_is);
     }
   where
-    by : (s : Seat) → is_undecided_new (flight_of (now_of p) s) ≡ true → op_for s (flight_of (now_of p) s) ≡ Some (flight_of (now_of p) s).op
+    by : (s : Seat) → is_undecided_new (flight_of (now_of p) s) ≡ true
+        → op_for s (flight_of (now_of p) s) ≡ Some (flight_of (now_of p) s).op
     by (Caller k) new = refl
     by (Marker k) new = cc
     by Host new = cc
 
 -- The value is the one that the event stores.
-pub grant_access : (p : PassState) (o : Option Op) (cell : Option Cell) (config : Config) (base address : ℕ) → KeepsTurn p o cell → IsEnabledTo p step.Grant → config ≡ p.table.config
-    → base ≡ cell_base config o cell → address ≡ address_of base % 2 ^ 64 → Store address ≡ access p.table.config (now_of p) (event_of p step.Grant)
+pub grant_access : (p : PassState) (o : Option Op) (cell : Option Cell) (config : Config) (base address : ℕ)
+    → KeepsTurn p o cell → IsEnabledTo p step.Grant → config ≡ p.table.config
+    → base ≡ cell_base config o cell → address ≡ address_of base % 2 ^ 64
+    → Store address ≡ access p.table.config (now_of p) (event_of p step.Grant)
 grant_access p o cell config base address t on config_is base_is address_is =
     let g = grants p o cell t on in
     ap (λ (n : ℕ). Store n) address_is
-    ∙ ap (λ (n : ℕ). Store (address_of n % 2 ^ 64)) (base_is ∙ ap (λ (c : Config). cell_base c o cell) config_is ∙ sym g.base)
+    ∙ ap (λ (n : ℕ). Store (address_of n % 2 ^ 64)) (base_is ∙ ap (λ (c : Config). cell_base c o cell) config_is
+    ∙ sym g.base)

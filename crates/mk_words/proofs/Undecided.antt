@@ -1,5 +1,6 @@
 -- A step that decides no call is admitted.
-use Rattle.std.proofs.Common.{◌≡◌, ℕ, Bool, true, false, List, [], ◌∷◌, ◌++◌, Option, refl, sym, ◌∙◌, ap, subst, append-nil, inl, inr}
+use Rattle.std.proofs.Common.{◌≡◌, ℕ, Bool, true, false, List, [], ◌∷◌, ◌++◌, Option, refl, sym, ◌∙◌, ap, subst}
+use Rattle.std.proofs.Common.{append-nil, inl, inr}
 use Rattle.std.specs.Prelude.{Some, None, if◌then◌else◌, ◌==◌}
 use Rattle.std.proofs.lemmas.Bool.{cases_Bool}
 use Rattle.mk_never.specs.declared.operations.Op.{Op}
@@ -29,7 +30,8 @@ begins_undecided f o n = by (n == 0)
     by true = refl
     by false = refl
 
-goes_undecided : (c : Config) (m : Moment) (f : Flight) (n : ℕ) (s : Step) → may_decide s ≡ false → (progress c m f n s).answer ≡ None
+goes_undecided : (c : Config) (m : Moment) (f : Flight) (n : ℕ) (s : Step) → may_decide s ≡ false
+    → (progress c m f n s).answer ≡ None
 goes_undecided c m f n (step.Enter o) h = begins_undecided f o n
 goes_undecided c m f n (step.Take (Some o)) h = begins_undecided f o n
 goes_undecided c m f n (step.Look (word.Quar p)) h = cc
@@ -46,21 +48,26 @@ goes_undecided c m f n step.Grant h = cc
 goes_undecided c m f n step.Full h = cc
 goes_undecided c m f n _ h = refl
 
-pub decides_nothing : (c : Config) (m : Moment) (s : Seat) (x : Step) → may_decide x ≡ false → answer_decided c m (record { seat = s; step = x }) ≡ None
+pub decides_nothing : (c : Config) (m : Moment) (s : Seat) (x : Step) → may_decide x ≡ false
+    → answer_decided c m (record { seat = s; step = x }) ≡ None
 decides_nothing c m (seat.Caller k) x h = goes_undecided c m (flight_of m (seat.Caller k)) _ x h
 decides_nothing c m (seat.Marker k) x h = refl
 decides_nothing c m seat.Host x h = refl
 
-no_more_calls : (c : Config) (es : List Event) (e : Event) → answer_decided c (left c es).now e ≡ None → calls c (es ++ e ∷ []) ≡ calls c es
+no_more_calls : (c : Config) (es : List Event) (e : Event) → answer_decided c (left c es).now e ≡ None
+    → calls c (es ++ e ∷ []) ≡ calls c es
 no_more_calls c es e none =
     calls_more c (first_world c) es e
-    ∙ ap (λ (a : Option Answer). calls c es ++ entry_of (caller_number e.seat) (flight_of (left c es).now e.seat).op a) none
+    ∙ ap (λ (a : Option Answer). calls c es ++ entry_of (caller_number e.seat) (flight_of (left c es).now e.seat).op a)
+    none
     ∙ append-nil (calls c es)
 
-pub undecided_admitted : (p : PassState) (s : Step) → IsHistory p.table.config p.seen → (may_decide s ≡ true → IsAdmittedTo p s) → IsAdmittedTo p s
+pub undecided_admitted : (p : PassState) (s : Step) → IsHistory p.table.config p.seen
+    → (may_decide s ≡ true → IsAdmittedTo p s) → IsAdmittedTo p s
 undecided_admitted p s h may = elim (cases_Bool (may_decide s)) [
   | inl decides ↦ may decides
   | inr idle ↦
       subst (λ (xs : List Decided). AreAdmitted p.table.config.globals (never_first p.table.config) (asked xs))
-      (sym (no_more_calls p.table.config p.seen (event_of p s) (decides_nothing p.table.config (left p.table.config p.seen).now p.seat s idle))) h.admitted
+      (sym (no_more_calls p.table.config p.seen (event_of p s)
+      (decides_nothing p.table.config (left p.table.config p.seen).now p.seat s idle))) h.admitted
 ]

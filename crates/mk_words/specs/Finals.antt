@@ -13,11 +13,12 @@ history_of f = f.memory.me.0.own.seen
 abbrev pub config_of : Final → Config
 config_of f = f.memory.me.0.config
 
--- How many cells are freed by the quarantine words of the first pages, of so many. They stand behind the headers and the
--- used words, and have the freed cells in their low halves.
+-- How many cells are freed by the quarantine words of the first pages, of so many. They stand behind the headers and
+-- the used words, and have the freed cells in their low halves.
 abbrev pub freed_bits_in : List ℕ → ℕ → ℕ → ℕ
 freed_bits_in words pages zero = 0
-freed_bits_in words pages (suc n) = freed_bits_in words pages n + count_ones (slice_index words (640 + 2 * pages + n) % 2 ^ 32)
+freed_bits_in words pages (suc n) =
+    freed_bits_in words pages n + count_ones (slice_index words (640 + 2 * pages + n) % 2 ^ 32)
 
 -- and by the freed cells of these words
 abbrev pub freed_cells : Words → ℕ → ℕ

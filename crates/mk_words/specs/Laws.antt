@@ -15,7 +15,8 @@ use Rattle.mk_words.specs.States.{PassState, world_of, call_of, event_of}
 use Rattle.mk_words.specs.Steps.{Makes, moment_of, found_by, Goes}
 use Rattle.mk_words.specs.TurnSteps.{world_at}
 
--- Up to the step others have left the seat its own. The event meets all conditions there, and leaves what it leaves there.
+-- Up to the step others have left the seat its own. The event meets all conditions there, and leaves what it leaves
+-- there.
 pub record StandsBehindOthers (p : PassState) (s : Step) (q : PassState) (m : Makes p s q) : Type 0 where
   pub others : AreOfOthers (p.seat ∷ []) m.others
   pub history : IsHistory p.table.config (p.seen ++ m.others)
@@ -26,14 +27,17 @@ pub record StandsBehindOthers (p : PassState) (s : Step) (q : PassState) (m : Ma
 
 abbrev pub StepsStandBehindOthers : Type 0
 StepsStandBehindOthers =
-    (p q : PassState) (s : Step) (m : Makes p s q) → Has p.seats p.seat → IsHistory q.table.config q.seen → StandsBehindOthers p s q m
+    (p q : PassState) (s : Step) (m : Makes p s q) → Has p.seats p.seat → IsHistory q.table.config q.seen
+    → StandsBehindOthers p s q m
 
 -- A caller's step, in the turn or not, makes its call go on from where the pass knew it.
 abbrev pub CallsGoOn : Type 0
 CallsGoOn =
-    (p q : PassState) (s : Step) (m : Makes p s q) (k : ℕ) → Has p.seats p.seat → IsHistory q.table.config q.seen → p.seat ≡ Caller k
+    (p q : PassState) (s : Step) (m : Makes p s q) (k : ℕ) → Has p.seats p.seat → IsHistory q.table.config q.seen
+    → p.seat ≡ Caller k
     → Goes p s (progress p.table.config (moment_of m) (call_of p) (found_by m) s) q
 
 -- The phase says that all is over only behind an `over`. So a caller's pass, which isn't the host's, never finds it so.
 abbrev pub EndIsBehindOver : Type 0
-EndIsBehindOver = (c : Config) (es : List Event) → IsHistory c es → phase_of (left c es).now.words ≡ 5 → has_over es ≡ true
+EndIsBehindOver = (c : Config) (es : List Event) → IsHistory c es → phase_of (left c es).now.words ≡ 5
+    → has_over es ≡ true

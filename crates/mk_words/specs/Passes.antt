@@ -13,10 +13,15 @@ use Rattle.mk_words.specs.Rule.{Mine, no_part}
 -- a pass, from the view of its token and its seat
 abbrev pub state_of : TableId → Mine → Seat → PassState
 state_of id me seat =
-    record { table = record { id = id; config = me.0.config }; seat = seat; seats = me.0.own.seats; seen = me.0.own.seen }
+    record {
+      table = record { id = id; config = me.0.config };
+      seat = seat;
+      seats = me.0.own.seats;
+      seen = me.0.own.seen;
+    }
 
--- The token holds no slot, nothing that came is still beside what is its own, its own seat is one of its seats, and what
--- it has seen is a history, and tidy.
+-- The token holds no slot, nothing that came is still beside what is its own, its own seat is one of its seats, and
+-- what it has seen is a history, and tidy.
 pub record IsInOrder (me : Mine) (seat : Seat) : Type 0 where
   pub no_slot : me.1 ≡ []
   pub settled : me.0.came ≡ no_part

@@ -48,8 +48,8 @@ is_over _ = false
 abbrev pub has_over : List Event → Bool
 has_over es = list_any (λ (e : Event). is_over e.step) es
 
--- Where a caller's seat is among these, and an `over` in the list, the host's seat is among them too. So no caller steps
--- behind an `over`, whose holder has the seats of all callers.
+-- Where a caller's seat is among these, and an `over` in the list, the host's seat is among them too. So no caller
+-- steps behind an `over`, whose holder has the seats of all callers.
 abbrev pub CallersAreBeforeOver : Config → List Seat → List Event → Type 0
 CallersAreBeforeOver c seats es = (k : ℕ) → k < c.callers → Has seats (Caller k) → has_over es ≡ true → Has seats Host
 

@@ -39,8 +39,8 @@ IsEnabledTo p s = IsEnabledBehind p.table.config p.seen (event_of p s)
 abbrev pub IsAdmittedTo : PassState → Step → Type 0
 IsAdmittedTo p s = IsAdmittedBehind p.table.config p.seen (event_of p s)
 
--- A pass may make a step that is enabled and, where the step may decide a call, admitted. A `give` leaves its list tidy, and at an `over` the
--- pass has the seats of all callers.
+-- A pass may make a step that is enabled and, where the step may decide a call, admitted. A `give` leaves its list
+-- tidy, and at an `over` the pass has the seats of all callers.
 pub record May (p : PassState) (s : Step) : Type 0 where
   pub enabled : IsEnabledTo p s
   pub admitted : may_decide s ≡ true → IsAdmittedTo p s

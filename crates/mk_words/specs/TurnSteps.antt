@@ -41,7 +41,8 @@ abbrev pub begun_for : Option Op → Flight
 begun_for (Some o) = begun o
 begun_for None = at_rest
 
--- Directly behind its `take` a turn has done nothing, no gate is held, and the phase and the tallies are what a `give` asks.
+-- Directly behind its `take` a turn has done nothing, no gate is held, and the phase and the tallies are what a `give`
+-- asks.
 pub record IsFresh (p : PassState) (o : Option Op) : Type 0 where
   pub call : call_of p ≡ begun_for o
   pub holding : (now_of p).seats.holding ≡ nothing_done
@@ -72,7 +73,8 @@ pub record Acts (p : PassState) (s : Step) (q : PassState) : Type 0 where
   pub counts : CountsAreLeft p.table.config p.seen (p.seen ++ makes.others)
   pub stop : HoldsAll p.table.config (now_of p) p.seat → written_of (world_at makes) ≡ written_of (world_of p)
   pub world : world_of q ≡ world_behind p.table.config (world_at makes) (event_of p s)
-  pub call : (k : ℕ) → p.seat ≡ Caller k → call_of q ≡ (progress p.table.config (world_at makes).now (call_of p) (found_by makes) s).flight
+  pub call : (k : ℕ) → p.seat ≡ Caller k
+      → call_of q ≡ (progress p.table.config (world_at makes).now (call_of p) (found_by makes) s).flight
 
 -- No gate is changed but by these.
 abbrev pub gates_stay : Step → Bool
@@ -92,12 +94,14 @@ register_granted None = 0
 
 abbrev pub cell_base : Config → Option Op → Option Cell → ℕ
 cell_base c (Some o) (Some cell) =
-    64 * cell.page + (if is_small_object (object_made c o) then cell.index * class_words_of (class_made (object_made c o)) else 0)
+    64 * cell.page + (if is_small_object (object_made c o)
+    then cell.index * class_words_of (class_made (object_made c o)) else 0)
 cell_base c _ _ = 0
 
 -- The cell that the turn has taken for its New is known.
 abbrev pub KnowsCell : PassState → Option Cell → Type 0
-KnowsCell p cell = (x : Place) → (now_of p).seats.holding.placing ≡ Used x → cell ≡ Some (record { page = x.page; index = x.index })
+KnowsCell p cell = (x : Place) → (now_of p).seats.holding.placing ≡ Used x
+    → cell ≡ Some (record { page = x.page; index = x.index })
 
 -- The pass's seat holds the turn, for this operation, and knows the cell that it has taken.
 pub record KeepsTurn (p : PassState) (o : Option Op) (cell : Option Cell) : Type 0 where
@@ -111,4 +115,5 @@ may_take_cell _ = false
 
 -- the cell that is known behind a `used` that stores a value over this one: one bit more is a cell that is taken
 abbrev pub cell_behind : ℕ → ℕ → ℕ → Option Cell → Option Cell
-cell_behind page value found cell = if nat_lt found value then Some (record { page = page; index = trailing_zeros w64 (value - found) }) else cell
+cell_behind page value found cell =
+    if nat_lt found value then Some (record { page = page; index = trailing_zeros w64 (value - found) }) else cell

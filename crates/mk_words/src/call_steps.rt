@@ -6,7 +6,8 @@ ghost use Rattle.mk_core.specs.declared.accesses.Access.TheVariants.{Load, Store
 ghost use Rattle.mk_core.specs.declared.events.Answer.TheVariants as answer;
 ghost use Rattle.mk_core.specs.declared.events.Step.TheVariants as step;
 ghost use Rattle.mk_core.specs.Accesses.{register_met, reg_access};
-ghost use Rattle.mk_core.specs.Calls.{at_rest, begun, onward, still, word_met, page_met, g_of, value_written, one_if, progress_reg, progress_read, progress_getg};
+ghost use Rattle.mk_core.specs.Calls.{at_rest, begun, onward, still, word_met, page_met, g_of, value_written, one_if};
+ghost use Rattle.mk_core.specs.Calls.{progress_reg, progress_read, progress_getg};
 ghost use Rattle.mk_core.specs.Effects.{progress_probe};
 ghost use Rattle.mk_words.specs.States.{call_of};
 ghost use Rattle.mk_words.specs.Steps.{IsEnabledTo, IsAdmittedTo, Finds, Goes};
@@ -26,7 +27,8 @@ impl Pass {
     pub fn enter(&mut self, words: &Words, op: Op) -> Result<(), Held>
         requires one_table { self.old.table ≡ words.now }
         requires enabled { IsEnabledTo self.old (step.Enter op) }
-        ensures goes { OnOk result (Goes self.old (step.Enter op) (record { flight = begun op; answer = None }) self.new) }
+        ensures goes { OnOk result
+            (Goes self.old (step.Enter op) (record { flight = begun op; answer = None }) self.new) }
         ensures held { OnErr result (FindsHeld self.old op self.new) }
         ensures stays { OnErr result (Goes self.old (step.Enter op) (still (call_of self.old)) self.new) }
         ensures registers { KeepsRegisters self.old self.new }
@@ -60,7 +62,8 @@ impl Pass {
         requires register { r ≡ register_met (call_of self.old) (call_of self.old).stage }
         requires loads { reg_access (call_of self.old) (call_of self.old).stage ≡ Load }
         ensures finds { Finds self.old step.Reg result self.new }
-        ensures goes { Goes self.old step.Reg (progress_reg (call_of self.old) (call_of self.old).stage result) self.new }
+        ensures goes { Goes self.old step.Reg
+            (progress_reg (call_of self.old) (call_of self.old).stage result) self.new }
         ensures own { result ≡ register_of self.old r }
         ensures registers { KeepsRegisters self.old self.new }
     {
@@ -110,7 +113,8 @@ impl Pass {
         requires admitted { IsAdmittedTo self.old step.Read }
         requires word { word ≡ word_met (call_of self.old) }
         ensures finds { Finds self.old step.Read result self.new }
-        ensures goes { Goes self.old step.Read (progress_read (call_of self.old) (call_of self.old).op result) self.new }
+        ensures goes { Goes self.old step.Read
+            (progress_read (call_of self.old) (call_of self.old).op result) self.new }
         ensures registers { KeepsRegisters self.old self.new }
     {
         let heap = TableWord::Named(Word::Heap(word));

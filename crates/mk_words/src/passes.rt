@@ -65,9 +65,12 @@ pub(crate) fn perform_as<J: Making>(
     requires order { IsInOrder token.old.me seat }
     requires one_table { (state_of token.old.table_id token.old.me seat).table ≡ words.now }
     requires may { May (state_of token.old.table_id token.old.me seat) step }
-    requires word { word ≡ reached token.old.me.0.config (now_of (state_of token.old.table_id token.old.me seat)) (record { seat = seat; step = step }) }
-    requires access { by ≡ access token.old.me.0.config (now_of (state_of token.old.table_id token.old.me seat)) (record { seat = seat; step = step }) }
-    ensures told { Tells (state_of token.old.table_id token.old.me seat) step result (state_of token.new.table_id token.new.me seat) }
+    requires word { word ≡ reached token.old.me.0.config (now_of (state_of token.old.table_id token.old.me seat))
+        (record { seat = seat; step = step }) }
+    requires access { by ≡ access token.old.me.0.config (now_of (state_of token.old.table_id token.old.me seat))
+        (record { seat = seat; step = step }) }
+    ensures told { Tells (state_of token.old.table_id token.old.me seat) step result
+        (state_of token.new.table_id token.new.me seat) }
     ensures order { IsInOrder token.new.me seat }
 {
     let index = index_of(words.config.pages, word);
@@ -88,9 +91,13 @@ fn replace_as<J: Making>(
     requires order { IsInOrder token.old.me seat }
     requires one_table { (state_of token.old.table_id token.old.me seat).table ≡ words.now }
     requires may { May (state_of token.old.table_id token.old.me seat) step }
-    requires word { word ≡ reached token.old.me.0.config (now_of (state_of token.old.table_id token.old.me seat)) (record { seat = seat; step = step }) }
-    requires access { Store value ≡ access token.old.me.0.config (now_of (state_of token.old.table_id token.old.me seat)) (record { seat = seat; step = step }) }
-    ensures finds { Finds (state_of token.old.table_id token.old.me seat) step result (state_of token.new.table_id token.new.me seat) }
+    requires word { word ≡ reached token.old.me.0.config (now_of (state_of token.old.table_id token.old.me seat))
+        (record { seat = seat; step = step }) }
+    requires access { Store value
+        ≡ access token.old.me.0.config (now_of (state_of token.old.table_id token.old.me seat))
+        (record { seat = seat; step = step }) }
+    ensures finds { Finds (state_of token.old.table_id token.old.me seat) step result
+        (state_of token.new.table_id token.new.me seat) }
     ensures order { IsInOrder token.new.me seat }
 {
     let index = index_of(words.config.pages, word);

@@ -20,9 +20,11 @@ pub(crate) fn access_as<J: Making>(
 ) -> u64
     requires table { token.old.table_id ≡ table.now.table_id }
     requires within { index < table.now.table_id.words }
-    requires allowed { Allows (Kept table.now.key) table.now.table_id.slots token.old.id token.old.me index (becomes access) (λ n m. adds J.event no_step token.old.me n m) }
+    requires allowed { Allows (Kept table.now.key) table.now.table_id.slots token.old.id token.old.me index
+        (becomes access) (λ n m. adds J.event no_step token.old.me n m) }
     ensures table { token.new.table_id ≡ token.old.table_id }
-    ensures told { (found : ℕ) × adds J.event no_step token.old.me found token.new.me × (result ≡ told_by access found) }
+    ensures told { (found : ℕ) × adds J.event no_step token.old.me found token.new.me
+        × (result ≡ told_by access found) }
 {
     match access {
         Access::Load => table.load::<Make<J>>(token, index),
@@ -49,7 +51,8 @@ pub(crate) fn swap_as<J: Making>(
 ) -> u64
     requires table { token.old.table_id ≡ table.now.table_id }
     requires within { index < table.now.table_id.words }
-    requires allowed { Allows (Kept table.now.key) table.now.table_id.slots token.old.id token.old.me index (becomes (Store value)) (λ n m. adds J.event no_step token.old.me n m) }
+    requires allowed { Allows (Kept table.now.key) table.now.table_id.slots token.old.id token.old.me index
+        (becomes (Store value)) (λ n m. adds J.event no_step token.old.me n m) }
     ensures table { token.new.table_id ≡ token.old.table_id }
     ensures told { adds J.event no_step token.old.me result token.new.me }
 {

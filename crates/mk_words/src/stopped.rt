@@ -59,7 +59,8 @@ impl Stopped {
         ensures own { Has self.now.pass.seats self.now.pass.seat }
         ensures history { IsHistory self.now.pass.table.config self.now.pass.seen }
         ensures before_over { CallersAreBeforeOver self.now.pass.table.config self.now.pass.seats self.now.pass.seen }
-        ensures gates { others_are_held self.now.pass.table.config.callers (now_of self.now.pass).words self.now.pass.seat ≡ true }
+        ensures gates { others_are_held self.now.pass.table.config.callers (now_of self.now.pass).words
+            self.now.pass.seat ≡ true }
     {
         let turn = &self.turn;
         turn.is_in_order();
@@ -327,7 +328,8 @@ fn open_other(turn: &mut Turn, words: &Words, caller: u64)
     requires one_table { turn.old.pass.table ≡ words.now }
     requires enabled { is_number_of turn.old.pass.seat caller ≡ false → IsEnabledTo turn.old.pass (step.Open caller) }
     ensures op { turn.new.op ≡ turn.old.op }
-    ensures opened { is_number_of turn.old.pass.seat caller ≡ false → Acts turn.old.pass (step.Open caller) turn.new.pass }
+    ensures opened { is_number_of turn.old.pass.seat caller ≡ false
+        → Acts turn.old.pass (step.Open caller) turn.new.pass }
     ensures same { is_number_of turn.old.pass.seat caller ≡ true → turn.new.pass ≡ turn.old.pass }
     ensures own { Has turn.old.pass.seats turn.old.pass.seat }
     ensures before { IsHistory turn.old.pass.table.config turn.old.pass.seen }

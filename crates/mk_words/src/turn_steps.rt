@@ -204,7 +204,8 @@ impl Turn {
         ensures op { self.new.op ≡ self.old.op }
         ensures acts { Acts self.old.pass step.Reg self.new.pass }
         ensures finds { Finds self.old.pass step.Reg result self.new.pass }
-        ensures goes { Goes self.old.pass step.Reg (progress_reg (call_of self.old.pass) (call_of self.old.pass).stage result) self.new.pass }
+        ensures goes { Goes self.old.pass step.Reg
+            (progress_reg (call_of self.old.pass) (call_of self.old.pass).stage result) self.new.pass }
         ensures own { result ≡ register_of self.old.pass r }
     {
         let register = TableWord::Named(Word::Reg {

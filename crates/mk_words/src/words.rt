@@ -35,7 +35,12 @@ impl Model for Words {
 
     ghost view = { λ w. record { id = w.table.shared.table_id; config = w.config } };
 
-    ghost invariant = { λ w. record { key : w.table.shared.key ≡ w.config; words : w.table.shared.table_id.words ≡ count_of_words w.config.pages; slots : w.table.shared.table_id.slots ≡ 0; limits : IsWithinLimits w.config } };
+    ghost invariant = { λ w. record {
+      key : w.table.shared.key ≡ w.config;
+      words : w.table.shared.table_id.words ≡ count_of_words w.config.pages;
+      slots : w.table.shared.table_id.slots ≡ 0;
+      limits : IsWithinLimits w.config;
+    } };
 }
 
 /// So many zeros.
@@ -86,7 +91,8 @@ impl Words {
     pub fn new(alloc: Global, config: &Config) -> Result<(Words, Pass), NoMemory>
         requires { IsWithinLimits config.now }
         ensures config { IfOk result (λ made. made.0.config ≡ config.now) }
-        ensures pass { IfOk result (λ made. made.1 ≡ record { table = made.0; seat = Host; seats = all_seats config.now; seen = [] }) }
+        ensures pass { IfOk result
+            (λ made. made.1 ≡ record { table = made.0; seat = Host; seats = all_seats config.now; seen = [] }) }
     {
         let count = 640 + 70 * config.pages as usize;
         let zeros = zeros(alloc, count)?;
@@ -107,8 +113,8 @@ impl Words {
         }
     }
 
-    /// The pass of a seat that the host's pass has, which then has it no more. A marker's is out, and a caller gets none
-    /// behind an `over`.
+    /// The pass of a seat that the host's pass has, which then has it no more. A marker's is out, and a caller gets
+    /// none behind an `over`.
     pub fn split(words: &Words, pass: &mut Pass, seat: Seat) -> Pass
         requires one_table { pass.old.table ≡ words.now }
         requires host { pass.old.seat ≡ Host }

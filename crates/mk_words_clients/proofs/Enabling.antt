@@ -21,7 +21,8 @@ use Rattle.mk_words.specs.Steps.{IsEnabledTo}
 
 -- a caller's kinds ask nothing of gates, phase and marks
 
-calls_gates : (c : Config) (w : Words) (seat : Seat) (f : Flight) (s : Step) → group_of s ≡ group.Callers → has_gates c w seat f s ≡ true
+calls_gates : (c : Config) (w : Words) (seat : Seat) (f : Flight) (s : Step) → group_of s ≡ group.Callers
+    → has_gates c w seat f s ≡ true
 calls_gates c w seat f (step.Enter o) h = refl
 calls_gates c w seat f step.Leave h = refl
 calls_gates c w seat f step.Reg h = refl
@@ -60,7 +61,8 @@ calls_marker c x step.Setg h = refl
 calls_marker c x step.Dirty h = refl
 calls_marker c x _ h = cc
 
-calls_holder : (c : Config) (m : Moment) (f : Flight) (s : Step) → group_of s ≡ group.Callers → holder_may c m f s ≡ true
+calls_holder : (c : Config) (m : Moment) (f : Flight) (s : Step) → group_of s ≡ group.Callers
+    → holder_may c m f s ≡ true
 calls_holder c m f (step.Enter o) h = refl
 calls_holder c m f step.Leave h = refl
 calls_holder c m f step.Reg h = refl
@@ -74,7 +76,8 @@ calls_holder c m f step.Dirty h = refl
 calls_holder c m f _ h = cc
 
 -- The next step of a caller's call is enabled, where its operands are in range.
-pub call_step : (p : PassState) (s : Step) (k : ℕ) (f : Flight) → p.seat ≡ Caller k → k < p.table.config.callers → call_of p ≡ f → group_of s ≡ group.Callers
+pub call_step : (p : PassState) (s : Step) (k : ℕ) (f : Flight) → p.seat ≡ Caller k → k < p.table.config.callers
+    → call_of p ≡ f → group_of s ≡ group.Callers
     → comes_next f.stage f.op s ≡ true → is_in_range p.table.config (Caller k) f s ≡ true → IsEnabledTo p s
 call_step p s k f seat_is lt call_is kind next range =
     let c : Config = p.table.config in
@@ -83,8 +86,10 @@ call_step p s k f seat_is lt call_is kind next range =
     meets_enabled c m (event_of p s) (record {
       seat = ap (λ (x : Seat). seat_exists c x) seat_is ∙ lt-ltb k c.callers lt;
       kind = ap (λ (x : Seat). is_open_to x (group_of s)) seat_is ∙ ap (λ (g : Group). is_open_to (Caller k) g) kind;
-      order = ap (λ (x : Seat). is_in_order c m x s) seat_is ∙ ap (λ (x : Flight). comes_next x.stage x.op s) call ∙ next;
-      range = ap (λ (x : Seat). is_in_range c x (flight_of m x) s) seat_is ∙ ap (λ (x : Flight). is_in_range c (Caller k) x s) call ∙ range;
+      order = ap (λ (x : Seat). is_in_order c m x s) seat_is ∙ ap (λ (x : Flight). comes_next x.stage x.op s) call
+          ∙ next;
+      range = ap (λ (x : Seat). is_in_range c x (flight_of m x) s) seat_is
+          ∙ ap (λ (x : Flight). is_in_range c (Caller k) x s) call ∙ range;
       gates = calls_gates c m.words p.seat (flight_of m p.seat) s kind;
       phase = calls_phase (phase_of m.words) s kind;
       marker = calls_marker c (marker_at m p.seat) s kind;

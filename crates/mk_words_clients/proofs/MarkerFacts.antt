@@ -36,7 +36,8 @@ use Rattle.mk_core.specs.declared.seats.Presence.TheVariants.{Out, Visiting, Att
 use Rattle.mk_words.specs.Markers.{Marks}
 use Rattle.mk_words_clients.specs.Clients.{IsOutside, IsAttending, IsAt}
 
-markers_gates : (c : Config) (w : Words) (seat : Seat) (f : Flight) (s : Step) → group_of s ≡ group.Markers → has_gates c w seat f s ≡ true
+markers_gates : (c : Config) (w : Words) (seat : Seat) (f : Flight) (s : Step) → group_of s ≡ group.Markers
+    → has_gates c w seat f s ≡ true
 markers_gates c w seat f step.Attend h = refl
 markers_gates c w seat f step.Quit h = refl
 markers_gates c w seat f (step.Mlook x) h = refl
@@ -56,7 +57,8 @@ markers_phase n step.Mmark h = refl
 markers_phase n step.Mblack h = refl
 markers_phase n _ h = cc
 
-markers_holder : (c : Config) (m : Moment) (f : Flight) (s : Step) → group_of s ≡ group.Markers → holder_may c m f s ≡ true
+markers_holder : (c : Config) (m : Moment) (f : Flight) (s : Step) → group_of s ≡ group.Markers
+    → holder_may c m f s ≡ true
 markers_holder c m f step.Attend h = refl
 markers_holder c m f step.Quit h = refl
 markers_holder c m f (step.Mlook x) h = refl
@@ -68,7 +70,8 @@ markers_holder c m f _ h = cc
 
 -- A marker's step is enabled, where its operands are in range and the marker may make it.
 pub marker_step : (p : PassState) (s : Step) (k : ℕ) → p.seat ≡ Marker k → k < 8 → group_of s ≡ group.Markers
-    → is_in_range p.table.config (Marker k) at_rest s ≡ true → marker_may p.table.config (marker_in p) s ≡ true → IsEnabledTo p s
+    → is_in_range p.table.config (Marker k) at_rest s ≡ true → marker_may p.table.config (marker_in p) s ≡ true
+    → IsEnabledTo p s
 marker_step p s k seat_is few kind range may =
     let c : Config = p.table.config in
     let m : Moment = now_of p in
@@ -92,7 +95,8 @@ seat_kept p q s m = ap (λ (r : PassState). r.seat) m.is
 pub config_kept : (p q : PassState) (s : Step) → Makes p s q → q.table ≡ p.table
 config_kept p q s m = ap (λ (r : PassState). r.table) m.is
 
-pub attends_behind : (p q : PassState) (s : Step) (x : MarkerState) → IsAttending p → Makes p s q → marker_in q ≡ x → x.presence ≡ (marker_in p).presence → x.hand ≡ None
+pub attends_behind : (p q : PassState) (s : Step) (x : MarkerState) → IsAttending p → Makes p s q → marker_in q ≡ x
+    → x.presence ≡ (marker_in p).presence → x.hand ≡ None
     → IsAttending q
 attends_behind p q s x a m is same hand =
     record {
@@ -106,35 +110,47 @@ attends_behind p q s x a m is same hand =
 pub load_may : (p : PassState) → IsAttending p → has_next_word (marker_in p).scan ≡ true → IsEnabledTo p step.Mload
 load_may p a next =
     marker_step p step.Mload a.number a.seat a.few refl refl
-    (and_from (has_next_word (marker_in p).scan) (is_none (marker_in p).hand) next (ap (λ (h : Option ℕ). is_none h) a.hand))
+    (and_from (has_next_word (marker_in p).scan) (is_none (marker_in p).hand) next
+    (ap (λ (h : Option ℕ). is_none h) a.hand))
 
-pub look_may : (p : PassState) (k page : ℕ) → p.seat ≡ Marker k → k < 8 → is_attending (marker_in p).presence ≡ true → page < p.table.config.pages
+pub look_may : (p : PassState) (k page : ℕ) → p.seat ≡ Marker k → k < 8 → is_attending (marker_in p).presence ≡ true
+    → page < p.table.config.pages
     → IsEnabledTo p (step.Mlook (word.Head page))
 look_may p k page seat few attends lt =
-    marker_step p (step.Mlook (word.Head page)) k seat few refl (lt-ltb page p.table.config.pages lt) (and_from (is_attending (marker_in p).presence) true attends refl)
+    marker_step p (step.Mlook (word.Head page)) k seat few refl (lt-ltb page p.table.config.pages lt)
+    (and_from (is_attending (marker_in p).presence) true attends refl)
 
-pub mark_may : (p : PassState) (k : ℕ) → p.seat ≡ Marker k → k < 8 → is_some (cell_seen p.table.config (marker_in p).seen (marker_in p).hand) ≡ true → IsEnabledTo p step.Mmark
+pub mark_may : (p : PassState) (k : ℕ) → p.seat ≡ Marker k → k < 8
+    → is_some (cell_seen p.table.config (marker_in p).seen (marker_in p).hand) ≡ true → IsEnabledTo p step.Mmark
 mark_may p k seat few some = marker_step p step.Mmark k seat few refl refl some
 
-pub claim_may : (p : PassState) (page k : ℕ) → IsAttending p → page < p.table.config.pages → k < 32 → (marker_in p).scan ≡ None
+pub claim_may : (p : PassState) (page k : ℕ) → IsAttending p → page < p.table.config.pages → k < 32
+    → (marker_in p).scan ≡ None
     → has_seen_cell (marker_in p).seen page k ≡ true → IsEnabledTo p (step.Claim page k)
 claim_may p page k a lt few none seen =
-    marker_step p (step.Claim page k) a.number a.seat a.few refl (and_from (nat_lt page p.table.config.pages) (nat_lt k 32) (lt-ltb page p.table.config.pages lt) (lt-ltb k 32 few))
-    (and_from (is_attending (marker_in p).presence && is_none (marker_in p).scan) (has_seen_cell (marker_in p).seen page k)
-    (and_from (is_attending (marker_in p).presence) (is_none (marker_in p).scan) a.attends (ap (λ (s : Option Scan). is_none s) none)) seen)
+    marker_step p (step.Claim page k) a.number a.seat a.few refl
+    (and_from (nat_lt page p.table.config.pages) (nat_lt k 32) (lt-ltb page p.table.config.pages lt)
+    (lt-ltb k 32 few))
+    (and_from (is_attending (marker_in p).presence && is_none (marker_in p).scan)
+    (has_seen_cell (marker_in p).seen page k)
+    (and_from (is_attending (marker_in p).presence) (is_none (marker_in p).scan) a.attends
+    (ap (λ (s : Option Scan). is_none s) none)) seen)
 
 pub black_may : (p : PassState) (page k n : ℕ) → IsAttending p → IsAt p page k n n → IsEnabledTo p step.Mblack
 black_may p page k n a at =
     marker_step p step.Mblack a.number a.seat a.few refl refl
     (and_from (is_scanned (marker_in p).scan) (is_none (marker_in p).hand)
-    (ap (λ (s : Option Scan). is_scanned s) at ∙ ap not (false_from_ne_true (nat_lt n n) (λ e. let lt = ltb-true n n e in omega arith)))
+    (ap (λ (s : Option Scan). is_scanned s) at
+    ∙ ap not (false_from_ne_true (nat_lt n n) (λ e. let lt = ltb-true n n e in omega arith)))
     (ap (λ (h : Option ℕ). is_none h) a.hand))
 
-pub quit_may : (p : PassState) (k : ℕ) → p.seat ≡ Marker k → k < 8 → is_out (marker_in p).presence ≡ false → IsEnabledTo p step.Quit
+pub quit_may : (p : PassState) (k : ℕ) → p.seat ≡ Marker k → k < 8 → is_out (marker_in p).presence ≡ false
+    → IsEnabledTo p step.Quit
 quit_may p k seat few inside = marker_step p step.Quit k seat few refl refl (ap not inside)
 
 pub attend_may : (p : PassState) → IsOutside p → IsEnabledTo p step.Attend
-attend_may p o = marker_step p step.Attend o.number o.seat o.few refl refl (ap (λ (x : MarkerState). is_out x.presence) o.out)
+attend_may p o = marker_step p step.Attend o.number o.seat o.few refl refl
+    (ap (λ (x : MarkerState). is_out x.presence) o.out)
 
 attending_is_in : (x : Presence) → is_attending x ≡ true → is_out x ≡ false
 attending_is_in Out h = sym h
@@ -155,16 +171,20 @@ attended p q n o m is =
       hand = ap (λ (y : MarkerState). y.hand) m.marker;
     }
 
-pub quit_visiting : (p q : PassState) (n : ℕ) → IsOutside p → Marks p step.Attend n q → n % 8 ≢ 1 → IsEnabledTo q step.Quit
+pub quit_visiting : (p q : PassState) (n : ℕ) → IsOutside p → Marks p step.Attend n q → n % 8 ≢ 1
+    → IsEnabledTo q step.Quit
 quit_visiting p q n o m isnt =
     quit_may q o.number (seat_kept p q step.Attend m.finds.makes ∙ o.seat) o.few
-    (ap (λ (y : MarkerState). is_out y.presence) m.marker ∙ ap (λ (b : Bool). is_out (if b then Attending else Visiting)) (ne_eqb (n % 8) 1 isnt))
+    (ap (λ (y : MarkerState). is_out y.presence) m.marker
+    ∙ ap (λ (b : Bool). is_out (if b then Attending else Visiting)) (ne_eqb (n % 8) 1 isnt))
 
-pub is_outside : (p q : PassState) (s : Step) (k : ℕ) → p.seat ≡ Marker k → k < 8 → Makes p s q → marker_in q ≡ outside → IsOutside q
+pub is_outside : (p q : PassState) (s : Step) (k : ℕ) → p.seat ≡ Marker k → k < 8 → Makes p s q → marker_in q ≡ outside
+    → IsOutside q
 is_outside p q s k seat few m out = record { number = k; seat = seat_kept p q s m ∙ seat; few = few; out = out }
 
 -- A look at a page's header shows a cell of its block.
-pub seen_cell : (p q : PassState) (page n class k : ℕ) → IsAttending p → Marks p (step.Mlook (word.Head page)) n q → header_of n ≡ Some (Block class) → k < cells_of class
+pub seen_cell : (p q : PassState) (page n class k : ℕ) → IsAttending p → Marks p (step.Mlook (word.Head page)) n q
+    → header_of n ≡ Some (Block class) → k < cells_of class
     → has_seen_cell (marker_in q).seen page k ≡ true
 seen_cell p q page n class k a m is lt =
     ap (λ (y : MarkerState). has_seen_cell y.seen page k) m.marker

@@ -1,7 +1,9 @@
 -- What a turn knows of the table behind its own steps.
-use Rattle.std.proofs.Common.{◌≡◌, ◌≢◌, ◌⊎◌, inl, inr, ℕ, ◌+◌, ◌<◌, ◌≤◌, Bool, true, false, List, [], ◌∷◌, ◌++◌, length, Option, refl, sym, ◌∙◌, ap, subst, arith}
+use Rattle.std.proofs.Common.{◌≡◌, ◌≢◌, ◌⊎◌, inl, inr, ℕ, ◌+◌, ◌<◌, ◌≤◌, Bool, true, false, List, [], ◌∷◌, ◌++◌, length}
+use Rattle.std.proofs.Common.{Option, refl, sym, ◌∙◌, ap, subst, arith}
 use Rattle.std.specs.Prelude.{slice_index, slice_set, ◌==◌, not, nat_lt}
-use Rattle.std.proofs.lemmas.Bool.{cases_lt, cases_eq, eqb-false, eqb-true, ne_eqb, eq-eqb, lt-ltb, and_from, true≢false}
+use Rattle.std.proofs.lemmas.Bool.{cases_lt, cases_eq, eqb-false, eqb-true, ne_eqb, eq-eqb, lt-ltb, and_from}
+use Rattle.std.proofs.lemmas.Bool.{true≢false}
 use Rattle.std.proofs.lemmas.List.{get_or-set_other, get_or-set_same, get_or_past, length-set}
 use Rattle.mk_geom.specs.PageUses.{words_held_among}
 use Rattle.mk_geom.specs.PageWords.{uses_of_pages}
@@ -57,7 +59,8 @@ leaves_steady (step.Black p v) = true
 leaves_steady (step.Unblack p) = true
 leaves_steady _ = false
 
-steady_behind : (c : Config) (w : World) (seat : Seat) (s : Step) → leaves_steady s ≡ true → steady_of (world_behind c w (record { seat = seat; step = s })) ≡ steady_of w
+steady_behind : (c : Config) (w : World) (seat : Seat) (s : Step) → leaves_steady s ≡ true
+    → steady_of (world_behind c w (record { seat = seat; step = s })) ≡ steady_of w
 steady_behind c w seat (step.Look x) h = refl
 steady_behind c w seat (step.Hold j) h = refl
 steady_behind c w seat (step.Open j) h = refl
@@ -69,7 +72,8 @@ steady_behind c w seat (step.Black p v) h = refl
 steady_behind c w seat (step.Unblack p) h = refl
 steady_behind c w seat _ h = cc
 
-pub steady_kept : (p q : PassState) (s : Step) → Acts p s q → leaves_steady s ≡ true → steady_of (world_of q) ≡ steady_of (world_of p)
+pub steady_kept : (p q : PassState) (s : Step) → Acts p s q → leaves_steady s ≡ true
+    → steady_of (world_of q) ≡ steady_of (world_of p)
 steady_kept p q s a h =
     ap (λ (w : World). steady_of w) a.world ∙ steady_behind p.table.config (world_at a.makes) p.seat s h ∙ a.turn.steady
 
@@ -86,9 +90,11 @@ freed_behind c m seat (step.Black p v) h = refl
 freed_behind c m seat (step.Unblack p) h = refl
 freed_behind c m seat _ h = cc
 
-pub freed_kept : (p q : PassState) (s : Step) → Acts p s q → leaves_steady s ≡ true → (now_of q).seats.holding.freed ≡ (now_of p).seats.holding.freed
+pub freed_kept : (p q : PassState) (s : Step) → Acts p s q → leaves_steady s ≡ true
+    → (now_of q).seats.holding.freed ≡ (now_of p).seats.holding.freed
 freed_kept p q s a h =
-    ap (λ (w : World). w.now.seats.holding.freed) a.world ∙ freed_behind p.table.config (world_at a.makes).now p.seat s h ∙ ap (λ (x : Holding). x.freed) a.holding
+    ap (λ (w : World). w.now.seats.holding.freed) a.world
+    ∙ freed_behind p.table.config (world_at a.makes).now p.seat s h ∙ ap (λ (x : Holding). x.freed) a.holding
 
 pub settled_kept : (p q : PassState) (s : Step) → Acts p s q → leaves_steady s ≡ true → Settled p → Settled q
 settled_kept p q s a h x =
@@ -97,7 +103,8 @@ settled_kept p q s a h x =
       seat = ap (λ (r : PassState). r.seat) a.makes.is ∙ x.seat;
       phase = ap (λ (y : Steady). has_phase y.phase step.Give) same ∙ x.phase;
       freed = freed_kept p q s a h ∙ x.freed;
-      held = ap (λ (y : Steady). y.held) same ∙ x.held ∙ sym (ap (λ (y : Steady). words_held_among (uses_of_pages y.pages)) same);
+      held = ap (λ (y : Steady). y.held) same ∙ x.held
+          ∙ sym (ap (λ (y : Steady). words_held_among (uses_of_pages y.pages)) same);
       fresh = ap (λ (y : Steady). y.fresh) same ∙ x.fresh ∙ sym (ap (λ (y : Steady). y.fresh_words) same);
     }
 
@@ -114,7 +121,8 @@ none_held_is p h = none_held p.table.config (now_of p).words h
 
 pub is_none_held : (p : PassState) → NoneHeld p → none_is_held p.table.config.callers (now_of p).words ≡ true
 is_none_held p h =
-    all_from p.table.config.callers (λ j. not (is_held (now_of p).words j)) (λ i lt. ap not (ne_eqb (slice_index (now_of p).words.gates i) 2 (h i lt)))
+    all_from p.table.config.callers (λ j. not (is_held (now_of p).words j))
+    (λ i lt. ap not (ne_eqb (slice_index (now_of p).words.gates i) 2 (h i lt)))
 
 config_kept : (p q : PassState) (s : Step) → Acts p s q → q.table.config ≡ p.table.config
 config_kept p q s a = ap (λ (r : PassState). r.table.config) a.makes.is
@@ -125,31 +133,38 @@ within p q s a i lt = subst (λ (c : Config). i < c.callers) (config_kept p q s 
 pub hold_leaves : (p q : PassState) (j : ℕ) → Acts p (step.Hold j) q → NoneHeld p → OnlyHeld j q
 hold_leaves p q j a h i lt other two =
     a.turn.other_gates i (h i (within p q (step.Hold j) a i lt))
-    (sym (get_or-set_other (world_at a.makes).now.words.gates j i _ 0 other) ∙ sym (ap (λ (w : World). slice_index w.now.words.gates i) a.world) ∙ two)
+    (sym (get_or-set_other (world_at a.makes).now.words.gates j i _ 0 other)
+    ∙ sym (ap (λ (w : World). slice_index w.now.words.gates i) a.world) ∙ two)
 
 pub look_leaves : (p q : PassState) (j : ℕ) (x : Word) → Acts p (step.Look x) q → OnlyHeld j p → OnlyHeld j q
 look_leaves p q j x a h i lt other two =
-    a.turn.other_gates i (h i (within p q (step.Look x) a i lt) other) (sym (ap (λ (w : World). slice_index w.now.words.gates i) a.world) ∙ two)
+    a.turn.other_gates i (h i (within p q (step.Look x) a i lt) other)
+    (sym (ap (λ (w : World). slice_index w.now.words.gates i) a.world) ∙ two)
 
 zero_there : (xs : List ℕ) (i : ℕ) → slice_index (slice_set xs i 0) i ≢ 2
 zero_there xs i two = by (cases_lt i (length xs))
   where
     by : (i < length xs) ⊎ (length xs ≤ i) → ⊥
     by (inl lt) = let z = get_or-set_same xs i 0 0 lt in absurd (omega arith)
-    by (inr past) = let z = get_or_past (slice_set xs i 0) i 0 (subst (λ (n : ℕ). n ≤ i) (sym (length-set xs i 0)) past) in absurd (omega arith)
+    by (inr past) = let z = get_or_past (slice_set xs i 0) i 0 (subst (λ (n : ℕ). n ≤ i) (sym (length-set xs i 0)) past)
+        in absurd (omega arith)
 
 pub open_leaves : (p q : PassState) (j : ℕ) → Acts p (step.Open j) q → OnlyHeld j p → NoneHeld q
 open_leaves p q j a h i lt two = elim (cases_eq i j) [
   | inl same ↦ zero_there (world_at a.makes).now.words.gates j
-      (sym (ap (λ (k : ℕ). slice_index (slice_set (world_at a.makes).now.words.gates j 0) k) same) ∙ sym (ap (λ (w : World). slice_index w.now.words.gates i) a.world) ∙ two)
+      (sym (ap (λ (k : ℕ). slice_index (slice_set (world_at a.makes).now.words.gates j 0) k) same)
+      ∙ sym (ap (λ (w : World). slice_index w.now.words.gates i) a.world) ∙ two)
   | inr other ↦ a.turn.other_gates i (h i (within p q (step.Open j) a i lt) other)
-      (sym (get_or-set_other (world_at a.makes).now.words.gates j i 0 0 other) ∙ sym (ap (λ (w : World). slice_index w.now.words.gates i) a.world) ∙ two)
+      (sym (get_or-set_other (world_at a.makes).now.words.gates j i 0 0 other)
+      ∙ sym (ap (λ (w : World). slice_index w.now.words.gates i) a.world) ∙ two)
 ]
 
 -- a `hold` that finds the caller in its call holds nothing
-pub miss_leaves : (p q : PassState) (j : ℕ) → Acts p (step.Hold j) q → is_held (now_of q).words j ≡ false → NoneHeld p → NoneHeld q
+pub miss_leaves : (p q : PassState) (j : ℕ) → Acts p (step.Hold j) q → is_held (now_of q).words j ≡ false → NoneHeld p
+    → NoneHeld q
 miss_leaves p q j a not_held h i lt two = elim (cases_eq i j) [
-  | inl same ↦ eqb-false (slice_index (now_of q).words.gates j) 2 not_held (sym (ap (λ (k : ℕ). slice_index (now_of q).words.gates k) same) ∙ two)
+  | inl same ↦ eqb-false (slice_index (now_of q).words.gates j) 2 not_held
+      (sym (ap (λ (k : ℕ). slice_index (now_of q).words.gates k) same) ∙ two)
   | inr other ↦ hold_leaves p q j a h i lt other two
 ]
 
@@ -161,10 +176,12 @@ given_back p x h =
     record { seat = x.seat; gates = is_none_held p h; phase = x.phase; freed = x.freed; held = x.held; fresh = x.fresh }
 
 -- a gate that is held stays so
-pub look_holds : (p q : PassState) (j : ℕ) (x : Word) → Acts p (step.Look x) q → is_held (now_of p).words j ≡ true → is_held (now_of q).words j ≡ true
+pub look_holds : (p q : PassState) (j : ℕ) (x : Word) → Acts p (step.Look x) q → is_held (now_of p).words j ≡ true
+    → is_held (now_of q).words j ≡ true
 look_holds p q j x a held =
     eq-eqb (slice_index (now_of q).words.gates j) 2
-    (ap (λ (w : World). slice_index w.now.words.gates j) a.world ∙ a.turn.held_gates j (eqb-true (slice_index (now_of p).words.gates j) 2 held))
+    (ap (λ (w : World). slice_index w.now.words.gates j) a.world
+    ∙ a.turn.held_gates j (eqb-true (slice_index (now_of p).words.gates j) 2 held))
 
 -- The tallies of what was counted stay tidy.
 
@@ -172,7 +189,8 @@ steady_no_end : (s : Step) → leaves_steady s ≡ true → is_end s ≡ false
 steady_no_end step.End h = cc
 steady_no_end _ h = refl
 
-counts_nothing : (c : Config) (w : World) (s : Step) → leaves_steady s ≡ true → CountsNothing c w (record { seat = Host; step = s })
+counts_nothing : (c : Config) (w : World) (s : Step) → leaves_steady s ≡ true
+    → CountsNothing c w (record { seat = Host; step = s })
 counts_nothing c w s h =
     let same = steady_behind c w Host s h in
     record {
@@ -190,11 +208,13 @@ counts_nothing c w s h =
       no_full = refl;
     }
 
-tidy_behind_others : (c : Config) (es fs : List Event) → steady_of (left c fs) ≡ steady_of (left c es) → CountsAreLeft c es fs → TalliesAreTidy c es → TalliesAreTidy c fs
+tidy_behind_others : (c : Config) (es fs : List Event) → steady_of (left c fs) ≡ steady_of (left c es)
+    → CountsAreLeft c es fs → TalliesAreTidy c es → TalliesAreTidy c fs
 tidy_behind_others c es fs same counts t =
     record {
       cycles = ap (λ (x : Steady). x.cycles) same ∙ t.cycles ∙ ap in_a_word (sym counts.ends);
-      released = ap (λ (x : Steady). x.released) same ∙ t.released ∙ ap (λ (x : Steady). in_a_word (releases x.allocations)) (sym same);
+      released = ap (λ (x : Steady). x.released) same ∙ t.released
+          ∙ ap (λ (x : Steady). in_a_word (releases x.allocations)) (sym same);
       full = ap (λ (x : Steady). x.full) same ∙ t.full ∙ ap in_a_word (sym counts.fulls);
     }
 
@@ -205,7 +225,8 @@ tidy_kept p q s a host h t =
     let fs : List Event = p.seen ++ a.makes.others in
     let e : Event = record { seat = Host; step = s } in
     let behind : TalliesAreTidy c (fs ++ e ∷ []) =
-    counts_tidy_more c fs e (counts_nothing c (left c fs) s h) (tidy_behind_others c p.seen fs a.turn.steady a.counts t) in
+    counts_tidy_more c fs e (counts_nothing c (left c fs) s h) (tidy_behind_others c p.seen fs a.turn.steady a.counts t)
+    in
     let seen_is : q.seen ≡ fs ++ e ∷ [] =
     ap (λ (r : PassState). r.seen) a.makes.is
     ∙ ap (λ (x : Seat). fs ++ record { seat = x; step = s } ∷ []) host in
@@ -214,9 +235,11 @@ tidy_kept p q s a host h t =
 
 -- The host may make the step, in its turn.
 host_step : (p : PassState) (s : Step) → p.seat ≡ Host → Holds p.table.config (now_of p) p.seat
-    → is_open_to Host (group_of s) ≡ true → comes_next_to_host true s ≡ true → is_in_range p.table.config Host at_rest s ≡ true
+    → is_open_to Host (group_of s) ≡ true → comes_next_to_host true s ≡ true
+    → is_in_range p.table.config Host at_rest s ≡ true
     → has_gates p.table.config (now_of p).words Host at_rest s ≡ true → has_phase (phase_of (now_of p).words) s ≡ true
-    → marker_may p.table.config outside s ≡ true → holder_may p.table.config (now_of p) at_rest s ≡ true → IsEnabledTo p s
+    → marker_may p.table.config outside s ≡ true → holder_may p.table.config (now_of p) at_rest s ≡ true
+    → IsEnabledTo p s
 host_step p s host holds kind next range gates phase marker holder =
     let c : Config = p.table.config in
     let m : Moment = now_of p in
@@ -233,15 +256,19 @@ host_step p s host holds kind next range gates phase marker holder =
       holder = holder;
     }))
 
-pub hold_may : (p : PassState) (j : ℕ) → p.seat ≡ Host → Holds p.table.config (now_of p) p.seat → j < p.table.config.callers → NoneHeld p → IsEnabledTo p (step.Hold j)
+pub hold_may : (p : PassState) (j : ℕ) → p.seat ≡ Host → Holds p.table.config (now_of p) p.seat
+    → j < p.table.config.callers → NoneHeld p → IsEnabledTo p (step.Hold j)
 hold_may p j host holds lt none =
-    host_step p (step.Hold j) host holds refl refl (and_from (nat_lt j p.table.config.callers) true (lt-ltb j p.table.config.callers lt) refl)
+    host_step p (step.Hold j) host holds refl refl
+    (and_from (nat_lt j p.table.config.callers) true (lt-ltb j p.table.config.callers lt) refl)
     (ap not (ne_eqb (slice_index (now_of p).words.gates j) 2 (none j lt))) refl refl refl
 
-pub look_may : (p : PassState) (j r : ℕ) → p.seat ≡ Host → Holds p.table.config (now_of p) p.seat → j < p.table.config.callers → r < 8
+pub look_may : (p : PassState) (j r : ℕ) → p.seat ≡ Host → Holds p.table.config (now_of p) p.seat
+    → j < p.table.config.callers → r < 8
     → is_held (now_of p).words j ≡ true → IsEnabledTo p (step.Look (word.Reg j r))
 look_may p j r host holds lt few held =
-    host_step p (step.Look (word.Reg j r)) host holds refl refl (and_from (nat_lt j p.table.config.callers) (nat_lt r 8) (lt-ltb j p.table.config.callers lt) (lt-ltb r 8 few))
+    host_step p (step.Look (word.Reg j r)) host holds refl refl
+    (and_from (nat_lt j p.table.config.callers) (nat_lt r 8) (lt-ltb j p.table.config.callers lt) (lt-ltb r 8 few))
     held refl refl refl
 
 not_closed : (n : ℕ) → has_phase n step.Give ≡ true → not (n == 3) ≡ true
@@ -250,25 +277,34 @@ not_closed n h = ap not (ne_eqb n 3 (λ three. true≢false (sym h ∙ ap (λ (k
 pub open_may : (p : PassState) (j : ℕ) → Settled p → Holds p.table.config (now_of p) p.seat → j < p.table.config.callers
     → is_held (now_of p).words j ≡ true → IsEnabledTo p (step.Open j)
 open_may p j x holds lt held =
-    host_step p (step.Open j) x.seat holds refl refl (and_from (nat_lt j p.table.config.callers) true (lt-ltb j p.table.config.callers lt) refl)
-    held (not_closed (phase_of (now_of p).words) x.phase) refl (ap (λ (f : Option RunPages). is_run_gone (now_of p).words f) x.freed)
+    host_step p (step.Open j) x.seat holds refl refl
+    (and_from (nat_lt j p.table.config.callers) true (lt-ltb j p.table.config.callers lt) refl)
+    held (not_closed (phase_of (now_of p).words) x.phase) refl
+    (ap (λ (f : Option RunPages). is_run_gone (now_of p).words f) x.freed)
 
 -- Gates are held one after the other, and opened so.
 
-stays_held : (p q : PassState) (s : Step) (a : Acts p s q) (i : ℕ) → slice_index (now_of q).words.gates i ≡ slice_index (world_at a.makes).now.words.gates i
+stays_held : (p q : PassState) (s : Step) (a : Acts p s q) (i : ℕ)
+    → slice_index (now_of q).words.gates i ≡ slice_index (world_at a.makes).now.words.gates i
     → is_held (now_of p).words i ≡ true → is_held (now_of q).words i ≡ true
 stays_held p q s a i same held =
-    eq-eqb (slice_index (now_of q).words.gates i) 2 (same ∙ a.turn.held_gates i (eqb-true (slice_index (now_of p).words.gates i) 2 held))
+    eq-eqb (slice_index (now_of q).words.gates i) 2 (same
+    ∙ a.turn.held_gates i (eqb-true (slice_index (now_of p).words.gates i) 2 held))
 
-hold_elsewhere : (p q : PassState) (j : ℕ) (a : Acts p (step.Hold j) q) (i : ℕ) → i ≢ j → slice_index (now_of q).words.gates i ≡ slice_index (world_at a.makes).now.words.gates i
+hold_elsewhere : (p q : PassState) (j : ℕ) (a : Acts p (step.Hold j) q) (i : ℕ) → i ≢ j
+    → slice_index (now_of q).words.gates i ≡ slice_index (world_at a.makes).now.words.gates i
 hold_elsewhere p q j a i other =
-    ap (λ (w : World). slice_index w.now.words.gates i) a.world ∙ get_or-set_other (world_at a.makes).now.words.gates j i _ 0 other
+    ap (λ (w : World). slice_index w.now.words.gates i) a.world
+    ∙ get_or-set_other (world_at a.makes).now.words.gates j i _ 0 other
 
-open_elsewhere : (p q : PassState) (j : ℕ) (a : Acts p (step.Open j) q) (i : ℕ) → i ≢ j → slice_index (now_of q).words.gates i ≡ slice_index (world_at a.makes).now.words.gates i
+open_elsewhere : (p q : PassState) (j : ℕ) (a : Acts p (step.Open j) q) (i : ℕ) → i ≢ j
+    → slice_index (now_of q).words.gates i ≡ slice_index (world_at a.makes).now.words.gates i
 open_elsewhere p q j a i other =
-    ap (λ (w : World). slice_index w.now.words.gates i) a.world ∙ get_or-set_other (world_at a.makes).now.words.gates j i 0 0 other
+    ap (λ (w : World). slice_index w.now.words.gates i) a.world
+    ∙ get_or-set_other (world_at a.makes).now.words.gates j i 0 0 other
 
-pub holds_one_more : (p q : PassState) (j : ℕ) → HoldsBelow p j → Acts p (step.Hold j) q → is_held (now_of q).words j ≡ true → HoldsBelow q (j + 1)
+pub holds_one_more : (p q : PassState) (j : ℕ) → HoldsBelow p j → Acts p (step.Hold j) q
+    → is_held (now_of q).words j ≡ true → HoldsBelow q (j + 1)
 holds_one_more p q j h a now =
     record {
       held = λ i lt. elim (cases_eq i j) [
@@ -276,17 +312,21 @@ holds_one_more p q j h a now =
         | inr other ↦ stays_held p q (step.Hold j) a i (hold_elsewhere p q j a i other) (h.held i (omega arith))
       ];
       free = λ i le lt two. (let other : i ≢ j = λ e. omega arith in
-          a.turn.other_gates i (h.free i (omega arith) (within p q (step.Hold j) a i lt)) (sym (hold_elsewhere p q j a i other) ∙ two));
+          a.turn.other_gates i (h.free i (omega arith) (within p q (step.Hold j) a i lt))
+          (sym (hold_elsewhere p q j a i other) ∙ two));
     }
 
-pub holds_no_more : (p q : PassState) (j : ℕ) → HoldsBelow p j → Acts p (step.Hold j) q → is_held (now_of q).words j ≡ false → HoldsBelow q j
+pub holds_no_more : (p q : PassState) (j : ℕ) → HoldsBelow p j → Acts p (step.Hold j) q
+    → is_held (now_of q).words j ≡ false → HoldsBelow q j
 holds_no_more p q j h a missed =
     record {
       held = λ i lt. (let other : i ≢ j = λ e. omega arith in
           stays_held p q (step.Hold j) a i (hold_elsewhere p q j a i other) (h.held i lt));
       free = λ i le lt two. elim (cases_eq i j) [
-        | inl same ↦ eqb-false (slice_index (now_of q).words.gates j) 2 missed (sym (ap (λ (k : ℕ). slice_index (now_of q).words.gates k) same) ∙ two)
-        | inr other ↦ a.turn.other_gates i (h.free i le (within p q (step.Hold j) a i lt)) (sym (hold_elsewhere p q j a i other) ∙ two)
+        | inl same ↦ eqb-false (slice_index (now_of q).words.gates j) 2 missed
+            (sym (ap (λ (k : ℕ). slice_index (now_of q).words.gates k) same) ∙ two)
+        | inr other ↦ a.turn.other_gates i (h.free i le (within p q (step.Hold j) a i lt))
+            (sym (hold_elsewhere p q j a i other) ∙ two)
       ];
     }
 
@@ -297,8 +337,10 @@ opens_last p q j h a =
           stays_held p q (step.Open j) a i (open_elsewhere p q j a i other) (h.held i (omega arith)));
       free = λ i le lt two. elim (cases_eq i j) [
         | inl same ↦ zero_there (world_at a.makes).now.words.gates j
-            (sym (ap (λ (k : ℕ). slice_index (slice_set (world_at a.makes).now.words.gates j 0) k) same) ∙ sym (ap (λ (w : World). slice_index w.now.words.gates i) a.world) ∙ two)
-        | inr other ↦ a.turn.other_gates i (h.free i (omega arith) (within p q (step.Open j) a i lt)) (sym (open_elsewhere p q j a i other) ∙ two)
+            (sym (ap (λ (k : ℕ). slice_index (slice_set (world_at a.makes).now.words.gates j 0) k) same)
+            ∙ sym (ap (λ (w : World). slice_index w.now.words.gates i) a.world) ∙ two)
+        | inr other ↦ a.turn.other_gates i (h.free i (omega arith) (within p q (step.Open j) a i lt))
+            (sym (open_elsewhere p q j a i other) ∙ two)
       ];
     }
 
@@ -308,12 +350,14 @@ holds_none p h = record { held = λ i lt. absurd (omega arith); free = λ i le l
 pub none_below : (p : PassState) → Settled p → HoldsBelow p 0 → MayGiveBack p
 none_below p x h = given_back p x (λ i lt. h.free i (omega arith) lt)
 
-pub all_are_held : (p : PassState) → p.seat ≡ Host → HoldsBelow p p.table.config.callers → others_are_held p.table.config.callers (now_of p).words p.seat ≡ true
+pub all_are_held : (p : PassState) → p.seat ≡ Host → HoldsBelow p p.table.config.callers
+    → others_are_held p.table.config.callers (now_of p).words p.seat ≡ true
 all_are_held p host h =
     ap (λ (s : Seat). others_are_held p.table.config.callers (now_of p).words s) host
     ∙ all_from p.table.config.callers (λ j. is_held (now_of p).words j) (λ j lt. h.held j lt)
 
-pub others_may_open : (p : PassState) → Settled p → Holds p.table.config (now_of p) p.seat → HoldsBelow p p.table.config.callers → OthersMayOpen p 0
+pub others_may_open : (p : PassState) → Settled p → Holds p.table.config (now_of p) p.seat
+    → HoldsBelow p p.table.config.callers → OthersMayOpen p 0
 others_may_open p x holds h j le lt other = open_may p j x holds lt (h.held j lt)
 
 pub settled_opened : (p q : PassState) → Opens p q → Settled p → Settled q
@@ -322,11 +366,13 @@ settled_opened p q o x =
       seat = ap (λ (r : PassState). r.seat) o.is ∙ x.seat;
       phase = ap (λ (y : Steady). has_phase y.phase step.Give) o.steady ∙ x.phase;
       freed = ap (λ (y : Holding). y.freed) o.holding ∙ x.freed;
-      held = ap (λ (y : Steady). y.held) o.steady ∙ x.held ∙ sym (ap (λ (y : Steady). words_held_among (uses_of_pages y.pages)) o.steady);
+      held = ap (λ (y : Steady). y.held) o.steady ∙ x.held
+          ∙ sym (ap (λ (y : Steady). words_held_among (uses_of_pages y.pages)) o.steady);
       fresh = ap (λ (y : Steady). y.fresh) o.steady ∙ x.fresh ∙ sym (ap (λ (y : Steady). y.fresh_words) o.steady);
     }
 
-pub back_opened : (p q : PassState) → Opens p q → Settled p → none_is_held p.table.config.callers (now_of q).words ≡ true → MayGiveBack q
+pub back_opened : (p q : PassState) → Opens p q → Settled p
+    → none_is_held p.table.config.callers (now_of q).words ≡ true → MayGiveBack q
 back_opened p q o x none =
     let y = settled_opened p q o x in
     record {

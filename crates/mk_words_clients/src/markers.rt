@@ -13,7 +13,8 @@ use mk_words::{Pass, Words};
 
 /// The page of a heap of so many pages into which the value points.
 fn page_of(pages: u64, value: u64) -> Option<u64>
-    ensures some { IfSome result (λ page. (page ≡ page_at_address value) × (page < pages) × (is_heap_address pages value ≡ true)) }
+    ensures some { IfSome result (λ page. (page ≡ page_at_address value) × (page < pages)
+        × (is_heap_address pages value ≡ true)) }
     ensures none { IfNone result (is_heap_address pages value ≡ false) }
 {
     let page = value.checked_sub(65536)? / 512;

@@ -13,7 +13,8 @@ fn hold_once(words: &Words, turn: &mut Turn, caller: u64)
     requires caller { caller < words.now.config.callers }
     ensures one_table { turn.new.pass.table ≡ words.now }
     ensures free { MayGiveBack turn.new.pass }
-    ensures tidy { TalliesAreTidy turn.old.pass.table.config turn.old.pass.seen → TalliesAreTidy turn.new.pass.table.config turn.new.pass.seen }
+    ensures tidy { TalliesAreTidy turn.old.pass.table.config turn.old.pass.seen
+        → TalliesAreTidy turn.new.pass.table.config turn.new.pass.seen }
 {
     turn.is_in_order();
     match turn.try_hold(words, caller) {

@@ -1,5 +1,6 @@
 -- What each kind of event makes of the words that may hold values.
-use Rattle.std.proofs.Common.{◌≡◌, ℕ, Bool, true, false, List, [], ◌∷◌, ◌++◌, map, refl, sym, ◌∙◌, subst, inl, inr, arith}
+use Rattle.std.proofs.Common.{◌≡◌, ℕ, Bool, true, false, List, [], ◌∷◌, ◌++◌, map, refl, sym, ◌∙◌, subst, inl, inr}
+use Rattle.std.proofs.Common.{arith}
 use Rattle.std.specs.Prelude.{◌&&◌, ◌==◌, slice_index, None, if◌then◌else◌}
 use Rattle.std.proofs.lemmas.Bool.{and_parts, cases_Bool, eqb-true, true≢false}
 use Rattle.mk_geom.specs.Addresses.{address_of}
@@ -30,7 +31,8 @@ use Rattle.mk_layout.proofs.Dropped.{settled_page}
 use Rattle.mk_layout.proofs.QuarantineByKind.{shown_at}
 use Rattle.mk_layout.proofs.QuarantineChanges.{index_small}
 use Rattle.mk_core.specs.StandingAllocations.{object_placed}
-use Rattle.mk_zeros.specs.Zeros.{is_released_there, Scene, scene_with, IsMappedWord, IsReleasedWord, MayHold, OfMapped, OfReleased, OfFreedRun, OthersAreZero, HasZeros}
+use Rattle.mk_zeros.specs.Zeros.{is_released_there, Scene, scene_with, IsMappedWord, IsReleasedWord, MayHold, OfMapped}
+use Rattle.mk_zeros.specs.Zeros.{OfReleased, OfFreedRun, OthersAreZero, HasZeros}
 use Rattle.mk_zeros.proofs.MappedWords.{mapped_stays, word_of_longer, word_of_fresh, word_of_unreleased}
 use Rattle.mk_zeros.proofs.FreedWords.{gone_word}
 use Rattle.mk_zeros.proofs.ChangedScenes.{Before, here, standing, changed_words, early_words}
@@ -38,15 +40,19 @@ use Rattle.mk_zeros.proofs.ChangedScenes.{stored_words, wiped_words, reg_heap, t
 use Rattle.mk_zeros.proofs.PageKinds.{head_kind, used_kind, quar_kind}
 
 -- `take` and `give`
-take_kind : (c : Config) (w : World) (seat : Seat) (x : Step) → Before c w seat x → HasZeros c w → (t : Bool) → (w.now.words.turn == 0) ≡ t
+take_kind : (c : Config) (w : World) (seat : Seat) (x : Step) → Before c w seat x → HasZeros c w → (t : Bool)
+    → (w.now.words.turn == 0) ≡ t
     → OthersAreZero c (record (here w) { run = (if t then nothing_done else w.now.seats.holding).freed })
 take_kind c w seat x b z false is = z
 take_kind c w seat x b z true is =
-    subst (λ (y : Holding). OthersAreZero c (record (here w) { run = y.freed })) (b.known.orderly.free (eqb-true w.now.words.turn 0 is)) z
+    subst (λ (y : Holding). OthersAreZero c (record (here w) { run = y.freed }))
+    (b.known.orderly.free (eqb-true w.now.words.turn 0 is)) z
 
-give_kind : (c : Config) (w : World) (seat : Seat) → Meets c w.now seat step.Give → HasZeros c w → OthersAreZero c (record (here w) { run = None })
+give_kind : (c : Config) (w : World) (seat : Seat) → Meets c w.now seat step.Give → HasZeros c w
+    → OthersAreZero c (record (here w) { run = None })
 give_kind c w seat h z =
-    changed_words c (here w) (record (here w) { run = None }) z (λ n ne. ne) (λ n m. OfMapped m) (λ n some r. OfReleased r)
+    changed_words c (here w) (record (here w) { run = None }) z (λ n ne. ne) (λ n m. OfMapped m)
+    (λ n some r. OfReleased r)
     (λ n some f. absurd (some (gone_word w.now.words w.now.seats.holding.freed n gone f)))
   where
     gone : is_run_gone w.now.words w.now.seats.holding.freed ≡ true
@@ -64,16 +70,20 @@ with_allocations w xs = record (here w) { allocations = xs }
 other_allocations : (c : Config) (w : World) (xs : List PlacedAllocation) → HasZeros c w
     → ((n : ℕ) → IsMappedWord c w.allocations n → IsMappedWord c xs n) → OthersAreZero c (with_allocations w xs)
 other_allocations c w xs z keeps =
-    changed_words c (here w) (with_allocations w xs) z (λ n ne. ne) (λ n m. OfMapped (keeps n m)) (λ n some r. OfReleased r) (λ n some f. OfFreedRun f)
+    changed_words c (here w) (with_allocations w xs) z (λ n ne. ne) (λ n m. OfMapped (keeps n m))
+    (λ n some r. OfReleased r) (λ n some f. OfFreedRun f)
 
 -- `release`
 abbrev released_scene : Config → World → Scene
-released_scene c w = record (scene_with true w.now.words.marks w) { allocations = map (with_released c w.now.words) w.allocations }
+released_scene c w =
+    record (scene_with true w.now.words.marks w) { allocations = map (with_released c w.now.words) w.allocations }
 
-release_kind : (c : Config) (w : World) (seat : Seat) → Before c w seat step.Release → is_phase w.now.words 3 ≡ true → HasZeros c w
+release_kind : (c : Config) (w : World) (seat : Seat) → Before c w seat step.Release → is_phase w.now.words 3 ≡ true
+    → HasZeros c w
     → OthersAreZero c (released_scene c w)
 release_kind c w seat b three z =
-    early_words c w (released_scene c w) (off_at w 3 three (λ e. absurd (omega arith))) z (λ n ne. ne) mapped (λ n f. OfFreedRun f)
+    early_words c w (released_scene c w) (off_at w 3 three (λ e. absurd (omega arith))) z (λ n ne. ne) mapped
+    (λ n f. OfFreedRun f)
   where
     mapped : (n : ℕ) → IsMappedWord c w.allocations n → MayHold c (released_scene c w) n
     mapped n m =
@@ -100,20 +110,25 @@ release_kind c w seat b three z =
         ]
 
 -- `end`
-end_kind : (c : Config) (w : World) → may_end c.pages w.now.words ≡ true → HasZeros c w → OthersAreZero c (scene_with false w.now.words.marks w)
+end_kind : (c : Config) (w : World) → may_end c.pages w.now.words ≡ true → HasZeros c w
+    → OthersAreZero c (scene_with false w.now.words.marks w)
 end_kind c w own z =
-    changed_words c (here w) (scene_with false w.now.words.marks w) z (λ n ne. ne) (λ n m. OfMapped m) (λ n some r. absurd (left n r)) (λ n some f. OfFreedRun f)
+    changed_words c (here w) (scene_with false w.now.words.marks w) z (λ n ne. ne) (λ n m. OfMapped m)
+    (λ n some r. absurd (left n r)) (λ n some f. OfFreedRun f)
   where
     left : (n : ℕ) → IsReleasedWord c w.now.words.pages (is_released_there (here w)) n → ⊥
     left n r =
         let lt = (pointed_within c.pages w.now.words (address_of n) r.cell r.pointed).0 in
         let none = (settled_page w.now.words c.pages r.cell.page own lt).none r.cell.index in
         let is = (and_parts (is_phase w.now.words 4) (is_left_unmarked w.now.words r.cell) r.released).1 in
-        true≢false (sym is ∙ has_bit_without (slice_index w.now.words.snapshot r.cell.page) (slice_index w.now.words.marks r.cell.page) r.cell.index ∙ none)
+        true≢false (sym is ∙ has_bit_without (slice_index w.now.words.snapshot r.cell.page)
+        (slice_index w.now.words.marks r.cell.page) r.cell.index ∙ none)
 
 -- each kind of event, whatever the seat
-pub by_kind : (c : Config) (w : World) (seat : Seat) (x : Step) → Before c w seat x → Meets c w.now seat x → HasZeros c w
-    → OthersAreZero c (scene_with (is_releasing_behind x (is_phase w.now.words 4)) w.now.words.marks (WorldBehind c w seat x))
+pub by_kind : (c : Config) (w : World) (seat : Seat) (x : Step) → Before c w seat x → Meets c w.now seat x
+    → HasZeros c w
+    → OthersAreZero c (scene_with (is_releasing_behind x (is_phase w.now.words 4)) w.now.words.marks
+    (WorldBehind c w seat x))
 by_kind c w seat (step.Take o) b h z = take_kind c w seat (step.Take o) b z (w.now.words.turn == 0) refl
 by_kind c w seat step.Give b h z = give_kind c w seat h z
 by_kind c w seat step.Reg b h z =
@@ -124,11 +139,15 @@ by_kind c w seat (step.Tally n v) b h z = kept_heap c w _ (tally_heap w.now.word
 by_kind c w seat step.Write b h z = stored_words c (here w) (word_met (flight_of w.now seat)) _ (b.others.stored refl) z
 by_kind c w seat step.Cas b h z = stored_words c (here w) (word_met (flight_of w.now seat)) _ (b.others.stored refl) z
 by_kind c w seat (step.Wipe n) b h z = wiped_words c (here w) n z
-by_kind c w seat (step.Head p v) b h z = head_kind c w (flight_of w.now seat) p v z (head_step c w.now (flight_of w.now seat) p v h.holder)
-by_kind c w seat (step.Used p v) b h z = used_kind c w (flight_of w.now seat) p v z (used_step c w.now (flight_of w.now seat) p v h.holder)
-by_kind c w seat (step.Quar p v) b h z = quar_kind c w seat p v b h z (quarantine_step c w.now (flight_of w.now seat) p v h.holder)
+by_kind c w seat (step.Head p v) b h z =
+    head_kind c w (flight_of w.now seat) p v z (head_step c w.now (flight_of w.now seat) p v h.holder)
+by_kind c w seat (step.Used p v) b h z =
+    used_kind c w (flight_of w.now seat) p v z (used_step c w.now (flight_of w.now seat) p v h.holder)
+by_kind c w seat (step.Quar p v) b h z =
+    quar_kind c w seat p v b h z (quarantine_step c w.now (flight_of w.now seat) p v h.holder)
 by_kind c w seat step.Grant b h z =
-    other_allocations c w (w.allocations ++ granted c w.now (flight_of w.now seat) ∷ []) z (word_of_longer c w.allocations (granted c w.now (flight_of w.now seat)))
+    other_allocations c w (w.allocations ++ granted c w.now (flight_of w.now seat) ∷ []) z
+    (word_of_longer c w.allocations (granted c w.now (flight_of w.now seat)))
 by_kind c w seat step.Begin b h z = other_allocations c w _ z (word_of_fresh c w.allocations)
 by_kind c w seat step.Release b h z = release_kind c w seat b h.phase z
 by_kind c w seat step.End b h z = end_kind c w h.holder z

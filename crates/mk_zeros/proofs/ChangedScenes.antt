@@ -40,17 +40,23 @@ pub record Before (c : Config) (w : World) (seat : Seat) (x : Step) : Type 0 whe
 abbrev pub here : World → Scene
 here w = scene_with (is_phase w.now.words 4) w.now.words.marks w
 
-pub standing : (c : Config) (w : World) (seat : Seat) (x : Step) (i : ℕ) → Before c w seat x → (placed_at w.allocations i).released ≡ false
+pub standing : (c : Config) (w : World) (seat : Seat) (x : Step) (i : ℕ) → Before c w seat x
+    → (placed_at w.allocations i).released ≡ false
     → IsStanding c w.now.words (placed_at w.allocations i)
-standing c w seat x i b u = all_stand c (object_now c w.now) (is_phase w.now.words 4) w b.lengths.pages b.others.laid_out i u
+standing c w seat x i b u =
+    all_stand c (object_now c w.now) (is_phase w.now.words 4) w b.lengths.pages b.others.laid_out i u
 
 -- While the phase isn't releasing no cell is released.
-pub none_released : (c : Config) (s : Scene) (n : ℕ) → s.releasing ≡ false → IsReleasedWord c s.pages (is_released_there s) n → ⊥
+pub none_released : (c : Config) (s : Scene) (n : ℕ) → s.releasing ≡ false
+    → IsReleasedWord c s.pages (is_released_there s) n → ⊥
 none_released c s n off r =
-    true≢false (sym (and_parts s.releasing (has_bit (without (slice_index s.snapshot r.cell.page) (slice_index s.marks r.cell.page)) r.cell.index) r.released).0 ∙ off)
+    true≢false (sym (and_parts s.releasing
+    (has_bit (without (slice_index s.snapshot r.cell.page) (slice_index s.marks r.cell.page)) r.cell.index)
+    r.released).0 ∙ off)
 
 -- From one scene to another, each of the three by itself
-pub changed_words : (c : Config) (s t : Scene) → OthersAreZero c s → ((n : ℕ) → slice_index t.heap n ≢ 0 → slice_index s.heap n ≢ 0)
+pub changed_words : (c : Config) (s t : Scene) → OthersAreZero c s
+    → ((n : ℕ) → slice_index t.heap n ≢ 0 → slice_index s.heap n ≢ 0)
     → ((n : ℕ) → IsMappedWord c s.allocations n → MayHold c t n)
     → ((n : ℕ) → slice_index s.heap n ≢ 0 → IsReleasedWord c s.pages (is_released_there s) n → MayHold c t n)
     → ((n : ℕ) → slice_index s.heap n ≢ 0 → IsFreedWord s.run n → MayHold c t n) → OthersAreZero c t
@@ -64,12 +70,15 @@ changed_words c s t z heap mapped released freed n some = by (heap n some) (z n 
 -- A step while the phase isn't releasing
 pub early_words : (c : Config) (w : World) (t : Scene) → is_phase w.now.words 4 ≡ false → HasZeros c w
     → ((n : ℕ) → slice_index t.heap n ≢ 0 → slice_index w.now.words.heap n ≢ 0)
-    → ((n : ℕ) → IsMappedWord c w.allocations n → MayHold c t n) → ((n : ℕ) → IsFreedWord w.now.seats.holding.freed n → MayHold c t n) → OthersAreZero c t
+    → ((n : ℕ) → IsMappedWord c w.allocations n → MayHold c t n)
+    → ((n : ℕ) → IsFreedWord w.now.seats.holding.freed n → MayHold c t n) → OthersAreZero c t
 early_words c w t off z heap mapped freed =
-    changed_words c (here w) t z heap mapped (λ n some r. absurd (none_released c (here w) n off r)) (λ n some f. freed n f)
+    changed_words c (here w) t z heap mapped (λ n some r. absurd (none_released c (here w) n off r))
+    (λ n some f. freed n f)
 
 -- `write` and `cas`
-pub stored_words : (c : Config) (s : Scene) (j v : ℕ) → IsMappedWord c s.allocations j → OthersAreZero c s → OthersAreZero c (record s { heap = slice_set s.heap j v })
+pub stored_words : (c : Config) (s : Scene) (j v : ℕ) → IsMappedWord c s.allocations j → OthersAreZero c s
+    → OthersAreZero c (record s { heap = slice_set s.heap j v })
 stored_words c s j v m z n some =
     set_by (λ x. x ≢ 0 → MayHold c (record s { heap = slice_set s.heap j v }) n) s.heap j n v 0
     (λ e ne. OfMapped (subst (λ i. IsMappedWord c s.allocations i) (sym e) m)) (λ ne. moved (z n ne)) some
@@ -80,7 +89,8 @@ stored_words c s j v m z n some =
     moved (OfFreedRun f) = OfFreedRun f
 
 -- `wipe`
-pub wiped_words : (c : Config) (s : Scene) (j : ℕ) → OthersAreZero c s → OthersAreZero c (record s { heap = slice_set s.heap j 0 })
+pub wiped_words : (c : Config) (s : Scene) (j : ℕ) → OthersAreZero c s
+    → OthersAreZero c (record s { heap = slice_set s.heap j 0 })
 wiped_words c s j z =
     changed_words c s (record s { heap = slice_set s.heap j 0 }) z
     (λ n. set_by (λ x. x ≢ 0 → slice_index s.heap n ≢ 0) s.heap j n 0 0 (λ e ne. absurd (ne refl)) (λ ne. ne))
@@ -103,6 +113,7 @@ tally_heap w _ v = record { heap = refl; pages = refl; snapshot = refl }
 pub kept_heap : (c : Config) (w : World) (x : Words) → KeepsHeap w.now.words x → HasZeros c w
     → OthersAreZero c (record (here w) { heap = x.heap; pages = x.pages; snapshot = x.snapshot })
 kept_heap c w x k z =
-    subst (λ (hs : List ℕ). OthersAreZero c (record (here w) { heap = hs; pages = x.pages; snapshot = x.snapshot })) (sym k.heap)
+    subst (λ (hs : List ℕ). OthersAreZero c (record (here w) { heap = hs; pages = x.pages; snapshot = x.snapshot }))
+    (sym k.heap)
     (subst (λ (ps : List Page). OthersAreZero c (record (here w) { pages = ps; snapshot = x.snapshot })) (sym k.pages)
     (subst (λ (ss : List ℕ). OthersAreZero c (record (here w) { snapshot = ss })) (sym k.snapshot) z))

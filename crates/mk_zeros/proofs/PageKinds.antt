@@ -1,5 +1,6 @@
 -- Steps on the pages: `head`, `used` and `quar`.
-use Rattle.std.proofs.Common.{◌≡◌, ◌≢◌, ℕ, ◌/◌, ◌%◌, ◌^◌, Bool, true, false, List, map, refl, sym, ◌∙◌, ap, subst, inl, inr, arith}
+use Rattle.std.proofs.Common.{◌≡◌, ◌≢◌, ℕ, ◌/◌, ◌%◌, ◌^◌, Bool, true, false, List, map, refl, sym, ◌∙◌, ap, subst, inl}
+use Rattle.std.proofs.Common.{inr, arith}
 use Rattle.std.specs.Prelude.{not, ◌&&◌, slice_index, slice_set, Option, Some, None, if◌then◌else◌}
 use Rattle.mk_geom.specs.PageUses.{or_else}
 use Rattle.mk_geom.specs.declared.addresses.Cell.{Cell}
@@ -16,7 +17,8 @@ use Rattle.mk_core.specs.TurnConditions.{cell_freed, frees}
 use Rattle.mk_core.specs.Effects.{run_of_cell}
 use Rattle.mk_core.specs.Allocations.{placed_at, freed_where_it_stands}
 use Rattle.mk_core.specs.History.{World}
-use Rattle.mk_core.proofs.PageSteps.{HeadStep, ItCarves, ItUnmaps, ItEmpties, UsedStep, ItTakes, ItGivesBack, QuarantineStep, ItFrees, ItTakesSnapshot, ItDrops}
+use Rattle.mk_core.proofs.PageSteps.{HeadStep, ItCarves, ItUnmaps, ItEmpties, UsedStep, ItTakes, ItGivesBack}
+use Rattle.mk_core.proofs.PageSteps.{QuarantineStep, ItFrees, ItTakesSnapshot, ItDrops}
 use Rattle.mk_core.proofs.PlacesNow.{freed_cell, undecided_free}
 use Rattle.mk_protocol.proofs.Actors.{Meets}
 use Rattle.mk_protocol.specs.Ground.{ground_of}
@@ -36,25 +38,30 @@ use Rattle.mk_zeros.proofs.ChangedScenes.{Before, here, standing, changed_words,
 abbrev with_pages : World → List Page → Scene
 with_pages w pages = record (here w) { pages = pages }
 
-other_pages : (c : Config) (w : World) (pages : List Page) → is_phase w.now.words 4 ≡ false → HasZeros c w → OthersAreZero c (with_pages w pages)
-other_pages c w pages off z = early_words c w (with_pages w pages) off z (λ n ne. ne) (λ n m. OfMapped m) (λ n f. OfFreedRun f)
+other_pages : (c : Config) (w : World) (pages : List Page) → is_phase w.now.words 4 ≡ false → HasZeros c w
+    → OthersAreZero c (with_pages w pages)
+other_pages c w pages off z = early_words c w (with_pages w pages) off z (λ n ne. ne) (λ n m. OfMapped m)
+    (λ n f. OfFreedRun f)
 
 late_pages : (c : Config) (w : World) (pages : List Page) → HasZeros c w
     → ((n : ℕ) → slice_index w.now.words.heap n ≢ 0 → IsReleasedWord c w.now.words.pages (is_released_there (here w)) n
     → IsReleasedWord c pages (is_released_there (here w)) n)
     → OthersAreZero c (with_pages w pages)
 late_pages c w pages z keeps =
-    changed_words c (here w) (with_pages w pages) z (λ n ne. ne) (λ n m. OfMapped m) (λ n some r. OfReleased (keeps n some r)) (λ n some f. OfFreedRun f)
+    changed_words c (here w) (with_pages w pages) z (λ n ne. ne) (λ n m. OfMapped m)
+    (λ n some r. OfReleased (keeps n some r)) (λ n some f. OfFreedRun f)
 
 pub head_kind : (c : Config) (w : World) (f : Flight) (p v : ℕ) → HasZeros c w → HeadStep c w.now f p v
-    → OthersAreZero c (with_pages w (slice_set w.now.words.pages p (record { header = v; used = used_at w.now.words p })))
+    → OthersAreZero c (with_pages w
+    (slice_set w.now.words.pages p (record { header = v; used = used_at w.now.words p })))
 head_kind c w f p v z (ItCarves off x) = other_pages c w _ off z
 head_kind c w f p v z (ItUnmaps off x) = other_pages c w _ off z
 head_kind c w f p v z (ItEmpties on x) =
     late_pages c w _ z (λ n some r. emptied_word c w (is_released_there (here w)) p v n x r)
 
 pub used_kind : (c : Config) (w : World) (f : Flight) (p v : ℕ) → HasZeros c w → UsedStep c w.now f p v
-    → OthersAreZero c (with_pages w (slice_set w.now.words.pages p (record { header = header_at w.now.words p; used = v })))
+    → OthersAreZero c (with_pages w
+    (slice_set w.now.words.pages p (record { header = header_at w.now.words p; used = v })))
 used_kind c w f p v z (ItTakes off once x) = other_pages c w _ off z
 used_kind c w f p v z (ItGivesBack on x) =
     late_pages c w _ z (λ n some r. unwiped_word c w (is_released_there (here w)) p v n x some r)
@@ -72,14 +79,17 @@ first_there : (x y : Option RunPages) (n : ℕ) → IsFreedWord x n → IsFreedW
 first_there None y n f = let e : None ≡ Some f.run = f.there in cc
 first_there (Some run) y n f = f
 
-quar_early : (c : Config) (w : World) (seat : Seat) (p v : ℕ) → Before c w seat (step.Quar p v) → Meets c w.now seat (step.Quar p v)
+quar_early : (c : Config) (w : World) (seat : Seat) (p v : ℕ) → Before c w seat (step.Quar p v)
+    → Meets c w.now seat (step.Quar p v)
     → is_phase w.now.words 4 ≡ false → HasZeros c w
     → (cell : Option Cell) → cell_freed c.pages w.now.words (flight_of w.now seat) p v ≡ cell
     → OthersAreZero c (quarantined (is_phase w.now.words 4) w p v cell)
 quar_early c w seat p v b h off z None is =
-    early_words c w (quarantined (is_phase w.now.words 4) w p v None) off z (λ n ne. ne) (λ n m. OfMapped (word_where_none_is_freed c w n m)) (λ n f. OfFreedRun f)
+    early_words c w (quarantined (is_phase w.now.words 4) w p v None) off z (λ n ne. ne)
+    (λ n m. OfMapped (word_where_none_is_freed c w n m)) (λ n f. OfFreedRun f)
 quar_early c w seat p v b h off z (Some cell) is =
-    early_words c w (quarantined (is_phase w.now.words 4) w p v (Some cell)) off z (λ n ne. ne) mapped (λ n f. absurd (not_freed n f))
+    early_words c w (quarantined (is_phase w.now.words 4) w p v (Some cell)) off z (λ n ne. ne) mapped
+    (λ n f. absurd (not_freed n f))
   where
     none : w.now.seats.holding.freed ≡ None
     none =
@@ -90,10 +100,12 @@ quar_early c w seat p v b h off z (Some cell) is =
     not_freed : (n : ℕ) → IsFreedWord w.now.seats.holding.freed n → ⊥
     not_freed n f = let e : None ≡ Some f.run = sym none ∙ f.there in cc
 
-    mapped : (n : ℕ) → IsMappedWord c w.allocations n → MayHold c (quarantined (is_phase w.now.words 4) w p v (Some cell)) n
+    mapped : (n : ℕ) → IsMappedWord c w.allocations n
+        → MayHold c (quarantined (is_phase w.now.words 4) w p v (Some cell)) n
     mapped n m =
         let frees = freed_cell c.pages w.now.words (flight_of w.now seat) p v cell is in
-        let laid : Laid c (object_now c w.now) false w (ground_of w) = subst (λ four. Laid c (object_now c w.now) four w (ground_of w)) off b.others.laid_out in
+        let laid : Laid c (object_now c w.now) false w (ground_of w) =
+        subst (λ four. Laid c (object_now c w.now) four w (ground_of w)) off b.others.laid_out in
         let u = mapped_stays c (placed_at w.allocations m.number) m.mapped in
         elim (word_of_freed c w cell n b.limits m (standing c w seat (step.Quar p v) m.number b u)
         (standing_cell c (object_now c w.now) w cell b.lengths.pages (b.others.target cell frees.at) laid m.number u)) [
@@ -109,15 +121,20 @@ quar_late c w p v keeps z =
     changed_words c (scene_with true w.now.words.marks w) (quarantined true w p v None) z (λ n ne. ne)
     (λ n m. OfMapped (word_where_none_is_freed c w n m)) (λ n some r. OfReleased (keeps n r)) (λ n some f. OfFreedRun f)
 
-pub quar_kind : (c : Config) (w : World) (seat : Seat) (p v : ℕ) → Before c w seat (step.Quar p v) → Meets c w.now seat (step.Quar p v) → HasZeros c w
+pub quar_kind : (c : Config) (w : World) (seat : Seat) (p v : ℕ) → Before c w seat (step.Quar p v)
+    → Meets c w.now seat (step.Quar p v) → HasZeros c w
     → QuarantineStep c w.now (flight_of w.now seat) p v
-    → OthersAreZero c (quarantined (is_phase w.now.words 4) w p v (cell_freed c.pages w.now.words (flight_of w.now seat) p v))
+    → OthersAreZero c (quarantined (is_phase w.now.words 4) w p v
+    (cell_freed c.pages w.now.words (flight_of w.now seat) p v))
 quar_kind c w seat p v b h z (ItFrees off x) = quar_early c w seat p v b h off z _ refl
-quar_kind c w seat p v b h z (ItTakesSnapshot x) = quar_early c w seat p v b h (off_at w 0 x.phase (λ e. absurd (omega arith))) z _ refl
+quar_kind c w seat p v b h z (ItTakesSnapshot x) =
+    quar_early c w seat p v b h (off_at w 0 x.phase (λ e. absurd (omega arith))) z _ refl
 quar_kind c w seat p v b h z (ItDrops on x) =
     let f : Flight = flight_of w.now seat in
     let none : cell_freed c.pages w.now.words f p v ≡ None =
-    ap (λ four. if not four && frees w.now.words (target c.pages w.now.words f) p v then target c.pages w.now.words f else None) on in
+    ap (λ four. if not four && frees w.now.words (target c.pages w.now.words f) p v then target c.pages w.now.words f
+    else None) on in
     subst (λ (cell : Option Cell). OthersAreZero c (quarantined (is_phase w.now.words 4) w p v cell)) (sym none)
     (subst (λ four. OthersAreZero c (quarantined four w p v None)) (sym on)
-    (quar_late c w p v (λ n r. dropped_word c w p (v % 2 ^ 32) (v / 2 ^ 32) n x r) (subst (λ four. OthersAreZero c (scene_with four w.now.words.marks w)) on z)))
+    (quar_late c w p v (λ n r. dropped_word c w p (v % 2 ^ 32) (v / 2 ^ 32) n x r)
+    (subst (λ four. OthersAreZero c (scene_with four w.now.words.marks w)) on z)))

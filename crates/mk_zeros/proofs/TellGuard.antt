@@ -1,5 +1,6 @@
 -- What the layout and the zero words tell the guard.
-use Rattle.std.proofs.Common.{◌≡◌, ◌≢◌, ◌⊎◌, ℕ, ◌+◌, ◌-◌, ◌*◌, ◌/◌, ◌<◌, ◌≤◌, Bool, true, false, refl, sym, ◌∙◌, ap, subst, inl, inr, arith}
+use Rattle.std.proofs.Common.{◌≡◌, ◌≢◌, ◌⊎◌, ℕ, ◌+◌, ◌-◌, ◌*◌, ◌/◌, ◌<◌, ◌≤◌, Bool, true, false, refl, sym, ◌∙◌, ap}
+use Rattle.std.proofs.Common.{subst, inl, inr, arith}
 use Rattle.std.specs.Prelude.{not, ◌&&◌, ◌==◌, slice_index, Option, Some}
 use Rattle.std.proofs.lemmas.Bool.{and_parts, not-true, cases_eq, cases_lt, lt-ltb, ne_eqb, true≢false, false≢true}
 use Rattle.std.proofs.lemmas.List.{get_or_past}
@@ -33,9 +34,11 @@ use Rattle.mk_core.proofs.PlacesNow.{IsPlaced, ByFit, AsChosen, AsUsed, placed_n
 use Rattle.mk_core.proofs.Sizes.{large_is_not_small, pages_some, small_pages}
 use Rattle.mk_protocol.proofs.Known.{Known}
 use Rattle.mk_layout.specs.Scene.{Claim, Among, Mode, Mapped, Plot, NoPlot, Plotted, PlotStands}
-use Rattle.mk_layout.specs.Scene.{InPlot, HasHeader, IsClaimed, IsPlotShown, header_on, used_on, shows_on, head_on, run_count}
+use Rattle.mk_layout.specs.Scene.{InPlot, HasHeader, IsClaimed, IsPlotShown, header_on, used_on, shows_on, head_on}
+use Rattle.mk_layout.specs.Scene.{run_count}
 use Rattle.mk_protocol.specs.Ground.{ground_of}
-use Rattle.mk_layout.specs.Terrain.{IsLaidOut, RunStands, IsClaimedRun, claims_of, claims_on, claims_placed, place_claim, is_unmapping, mode_of, plot_of, object_now}
+use Rattle.mk_layout.specs.Terrain.{IsLaidOut, RunStands, IsClaimedRun, claims_of, claims_on, claims_placed}
+use Rattle.mk_layout.specs.Terrain.{place_claim, is_unmapping, mode_of, plot_of, object_now}
 use Rattle.mk_layout.proofs.Fits.{fits}
 use Rattle.mk_layout.proofs.Holders.{new_has_turn, holding_object, made_sized, first_header}
 use Rattle.mk_layout.proofs.OnClaims.{find_bit}
@@ -54,7 +57,8 @@ use Rattle.mk_zeros.proofs.BarePages.{Unreleasing, shown_there, bare_page, plot_
 -- The pages of a run behind its head
 
 -- what shows a run's head is the first page of its object, and has its pages
-run_part : (o : Object) (distance count : ℕ) (mapped : Bool) (x : Option Header) → ShowsPart o distance x → x ≡ Some (Run count mapped)
+run_part : (o : Object) (distance count : ℕ) (mapped : Bool) (x : Option Header) → ShowsPart o distance x
+    → x ≡ Some (Run count mapped)
     → (distance ≡ 0) × (count ≡ pages_made o)
 run_part o distance count mapped x (OfBlock first small leaf) is = absurd (false≢true (ap heads_run is))
 run_part o distance count mapped x (OfLeafBlock first small leaf) is = absurd (false≢true (ap heads_run is))
@@ -70,8 +74,12 @@ later_pages c w q p count distance is some lt = elim (cases_eq (used_on w.now.wo
   ]
   | inr used ↦ elim (find_bit (used_on w.now.words.pages p) (cells_under (shows_on w.now.words.pages p))) [
     | inr none ↦
-        absurd (used (zero_where_none (used_on w.now.words.pages p) (λ k h. let t = q.laid.scene.used p k h in true≢false (sym h ∙ none k t.0))))
-    | inl (k, bit) ↦ elim ((q.laid.scene.used p k bit).1) [ inl claimed ↦ inl (by_claim k claimed) | inr released ↦ absurd (false≢true released) ]
+        absurd (used (zero_where_none (used_on w.now.words.pages p)
+        (λ k h. let t = q.laid.scene.used p k h in true≢false (sym h ∙ none k t.0))))
+    | inl (k, bit) ↦ elim ((q.laid.scene.used p k bit).1) [
+      | inl claimed ↦ inl (by_claim k claimed)
+      | inr released ↦ absurd (false≢true released)
+    ]
   ]
 ]
   where
@@ -81,26 +89,31 @@ later_pages c w q p count distance is some lt = elim (cases_eq (used_on w.now.wo
     headed : header_on w.now.words.pages p ≢ 0
     headed z = true≢false (sym (ap heads_run is) ∙ ap (λ h. heads_run (header_of h)) z)
 
-    by_claim : (k : ℕ) → IsClaimed (claims_on c (object_now c w.now) (ground_of w)) p k → head_page w.now.words (p + distance) ≡ p
+    by_claim : (k : ℕ) → IsClaimed (claims_on c (object_now c w.now) (ground_of w)) p k
+        → head_page w.now.words (p + distance) ≡ p
     by_claim k o =
         let x : Claim = o.claim in
         let shown = q.laid.scene.shown x o.among in
         let some = pages_some x.object shown.sized in
         let first : x.page + 0 ≡ p = let page = o.page in omega arith in
         let part : ShowsPart x.object 0 (shows_on w.now.words.pages p) =
-        subst (λ i. ShowsPart x.object 0 (shows_on w.now.words.pages i)) first (claimed w.now.words.pages x 0 shown (omega arith)) in
+        subst (λ i. ShowsPart x.object 0 (shows_on w.now.words.pages i)) first
+        (claimed w.now.words.pages x 0 shown (omega arith)) in
         let pages = (run_part x.object 0 count true (shows_on w.now.words.pages p) part is).1 in
-        ap (λ i. head_page w.now.words (i + distance)) (sym o.page) ∙ claimed_head w.now.words.pages x distance shown (omega arith) ∙ o.page
+        ap (λ i. head_page w.now.words (i + distance)) (sym o.page)
+        ∙ claimed_head w.now.words.pages x distance shown (omega arith) ∙ o.page
 
     in_plot : (first : ℕ) (o : Object) → IsPlotShown w.now.words.pages first o → first ≤ p → p < first + pages_made o
-        → (head_page w.now.words (p + distance) ≡ p) ⊎ ((i : ℕ) → i < 64 → slice_index w.now.words.heap (64 * (p + distance) + i) ≡ 0)
+        → (head_page w.now.words (p + distance) ≡ p)
+        ⊎ ((i : ℕ) → i < 64 → slice_index w.now.words.heap (64 * (p + distance) + i) ≡ 0)
     in_plot first o plot low high =
         let at : first + (p - first) ≡ p = omega arith in
         elim (plot.headers (p - first) (omega arith)) [
           | inl free ↦ absurd (headed (ap (λ i. header_on w.now.words.pages i) (sym at) ∙ free))
           | inr made ↦
               let part : ShowsPart o (p - first) (shows_on w.now.words.pages p) =
-              subst (λ h. ShowsPart o (p - first) (header_of h)) (sym (ap (λ i. header_on w.now.words.pages i) (sym at) ∙ made))
+              subst (λ h. ShowsPart o (p - first) (header_of h)) (sym (ap (λ i. header_on w.now.words.pages i) (sym at)
+              ∙ made))
               (made_shows o (p - first) plot.sized (omega arith)) in
               let head = run_part o (p - first) count true (shows_on w.now.words.pages p) part is in
               let zero = head.0 in
@@ -113,21 +126,24 @@ later_pages c w q p count distance is some lt = elim (cases_eq (used_on w.now.wo
                     (ap (λ j. header_on w.now.words.pages (j + distance)) (sym same) ∙ free) (omega arith))
                 | inr later ↦
                     let behind : ShowsPart o distance (shows_on w.now.words.pages (p + distance)) =
-                    subst (λ h. ShowsPart o distance (header_of h)) (sym (ap (λ j. header_on w.now.words.pages (j + distance)) (sym same) ∙ later))
+                    subst (λ h. ShowsPart o distance (header_of h))
+                    (sym (ap (λ j. header_on w.now.words.pages (j + distance)) (sym same) ∙ later))
                     (made_shows o distance plot.sized near) in
                     inl (part_head o distance p (shows_on w.now.words.pages (p + distance)) behind)
               ]
         ]
 
     by_plot : (plot : Plot) → PlotStands w.now.words.pages plot → InPlot plot p
-        → (head_page w.now.words (p + distance) ≡ p) ⊎ ((i : ℕ) → i < 64 → slice_index w.now.words.heap (64 * (p + distance) + i) ≡ 0)
+        → (head_page w.now.words (p + distance) ≡ p)
+        ⊎ ((i : ℕ) → i < 64 → slice_index w.now.words.heap (64 * (p + distance) + i) ≡ 0)
     by_plot NoPlot st here = absurd here
     by_plot (Plotted first o) st here = in_plot first o st here.0 here.1
 
 -- The place of a New
 
 -- who is in a New is there
-new_exists : (c : Config) (m : Moment) (seat : Seat) → Known c m → is_undecided_new (flight_of m seat) ≡ true → seat_exists c seat ≡ true
+new_exists : (c : Config) (m : Moment) (seat : Seat) → Known c m → is_undecided_new (flight_of m seat) ≡ true
+    → seat_exists c seat ≡ true
 new_exists c m (Caller k) known new = elim (cases_lt k c.callers) [
   | inl lt ↦ lt-ltb k c.callers lt
   | inr past ↦
@@ -137,32 +153,38 @@ new_exists c m (Caller k) known new = elim (cases_lt k c.callers) [
 new_exists c m (Marker k) known new = absurd (false≢true new)
 new_exists c m Host known new = absurd (false≢true new)
 
-bare_place : (c : Config) (w : World) (o : Object) (place : Place) → Unreleasing c w → Laid c o false w (ground_of w) → IsSized o
+bare_place : (c : Config) (w : World) (o : Object) (place : Place) → Unreleasing c w → Laid c o false w (ground_of w)
+    → IsSized o
     → IsPlaced c.resident w.now.words.pages o place w.now.seats.holding.placing → PlaceIsBare w.now.words o place
 bare_place c w o place q st sized placed = by w.now.seats.holding.placing refl placed
   where
     zero : place.page + 0 ≡ place.page
     zero = omega arith
 
-    by : (placing : Placing) → w.now.seats.holding.placing ≡ placing → IsPlaced c.resident w.now.words.pages o place placing → PlaceIsBare w.now.words o place
+    by : (placing : Placing) → w.now.seats.holding.placing ≡ placing
+        → IsPlaced c.resident w.now.words.pages o place placing → PlaceIsBare w.now.words o place
     by Unplaced is (ByFit at) = elim (fits c.resident w.now.words.pages o place sized at) [
       | inl fit ↦ record {
         headers = λ d lt. inl (fit.free d lt);
-        words = λ free i li. bare_page c w (place.page + i / 64) (64 * place.page + i) q (fit.free (i / 64) (omega arith)) (omega arith);
+        words = λ free i li. bare_page c w (place.page + i / 64) (64 * place.page + i) q
+            (fit.free (i / 64) (omega arith)) (omega arith);
       }
       | inr fit ↦ record {
         headers = λ d lt.
             let one = small_pages o fit.small in
             let first : d ≡ 0 = omega arith in
-            inr (ap (λ j. header_on w.now.words.pages (place.page + j)) first ∙ ap (λ p. header_on w.now.words.pages p) zero ∙ fit.header ∙ ap (λ j. header_made o j) (sym first));
+            inr (ap (λ j. header_on w.now.words.pages (place.page + j)) first
+            ∙ ap (λ p. header_on w.now.words.pages p) zero ∙ fit.header ∙ ap (λ j. header_made o j) (sym first));
         words = λ free i li. absurd (first_header o sized (sym fit.header ∙ free));
       }
     ]
     by (Chosen place) is AsChosen =
-        let plot : IsPlotShown w.now.words.pages place.page o = subst (λ (x : Placing). PlotStands w.now.words.pages (plot_of o x)) is st.scene.plot in
+        let plot : IsPlotShown w.now.words.pages place.page o =
+        subst (λ (x : Placing). PlotStands w.now.words.pages (plot_of o x)) is st.scene.plot in
         record {
           headers = plot.headers;
-          words = λ free i li. plot_page c w place.page o (i / 64) (64 * place.page + i) q plot (omega arith) (omega arith);
+          words = λ free i li. plot_page c w place.page o (i / 64) (64 * place.page + i) q plot (omega arith)
+              (omega arith);
         }
     by (Used place) is AsUsed =
         let own : Among (place_claim o place) (claims_placed o w.now.seats.holding.placing) =
@@ -171,13 +193,15 @@ bare_place c w o place q st sized placed = by w.now.seats.holding.placing refl p
         let some = pages_some o sized in
         record {
           headers = λ d lt. inr (shown.headers d lt);
-          words = λ free i li. absurd (first_header o sized (sym (shown.headers 0 (omega arith)) ∙ ap (λ p. header_on w.now.words.pages p) zero ∙ free));
+          words = λ free i li. absurd (first_header o sized (sym (shown.headers 0 (omega arith))
+              ∙ ap (λ p. header_on w.now.words.pages p) zero ∙ free));
         }
     by Granted is out = elim out [ ]
 
 -- The run that a call freed, and mapped allocations
 
-run_has_object : (c : Config) (w : World) (run : RunPages) → Unreleasing c w → w.now.seats.holding.freed ≡ Some run → RunHasObject w.now.words run
+run_has_object : (c : Config) (w : World) (run : RunPages) → Unreleasing c w → w.now.seats.holding.freed ≡ Some run
+    → RunHasObject w.now.words run
 run_has_object c w run q is =
     let x : IsClaimedRun (claims_of c w.now.seats.holding.freed w.allocations) run =
     subst (λ (r : Option RunPages). RunStands (claims_of c w.now.seats.holding.freed w.allocations) r) is q.laid.gone in
@@ -190,10 +214,12 @@ run_has_object c w run q is =
       count = x.count;
       headers = λ d lt.
           subst (λ p. IsHeaderOf x.claim.object d (header_on w.now.words.pages (p + d))) x.page
-          (header_of_mode x.claim.mode x.claim.object d (header_on w.now.words.pages (x.claim.page + d)) (shown.headers d (omega arith)));
+          (header_of_mode x.claim.mode x.claim.object d (header_on w.now.words.pages (x.claim.page + d))
+          (shown.headers d (omega arith)));
     }
 
-mapped_stands : (c : Config) (w : World) (i : ℕ) → AreOfPages c.pages w.now.words → IsLaidOut c w → is_mapped c (placed_at w.allocations i) ≡ true
+mapped_stands : (c : Config) (w : World) (i : ℕ) → AreOfPages c.pages w.now.words → IsLaidOut c w
+    → is_mapped c (placed_at w.allocations i) ≡ true
     → StandsMapped c w.now.words (placed_at w.allocations i)
 mapped_stands c w i lengths laid mapped =
     let a : PlacedAllocation = placed_at w.allocations i in
@@ -201,12 +227,16 @@ mapped_stands c w i lengths laid mapped =
     let shown = shown_at c w i laid u in
     let going : Bool = is_unmapping w.now.seats.holding.freed (a.base / 64) in
     let unmapped : (a.freed && is_large (kinds_of c.types a.ty)) ≡ false =
-    not-true (a.freed && is_large (kinds_of c.types a.ty)) (and_parts (not a.released) (not (a.freed && is_large (kinds_of c.types a.ty))) mapped).1 in
+    not-true (a.freed && is_large (kinds_of c.types a.ty))
+    (and_parts (not a.released) (not (a.freed && is_large (kinds_of c.types a.ty))) mapped).1 in
     let mode : mode_of (a.freed && not (is_small_object (object_placed c a))) going ≡ Mapped =
-    ap (λ b. mode_of (a.freed && b) going) (sym (large_is_not_small (kinds_of c.types a.ty))) ∙ ap (λ b. mode_of b going) unmapped in
+    ap (λ b. mode_of (a.freed && b) going) (sym (large_is_not_small (kinds_of c.types a.ty)))
+    ∙ ap (λ b. mode_of b going) unmapped in
     record {
       stands = (all_stand c (object_now c w.now) (is_phase w.now.words 4) w lengths.pages laid i u).stands;
-      headers = λ d lt. subst (λ (x : Mode). HasHeader x (object_placed c a) d (header_on w.now.words.pages (a.base / 64 + d))) mode (shown.headers d lt);
+      headers = λ d lt. subst
+          (λ (x : Mode). HasHeader x (object_placed c a) d (header_on w.now.words.pages (a.base / 64 + d))) mode
+          (shown.headers d lt);
     }
 
 -- All of it

@@ -34,21 +34,32 @@ mapped_word : (c : Config) (w : World) (n : ℕ) → said.IsMappedWord c w n →
 mapped_word c w n m = record { number = m.number; mapped = m.mapped; word = m.word }
 
 -- Only callers store to the heap.
-stored_by : (c : Config) (w : World) (n : NeverState) (seat : Seat) (x : Step) → ImagesSay c w n → IsEnabled c w.now (record { seat = seat; step = x })
+stored_by : (c : Config) (w : World) (n : NeverState) (seat : Seat) (x : Step) → ImagesSay c w n
+    → IsEnabled c w.now (record { seat = seat; step = x })
     → AreAdmitted c.globals n (asked (call_decided c w.now (record { seat = seat; step = x }))) → stores x ≡ true
     → IsMappedWord c w.allocations (word_met (flight_of w.now seat))
-stored_by c w n (Caller k) step.Write say on ad s = mapped_word c w _ (say.stored k step.Write (record { step = inl refl; enabled = on; admitted = ad }))
-stored_by c w n (Caller k) step.Cas say on ad s = mapped_word c w _ (say.stored k step.Cas (record { step = inr refl; enabled = on; admitted = ad }))
-stored_by c w n (Marker k) step.Write say on ad s = absurd (false≢true (enabled_meets c w.now (record { seat = Marker k; step = step.Write }) on).kind)
-stored_by c w n (Marker k) step.Cas say on ad s = absurd (false≢true (enabled_meets c w.now (record { seat = Marker k; step = step.Cas }) on).kind)
-stored_by c w n Host step.Write say on ad s = absurd (false≢true (enabled_meets c w.now (record { seat = Host; step = step.Write }) on).kind)
-stored_by c w n Host step.Cas say on ad s = absurd (false≢true (enabled_meets c w.now (record { seat = Host; step = step.Cas }) on).kind)
+stored_by c w n (Caller k) step.Write say on ad s =
+    mapped_word c w _ (say.stored k step.Write (record { step = inl refl; enabled = on; admitted = ad }))
+stored_by c w n (Caller k) step.Cas say on ad s =
+    mapped_word c w _ (say.stored k step.Cas (record { step = inr refl; enabled = on; admitted = ad }))
+stored_by c w n (Marker k) step.Write say on ad s =
+    absurd (false≢true (enabled_meets c w.now (record { seat = Marker k; step = step.Write }) on).kind)
+stored_by c w n (Marker k) step.Cas say on ad s =
+    absurd (false≢true (enabled_meets c w.now (record { seat = Marker k; step = step.Cas }) on).kind)
+stored_by c w n Host step.Write say on ad s =
+    absurd (false≢true (enabled_meets c w.now (record { seat = Host; step = step.Write }) on).kind)
+stored_by c w n Host step.Cas say on ad s =
+    absurd (false≢true (enabled_meets c w.now (record { seat = Host; step = step.Cas }) on).kind)
 stored_by c w n _ _ say on ad s = absurd (false≢true s)
 
 pub images_tell_the_zeros : ImagesTellTheZeros
 images_tell_the_zeros c w n e laid say on ad =
     record {
       laid_out = laid;
-      target = λ cell at. let x = say.target e.seat cell at in record { number = x.number; unreleased = x.unreleased; is = x.cell };
+      target = λ cell at. let x = say.target e.seat cell at in record {
+        number = x.number;
+        unreleased = x.unreleased;
+        is = x.cell;
+      };
       stored = λ s. stored_by c w n e.seat e.step say on ad s;
     }

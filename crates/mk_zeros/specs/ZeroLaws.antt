@@ -23,14 +23,16 @@ stores _ = false
 pub record OthersSay (c : Config) (w : World) (e : Event) : Type 0 where
   pub laid_out : IsLaidOut c w
   -- The target of an admitted Free is the cell of an unreleased allocation.
-  pub target : (cell : Cell) → target c.pages w.now.words (flight_of w.now e.seat) ≡ Some cell → IsCellOf c w.allocations cell
+  pub target : (cell : Cell) → target c.pages w.now.words (flight_of w.now e.seat) ≡ Some cell
+      → IsCellOf c w.allocations cell
   -- An admitted store is to a word of a mapped allocation.
   pub stored : stores e.step ≡ true → IsMappedWord c w.allocations (word_met (flight_of w.now e.seat))
 
 -- One event, whatever it is: all other words stay 0.
 abbrev pub EventsKeepTheZeros : Type 0
 EventsKeepTheZeros =
-    (c : Config) (es : List Event) (e : Event) → IsWithinLimits c → AreEnabled c es → IsEnabledBehind c es e → OthersSay c (left c es) e
+    (c : Config) (es : List Event) (e : Event) → IsWithinLimits c → AreEnabled c es → IsEnabledBehind c es e
+    → OthersSay c (left c es) e
     → HasZeros c (left c es) → HasZeros c (world_behind c (left c es) e)
 
 -- The other groups say so before each event.
@@ -41,4 +43,5 @@ OthersSayFrom c w (e ∷ es) = OthersSay c w e × OthersSayFrom c (world_behind 
 -- Then they are 0 behind every list of enabled events.
 abbrev pub ZerosStandBehindLists : Type 0
 ZerosStandBehindLists =
-    (c : Config) (es : List Event) → IsWithinLimits c → AreEnabled c es → OthersSayFrom c (first_world c) es → HasZeros c (left c es)
+    (c : Config) (es : List Event) → IsWithinLimits c → AreEnabled c es → OthersSayFrom c (first_world c) es
+    → HasZeros c (left c es)

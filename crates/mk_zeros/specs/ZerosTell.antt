@@ -17,12 +17,14 @@ use Rattle.mk_zeros.specs.ZeroLaws.{OthersSay}
 
 -- A word that isn't 0 is one that may hold a value, as the images say it.
 abbrev pub ZerosTellTheImages : Type 0
-ZerosTellTheImages = (c : Config) (w : World) → HasZeros c w → (n : ℕ) → slice_index w.now.words.heap n ≢ 0 → MayHoldWords c w n
+ZerosTellTheImages = (c : Config) (w : World) → HasZeros c w → (n : ℕ) → slice_index w.now.words.heap n ≢ 0
+    → MayHoldWords c w n
 
 -- With the layout, the zero words say all that the guard asks of a world.
 abbrev pub ZerosTellTheGuard : Type 0
 ZerosTellTheGuard =
-    (c : Config) (es : List Event) → IsWithinLimits c → AreEnabled c es → IsLaidOut c (left c es) → HasZeros c (left c es)
+    (c : Config) (es : List Event) → IsWithinLimits c → AreEnabled c es → IsLaidOut c (left c es)
+    → HasZeros c (left c es)
     → guard.OthersSay c (left c es)
 
 -- With the layout, the images say all that the zero words ask before an event that is enabled and admitted.

@@ -11,7 +11,10 @@ pub waiting-preserved : goal.waiting-preserved
 waiting-preserved g c =
     elim c.if-is_turn_free.branch [
       | then-is_turn_free+in-Err w ↦
-          subst (λ (p : PassState). record { enabled : IsEnabledTo p (step.Take c.args.op); waits : Waits c.args.home p })
+          subst (λ (p : PassState). record {
+            enabled : IsEnabledTo p (step.Take c.args.op);
+            waits : Waits c.args.home p;
+          })
           (sym w.pass-is)
           (record {
             enabled = w.in-Err.ensures.again;
@@ -20,6 +23,9 @@ waiting-preserved g c =
                 w.in-Err.ensures.busy.makes;
           })
       | else-is_turn_free w ↦
-          subst (λ (p : PassState). record { enabled : IsEnabledTo p (step.Take c.args.op); waits : Waits c.args.home p })
+          subst (λ (p : PassState). record {
+            enabled : IsEnabledTo p (step.Take c.args.op);
+            waits : Waits c.args.home p;
+          })
           (sym (w.pass-is ∙ c.is_turn_free.ensures)) c.waiting.invariant
     ]

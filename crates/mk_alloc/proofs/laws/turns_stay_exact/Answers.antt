@@ -1,4 +1,5 @@
-use Rattle.mk_alloc.proofs.ExactTurns.{stay_exact_behind_calls, stay_exact_behind_others, stay_exact_behind_turns, stay_exact_where_held}
+use Rattle.mk_alloc.proofs.ExactTurns.{stay_exact_behind_calls, stay_exact_behind_others, stay_exact_behind_turns}
+use Rattle.mk_alloc.proofs.ExactTurns.{stay_exact_where_held}
 use Rattle.mk_alloc.proofs.laws.turns_stay_exact.Goals as goal
 
 pub returns-clause-calls : goal.returns-clause-calls

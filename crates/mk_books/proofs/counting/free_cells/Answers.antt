@@ -8,7 +8,8 @@ pub overflow_add-counts : goal.overflow_add-counts
 overflow_add-counts c =
     omega (
       arith,
-      room_for_block c.args.pages.now c.loop-page.page-index c.loop-page.counts c.in-Some.kind.class c.in-Some.kind.leaf _ c.place_of.result c.count_clear.result
+      room_for_block c.args.pages.now c.loop-page.page-index c.loop-page.counts c.in-Some.kind.class c.in-Some.kind.leaf
+          _ c.place_of.result c.count_clear.result
           (record {
             within = c.loop-page-test.true;
             here = get_or_default c.args.pages.now c.loop-page.page-index _ _ c.loop-page-test.true;
@@ -26,7 +27,8 @@ loop-page-preserved c =
     elim c.match-block_of.branch [
       | in-Some w ↦
           w.counts-is
-          ∙ by_class-more c.args.pages.now c.loop-page.page-index c.loop-page.counts w.in-Some.kind.class w.in-Some.kind.leaf _ w.place_of.result w.count_clear.result
+          ∙ by_class-more c.args.pages.now c.loop-page.page-index c.loop-page.counts w.in-Some.kind.class
+          w.in-Some.kind.leaf _ w.place_of.result w.count_clear.result
           (record {
             within = c.loop-page-test.true;
             here = get_or_default c.args.pages.now c.loop-page.page-index _ _ c.loop-page-test.true;
@@ -38,5 +40,6 @@ loop-page-preserved c =
           })
       | in_default w ↦
           w.counts-is ∙ c.loop-page.invariant
-          ∙ by_class-more_other c.args.pages.now c.loop-page.page-index _ c.loop-page-test.true w.in_default.ensures.none
+          ∙ by_class-more_other c.args.pages.now c.loop-page.page-index _ c.loop-page-test.true
+          w.in_default.ensures.none
     ]

@@ -8,5 +8,6 @@ abbrev pub invariant-loop-page : goal.invariant-loop-page
 invariant-loop-page l = record {
   below : l.range ≤ l.longest;
   counted : l.longest ≤ l.page-index;
-  rest : longest_with l.longest l.range (uses_of_pages (drop l.page-index l.pages)) ≡ longest_free_range (uses_of_pages l.pages);
+  rest : longest_with l.longest l.range (uses_of_pages (drop l.page-index l.pages))
+      ≡ longest_free_range (uses_of_pages l.pages);
 }

@@ -3,9 +3,11 @@ use Rattle.std.proofs.lemmas.Grind.{common_steps}
 use Rattle.mk_geom.specs.PageUses.{range_start, resident_pages}
 use Rattle.mk_geom.specs.PageWords.{uses_of_pages}
 use Rattle.mk_books.proofs.PlaceLemmas.{resident_from-end}
-use Rattle.mk_books.proofs.FreeRangeLemmas.{free_range_from-free, free_range_from-taken, first-skip, first-here, first-end, first-known}
+use Rattle.mk_books.proofs.FreeRangeLemmas.{free_range_from-free, free_range_from-taken, first-skip, first-here}
+use Rattle.mk_books.proofs.FreeRangeLemmas.{first-end, first-known}
 use Rattle.mk_books.proofs.fitting.large_fit.Goals as goal
-use Rattle.mk_books.proofs.fitting.large_fit.Goals.{then-not-is_free, else-not-is_free+then-number-range, else-not-is_free+else-number-range}
+use Rattle.mk_books.proofs.fitting.large_fit.Goals.{then-not-is_free, else-not-is_free+then-number-range}
+use Rattle.mk_books.proofs.fitting.large_fit.Goals.{else-not-is_free+else-number-range}
 
 pub loop-number-preserved : goal.loop-number-preserved
 loop-number-preserved c =
@@ -14,7 +16,8 @@ loop-number-preserved c =
     let pages = c.args.pages.now in
     elim c.if-not-is_free.branch [
       | then-not-is_free w ↦
-          let ends = free_range_from-taken n pages _ c.loop-number-test.true (sym c.is_free.ensures ∙ w.if-not-is_free.true) in
+          let ends = free_range_from-taken n pages _ c.loop-number-test.true (sym c.is_free.ensures
+          ∙ w.if-not-is_free.true) in
           record {
             few = grind (arith, common_steps);
             resident = grind (arith, common_steps);
@@ -23,24 +26,29 @@ loop-number-preserved c =
             short = λ none. omega (arith, c.requires.some);
             first =
                 rw (w.range-is, w.first-is)
-                (sym (first-skip c.loop-number.first c.loop-number.range n c.args.count pages before.begun c.loop-number-test.true (omega (arith, ends, before.free)) before.short)
+                (sym (first-skip c.loop-number.first c.loop-number.range n c.args.count pages before.begun
+                c.loop-number-test.true (omega (arith, ends, before.free)) before.short)
                 ∙ before.first);
           }
       | else-not-is_free+then-number-range w ↦
-          let goes_on = free_range_from-free n pages _ c.loop-number-test.true (sym c.is_free.ensures ∙ w.if-not-is_free.false) in
+          let goes_on = free_range_from-free n pages _ c.loop-number-test.true (sym c.is_free.ensures
+          ∙ w.if-not-is_free.false) in
           record {
             few = grind (arith, common_steps);
             resident = grind (arith, common_steps);
             begun = omega arith;
             free = rw w.range-is (omega (arith, goes_on, before.free));
-            short = λ none. absurd (first-known c.loop-number.first c.loop-number.range (sym (w.first-is ∙ w.or-first.ensures) ∙ none));
+            short = λ none. absurd
+                (first-known c.loop-number.first c.loop-number.range (sym (w.first-is ∙ w.or-first.ensures) ∙ none));
             first =
                 rw (w.range-is, w.first-is, w.or-first.ensures)
-                (sym (first-here c.loop-number.first c.loop-number.range c.args.count pages c.requires.some (omega (arith, goes_on, before.free, w.if-number-range.true)))
+                (sym (first-here c.loop-number.first c.loop-number.range c.args.count pages c.requires.some
+                (omega (arith, goes_on, before.free, w.if-number-range.true)))
                 ∙ before.first);
           }
       | else-not-is_free+else-number-range w ↦
-          let goes_on = free_range_from-free n pages _ c.loop-number-test.true (sym c.is_free.ensures ∙ w.if-not-is_free.false) in
+          let goes_on = free_range_from-free n pages _ c.loop-number-test.true (sym c.is_free.ensures
+          ∙ w.if-not-is_free.false) in
           record {
             few = grind (arith, common_steps);
             resident = grind (arith, common_steps);
@@ -55,8 +63,10 @@ pub returns-then-resident-count : goal.returns-then-resident-count
 returns-then-resident-count c =
     let before = c.loop-number.invariant in
     let known : c.loop-number.first ≡ range_start c.args.count (uses_of_pages c.args.pages.now)
-    = sym (first-end c.loop-number.first c.loop-number.range c.args.count c.args.pages.now (omega arith) (λ none. omega (arith, before.short none)))
+    = sym (first-end c.loop-number.first c.loop-number.range c.args.count c.args.pages.now (omega arith)
+    (λ none. omega (arith, before.short none)))
     ∙ before.first in
     let resident : c.loop-number.resident ≡ resident_pages (uses_of_pages c.args.pages.now)
-    = omega (arith, before.resident, resident_from-end c.loop-number.number c.args.pages.now c.loop-number-test.false) in
+    = omega (arith, before.resident, resident_from-end c.loop-number.number c.args.pages.now c.loop-number-test.false)
+    in
     grind (arith, common_steps, known, resident)

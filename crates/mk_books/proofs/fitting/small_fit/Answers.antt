@@ -1,7 +1,8 @@
 use Rattle.std.proofs.Common.{◌+◌, true, false, sym, ap, ◌∙◌, arith}
 use Rattle.std.proofs.lemmas.Grind.{common_steps}
 use Rattle.std.specs.Option.{option_or}
-use Rattle.mk_books.proofs.PlaceLemmas.{free_page_from, cell_from-next, resident_from-next, free_page_from-next, free_page_from-here, or_known}
+use Rattle.mk_books.proofs.PlaceLemmas.{free_page_from, cell_from-next, resident_from-next, free_page_from-next}
+use Rattle.mk_books.proofs.PlaceLemmas.{free_page_from-here, or_known}
 use Rattle.mk_books.proofs.fitting.small_fit.Goals as goal
 use Rattle.mk_books.proofs.fitting.small_fit.Goals.{then-is_free, else-is_free, then-is_resident, else-is_resident}
 
@@ -16,19 +17,31 @@ loop-number-preserved c =
       cells = sym (cell_from-next n c.args.class c.args.leaf pages _ within (sym c.in_default.ensures)) ∙ before.cells;
       resident = elim c.if-is_resident.branch [
         | then-is_resident w ↦
-            omega (arith, w.resident-is, before.resident, resident_from-next n pages _ true within (sym c.is_resident.ensures ∙ w.if-is_resident.true))
+            omega (
+              arith,
+              w.resident-is,
+              before.resident,
+              resident_from-next n pages _ true within (sym c.is_resident.ensures ∙ w.if-is_resident.true),
+            )
         | else-is_resident w ↦
-            omega (arith, w.resident-is, before.resident, resident_from-next n pages _ false within (sym c.is_resident.ensures ∙ w.if-is_resident.false))
+            omega (
+              arith,
+              w.resident-is,
+              before.resident,
+              resident_from-next n pages _ false within (sym c.is_resident.ensures ∙ w.if-is_resident.false),
+            )
       ];
       free = elim c.if-is_free.branch [
         | then-is_free w ↦
             rw (w.first_free-is, w.or-first_free.ensures)
             (sym (or_known c.loop-number.first_free n (free_page_from (n + 1) pages))
-            ∙ ap (option_or c.loop-number.first_free) (sym (free_page_from-here n pages _ within (sym c.is_free.ensures ∙ w.if-is_free.true)))
+            ∙ ap (option_or c.loop-number.first_free)
+            (sym (free_page_from-here n pages _ within (sym c.is_free.ensures ∙ w.if-is_free.true)))
             ∙ before.free)
         | else-is_free w ↦
             rw w.first_free-is
-            (ap (option_or c.loop-number.first_free) (sym (free_page_from-next n pages _ within (sym c.is_free.ensures ∙ w.if-is_free.false)))
+            (ap (option_or c.loop-number.first_free)
+            (sym (free_page_from-next n pages _ within (sym c.is_free.ensures ∙ w.if-is_free.false)))
             ∙ before.free)
       ];
     }

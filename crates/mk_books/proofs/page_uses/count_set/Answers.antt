@@ -14,4 +14,9 @@ returns-clause-exact c =
 
 pub returns-clause-few : goal.returns-clause-few
 returns-clause-few c =
-    omega (arith, returns-clause-exact c, count_by-le-length (λ bit. bit) (bits_of c.args.bits c.args.word), length-bits_of c.args.bits c.args.word)
+    omega (
+      arith,
+      returns-clause-exact c,
+      count_by-le-length (λ bit. bit) (bits_of c.args.bits c.args.word),
+      length-bits_of c.args.bits c.args.word,
+    )

@@ -6,5 +6,6 @@ abbrev pub invariant-loop-place : goal.invariant-loop-place
 invariant-loop-place l =
     record {
       read : l.lookups ≡ record { program = l.items; count = l.place };
-      no_fault : first_typing_fault l.items ≡ fault_from l.items (l.place + 1) (take l.place l.items) (drop l.place l.items);
+      no_fault : first_typing_fault l.items
+          ≡ fault_from l.items (l.place + 1) (take l.place l.items) (drop l.place l.items);
     }

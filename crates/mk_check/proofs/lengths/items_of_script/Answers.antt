@@ -8,9 +8,14 @@ returns-then-is_script c =
     let items = c.args.behind.now in
     let i = c.loop-place.place in
     let item = c.index-behind-place in
-    sym (c.loop-place.invariant ∙ ap (λ rest. take i items ++ rest) (before_next_script-end items i item.result c.loop-place-test.true item.is (sym c.if-is_script.ensures)) ∙ append-nil (take i items))
+    sym (c.loop-place.invariant
+    ∙ ap (λ rest. take i items ++ rest)
+    (before_next_script-end items i item.result c.loop-place-test.true item.is (sym c.if-is_script.ensures))
+    ∙ append-nil (take i items))
 
 pub loop-place-preserved : goal.loop-place-preserved
 loop-place-preserved c =
     let item = c.index-behind-place in
-    c.loop-place.invariant ∙ before_next_script-more c.args.behind.now c.loop-place.place item.result c.loop-place-test.true item.is (sym c.if-is_script.ensures)
+    c.loop-place.invariant
+    ∙ before_next_script-more c.args.behind.now c.loop-place.place item.result c.loop-place-test.true item.is
+    (sym c.if-is_script.ensures)

@@ -14,7 +14,8 @@ returns c line =
     c.loop-item.yielded _ c.loop-item.yielded_by _ _ c.in-None.is c.next.ensures.steps in
     let all = ap reverse seen.0 ∙ reverse-reverse c.args.items.now in
     let parts = c.loop-item.invariant line ∙ ap (λ items. counts_of (parts_from line items)) all in
-    ap (λ count. count.lines) (c.close.ensures.count ∙ ap innermost_count parts) ∙ lines-innermost (parts_from line c.args.items.now)
+    ap (λ count. count.lines) (c.close.ensures.count ∙ ap innermost_count parts)
+    ∙ lines-innermost (parts_from line c.args.items.now)
 
 pub loop-item-init : goal.loop-item-init
 loop-item-init c line = rw (c.in_ok-open.ensures, c.new-parts.ensures) refl
@@ -23,4 +24,5 @@ pub loop-item-preserved : goal.loop-item-preserved
 loop-item-preserved c line =
     let item = c.in-Some.item.now in
     rw (map-append, reverse-append)
-    (c.in_ok-read.ensures ∙ ap (counts_with item) (c.loop-item.invariant (line + 1)) ∙ sym (counts-with_item line item _))
+    (c.in_ok-read.ensures ∙ ap (counts_with item) (c.loop-item.invariant (line + 1))
+    ∙ sym (counts-with_item line item _))

@@ -22,7 +22,8 @@ begin-requires-2-clause-free g c =
     let free = cleaned_free _ _ first c.requires.free in
     let none = cleaned_phase _ _ first c.requires.phase in
     let next = tallied _ _ c.tally.ensures.was free none c.tally.ensures.is 0 c.tally.ensures.acts in
-    begun_free _ _ c.begin.ensures.was (cleaned_free _ _ next free) (cleaned_phase _ _ next none) c.begin.ensures.is c.begin.ensures.acts
+    begun_free _ _ c.begin.ensures.was (cleaned_free _ _ next free) (cleaned_phase _ _ next none) c.begin.ensures.is
+    c.begin.ensures.acts
 
 pub returns-clause-law : goal.returns-clause-law
 returns-clause-law g c =
@@ -33,10 +34,14 @@ returns-clause-law g c =
     let all = cleans_then _ _ _ first next in
     let p = c.args.turn.now.pass in
     let b = c.tally.new.turn.pass in
-    begins_cycle p b c.begin.new.turn.pass c.begin-2.new.turn.pass all c.begin.ensures.was (cleaned_free _ _ next free) (cleaned_phase _ _ next none)
+    begins_cycle p b c.begin.new.turn.pass c.begin-2.new.turn.pass all c.begin.ensures.was (cleaned_free _ _ next free)
+    (cleaned_phase _ _ next none)
     (λ page lt. clean_stays _ _ page next
-    (c.clean_pages.ensures.clean page (subst (λ (w : WordsState). page < w.config.pages) (cleaned_table p b c.args.words.now all c.requires.one_table) lt)))
-    (ap (λ (w : World). w.now.words.fresh) c.tally.ensures.acts.world) c.begin.ensures.acts c.begin.ensures.is c.begin-2.ensures.law
+    (c.clean_pages.ensures.clean page
+    (subst (λ (w : WordsState). page < w.config.pages) (cleaned_table p b c.args.words.now all c.requires.one_table)
+    lt)))
+    (ap (λ (w : World). w.now.words.fresh) c.tally.ensures.acts.world) c.begin.ensures.acts c.begin.ensures.is
+    c.begin-2.ensures.law
 
 pub returns-clause-reached : goal.returns-clause-reached
 returns-clause-reached g c none =
@@ -47,8 +52,10 @@ returns-clause-reached g c none =
     let first = c.clean_pages.ensures.cleans in
     let free = cleaned_free _ _ first c.requires.free in
     let zero = cleaned_phase _ _ first c.requires.phase in
-    let all = cleans_then _ _ _ first (tallied _ _ c.tally.ensures.was free zero c.tally.ensures.is 0 c.tally.ensures.acts) in
+    let all = cleans_then _ _ _ first
+    (tallied _ _ c.tally.ensures.was free zero c.tally.ensures.is 0 c.tally.ensures.acts) in
     let begin = c.begin.ensures.acts.makes in
     sweeps_then p b q all.keeps.call.pass (does_sweep clears p b clearing_marks_nothing all.does)
-    (sweeps_then b d q (only_seen_by b d step.Begin begin) (other_step_sweeps b d step.Begin begin c.begin.ensures.was.own refl)
+    (sweeps_then b d q (only_seen_by b d step.Begin begin)
+    (other_step_sweeps b d step.Begin begin c.begin.ensures.was.own refl)
     (c.begin-2.ensures.reached none))

@@ -3,7 +3,11 @@ use Rattle.mk_cycle.proofs.CleaningSteps.{clean_stays, cleans_nothing, cleans_th
 use Rattle.mk_cycle.proofs.cleaning.clean_pages.Goals as goal
 
 pub loop-page-init : goal.loop-page-init
-loop-page-init c = record { op = refl; cleans = cleans_nothing c.args.turn.now.pass; clean = λ page lt. absurd (omega arith) }
+loop-page-init c = record {
+  op = refl;
+  cleans = cleans_nothing c.args.turn.now.pass;
+  clean = λ page lt. absurd (omega arith);
+}
 
 pub loop-page-preserved : goal.loop-page-preserved
 loop-page-preserved c =

@@ -3,7 +3,8 @@ use Rattle.mk_cycle.proofs.cleaning.clear_marks.Goals as goal
 
 pub clear-requires-clause-free : goal.clear-requires-clause-free
 clear-requires-clause-free c =
-    cleaned_free _ _ (looked _ _ c.look.ensures.was c.requires.free c.requires.phase c.look.ensures.is _ c.look.ensures.acts) c.requires.free
+    cleaned_free _ _ (looked _ _ c.look.ensures.was c.requires.free c.requires.phase c.look.ensures.is _
+    c.look.ensures.acts) c.requires.free
 
 pub returns-then-look-ne0-clause-cleans : goal.returns-then-look-ne0-clause-cleans
 returns-then-look-ne0-clause-cleans c =

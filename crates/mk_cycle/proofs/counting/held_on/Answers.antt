@@ -25,7 +25,8 @@ returns-clause-exact c =
     let x : Page = record { header = c.look-header.result; used = c.look-used.result } in
     let here : c.words_held-held.result ≡ words_held_by (use_of_page x) = omega (arith, c.words_held-held.ensures) in
     here ∙ ap (λ (y : Page). words_held_by (use_of_page y))
-    (page_seen c.look-header.new.turn.pass c.look-used.new.turn.pass c.args.page x.header x.used c.look-used.ensures.frees
+    (page_seen c.look-header.new.turn.pass c.look-used.new.turn.pass c.args.page x.header x.used
+    c.look-used.ensures.frees
     c.look-header.ensures.reads c.look-used.ensures.reads)
 
 pub returns-clause-few : goal.returns-clause-few

@@ -8,7 +8,8 @@ pub returns-then-snapshot-eq0-clause-exact : goal.returns-then-snapshot-eq0-clau
 returns-then-snapshot-eq0-clause-exact c =
     let x = c.look-snapshot.ensures in
     nothing_on (now_of c.args.turn.now.pass).words c.args.page
-    (sym (snapshot_told c.args.turn.now.pass c.look-snapshot.new.turn.pass c.args.page c.look-snapshot.result x.is x.frees x.reads)
+    (sym (snapshot_told c.args.turn.now.pass c.look-snapshot.new.turn.pass c.args.page c.look-snapshot.result x.is
+    x.frees x.reads)
     ∙ c.if-snapshot-eq0.true)
 
 pub released_of-requires-clause-snapshot : goal.released_of-requires-clause-snapshot

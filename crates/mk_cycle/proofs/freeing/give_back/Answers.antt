@@ -13,64 +13,90 @@ use Rattle.mk_cycle.proofs.freeing.give_back.Goals as goal
 
 pub wipe_cells-requires-clause-free : goal.wipe_cells-requires-clause-free
 wipe_cells-requires-clause-free c =
-    let first = look_frees _ _ c.look-used.ensures.was c.look-used.ensures.is c.requires.free c.requires.phase _ c.look-used.ensures.acts in
+    let first = look_frees _ _ c.look-used.ensures.was c.look-used.ensures.is c.requires.free c.requires.phase _
+    c.look-used.ensures.acts in
     freed_free _ _ first.frees c.requires.free
 
 pub wipe_cells-requires-clause-unmapped : goal.wipe_cells-requires-clause-unmapped
 wipe_cells-requires-clause-unmapped c k i has lt =
-    let first = look_frees _ _ c.look-used.ensures.was c.look-used.ensures.is c.requires.free c.requires.phase _ c.look-used.ensures.acts in
+    let first = look_frees _ _ c.look-used.ensures.was c.look-used.ensures.is c.requires.free c.requires.phase _
+    c.look-used.ensures.acts in
     still_unmapped_word _ _ _ first.frees
-    (cells_sized c.args.turn.now.pass c.args.page c.look-used.result c.args.gone c.args.size c.requires.gone c.requires.size c.requires.cells k i has lt)
+    (cells_sized c.args.turn.now.pass c.args.page c.look-used.result c.args.gone c.args.size c.requires.gone
+    c.requires.size c.requires.cells k i has lt)
 
 pub give_cells-requires-clause-free : goal.give_cells-requires-clause-free
 give_cells-requires-clause-free c =
-    let first = look_frees _ _ c.look-used.ensures.was c.look-used.ensures.is c.requires.free c.requires.phase _ c.look-used.ensures.acts in
+    let first = look_frees _ _ c.look-used.ensures.was c.look-used.ensures.is c.requires.free c.requires.phase _
+    c.look-used.ensures.acts in
     freed_free _ _ (none_then _ _ _ first c.wipe_cells.ensures.frees).frees c.requires.free
 
 pub give_cells-requires-clause-gives : goal.give_cells-requires-clause-gives
 give_cells-requires-clause-gives c =
-    let first = look_frees _ _ c.look-used.ensures.was c.look-used.ensures.is c.requires.free c.requires.phase _ c.look-used.ensures.acts in
+    let first = look_frees _ _ c.look-used.ensures.was c.look-used.ensures.is c.requires.free c.requires.phase _
+    c.look-used.ensures.acts in
     let p = c.args.turn.now.pass in
     let b = c.wipe_cells.new.turn.pass in
     ap (λ (n : ℕ). gives_back (now_of b).words c.args.page n) c.without.ensures
-    ∙ gives_here p b c.args.page c.look-used.result c.args.gone c.args.size (none_then _ _ _ first c.wipe_cells.ensures.frees)
+    ∙ gives_here p b c.args.page c.look-used.result c.args.gone c.args.size
+    (none_then _ _ _ first c.wipe_cells.ensures.frees)
     (c.look-used.ensures.reads ∙ same_used p c.look-used.new.turn.pass c.args.page (first.same c.args.page))
     c.requires.gone c.requires.size c.wipe_cells.ensures.zeros
 
 pub drop_cells-requires-clause-free : goal.drop_cells-requires-clause-free
 drop_cells-requires-clause-free c =
-    let first = look_frees _ _ c.look-used.ensures.was c.look-used.ensures.is c.requires.free c.requires.phase _ c.look-used.ensures.acts in
+    let first = look_frees _ _ c.look-used.ensures.was c.look-used.ensures.is c.requires.free c.requires.phase _
+    c.look-used.ensures.acts in
     let p = c.args.turn.now.pass in
     let b = c.wipe_cells.new.turn.pass in
     let d = c.give_cells.new.turn.pass in
-    free_d p b d d c.look-used.ensures.was (none_then _ _ _ first c.wipe_cells.ensures.frees) c.give_cells.ensures.was c.requires.free c.requires.phase
-    c.args.page c.look-used.result c.args.gone c.args.quarantine (on_table p c.args.words.now c.requires.one_table c.args.page c.requires.within)
-    (c.look-used.ensures.reads ∙ same_used p c.look-used.new.turn.pass c.args.page (first.same c.args.page)) c.requires.gone c.requires.quarantine
-    (subst (λ (n : ℕ). Acts b (step.Used c.args.page n) d) c.without.ensures c.give_cells.ensures.acts) c.give_cells.ensures.is
+    free_d p b d d c.look-used.ensures.was (none_then _ _ _ first c.wipe_cells.ensures.frees) c.give_cells.ensures.was
+    c.requires.free c.requires.phase
+    c.args.page c.look-used.result c.args.gone c.args.quarantine
+    (on_table p c.args.words.now c.requires.one_table c.args.page c.requires.within)
+    (c.look-used.ensures.reads
+    ∙ same_used p c.look-used.new.turn.pass c.args.page (first.same c.args.page)) c.requires.gone
+    c.requires.quarantine
+    (subst (λ (n : ℕ). Acts b (step.Used c.args.page n) d) c.without.ensures c.give_cells.ensures.acts)
+    c.give_cells.ensures.is
 
 pub drop_cells-requires-clause-drops : goal.drop_cells-requires-clause-drops
 drop_cells-requires-clause-drops c =
-    let first = look_frees _ _ c.look-used.ensures.was c.look-used.ensures.is c.requires.free c.requires.phase _ c.look-used.ensures.acts in
+    let first = look_frees _ _ c.look-used.ensures.was c.look-used.ensures.is c.requires.free c.requires.phase _
+    c.look-used.ensures.acts in
     let p = c.args.turn.now.pass in
     let b = c.wipe_cells.new.turn.pass in
     let d = c.give_cells.new.turn.pass in
-    ap (λ (n : ℕ). drops (now_of d).words c.args.page (quarantine_word n (c.args.quarantine / 2 ^ 32 - c.args.gone) % 2 ^ 32)
+    ap (λ (n : ℕ). drops (now_of d).words c.args.page
+    (quarantine_word n (c.args.quarantine / 2 ^ 32 - c.args.gone) % 2 ^ 32)
     (quarantine_word n (c.args.quarantine / 2 ^ 32 - c.args.gone) / 2 ^ 32)) c.without-freed.ensures
-    ∙ drops_here p b d d c.look-used.ensures.was (none_then _ _ _ first c.wipe_cells.ensures.frees) c.give_cells.ensures.was c.requires.free c.requires.phase
-    c.args.page c.look-used.result c.args.gone c.args.quarantine (on_table p c.args.words.now c.requires.one_table c.args.page c.requires.within)
-    (c.look-used.ensures.reads ∙ same_used p c.look-used.new.turn.pass c.args.page (first.same c.args.page)) c.requires.gone c.requires.quarantine
-    (subst (λ (n : ℕ). Acts b (step.Used c.args.page n) d) c.without.ensures c.give_cells.ensures.acts) c.give_cells.ensures.is
+    ∙ drops_here p b d d c.look-used.ensures.was (none_then _ _ _ first c.wipe_cells.ensures.frees)
+    c.give_cells.ensures.was c.requires.free c.requires.phase
+    c.args.page c.look-used.result c.args.gone c.args.quarantine
+    (on_table p c.args.words.now c.requires.one_table c.args.page c.requires.within)
+    (c.look-used.ensures.reads
+    ∙ same_used p c.look-used.new.turn.pass c.args.page (first.same c.args.page)) c.requires.gone
+    c.requires.quarantine
+    (subst (λ (n : ℕ). Acts b (step.Used c.args.page n) d) c.without.ensures c.give_cells.ensures.acts)
+    c.give_cells.ensures.is
 
 pub returns-clause-gives : goal.returns-clause-gives
 returns-clause-gives c =
-    let first = look_frees _ _ c.look-used.ensures.was c.look-used.ensures.is c.requires.free c.requires.phase _ c.look-used.ensures.acts in
+    let first = look_frees _ _ c.look-used.ensures.was c.look-used.ensures.is c.requires.free c.requires.phase _
+    c.look-used.ensures.acts in
     let p = c.args.turn.now.pass in
     let b = c.wipe_cells.new.turn.pass in
     let d = c.give_cells.new.turn.pass in
     let q = c.drop_cells.new.turn.pass in
-    gives_all p b d q c.look-used.ensures.was (none_then _ _ _ first c.wipe_cells.ensures.frees) c.give_cells.ensures.was c.requires.free c.requires.phase
-    c.args.page c.look-used.result c.args.gone c.args.quarantine (on_table p c.args.words.now c.requires.one_table c.args.page c.requires.within)
-    (c.look-used.ensures.reads ∙ same_used p c.look-used.new.turn.pass c.args.page (first.same c.args.page)) c.requires.gone c.requires.quarantine
-    (subst (λ (n : ℕ). Acts b (step.Used c.args.page n) d) c.without.ensures c.give_cells.ensures.acts) c.give_cells.ensures.is
-    (subst (λ (n : ℕ). Acts d (step.Quar c.args.page (quarantine_word n (c.args.quarantine / 2 ^ 32 - c.args.gone))) q) c.without-freed.ensures c.drop_cells.ensures.acts)
+    gives_all p b d q c.look-used.ensures.was (none_then _ _ _ first c.wipe_cells.ensures.frees)
+    c.give_cells.ensures.was c.requires.free c.requires.phase
+    c.args.page c.look-used.result c.args.gone c.args.quarantine
+    (on_table p c.args.words.now c.requires.one_table c.args.page c.requires.within)
+    (c.look-used.ensures.reads
+    ∙ same_used p c.look-used.new.turn.pass c.args.page (first.same c.args.page)) c.requires.gone
+    c.requires.quarantine
+    (subst (λ (n : ℕ). Acts b (step.Used c.args.page n) d) c.without.ensures c.give_cells.ensures.acts)
+    c.give_cells.ensures.is
+    (subst (λ (n : ℕ). Acts d (step.Quar c.args.page (quarantine_word n (c.args.quarantine / 2 ^ 32 - c.args.gone))) q)
+    c.without-freed.ensures c.drop_cells.ensures.acts)
     c.drop_cells.ensures.is

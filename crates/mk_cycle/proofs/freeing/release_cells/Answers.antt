@@ -6,44 +6,59 @@ use Rattle.mk_cycle.proofs.freeing.release_cells.Goals as goal
 
 pub look-marks-requires-clause-free : goal.look-marks-requires-clause-free
 look-marks-requires-clause-free c =
-    let first = look_frees _ _ c.look-quarantine.ensures.was c.look-quarantine.ensures.is c.requires.free c.requires.phase _ c.look-quarantine.ensures.acts in
+    let first = look_frees _ _ c.look-quarantine.ensures.was c.look-quarantine.ensures.is c.requires.free
+    c.requires.phase _ c.look-quarantine.ensures.acts in
     freed_free _ _ first.frees c.requires.free
 
 pub give_back-requires-clause-free : goal.give_back-requires-clause-free
 give_back-requires-clause-free c =
-    let first = look_frees _ _ c.look-quarantine.ensures.was c.look-quarantine.ensures.is c.requires.free c.requires.phase _ c.look-quarantine.ensures.acts in
+    let first = look_frees _ _ c.look-quarantine.ensures.was c.look-quarantine.ensures.is c.requires.free
+    c.requires.phase _ c.look-quarantine.ensures.acts in
     let free = freed_free _ _ first.frees c.requires.free in
-    let next = look_frees _ _ c.look-marks.ensures.was c.look-marks.ensures.is free (freed_phase _ _ first.frees c.requires.phase) _ c.look-marks.ensures.acts in
+    let next = look_frees _ _ c.look-marks.ensures.was c.look-marks.ensures.is free
+    (freed_phase _ _ first.frees c.requires.phase) _ c.look-marks.ensures.acts in
     freed_free _ _ next.frees free
 
 pub give_back-requires-clause-gone : goal.give_back-requires-clause-gone
 give_back-requires-clause-gone c =
-    let first = look_frees _ _ c.look-quarantine.ensures.was c.look-quarantine.ensures.is c.requires.free c.requires.phase _ c.look-quarantine.ensures.acts in
+    let first = look_frees _ _ c.look-quarantine.ensures.was c.look-quarantine.ensures.is c.requires.free
+    c.requires.phase _ c.look-quarantine.ensures.acts in
     let free = freed_free _ _ first.frees c.requires.free in
-    let next = look_frees _ _ c.look-marks.ensures.was c.look-marks.ensures.is free (freed_phase _ _ first.frees c.requires.phase) _ c.look-marks.ensures.acts in
-    c.without-gone.ensures ∙ marked_gone c.look-quarantine.new.turn.pass c.look-marks.new.turn.pass c.args.page c.look-quarantine.result c.look-marks.result
+    let next = look_frees _ _ c.look-marks.ensures.was c.look-marks.ensures.is free
+    (freed_phase _ _ first.frees c.requires.phase) _ c.look-marks.ensures.acts in
+    c.without-gone.ensures
+    ∙ marked_gone c.look-quarantine.new.turn.pass c.look-marks.new.turn.pass c.args.page c.look-quarantine.result
+    c.look-marks.result
     c.look-quarantine.ensures.is next c.look-quarantine.ensures.reads c.look-marks.ensures.reads
 
 pub give_back-requires-clause-cells : goal.give_back-requires-clause-cells
 give_back-requires-clause-cells c =
-    let first = look_frees _ _ c.look-quarantine.ensures.was c.look-quarantine.ensures.is c.requires.free c.requires.phase _ c.look-quarantine.ensures.acts in
+    let first = look_frees _ _ c.look-quarantine.ensures.was c.look-quarantine.ensures.is c.requires.free
+    c.requires.phase _ c.look-quarantine.ensures.acts in
     let free = freed_free _ _ first.frees c.requires.free in
-    let next = look_frees _ _ c.look-marks.ensures.was c.look-marks.ensures.is free (freed_phase _ _ first.frees c.requires.phase) _ c.look-marks.ensures.acts in
+    let next = look_frees _ _ c.look-marks.ensures.was c.look-marks.ensures.is free
+    (freed_phase _ _ first.frees c.requires.phase) _ c.look-marks.ensures.acts in
     let both = none_then _ _ _ first next in
     free_cells_stay _ _ c.args.page both.frees (both.same c.args.page) c.requires.cells
 
 pub returns-then-gone-ne0-clause-gives : goal.returns-then-gone-ne0-clause-gives
 returns-then-gone-ne0-clause-gives c =
-    let first = look_frees _ _ c.look-quarantine.ensures.was c.look-quarantine.ensures.is c.requires.free c.requires.phase _ c.look-quarantine.ensures.acts in
+    let first = look_frees _ _ c.look-quarantine.ensures.was c.look-quarantine.ensures.is c.requires.free
+    c.requires.phase _ c.look-quarantine.ensures.acts in
     let free = freed_free _ _ first.frees c.requires.free in
-    let next = look_frees _ _ c.look-marks.ensures.was c.look-marks.ensures.is free (freed_phase _ _ first.frees c.requires.phase) _ c.look-marks.ensures.acts in
+    let next = look_frees _ _ c.look-marks.ensures.was c.look-marks.ensures.is free
+    (freed_phase _ _ first.frees c.requires.phase) _ c.look-marks.ensures.acts in
     gives_then c.args.page _ _ _ (none_then _ _ _ first next) c.give_back.ensures.gives
 
 pub returns-else-gone-ne0-clause-gives : goal.returns-else-gone-ne0-clause-gives
 returns-else-gone-ne0-clause-gives c =
-    let first = look_frees _ _ c.look-quarantine.ensures.was c.look-quarantine.ensures.is c.requires.free c.requires.phase _ c.look-quarantine.ensures.acts in
+    let first = look_frees _ _ c.look-quarantine.ensures.was c.look-quarantine.ensures.is c.requires.free
+    c.requires.phase _ c.look-quarantine.ensures.acts in
     let free = freed_free _ _ first.frees c.requires.free in
-    let next = look_frees _ _ c.look-marks.ensures.was c.look-marks.ensures.is free (freed_phase _ _ first.frees c.requires.phase) _ c.look-marks.ensures.acts in
+    let next = look_frees _ _ c.look-marks.ensures.was c.look-marks.ensures.is free
+    (freed_phase _ _ first.frees c.requires.phase) _ c.look-marks.ensures.acts in
     gives_none c.args.page _ _ (none_then _ _ _ first next)
-    (sym (c.without-gone.ensures ∙ marked_gone c.look-quarantine.new.turn.pass c.look-marks.new.turn.pass c.args.page c.look-quarantine.result c.look-marks.result
+    (sym (c.without-gone.ensures
+    ∙ marked_gone c.look-quarantine.new.turn.pass c.look-marks.new.turn.pass c.args.page c.look-quarantine.result
+    c.look-marks.result
     c.look-quarantine.ensures.is next c.look-quarantine.ensures.reads c.look-marks.ensures.reads) ∙ c.if-gone-ne0.false)

@@ -18,7 +18,8 @@ settle_pages-settled-requires-clause-cells g c page lt =
 pub returns-clause-gives : goal.returns-clause-gives
 returns-clause-gives g c =
     let p = c.args.turn.pass in
-    let holds = subst (λ (t : TurnState). HoldsGates p t.pass) (sym c.stopped-stop.ensures) c.hold_gates.ensures.holds in
+    let holds = subst (λ (t : TurnState). HoldsGates p t.pass) (sym c.stopped-stop.ensures) c.hold_gates.ensures.holds
+    in
     gives_all_back p c.stopped-stop.result.pass c.release_unmarked.new.stop.pass c.open_gates-turn.result.pass
     c.settle_pages-settled.new.turn.pass holds c.release_unmarked.ensures.releases c.open_gates-turn.ensures.opens
     c.settle_pages-settled.ensures.frees c.open_gates-turn.ensures.gates
@@ -28,7 +29,8 @@ returns-clause-gives g c =
 pub returns-clause-told : goal.returns-clause-told
 returns-clause-told g c =
     let p = c.args.turn.pass in
-    let holds = subst (λ (t : TurnState). HoldsGates p t.pass) (sym c.stopped-stop.ensures) c.hold_gates.ensures.holds in
+    let holds = subst (λ (t : TurnState). HoldsGates p t.pass) (sym c.stopped-stop.ensures) c.hold_gates.ensures.holds
+    in
     all_told p c.stopped-stop.result.pass c.release_unmarked.new.stop.pass c.open_gates-turn.result.pass
     c.settle_pages-settled.new.turn.pass _ _ holds c.open_gates-turn.ensures.opens c.settle_pages-settled.ensures.frees
     c.release_unmarked.ensures.told c.settle_pages-settled.ensures.released
@@ -39,7 +41,8 @@ returns-clause-reached g c none =
     let h = c.stopped-stop.result.pass in
     let r = c.release_unmarked.new.stop.pass in
     let q = c.settle_pages-settled.new.turn.pass in
-    let holds = subst (λ (t : TurnState). HoldsGates p t.pass) (sym c.stopped-stop.ensures) c.hold_gates.ensures.holds in
+    let holds = subst (λ (t : TurnState). HoldsGates p t.pass) (sym c.stopped-stop.ensures) c.hold_gates.ensures.holds
+    in
     let frees = frees_then r _ q c.open_gates-turn.ensures.opens.frees c.settle_pages-settled.ensures.frees in
     sweeps_then p h q holds.keeps.call.pass (does_sweep holds_gates p h holding_marks_nothing holds.does)
     (sweeps_then h r q c.release_unmarked.ensures.releases.call.pass (c.release_unmarked.ensures.reached none)
@@ -51,7 +54,8 @@ returns-clause-told_at_close g c =
     let h = c.stopped-stop.result.pass in
     let r = c.release_unmarked.new.stop.pass in
     let q = c.settle_pages-settled.new.turn.pass in
-    let holds = subst (λ (t : TurnState). HoldsGates p t.pass) (sym c.stopped-stop.ensures) c.hold_gates.ensures.holds in
+    let holds = subst (λ (t : TurnState). HoldsGates p t.pass) (sym c.stopped-stop.ensures) c.hold_gates.ensures.holds
+    in
     let frees = frees_then r _ q c.open_gates-turn.ensures.opens.frees c.settle_pages-settled.ensures.frees in
     told_earlier _ p h holds.does.more q holds.does.is
     (told_later _ h r q frees.does.more (ap (λ (x : PassState). x.seen) frees.does.is)

@@ -8,7 +8,8 @@ trying-init g c = record { op = refl; holds = holds_nothing c.args.turn.now.pass
 pub returns-then-look-eq-HELD-clause-holds : goal.returns-then-look-eq-HELD-clause-holds
 returns-then-look-eq-HELD-clause-holds g c =
     let free = held_free _ _ c.trying.invariant.holds c.requires.free in
-    holds_then _ _ _ c.trying.invariant.holds (look_holds _ _ c.look.ensures.was free c.look.ensures.is _ c.look.ensures.acts)
+    holds_then _ _ _ c.trying.invariant.holds
+    (look_holds _ _ c.look.ensures.was free c.look.ensures.is _ c.look.ensures.acts)
 
 pub try_hold-requires-clause-free : goal.try_hold-requires-clause-free
 try_hold-requires-clause-free g c =
@@ -21,7 +22,8 @@ returns-then-try_hold-clause-holds g c =
     let looked = look_holds _ _ c.look.ensures.was free c.look.ensures.is _ c.look.ensures.acts in
     let next = held_free _ _ looked free in
     holds_then _ _ _ c.trying.invariant.holds
-    (holds_then _ _ _ looked (hold_holds _ _ c.try_hold.ensures.was next c.try_hold.ensures.is _ c.try_hold.ensures.acts))
+    (holds_then _ _ _ looked
+    (hold_holds _ _ c.try_hold.ensures.was next c.try_hold.ensures.is _ c.try_hold.ensures.acts))
 
 pub trying-preserved : goal.trying-preserved
 trying-preserved g c =
@@ -31,5 +33,6 @@ trying-preserved g c =
     record {
       op = c.try_hold.ensures.op ∙ c.look.ensures.op ∙ c.trying.invariant.op;
       holds = holds_then _ _ _ c.trying.invariant.holds
-          (holds_then _ _ _ looked (hold_holds _ _ c.try_hold.ensures.was next c.try_hold.ensures.is _ c.try_hold.ensures.acts));
+          (holds_then _ _ _ looked
+          (hold_holds _ _ c.try_hold.ensures.was next c.try_hold.ensures.is _ c.try_hold.ensures.acts));
     }

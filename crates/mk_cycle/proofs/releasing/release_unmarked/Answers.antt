@@ -16,7 +16,8 @@ use Rattle.mk_cycle.proofs.releasing.release_unmarked.Goals as goal
 
 pub returns-clause-releases : goal.returns-clause-releases
 returns-clause-releases g c =
-    releases_unmarked c.args.stop.now.pass c.close_marks.new.stop.pass c.close_phase.new.self.pass c.release.new.self.pass
+    releases_unmarked c.args.stop.now.pass c.close_marks.new.stop.pass c.close_phase.new.self.pass
+    c.release.new.self.pass
     (in_turn _ _ c.is_in_order.ensures.own c.is_in_order.ensures.turn c.is_in_order.ensures.history) c.requires.free
     c.close_marks.ensures.law
     (in_turn _ _ c.is_in_order-2.ensures.own c.is_in_order-2.ensures.turn c.is_in_order-2.ensures.history)
@@ -50,7 +51,8 @@ returns-clause-told g c =
     (told_from p d c.release.new.self.pass _ same
     (ap (λ (s : Steady). s.allocations) close.0.steady ∙ ap (λ (s : Steady). s.allocations) marks.steady)
     (release_tells d c.release.new.self.pass u
-    (in_turn _ _ c.is_in_order-4.ensures.own c.is_in_order-4.ensures.turn c.is_in_order-4.ensures.history) close.1 c.release.ensures.acts))
+    (in_turn _ _ c.is_in_order-4.ensures.own c.is_in_order-4.ensures.turn c.is_in_order-4.ensures.history) close.1
+    c.release.ensures.acts))
 
 pub returns-clause-reached : goal.returns-clause-reached
 returns-clause-reached g c none =

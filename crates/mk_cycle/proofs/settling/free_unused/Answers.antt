@@ -8,12 +8,14 @@ use Rattle.mk_cycle.proofs.settling.free_unused.Goals as goal
 
 pub free_head-requires-clause-free : goal.free_head-requires-clause-free
 free_head-requires-clause-free c =
-    let first = look_frees _ _ c.look.ensures.was c.look.ensures.is c.requires.free c.requires.phase _ c.look.ensures.acts in
+    let first = look_frees _ _ c.look.ensures.was c.look.ensures.is c.requires.free c.requires.phase _
+    c.look.ensures.acts in
     freed_free _ _ first.frees c.requires.free
 
 pub free_head-requires-clause-empty : goal.free_head-requires-clause-empty
 free_head-requires-clause-empty c =
-    let first = look_frees _ _ c.look.ensures.was c.look.ensures.is c.requires.free c.requires.phase _ c.look.ensures.acts in
+    let first = look_frees _ _ c.look.ensures.was c.look.ensures.is c.requires.free c.requires.phase _
+    c.look.ensures.acts in
     let p = c.args.turn.now.pass in
     let a = c.look.new.turn.pass in
     empties_here a c.look.ensures.is (freed_phase _ _ first.frees c.requires.phase) c.args.page c.args.head
@@ -23,21 +25,27 @@ free_head-requires-clause-empty c =
 
 pub returns-then-look-eq0-clause-frees : goal.returns-then-look-eq0-clause-frees
 returns-then-look-eq0-clause-frees c =
-    let first = look_frees _ _ c.look.ensures.was c.look.ensures.is c.requires.free c.requires.phase _ c.look.ensures.acts in
+    let first = look_frees _ _ c.look.ensures.was c.look.ensures.is c.requires.free c.requires.phase _
+    c.look.ensures.acts in
     let p = c.args.turn.now.pass in
     let a = c.look.new.turn.pass in
     let q = c.free_head.new.turn.pass in
     page_then c.args.page p a q (page_at_once c.args.page p a first)
-    (head_frees a q c.free_head.ensures.was c.free_head.ensures.is (freed_free _ _ first.frees c.requires.free) (freed_phase _ _ first.frees c.requires.phase)
-    c.args.page c.free_head.ensures.acts (on_table a c.args.words.now (freed_table p a c.args.words.now first.frees c.requires.one_table) c.args.page c.requires.within))
+    (head_frees a q c.free_head.ensures.was c.free_head.ensures.is (freed_free _ _ first.frees c.requires.free)
+    (freed_phase _ _ first.frees c.requires.phase)
+    c.args.page c.free_head.ensures.acts
+    (on_table a c.args.words.now (freed_table p a c.args.words.now first.frees c.requires.one_table) c.args.page
+    c.requires.within))
 
 pub returns-then-look-eq0-clause-settled : goal.returns-then-look-eq0-clause-settled
 returns-then-look-eq0-clause-settled c =
-    let first = look_frees _ _ c.look.ensures.was c.look.ensures.is c.requires.free c.requires.phase _ c.look.ensures.acts in
+    let first = look_frees _ _ c.look.ensures.was c.look.ensures.is c.requires.free c.requires.phase _
+    c.look.ensures.acts in
     let p = c.args.turn.now.pass in
     let a = c.look.new.turn.pass in
     let q = c.free_head.new.turn.pass in
-    let lt = on_table a c.args.words.now (freed_table p a c.args.words.now first.frees c.requires.one_table) c.args.page c.requires.within in
+    let lt = on_table a c.args.words.now (freed_table p a c.args.words.now first.frees c.requires.one_table) c.args.page
+    c.requires.within in
     let free = freed_free _ _ first.frees c.requires.free in
     let at = freed_phase _ _ first.frees c.requires.phase in
     freed_settles a q c.args.page _
@@ -47,4 +55,5 @@ returns-then-look-eq0-clause-settled c =
 
 pub returns-else-look-eq0-clause-frees : goal.returns-else-look-eq0-clause-frees
 returns-else-look-eq0-clause-frees c =
-    page_at_once c.args.page _ _ (look_frees _ _ c.look.ensures.was c.look.ensures.is c.requires.free c.requires.phase _ c.look.ensures.acts)
+    page_at_once c.args.page _ _
+    (look_frees _ _ c.look.ensures.was c.look.ensures.is c.requires.free c.requires.phase _ c.look.ensures.acts)

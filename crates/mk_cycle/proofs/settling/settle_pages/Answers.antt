@@ -65,6 +65,7 @@ returns-clause-held c =
       c.loop-page-test.false,
       c.loop-page.auto.page-end,
       c.pages-page-end.ensures,
-      ap (λ (w : WordsState). w.config.pages) (freed_table p q c.args.words.now c.loop-page.invariant.frees c.requires.one_table),
+      ap (λ (w : WordsState). w.config.pages)
+          (freed_table p q c.args.words.now c.loop-page.invariant.frees c.requires.one_table),
     ) in
     c.loop-page.invariant.held ∙ ap (λ n. sum_below n (held_at q)) (sym all) ∙ held_all pages

@@ -15,7 +15,8 @@ release_cells-requires-clause-size c =
     let first = c.released_on-released.ensures.frees in
     c.words_under.ensures.exact
     ∙ ap (λ (n : ℕ). words_under (header_of n))
-    (c.requires.header ∙ sym (same_header c.args.turn.now.pass c.released_on-released.new.turn.pass c.args.page (first.same c.args.page)))
+    (c.requires.header ∙ sym
+    (same_header c.args.turn.now.pass c.released_on-released.new.turn.pass c.args.page (first.same c.args.page)))
 
 pub release_cells-requires-clause-cells : goal.release_cells-requires-clause-cells
 release_cells-requires-clause-cells c =
@@ -24,32 +25,38 @@ release_cells-requires-clause-cells c =
 
 pub free_unused-requires-clause-free : goal.free_unused-requires-clause-free
 free_unused-requires-clause-free c =
-    freed_free _ _ c.release_cells.ensures.gives.frees.frees (freed_free _ _ c.released_on-released.ensures.frees.frees c.requires.free)
+    freed_free _ _ c.release_cells.ensures.gives.frees.frees
+    (freed_free _ _ c.released_on-released.ensures.frees.frees c.requires.free)
 
 pub free_unused-requires-clause-head : goal.free_unused-requires-clause-head
 free_unused-requires-clause-head c =
     let first = c.released_on-released.ensures.frees in
     c.head_of.ensures
     ∙ ap (λ (n : ℕ). head_page_under (header_of n) c.args.page)
-    (c.requires.header ∙ sym (same_header c.args.turn.now.pass c.released_on-released.new.turn.pass c.args.page (first.same c.args.page))
+    (c.requires.header ∙ sym
+    (same_header c.args.turn.now.pass c.released_on-released.new.turn.pass c.args.page (first.same c.args.page))
     ∙ sym c.release_cells.ensures.gives.header)
 
 pub free_unused-requires-clause-none_at_head : goal.free_unused-requires-clause-none_at_head
 free_unused-requires-clause-none_at_head c =
-    none_at c.args.turn.now.pass c.released_on-released.new.turn.pass c.release_cells.new.turn.pass c.args.page c.head_of.result
+    none_at c.args.turn.now.pass c.released_on-released.new.turn.pass c.release_cells.new.turn.pass c.args.page
+    c.head_of.result
     c.released_on-released.ensures.frees c.release_cells.ensures.gives
-    (subst (λ (n : ℕ). n ≤ c.args.page) (sym c.head_of.ensures) (head_before (header_of c.args.header) c.args.page)) c.requires.settled
+    (subst (λ (n : ℕ). n ≤ c.args.page) (sym c.head_of.ensures) (head_before (header_of c.args.header) c.args.page))
+    c.requires.settled
 
 pub held_on-held-requires-clause-free : goal.held_on-held-requires-clause-free
 held_on-held-requires-clause-free c =
     freed_free _ _ c.free_unused.ensures.frees.frees
-    (freed_free _ _ c.release_cells.ensures.gives.frees.frees (freed_free _ _ c.released_on-released.ensures.frees.frees c.requires.free))
+    (freed_free _ _ c.release_cells.ensures.gives.frees.frees
+    (freed_free _ _ c.released_on-released.ensures.frees.frees c.requires.free))
 
 pub returns-clause-frees : goal.returns-clause-frees
 returns-clause-frees c =
     page_then c.args.page _ _ _ (page_at_once c.args.page _ _ c.released_on-released.ensures.frees)
     (page_then c.args.page _ _ _ c.release_cells.ensures.gives.frees
-    (page_then c.args.page _ _ _ c.free_unused.ensures.frees (page_at_once c.args.page _ _ c.held_on-held.ensures.frees)))
+    (page_then c.args.page _ _ _ c.free_unused.ensures.frees
+    (page_at_once c.args.page _ _ c.held_on-held.ensures.frees)))
 
 pub returns-clause-settled : goal.returns-clause-settled
 returns-clause-settled c = settled_alike _ _ c.args.page c.held_on-held.ensures.frees c.free_unused.ensures.settled

@@ -7,5 +7,6 @@ use Rattle.mk_cycle.proofs.tallying.count_cycle.Goals as goal
 pub returns-clause-sets : goal.returns-clause-sets
 returns-clause-sets c =
     cycle_counted c.args.turn.now.pass c.set.new.turn.pass c.raise.new.turn.pass c.raise-2.new.turn.pass c.args.released
-    (subst (λ (n : ℕ). Sets (with_tally tally.Held n) c.args.turn.now.pass c.set.new.turn.pass) c.requires.held c.set.ensures.sets)
+    (subst (λ (n : ℕ). Sets (with_tally tally.Held n) c.args.turn.now.pass c.set.new.turn.pass) c.requires.held
+    c.set.ensures.sets)
     c.raise.ensures.sets c.raise-2.ensures.sets

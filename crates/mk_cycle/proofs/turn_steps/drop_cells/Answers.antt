@@ -7,8 +7,10 @@ use Rattle.mk_cycle.proofs.turn_steps.drop_cells.Goals as goal
 pub quar-requires-clause-enabled : goal.quar-requires-clause-enabled
 quar-requires-clause-enabled c =
     quar_allowed c.args.turn.now.pass
-    (in_turn c.args.turn.now.pass c.args.turn.now.op c.is_in_order.ensures.own c.is_in_order.ensures.turn c.is_in_order.ensures.history)
-    c.requires.free c.requires.phase c.args.page c.args.v (on_table c.args.turn.now.pass _ c.requires.one_table c.args.page c.requires.within) c.requires.drops
+    (in_turn c.args.turn.now.pass c.args.turn.now.op c.is_in_order.ensures.own c.is_in_order.ensures.turn
+    c.is_in_order.ensures.history)
+    c.requires.free c.requires.phase c.args.page c.args.v
+    (on_table c.args.turn.now.pass _ c.requires.one_table c.args.page c.requires.within) c.requires.drops
 
 pub quar-requires-clause-admitted : goal.quar-requires-clause-admitted
 quar-requires-clause-admitted c =

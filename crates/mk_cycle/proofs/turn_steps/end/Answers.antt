@@ -7,6 +7,7 @@ use Rattle.mk_cycle.proofs.turn_steps.end.Goals as goal
 pub end-requires-clause-enabled : goal.end-requires-clause-enabled
 end-requires-clause-enabled c =
     end_allowed c.args.turn.now.pass
-    (in_turn c.args.turn.now.pass c.args.turn.now.op c.is_in_order.ensures.own c.is_in_order.ensures.turn c.is_in_order.ensures.history)
+    (in_turn c.args.turn.now.pass c.args.turn.now.op c.is_in_order.ensures.own c.is_in_order.ensures.turn
+    c.is_in_order.ensures.history)
     c.requires.free c.requires.phase
     (λ page lt. c.requires.settled page (subst (λ (w : WordsState). page < w.config.pages) c.requires.one_table lt))

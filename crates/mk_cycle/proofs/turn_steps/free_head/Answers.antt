@@ -5,5 +5,7 @@ use Rattle.mk_cycle.proofs.turn_steps.free_head.Goals as goal
 pub head-requires-clause-enabled : goal.head-requires-clause-enabled
 head-requires-clause-enabled c =
     head_allowed c.args.turn.now.pass
-    (in_turn c.args.turn.now.pass c.args.turn.now.op c.is_in_order.ensures.own c.is_in_order.ensures.turn c.is_in_order.ensures.history)
-    c.requires.free c.requires.phase c.args.page (on_table c.args.turn.now.pass _ c.requires.one_table c.args.page c.requires.within) c.requires.empty
+    (in_turn c.args.turn.now.pass c.args.turn.now.op c.is_in_order.ensures.own c.is_in_order.ensures.turn
+    c.is_in_order.ensures.history)
+    c.requires.free c.requires.phase c.args.page
+    (on_table c.args.turn.now.pass _ c.requires.one_table c.args.page c.requires.within) c.requires.empty

@@ -5,5 +5,7 @@ use Rattle.mk_cycle.proofs.turn_steps.give_cells.Goals as goal
 pub used-requires-clause-enabled : goal.used-requires-clause-enabled
 used-requires-clause-enabled c =
     used_allowed c.args.turn.now.pass
-    (in_turn c.args.turn.now.pass c.args.turn.now.op c.is_in_order.ensures.own c.is_in_order.ensures.turn c.is_in_order.ensures.history)
-    c.requires.free c.requires.phase c.args.page c.args.v (on_table c.args.turn.now.pass _ c.requires.one_table c.args.page c.requires.within) c.requires.gives
+    (in_turn c.args.turn.now.pass c.args.turn.now.op c.is_in_order.ensures.own c.is_in_order.ensures.turn
+    c.is_in_order.ensures.history)
+    c.requires.free c.requires.phase c.args.page c.args.v
+    (on_table c.args.turn.now.pass _ c.requires.one_table c.args.page c.requires.within) c.requires.gives

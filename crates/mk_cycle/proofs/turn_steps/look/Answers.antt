@@ -8,8 +8,11 @@ use Rattle.mk_cycle.proofs.turn_steps.look.Goals as goal
 pub look-found-requires-clause-enabled : goal.look-found-requires-clause-enabled
 look-found-requires-clause-enabled c =
     look_allowed c.args.turn.now.pass
-    (in_turn c.args.turn.now.pass c.args.turn.now.op c.is_in_order.ensures.own c.is_in_order.ensures.turn c.is_in_order.ensures.history)
-    c.requires.free c.args.x (subst (λ (w : WordsState). is_word w.config c.args.x ≡ true) (sym c.requires.one_table) c.requires.in_range) c.requires.no_register
+    (in_turn c.args.turn.now.pass c.args.turn.now.op c.is_in_order.ensures.own c.is_in_order.ensures.turn
+    c.is_in_order.ensures.history)
+    c.requires.free c.args.x
+    (subst (λ (w : WordsState). is_word w.config c.args.x ≡ true) (sym c.requires.one_table) c.requires.in_range)
+    c.requires.no_register
 
 pub look-found-requires-clause-admitted : goal.look-found-requires-clause-admitted
 look-found-requires-clause-admitted c may =

@@ -4,5 +4,6 @@ use Rattle.mk_cycle.proofs.turn_steps.tally.Goals as goal
 pub tally-requires-clause-enabled : goal.tally-requires-clause-enabled
 tally-requires-clause-enabled c =
     tally_allowed c.args.turn.now.pass
-    (in_turn c.args.turn.now.pass c.args.turn.now.op c.is_in_order.ensures.own c.is_in_order.ensures.turn c.is_in_order.ensures.history)
+    (in_turn c.args.turn.now.pass c.args.turn.now.op c.is_in_order.ensures.own c.is_in_order.ensures.turn
+    c.is_in_order.ensures.history)
     c.requires.free c.args.n c.args.v

@@ -7,5 +7,8 @@ use Rattle.mk_cycle.proofs.turn_steps.try_hold.Goals as goal
 pub try_hold-requires-clause-enabled : goal.try_hold-requires-clause-enabled
 try_hold-requires-clause-enabled c =
     hold_allowed c.args.turn.now.pass
-    (in_turn c.args.turn.now.pass c.args.turn.now.op c.is_in_order.ensures.own c.is_in_order.ensures.turn c.is_in_order.ensures.history)
-    c.requires.free c.args.caller (subst (λ (w : WordsState). c.args.caller < w.config.callers) (sym c.requires.one_table) c.requires.within) c.requires.another c.requires.open
+    (in_turn c.args.turn.now.pass c.args.turn.now.op c.is_in_order.ensures.own c.is_in_order.ensures.turn
+    c.is_in_order.ensures.history)
+    c.requires.free c.args.caller
+    (subst (λ (w : WordsState). c.args.caller < w.config.callers) (sym c.requires.one_table) c.requires.within)
+    c.requires.another c.requires.open

@@ -4,5 +4,7 @@ use Rattle.mk_cycle.proofs.turn_steps.undirty.Goals as goal
 pub undirty-requires-clause-enabled : goal.undirty-requires-clause-enabled
 undirty-requires-clause-enabled c =
     undirty_allowed c.args.turn.now.pass
-    (in_turn c.args.turn.now.pass c.args.turn.now.op c.is_in_order.ensures.own c.is_in_order.ensures.turn c.is_in_order.ensures.history)
-    c.requires.free c.args.page (on_table c.args.turn.now.pass _ c.requires.one_table c.args.page c.requires.within) c.requires.phase
+    (in_turn c.args.turn.now.pass c.args.turn.now.op c.is_in_order.ensures.own c.is_in_order.ensures.turn
+    c.is_in_order.ensures.history)
+    c.requires.free c.args.page (on_table c.args.turn.now.pass _ c.requires.one_table c.args.page c.requires.within)
+    c.requires.phase

@@ -7,5 +7,8 @@ use Rattle.mk_cycle.proofs.turn_steps.wipe.Goals as goal
 pub wipe-requires-clause-enabled : goal.wipe-requires-clause-enabled
 wipe-requires-clause-enabled c =
     wipe_allowed c.args.turn.now.pass
-    (in_turn c.args.turn.now.pass c.args.turn.now.op c.is_in_order.ensures.own c.is_in_order.ensures.turn c.is_in_order.ensures.history)
-    c.requires.free c.requires.phase c.args.word (subst (λ (w : WordsState). c.args.word < 64 * w.config.pages) (sym c.requires.one_table) c.requires.within) c.requires.released
+    (in_turn c.args.turn.now.pass c.args.turn.now.op c.is_in_order.ensures.own c.is_in_order.ensures.turn
+    c.is_in_order.ensures.history)
+    c.requires.free c.requires.phase c.args.word
+    (subst (λ (w : WordsState). c.args.word < 64 * w.config.pages) (sym c.requires.one_table) c.requires.within)
+    c.requires.released

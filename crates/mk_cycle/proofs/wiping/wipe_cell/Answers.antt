@@ -14,7 +14,9 @@ loop-i-preserved c =
       op = c.wipe_word.ensures.op ∙ c.loop-i.invariant.op;
       frees = none_then _ _ _ before now;
       zeros = below_more _ _
-          (λ k lt. now.frees.zeros (c.args.first + k) (still_unmapped_word _ _ (c.args.first + k) before.frees (c.requires.unmapped k (omega (arith, lt, test)))).unmapped
+          (λ k lt. now.frees.zeros (c.args.first + k)
+          (still_unmapped_word _ _ (c.args.first + k) before.frees
+          (c.requires.unmapped k (omega (arith, lt, test)))).unmapped
           (c.loop-i.invariant.zeros k lt))
           c.wipe_word.ensures.zero;
     }

@@ -18,7 +18,8 @@ loop-k-preserved c =
       frees = none_then _ _ _ before now;
       zeros = below_more _ _
           (λ j lt i has small. now.frees.zeros (64 * c.args.page + j * c.args.size + i)
-          (still_unmapped_word _ _ (64 * c.args.page + j * c.args.size + i) before.frees (c.requires.unmapped j i has small)).unmapped
+          (still_unmapped_word _ _ (64 * c.args.page + j * c.args.size + i) before.frees
+          (c.requires.unmapped j i has small)).unmapped
           (c.loop-k.invariant.zeros j lt i has small))
           c.wipe_chosen.ensures.zeros;
     }

@@ -8,5 +8,6 @@ invariant-loop-k l =
     record {
       op : l.turn.op ≡ l.fn.turn.op;
       frees : FreesNone l.fn.turn.pass l.turn.pass;
-      zeros : (j : ℕ) → j < l.k → (i : ℕ) → has_bit l.cells j ≡ true → i < l.size → IsZero l.turn.pass (64 * l.page + j * l.size + i);
+      zeros : (j : ℕ) → j < l.k → (i : ℕ) → has_bit l.cells j ≡ true → i < l.size
+          → IsZero l.turn.pass (64 * l.page + j * l.size + i);
     }

@@ -7,5 +7,6 @@ use Rattle.mk_gen.proofs.text.generated_text.Given as goal
 
 abbrev pub invariant-loop-name : goal.invariant-loop-name
 invariant-loop-name l =
-    string_bytes l.text ++ text_of_lines (script_lines (turns_of l.count) l.numbers l.draws (drop l.name-index all_names))
+    string_bytes l.text ++ text_of_lines
+    (script_lines (turns_of l.count) l.numbers l.draws (drop l.name-index all_names))
     ≡ generated_text l.start l.count

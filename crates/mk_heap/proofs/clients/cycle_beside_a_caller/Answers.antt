@@ -25,7 +25,8 @@ close-requires-clause-joined g c =
     ∙ ap (λ (r : PassState). r.seats) c.clear.ensures.pass
     ∙ ap (λ (x : CallerState). x.pass.seats) c.caller-caller.ensures.caller in
     one_is_joined c.in_ok-heap.heap first c.caller-caller.new.self c.cycle.new.self c.join_caller.new.self
-    c.over.new.self p c.join_caller.new.self.pass.seen c.over.new.self.pass.seen c.in_ok-heap.ensures.host c.caller-caller.ensures.host
+    c.over.new.self p c.join_caller.new.self.pass.seen c.over.new.self.pass.seen c.in_ok-heap.ensures.host
+    c.caller-caller.ensures.host
     c.cycle.ensures.host seats c.join_caller.ensures.host c.over.ensures.host
 
 pub returns-clause-over : goal.returns-clause-over

@@ -10,7 +10,8 @@ pub look-found-requires-clause-enabled : goal.look-found-requires-clause-enabled
 look-found-requires-clause-enabled c =
     let t = c.args.turn.now in
     may_look t.pass.table.config _ t.pass.seat
-    (acting_now t.pass t.op c.is_in_order.ensures.turn c.requires.acting) c.args.word c.requires.steady c.requires.in_range
+    (acting_now t.pass t.op c.is_in_order.ensures.turn c.requires.acting) c.args.word c.requires.steady
+    c.requires.in_range
 
 pub returns-clause-looks : goal.returns-clause-looks
 returns-clause-looks c =
@@ -30,6 +31,8 @@ pub returns-clause-keeps : goal.returns-clause-keeps
 returns-clause-keeps c =
     let t = c.args.turn.now in
     λ r lt.
-    value_kept t.pass c.look-found.new.self.pass r (step.Look c.args.word) (acting_caller t.pass c.requires.acting) lt c.look-found.ensures.acts
+    value_kept t.pass c.look-found.new.self.pass r (step.Look c.args.word) (acting_caller t.pass c.requires.acting) lt
+    c.look-found.ensures.acts
     c.is_in_order.ensures.own c.is_in_order-2.ensures.history
-    (λ v kept known. decides_nothing t.pass.table.config v.now t.pass.seat (step.Look c.args.word) (plain_is_idle c.args.word (steady_is_plain c.args.word c.requires.steady)))
+    (λ v kept known. decides_nothing t.pass.table.config v.now t.pass.seat (step.Look c.args.word)
+    (plain_is_idle c.args.word (steady_is_plain c.args.word c.requires.steady)))

@@ -12,5 +12,6 @@ returns-clause-looks c =
 pub returns-clause-finds : goal.returns-clause-finds
 returns-clause-finds c =
     let p : PassState = c.args.turn.now.pass in
-    page_found p p c.look_at-header.new.turn.pass c.args.page c.look_at-header.result c.look_at-used.result (looks_nothing p)
+    page_found p p c.look_at-header.new.turn.pass c.args.page c.look_at-header.result c.look_at-used.result
+    (looks_nothing p)
     c.look_at-header.ensures.looks c.look_at-header.ensures.finds c.look_at-used.ensures.finds

@@ -7,7 +7,8 @@ use Rattle.mk_objects.proofs.looking.look_at_phase.Goals as goal
 pub look-found-requires-clause-enabled : goal.look-found-requires-clause-enabled
 look-found-requires-clause-enabled c =
     let t = c.args.turn.now in
-    may_look_phase t.pass.table.config _ t.pass.seat (acting_now t.pass t.op c.is_in_order.ensures.turn c.requires.acting)
+    may_look_phase t.pass.table.config _ t.pass.seat
+    (acting_now t.pass t.op c.is_in_order.ensures.turn c.requires.acting)
 
 pub returns-clause-looks : goal.returns-clause-looks
 returns-clause-looks c =
@@ -18,5 +19,6 @@ returns-clause-looks c =
 pub returns-clause-finds : goal.returns-clause-finds
 returns-clause-finds c =
     let t = c.args.turn.now in
-    found_phase t.pass c.look-found.new.self.pass t.op c.look-found.result c.is_in_order.ensures.turn c.look-found.ensures.finds
+    found_phase t.pass c.look-found.new.self.pass t.op c.look-found.result c.is_in_order.ensures.turn
+    c.look-found.ensures.finds
     c.is_in_order.ensures.own c.is_in_order-2.ensures.history

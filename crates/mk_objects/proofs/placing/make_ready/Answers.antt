@@ -8,7 +8,8 @@ use Rattle.mk_objects.proofs.placing.make_ready.Goals as goal
 pub returns-else-page-eq0-clause-ready : goal.returns-else-page-eq0-clause-ready
 returns-else-page-eq0-clause-ready c =
     let p : PassState = c.args.turn.now.pass in
-    let k = knows_place p c.args.turn.now.op c.args.place c.is_in_order.ensures.turn c.is_in_order.ensures.history c.requires.goes in
+    let k = knows_place p c.args.turn.now.op c.args.place c.is_in_order.ensures.turn c.is_in_order.ensures.history
+    c.requires.goes in
     block_ready p c.args.place k (λ z. c.if-page-eq0.false (ap (λ (x : Page). x.header) c.requires.page ∙ z))
 
 pub returns-else-page-eq0-clause-reached : goal.returns-else-page-eq0-clause-reached

@@ -15,16 +15,19 @@ use Rattle.mk_objects.proofs.placing.mark_first.Goals as goal
 pub mark-requires-clause-enabled : goal.mark-requires-clause-enabled
 mark-requires-clause-enabled c =
     let p : PassState = c.args.turn.now.pass in
-    let k = knows_place p c.args.turn.now.op c.args.place c.is_in_order.ensures.turn c.is_in_order.ensures.history c.requires.goes in
+    let k = knows_place p c.args.turn.now.op c.args.place c.is_in_order.ensures.turn c.is_in_order.ensures.history
+    c.requires.goes in
     let one = eqb-true (phase_of (now_of p).words) 1 (sym c.requires.marking ∙ c.if-marking.true) in
-    subst (λ n. IsEnabledTo p (step.Mark c.args.place.page n)) (sym (c.bits.ensures ∙ ap (λ (o : Object). bits_made o) c.requires.shape))
+    subst (λ n. IsEnabledTo p (step.Mark c.args.place.page n))
+    (sym (c.bits.ensures ∙ ap (λ (o : Object). bits_made o) c.requires.shape))
     (mark_may p c.args.place c.requires.goes k c.requires.free one)
 
 pub returns-then-marking-clause-carved : goal.returns-then-marking-clause-carved
 returns-then-marking-clause-carved c =
     let p : PassState = c.args.turn.now.pass in
     let q : PassState = c.mark.new.self.pass in
-    let k = knows_place p c.args.turn.now.op c.args.place c.is_in_order.ensures.turn c.is_in_order.ensures.history c.requires.goes in
+    let k = knows_place p c.args.turn.now.op c.args.place c.is_in_order.ensures.turn c.is_in_order.ensures.history
+    c.requires.goes in
     let one = eqb-true (phase_of (now_of p).words) 1 (sym c.requires.marking ∙ c.if-marking.true) in
     let a = subst (λ n. Acts p (step.Mark c.args.place.page n) q)
     (c.bits.ensures ∙ ap (λ (o : Object). bits_made o) c.requires.shape) c.mark.ensures.acts in
@@ -34,7 +37,8 @@ returns-then-marking-clause-carved c =
 pub returns-else-marking-clause-carved : goal.returns-else-marking-clause-carved
 returns-else-marking-clause-carved c =
     let p : PassState = c.args.turn.now.pass in
-    let k = knows_place p c.args.turn.now.op c.args.place c.is_in_order.ensures.turn c.is_in_order.ensures.history c.requires.goes in
+    let k = knows_place p c.args.turn.now.op c.args.place c.is_in_order.ensures.turn c.is_in_order.ensures.history
+    c.requires.goes in
     marks_none p c.args.place c.requires.goes k c.requires.free
     (eqb-false (phase_of (now_of p).words) 1 (sym c.requires.marking ∙ c.if-marking.false))
 
@@ -42,7 +46,8 @@ pub returns-then-marking-clause-reached : goal.returns-then-marking-clause-reach
 returns-then-marking-clause-reached c =
     let p : PassState = c.args.turn.now.pass in
     let q : PassState = c.mark.new.self.pass in
-    let k = knows_place p c.args.turn.now.op c.args.place c.is_in_order.ensures.turn c.is_in_order.ensures.history c.requires.goes in
+    let k = knows_place p c.args.turn.now.op c.args.place c.is_in_order.ensures.turn c.is_in_order.ensures.history
+    c.requires.goes in
     let one = eqb-true (phase_of (now_of p).words) 1 (sym c.requires.marking ∙ c.if-marking.true) in
     let a = subst (λ n. Acts p (step.Mark c.args.place.page n) q)
     (c.bits.ensures ∙ ap (λ (o : Object). bits_made o) c.requires.shape) c.mark.ensures.acts in

@@ -4,7 +4,8 @@ use Rattle.mk_geom.specs.declared.pages.Page.{Page}
 use Rattle.mk_geom.specs.Storages.{free_page}
 use Rattle.mk_core.proofs.Lengths.{histories_keep_lengths}
 use Rattle.mk_words.specs.States.{PassState, WordsState}
-use Rattle.mk_objects.proofs.JoinedLooks.{granted_behind_looks, looks_exact, looks_joined, looks_object, looks_pages, looks_table}
+use Rattle.mk_objects.proofs.JoinedLooks.{granted_behind_looks, looks_exact, looks_joined, looks_object, looks_pages}
+use Rattle.mk_objects.proofs.JoinedLooks.{looks_table}
 use Rattle.mk_objects.proofs.PlacedNews.{fit_sought, fit_within, goes_behind, place_found, shape_asked, type_asked}
 use Rattle.mk_objects.proofs.UnsweptNews.{looks_sweep, looks_then_sweep}
 use Rattle.mk_objects.proofs.placing.place_object.Goals as goal
@@ -31,7 +32,8 @@ look_at_page-page-requires-clause-within c =
     let within = fit_within p c.args.turn.now.op c.in-Some.place c.is_in_order.ensures.turn
     c.is_in_order.ensures.history c.requires.unplaced (fit ∙ c.in-Some.is) in
     let lengths = (histories_keep_lengths p.table.config p.seen).pages in
-    subst (λ (t : WordsState). c.in-Some.place.page < t.config.pages) (sym (looks_table p q c.seek.ensures.looks)) (omega arith)
+    subst (λ (t : WordsState). c.in-Some.place.page < t.config.pages) (sym (looks_table p q c.seek.ensures.looks))
+    (omega arith)
 
 pub serve_now-requires-clause-shape : goal.serve_now-requires-clause-shape
 serve_now-requires-clause-shape c =
@@ -59,7 +61,8 @@ serve_now-requires-clause-page c =
     let q : PassState = c.seek.new.turn.pass in
     let r : PassState = c.look_at_page-page.new.turn.pass in
     c.look_at_page-page.ensures.finds
-    ∙ ap (λ (ps : List Page). slice_index_or ps c.in-Some.place.page free_page) (sym (looks_pages q r c.look_at_page-page.ensures.looks))
+    ∙ ap (λ (ps : List Page). slice_index_or ps c.in-Some.place.page free_page)
+    (sym (looks_pages q r c.look_at_page-page.ensures.looks))
 
 pub serve_now-requires-clause-exact : goal.serve_now-requires-clause-exact
 serve_now-requires-clause-exact c =
@@ -84,7 +87,8 @@ returns-in-None-clause-nowhere c =
     c.requires.one_table c.is_in_order.ensures.turn c.requires.unplaced.new c.op.ensures c.shape_asked-shape.ensures
     c.seek.ensures.place in
     λ h. record {
-      nowhere = place_found p c.args.turn.now.op None c.is_in_order.ensures.turn c.is_in_order.ensures.history c.requires.unplaced
+      nowhere = place_found p c.args.turn.now.op None c.is_in_order.ensures.turn c.is_in_order.ensures.history
+          c.requires.unplaced
           (fit ∙ c.in-None.is);
       looks = looks_joined p q c.fill.new.turn.pass c.seek.ensures.looks c.fill.ensures.looks;
     }
@@ -106,7 +110,8 @@ returns-in-Some-clause-placed c =
     λ h. record {
       place = c.in-Some.place;
       fits = place_found p c.args.turn.now.op
-          (Some c.in-Some.place) c.is_in_order.ensures.turn c.is_in_order.ensures.history c.requires.unplaced (fit ∙ c.in-Some.is);
+          (Some c.in-Some.place) c.is_in_order.ensures.turn c.is_in_order.ensures.history c.requires.unplaced (fit
+          ∙ c.in-Some.is);
       granted = granted_behind_looks p r c.serve_now.new.turn.pass c.in-Some.place looks c.serve_now.ensures.granted;
       held = c.serve_now.ensures.held;
     }

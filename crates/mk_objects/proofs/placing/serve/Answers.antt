@@ -10,7 +10,8 @@ use Rattle.mk_words.specs.Steps.{IsEnabledTo}
 use Rattle.mk_objects.specs.Placing.{object_for}
 use Rattle.mk_core.specs.Bits.{has_bit}
 use Rattle.mk_objects.proofs.Serves.{knows_place, place_unused}
-use Rattle.mk_objects.proofs.Takes.{counted, counted_held, few_held, grant_admits, grant_may, grant_on, one_bit_more, small_index, tally_may, tally_on, used_may, used_on}
+use Rattle.mk_objects.proofs.Takes.{counted, counted_held, few_held, grant_admits, grant_may, grant_on, one_bit_more}
+use Rattle.mk_objects.proofs.Takes.{small_index, tally_may, tally_on, used_may, used_on}
 use Rattle.mk_objects.proofs.UnsweptNews.{serving_sweeps}
 use Rattle.mk_objects.proofs.placing.serve.Goals as goal
 
@@ -18,23 +19,28 @@ pub overflow_shl-place : goal.overflow_shl-place
 overflow_shl-place c =
     let p : PassState = c.args.turn.now.pass in
     small_index p c.args.place
-    (knows_place p c.args.turn.now.op c.args.place c.is_in_order.ensures.turn c.is_in_order.ensures.history c.requires.goes)
+    (knows_place p c.args.turn.now.op c.args.place c.is_in_order.ensures.turn c.is_in_order.ensures.history
+    c.requires.goes)
 
 pub used-requires-clause-enabled : goal.used-requires-clause-enabled
 used-requires-clause-enabled c =
     let p : PassState = c.args.turn.now.pass in
-    let k = knows_place p c.args.turn.now.op c.args.place c.is_in_order.ensures.turn c.is_in_order.ensures.history c.requires.goes in
-    let known : used_at (now_of p).words c.args.place.page ≡ c.args.page.used = sym (ap (λ (x : Page). x.used) c.requires.page) in
+    let k = knows_place p c.args.turn.now.op c.args.place c.is_in_order.ensures.turn c.is_in_order.ensures.history
+    c.requires.goes in
+    let known : used_at (now_of p).words c.args.place.page ≡ c.args.page.used =
+    sym (ap (λ (x : Page). x.used) c.requires.page) in
     let clear : has_bit c.args.page.used c.args.place.index ≡ _ = sym (ap (λ n. has_bit n c.args.place.index) known)
     ∙ place_unused p c.args.place k in
     subst (λ n. IsEnabledTo c.make_ready.new.turn.pass (step.Used c.args.place.page n))
     (sym (one_bit_more c.args.page.used c.args.place.index (small_index p c.args.place k) clear))
-    (used_may p c.args.place c.requires.goes k c.make_ready.new.turn.pass c.args.page.used c.make_ready.ensures.ready known)
+    (used_may p c.args.place c.requires.goes k c.make_ready.new.turn.pass c.args.page.used c.make_ready.ensures.ready
+    known)
 
 pub grant-requires-clause-enabled : goal.grant-requires-clause-enabled
 grant-requires-clause-enabled c =
     let p : PassState = c.args.turn.now.pass in
-    let k = knows_place p c.args.turn.now.op c.args.place c.is_in_order.ensures.turn c.is_in_order.ensures.history c.requires.goes in
+    let k = knows_place p c.args.turn.now.op c.args.place c.is_in_order.ensures.turn c.is_in_order.ensures.history
+    c.requires.goes in
     let taken = used_on p c.args.place c.requires.goes k c.make_ready.new.turn.pass c.used.new.self.pass _
     c.make_ready.ensures.ready c.used.ensures.acts
     c.is_in_order-2.ensures.own c.is_in_order-3.ensures.history in
@@ -43,16 +49,19 @@ grant-requires-clause-enabled c =
 pub grant-requires-clause-admitted : goal.grant-requires-clause-admitted
 grant-requires-clause-admitted c =
     let p : PassState = c.args.turn.now.pass in
-    let k = knows_place p c.args.turn.now.op c.args.place c.is_in_order.ensures.turn c.is_in_order.ensures.history c.requires.goes in
+    let k = knows_place p c.args.turn.now.op c.args.place c.is_in_order.ensures.turn c.is_in_order.ensures.history
+    c.requires.goes in
     let taken = used_on p c.args.place c.requires.goes k c.make_ready.new.turn.pass c.used.new.self.pass _
     c.make_ready.ensures.ready c.used.ensures.acts
     c.is_in_order-2.ensures.own c.is_in_order-3.ensures.history in
-    grant_admits p c.args.place c.requires.goes k c.used.new.self.pass taken c.is_in_order-3.ensures.history c.is_in_order.ensures.history
+    grant_admits p c.args.place c.requires.goes k c.used.new.self.pass taken c.is_in_order-3.ensures.history
+    c.is_in_order.ensures.history
 
 pub storage-requires : goal.storage-requires
 storage-requires c =
     let p : PassState = c.args.turn.now.pass in
-    let k = knows_place p c.args.turn.now.op c.args.place c.is_in_order.ensures.turn c.is_in_order.ensures.history c.requires.goes in
+    let k = knows_place p c.args.turn.now.op c.args.place c.is_in_order.ensures.turn c.is_in_order.ensures.history
+    c.requires.goes in
     subst (λ (o : Object). IsSized o) (sym c.requires.shape) k.sized
 
 pub overflow_add-held : goal.overflow_add-held
@@ -63,7 +72,8 @@ overflow_add-held c =
     let few = few_held p c.args.place k c.requires.goes h in
     let most = h.within_limits.pages.1 in
     let words = (words_within (object_for p) k.sized).1 in
-    let size : c.storage.result ≡ words_made (object_for p) = c.storage.ensures ∙ ap (λ (o : Object). words_made o) c.requires.shape in
+    let size : c.storage.result ≡ words_made (object_for p) = c.storage.ensures
+    ∙ ap (λ (o : Object). words_made o) c.requires.shape in
     omega (arith, c.requires.held, c.requires.exact)
 
 pub tally-requires-clause-enabled : goal.tally-requires-clause-enabled
@@ -108,7 +118,8 @@ returns-clause-held c =
     let granted = grant_on p c.args.place c.requires.goes k c.used.new.self.pass c.grant.new.self.pass taken
     c.grant.ensures.acts c.is_in_order-3.ensures.own
     c.is_in_order-4.ensures.history h in
-    let size : c.storage.result ≡ words_made (object_for p) = c.storage.ensures ∙ ap (λ (o : Object). words_made o) c.requires.shape in
+    let size : c.storage.result ≡ words_made (object_for p) = c.storage.ensures
+    ∙ ap (λ (o : Object). words_made o) c.requires.shape in
     counted_held p c.args.place c.requires.goes k c.tally.new.self.pass c.args.held c.storage.result
     (c.requires.held ∙ c.requires.exact) size
     (tally_on p c.args.place c.requires.goes k c.grant.new.self.pass c.tally.new.self.pass

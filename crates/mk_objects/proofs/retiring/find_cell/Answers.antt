@@ -17,7 +17,8 @@ pub returns-clause-cell : goal.returns-clause-cell
 returns-clause-cell c =
     let p : PassState = c.args.turn.now.pass in
     let t = pointed_now p c.args.value c.is_in_order.ensures.history c.requires.undecided c.requires.value in
-    let pages : c.pages.result ≡ p.table.config.pages = c.pages.ensures ∙ ap (λ (w : WordsState). w.config.pages) (sym c.requires.one_table) in
+    let pages : c.pages.result ≡ p.table.config.pages = c.pages.ensures
+    ∙ ap (λ (w : WordsState). w.config.pages) (sym c.requires.one_table) in
     let found : c.lookup.result ≡ Some t.cell =
     c.lookup.ensures ∙ ap (λ n. cell_at n c.look_at-header.result c.args.value) pages
     ∙ ap (λ n. cell_at p.table.config.pages n c.args.value) c.look_at-header.ensures.finds ∙ t.by_header in

@@ -13,7 +13,8 @@ pub look-found-requires-clause-enabled : goal.look-found-requires-clause-enabled
 look-found-requires-clause-enabled c =
     let p : PassState = c.args.turn.now.pass in
     let free = loaded_undecided p c.args.register c.args.value c.requires.free c.requires.some in
-    may_look_quarantine p.table.config (now_of p) p.seat (acting_now p c.args.turn.now.op c.is_in_order.ensures.turn (free_is_acting (call_of p) free)) c.args.cell.page
+    may_look_quarantine p.table.config (now_of p) p.seat
+    (acting_now p c.args.turn.now.op c.is_in_order.ensures.turn (free_is_acting (call_of p) free)) c.args.cell.page
     c.requires.within
 
 pub look-found-requires-clause-admitted : goal.look-found-requires-clause-admitted
@@ -21,20 +22,24 @@ look-found-requires-clause-admitted c =
     let p : PassState = c.args.turn.now.pass in
     let free = loaded_undecided p c.args.register c.args.value c.requires.free c.requires.some in
     λ decides.
-    free_step_admits p c.args.register (step.Look (word.Quar c.args.cell.page)) (loaded_free c.args.register c.args.value)
-    (acting_caller p (free_is_acting (call_of p) free)) c.is_in_order.ensures.turn.holds c.is_in_order.ensures.history c.requires.free refl
+    free_step_admits p c.args.register (step.Look (word.Quar c.args.cell.page))
+    (loaded_free c.args.register c.args.value)
+    (acting_caller p (free_is_acting (call_of p) free)) c.is_in_order.ensures.turn.holds c.is_in_order.ensures.history
+    c.requires.free refl
 
 pub returns-clause-seen : goal.returns-clause-seen
 returns-clause-seen c =
     let p : PassState = c.args.turn.now.pass in
     let free = loaded_undecided p c.args.register c.args.value c.requires.free c.requires.some in
-    see_reaches p c.look-found.new.self.pass c.args.cell c.args.turn.now.op c.is_in_order.ensures.turn free c.requires.cell c.look-found.ensures.acts
+    see_reaches p c.look-found.new.self.pass c.args.cell c.args.turn.now.op c.is_in_order.ensures.turn free
+    c.requires.cell c.look-found.ensures.acts
     c.is_in_order.ensures.own c.is_in_order-2.ensures.history
 
 pub returns-clause-finds : goal.returns-clause-finds
 returns-clause-finds c =
     let p : PassState = c.args.turn.now.pass in
-    found_quarantine p c.look-found.new.self.pass c.args.turn.now.op c.args.cell.page c.look-found.result c.is_in_order.ensures.turn c.look-found.ensures.finds
+    found_quarantine p c.look-found.new.self.pass c.args.turn.now.op c.args.cell.page c.look-found.result
+    c.is_in_order.ensures.turn c.look-found.ensures.finds
     c.is_in_order.ensures.own c.is_in_order-2.ensures.history
 
 pub returns-clause-keeps : goal.returns-clause-keeps
@@ -42,5 +47,6 @@ returns-clause-keeps c =
     let p : PassState = c.args.turn.now.pass in
     let free = loaded_undecided p c.args.register c.args.value c.requires.free c.requires.some in
     λ live r lt.
-    see_keeps p c.look-found.new.self.pass r c.args.cell c.args.turn.now.op lt c.is_in_order.ensures.turn free c.requires.cell live c.look-found.ensures.acts
+    see_keeps p c.look-found.new.self.pass r c.args.cell c.args.turn.now.op lt c.is_in_order.ensures.turn free
+    c.requires.cell live c.look-found.ensures.acts
     c.is_in_order.ensures.own c.is_in_order-2.ensures.history

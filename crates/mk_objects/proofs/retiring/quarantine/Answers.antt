@@ -3,7 +3,8 @@ use Rattle.std.specs.Prelude.{slice_index}
 use Rattle.mk_invariant.proofs.Histories.{histories_keep_the_invariant}
 use Rattle.mk_words.specs.States.{PassState, call_of, now_of}
 use Rattle.mk_objects.specs.Retiring.{loaded_free}
-use Rattle.mk_objects.proofs.FreeSteps.{freed_half, freed_word_made, quarantine_may, quarantine_once, quarantine_reaches}
+use Rattle.mk_objects.proofs.FreeSteps.{freed_half, freed_word_made, quarantine_may, quarantine_once}
+use Rattle.mk_objects.proofs.FreeSteps.{quarantine_reaches}
 use Rattle.mk_objects.proofs.LoadedFrees.{free_step_admits, loaded_undecided}
 use Rattle.mk_objects.proofs.Looks.{acting_caller}
 use Rattle.mk_objects.proofs.MayAct.{free_is_acting}
@@ -13,10 +14,13 @@ pub quar-requires-clause-enabled : goal.quar-requires-clause-enabled
 quar-requires-clause-enabled c =
     let p : PassState = c.args.turn.now.pass in
     let free = loaded_undecided p c.args.register c.args.value c.requires.free c.requires.some in
-    let small = (histories_keep_the_invariant p.table.config p.seen c.is_in_order.ensures.history).order.quarantined.small c.args.cell.page in
-    let word = freed_word_made (slice_index (now_of p).words.freed c.args.cell.page) (slice_index (now_of p).words.snapshot c.args.cell.page) c.args.cell.index
+    let small = (histories_keep_the_invariant p.table.config p.seen
+    c.is_in_order.ensures.history).order.quarantined.small c.args.cell.page in
+    let word = freed_word_made (slice_index (now_of p).words.freed c.args.cell.page)
+    (slice_index (now_of p).words.snapshot c.args.cell.page) c.args.cell.index
     small.0 c.requires.index c.requires.clear c.args.quar c.requires.quar in
-    quarantine_may p c.args.cell _ c.args.turn.now.op c.is_in_order.ensures.turn free c.requires.cell c.requires.clear c.requires.phase word c.requires.within
+    quarantine_may p c.args.cell _ c.args.turn.now.op c.is_in_order.ensures.turn free c.requires.cell c.requires.clear
+    c.requires.phase word c.requires.within
     c.requires.gates
 
 pub quar-requires-clause-admitted : goal.quar-requires-clause-admitted
@@ -24,36 +28,44 @@ quar-requires-clause-admitted c =
     let p : PassState = c.args.turn.now.pass in
     let free = loaded_undecided p c.args.register c.args.value c.requires.free c.requires.some in
     free_step_admits p c.args.register _ (loaded_free c.args.register c.args.value)
-    (acting_caller p (free_is_acting (call_of p) free)) c.is_in_order.ensures.turn.holds c.is_in_order.ensures.history c.requires.free refl
+    (acting_caller p (free_is_acting (call_of p) free)) c.is_in_order.ensures.turn.holds c.is_in_order.ensures.history
+    c.requires.free refl
 
 pub returns-clause-freed : goal.returns-clause-freed
 returns-clause-freed c =
     let p : PassState = c.args.turn.now.pass in
     let free = loaded_undecided p c.args.register c.args.value c.requires.free c.requires.some in
-    let small = (histories_keep_the_invariant p.table.config p.seen c.is_in_order.ensures.history).order.quarantined.small c.args.cell.page in
+    let small = (histories_keep_the_invariant p.table.config p.seen
+    c.is_in_order.ensures.history).order.quarantined.small c.args.cell.page in
     let f : ℕ = slice_index (now_of p).words.freed c.args.cell.page in
     let word = freed_word_made f (slice_index (now_of p).words.snapshot c.args.cell.page) c.args.cell.index
     small.0 c.requires.index c.requires.clear c.args.quar c.requires.quar in
-    quarantine_reaches p c.quar.new.self.pass c.args.cell _ c.args.turn.now.op c.is_in_order.ensures.turn free c.requires.cell c.requires.clear c.requires.phase word
-    (freed_half f c.args.cell.index small.0 c.requires.index c.requires.clear) c.quar.ensures.acts c.is_in_order.ensures.own c.is_in_order-2.ensures.history
+    quarantine_reaches p c.quar.new.self.pass c.args.cell _ c.args.turn.now.op c.is_in_order.ensures.turn free
+    c.requires.cell c.requires.clear c.requires.phase word
+    (freed_half f c.args.cell.index small.0 c.requires.index c.requires.clear) c.quar.ensures.acts
+    c.is_in_order.ensures.own c.is_in_order-2.ensures.history
 
 pub returns-clause-once : goal.returns-clause-once
 returns-clause-once c =
     let p : PassState = c.args.turn.now.pass in
-    let small = (histories_keep_the_invariant p.table.config p.seen c.is_in_order.ensures.history).order.quarantined.small c.args.cell.page in
+    let small = (histories_keep_the_invariant p.table.config p.seen
+    c.is_in_order.ensures.history).order.quarantined.small c.args.cell.page in
     let f : ℕ = slice_index (now_of p).words.freed c.args.cell.page in
     let word = freed_word_made f (slice_index (now_of p).words.snapshot c.args.cell.page) c.args.cell.index
     small.0 c.requires.index c.requires.clear c.args.quar c.requires.quar in
-    quarantine_once p c.quar.new.self.pass c.args.cell _ c.args.turn.now.op c.is_in_order.ensures.turn c.requires.cell c.requires.clear c.requires.phase word
+    quarantine_once p c.quar.new.self.pass c.args.cell _ c.args.turn.now.op c.is_in_order.ensures.turn c.requires.cell
+    c.requires.clear c.requires.phase word
     c.quar.ensures.acts c.is_in_order.ensures.own c.is_in_order-2.ensures.history
 
 pub overflow_add-quar : goal.overflow_add-quar
 overflow_add-quar c =
     let p : PassState = c.args.turn.now.pass in
-    let small = (histories_keep_the_invariant p.table.config p.seen c.is_in_order.ensures.history).order.quarantined.small c.args.cell.page in
+    let small = (histories_keep_the_invariant p.table.config p.seen
+    c.is_in_order.ensures.history).order.quarantined.small c.args.cell.page in
     let f : ℕ = slice_index (now_of p).words.freed c.args.cell.page in
     let s : ℕ = slice_index (now_of p).words.snapshot c.args.cell.page in
     let half = freed_half f c.args.cell.index small.0 c.requires.index c.requires.clear in
     let high : s < 2 ^ 32 = small.1 in
-    let word = freed_word_made f s c.args.cell.index small.0 c.requires.index c.requires.clear c.args.quar c.requires.quar in
+    let word = freed_word_made f s c.args.cell.index small.0 c.requires.index c.requires.clear c.args.quar
+    c.requires.quar in
     omega (arith, word)

@@ -14,7 +14,8 @@ returns-then-header-block_word-clause-looks c = looks_nothing c.args.turn.now.pa
 pub returns-then-header-block_word-clause-cell : goal.returns-then-header-block_word-clause-cell
 returns-then-header-block_word-clause-cell c =
     let w = (now_of c.args.turn.now.pass).words in
-    ap (first_where not) (sym (cells_under_other (header_at w c.args.page) (used_at w c.args.page) c.args.class c.args.leaf
+    ap (first_where not)
+    (sym (cells_under_other (header_at w c.args.page) (used_at w c.args.page) c.args.class c.args.leaf
     (λ e. c.if-header-block_word.true (c.requires.header ∙ e ∙ sym c.block_word.ensures))))
 
 pub returns-clause-cell : goal.returns-clause-cell
@@ -22,5 +23,6 @@ returns-clause-cell c =
     let w = (now_of c.args.turn.now.pass).words in
     c.lowest_free.ensures
     ∙ ap (λ n. first_where not (bits_of (cells_of c.args.class) n)) c.look_at-used.ensures.finds
-    ∙ ap (first_where not) (sym (cells_under_wanted (header_at w c.args.page) (used_at w c.args.page) c.args.class c.args.leaf
+    ∙ ap (first_where not)
+    (sym (cells_under_wanted (header_at w c.args.page) (used_at w c.args.page) c.args.class c.args.leaf
     c.requires.class (sym c.requires.header ∙ c.if-header-block_word.false ∙ c.block_word.ensures)))

@@ -7,11 +7,13 @@ use Rattle.mk_geom.specs.PageWords.{use_of_page, uses_of_pages}
 use Rattle.mk_geom.specs.Storages.{free_page}
 use Rattle.mk_core.proofs.Lengths.{histories_keep_lengths}
 use Rattle.mk_words.specs.States.{PassState, WordsState, now_of}
-use Rattle.mk_books.proofs.PlaceLemmas.{cell_from-next, resident_from-next, free_page_from, free_page_from-next, free_page_from-here, or_known}
+use Rattle.mk_books.proofs.PlaceLemmas.{cell_from-next, resident_from-next, free_page_from, free_page_from-next}
+use Rattle.mk_books.proofs.PlaceLemmas.{free_page_from-here, or_known}
 use Rattle.mk_objects.proofs.JoinedLooks.{looks_joined, looks_pages}
 use Rattle.mk_objects.proofs.SoughtPlaces.{free_told, place_of_free, resident_told, sought_none, taken_told}
 use Rattle.mk_objects.proofs.seeking.seek_small.Goals as goal
-use Rattle.mk_objects.proofs.seeking.seek_small.Goals.{then-is_resident, else-is_resident, then-header-eq0, else-header-eq0}
+use Rattle.mk_objects.proofs.seeking.seek_small.Goals.{then-is_resident, else-is_resident, then-header-eq0}
+use Rattle.mk_objects.proofs.seeking.seek_small.Goals.{else-header-eq0}
 
 pub loop-number-init : goal.loop-number-init
 loop-number-init c = sought_none c.args.turn.now c.args.class c.args.leaf
@@ -22,8 +24,10 @@ loop-number-preserved c =
     let pages : List Page = (now_of p).words.pages in
     let n = c.loop-number.number in
     let i = c.loop-number.invariant in
-    let a = looks_joined p c.loop-number.turn.pass c.look_at-header.new.turn.pass i.looks c.look_at-header.ensures.looks in
-    let b = looks_joined p c.look_at-header.new.turn.pass c.free_cell-found.new.turn.pass a c.free_cell-found.ensures.looks in
+    let a = looks_joined p c.loop-number.turn.pass c.look_at-header.new.turn.pass i.looks c.look_at-header.ensures.looks
+    in
+    let b = looks_joined p c.look_at-header.new.turn.pass c.free_cell-found.new.turn.pass a
+    c.free_cell-found.ensures.looks in
     let within : n < length pages = omega (
       arith,
       (histories_keep_lengths p.table.config p.seen).pages,
@@ -32,9 +36,13 @@ loop-number-preserved c =
       ap (λ (w : WordsState). w.config.pages) c.requires.one_table,
     ) in
     let head : c.look_at-header.result ≡ (slice_index_or pages n free_page).header =
-    c.look_at-header.ensures.finds ∙ ap (λ (ps : List Page). (slice_index_or ps n free_page).header) (looks_pages p c.loop-number.turn.pass i.looks) in
-    let none : first_where not (cells_taken c.args.class c.args.leaf (use_of_page (slice_index_or pages n free_page))) ≡ None =
-    ap (λ (ps : List Page). first_where not (cells_taken c.args.class c.args.leaf (use_of_page (slice_index_or ps n free_page))))
+    c.look_at-header.ensures.finds
+    ∙ ap (λ (ps : List Page). (slice_index_or ps n free_page).header)
+    (looks_pages p c.loop-number.turn.pass i.looks) in
+    let none : first_where not (cells_taken c.args.class c.args.leaf (use_of_page (slice_index_or pages n free_page)))
+    ≡ None =
+    ap (λ (ps : List Page). first_where not
+    (cells_taken c.args.class c.args.leaf (use_of_page (slice_index_or ps n free_page))))
     (sym (looks_pages p c.look_at-header.new.turn.pass a)) ∙ sym c.in_default.ensures.cell in
     record {
       op = c.free_cell-found.ensures.op ∙ c.look_at-header.ensures.op ∙ i.op;
@@ -51,7 +59,8 @@ loop-number-preserved c =
               w.resident-is,
               i.counted,
               resident_from-next n pages free_page true within
-                  (resident_told pages n c.look_at-header.result c.is_resident.result head c.is_resident.ensures ∙ w.if-is_resident.true),
+                  (resident_told pages n c.look_at-header.result c.is_resident.result head c.is_resident.ensures
+                  ∙ w.if-is_resident.true),
             )
         | else-is_resident w ↦
             omega (
@@ -59,7 +68,8 @@ loop-number-preserved c =
               w.resident-is,
               i.counted,
               resident_from-next n pages free_page false within
-                  (resident_told pages n c.look_at-header.result c.is_resident.result head c.is_resident.ensures ∙ w.if-is_resident.false),
+                  (resident_told pages n c.look_at-header.result c.is_resident.result head c.is_resident.ensures
+                  ∙ w.if-is_resident.false),
             )
       ];
       free_pages = elim c.if-header-eq0.branch [
@@ -81,7 +91,8 @@ pub returns-in-Some-clause-looks : goal.returns-in-Some-clause-looks
 returns-in-Some-clause-looks c =
     let p : PassState = c.args.turn.now.pass in
     looks_joined p c.look_at-header.new.turn.pass c.free_cell-found.new.turn.pass
-    (looks_joined p c.loop-number.turn.pass c.look_at-header.new.turn.pass c.loop-number.invariant.looks c.look_at-header.ensures.looks)
+    (looks_joined p c.loop-number.turn.pass c.look_at-header.new.turn.pass c.loop-number.invariant.looks
+    c.look_at-header.ensures.looks)
     c.free_cell-found.ensures.looks
 
 pub returns-clause-place : goal.returns-clause-place
@@ -97,6 +108,7 @@ returns-clause-place c =
       ap (λ (w : WordsState). w.config.pages) c.requires.one_table,
     ) in
     c.free_place.ensures
-    ∙ place_of_free c.resident.result c.args.class c.loop-number.resident c.loop-number.number c.args.leaf c.loop-number.first_free pages
+    ∙ place_of_free c.resident.result c.args.class c.loop-number.resident c.loop-number.number c.args.leaf
+    c.loop-number.first_free pages
     past i.cells i.counted i.free_pages
     ∙ ap (λ n. small_place n c.args.class c.args.leaf (uses_of_pages pages)) c.resident.ensures

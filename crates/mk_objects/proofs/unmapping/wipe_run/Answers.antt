@@ -1,7 +1,8 @@
 use Rattle.std.proofs.Common.{◌≡◌, ◌+◌, ◌*◌, refl, sym, ap, subst, ◌∙◌, arith}
 use Rattle.mk_words.specs.States.{PassState, TurnState}
 use Rattle.mk_words.specs.TurnSteps.{IsTurn}
-use Rattle.mk_objects.proofs.UnmappedRuns.{HasWiped, found_wiped, look_may, looks_then, wipe_may, wiped_all, wiped_none, wipes_on}
+use Rattle.mk_objects.proofs.UnmappedRuns.{HasWiped, found_wiped, look_may, looks_then, wipe_may, wiped_all, wiped_none}
+use Rattle.mk_objects.proofs.UnmappedRuns.{wipes_on}
 use Rattle.mk_objects.proofs.unmapping.wipe_run.Goals as goal
 use Rattle.mk_objects.proofs.unmapping.wipe_run.Goals.{then-found-ne0, else-found-ne0}
 
@@ -53,7 +54,8 @@ loop-word-preserved c =
                 c.requires.decided c.requires.stopped t.pass (n + 1)) (sym w.turn-is)
                 (wipes_on p c.args.turn.now.op c.args.run c.is_in_order.ensures.turn c.requires.decided
                 c.requires.stopped q w.wipe.new.self.pass n seen still c.loop-word-test.true c.requires.within
-                w.wipe.ensures.acts c.is_in_order-in-loop-word-2.ensures.own w.is_in_order-then-found-ne0.ensures.history);
+                w.wipe.ensures.acts c.is_in_order-in-loop-word-2.ensures.own
+                w.is_in_order-then-found-ne0.ensures.history);
           }
       | else-found-ne0 w ↦
           record {

@@ -9,13 +9,15 @@ pub returns-then-starts_with : goal.returns-then-starts_with
 returns-then-starts_with c =
     let text = c.args.text.now in
     let i = c.loop-end.end in
-    ends text i c.loop-end-test.true (tested text _ i _ c.as_slice.ensures c.starts_with.ensures.value ∙ c.if-starts_with.true) c.loop-end.invariant
+    ends text i c.loop-end-test.true (tested text _ i _ c.as_slice.ensures c.starts_with.ensures.value
+    ∙ c.if-starts_with.true) c.loop-end.invariant
 
 pub loop-end-preserved : goal.loop-end-preserved
 loop-end-preserved c =
     let text = c.args.text.now in
     let i = c.loop-end.end in
-    goes_on text i c.loop-end-test.true (tested text _ i _ c.as_slice.ensures c.starts_with.ensures.value ∙ c.if-starts_with.false) c.loop-end.invariant
+    goes_on text i c.loop-end-test.true (tested text _ i _ c.as_slice.ensures c.starts_with.ensures.value
+    ∙ c.if-starts_with.false) c.loop-end.invariant
 
 pub returns : goal.returns
 returns c = no_end c.args.text.now c.loop-end.end c.loop-end-test.false c.loop-end.invariant

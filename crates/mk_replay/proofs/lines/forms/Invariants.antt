@@ -7,4 +7,5 @@ use Rattle.mk_replay.proofs.lines.forms.Given as goal
 -- the forms of the pieces so far
 abbrev pub invariant-loop-piece : goal.invariant-loop-piece
 invariant-loop-piece l =
-    forms_of (texts_of l.words ∷ map words_of (texts_of (take l.piece-index l.others))) ≡ forms_so_far l.fault l.forms.items
+    forms_of (texts_of l.words ∷ map words_of (texts_of (take l.piece-index l.others)))
+    ≡ forms_so_far l.fault l.forms.items

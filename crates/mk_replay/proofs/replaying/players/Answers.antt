@@ -11,6 +11,7 @@ loop-script-preserved c = record {
   players =
       subst (λ (xs : List Player). ArePlayersOf c.args.program.now [] xs) (sym c.in_ok-push.ensures.items)
       (players_push c.args.program.now c.loop-script.players.items c.in_ok-player.player c.loop-script.invariant.players
-      (subst (λ (i : ℕ). IsPlayerOf c.args.program.now i (record { answers = []; kept = None }) c.in_ok-player.player) (sym c.loop-script.invariant.count)
+      (subst (λ (i : ℕ). IsPlayerOf c.args.program.now i (record { answers = []; kept = None }) c.in_ok-player.player)
+      (sym c.loop-script.invariant.count)
       c.in_ok-player.ensures));
 }

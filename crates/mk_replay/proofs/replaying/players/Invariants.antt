@@ -3,4 +3,5 @@ use Rattle.mk_replay.specs.Players.{ArePlayersOf}
 use Rattle.mk_replay.proofs.replaying.players.Given as goal
 
 abbrev pub invariant-loop-script : goal.invariant-loop-script
-invariant-loop-script l = record { count : length l.players.items ≡ l.script; players : ArePlayersOf l.program [] l.players.items }
+invariant-loop-script l =
+    record { count : length l.players.items ≡ l.script; players : ArePlayersOf l.program [] l.players.items }

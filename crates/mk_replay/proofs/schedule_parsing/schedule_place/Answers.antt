@@ -8,7 +8,8 @@ use Rattle.mk_replay.proofs.schedule_parsing.schedule_place.Goals as goal
 
 pub returns-then-branch : goal.returns-then-branch
 returns-then-branch c =
-    let found : Some c.loop-place.place ≡ position_from is_schedule_line 0 (texts_of c.args.lines.now) = grind (arith, common_steps) in
+    let found : Some c.loop-place.place ≡ position_from is_schedule_line 0 (texts_of c.args.lines.now) =
+    grind (arith, common_steps) in
     found_first (texts_of c.args.lines.now) c.loop-place.place found
 
 pub returns : goal.returns

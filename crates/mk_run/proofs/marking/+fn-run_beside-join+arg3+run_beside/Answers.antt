@@ -35,7 +35,8 @@ returns-clause-over g t c =
     let before : IsOver g.E.Engine.on c.args.program.now w (number + 1)
     c.join-pass.result.1.joined = c.join-pass.ensures.second.0 in
     marker_joined g.E.Engine.on c.args.program.now w number c.join-pass.result.0 c.join-pass.result.1.joined
-    (record { host = c.join_marker.new.self; texts = c.join-pass.result.1.joined.texts }) before c.join_marker.ensures.host
+    (record { host = c.join_marker.new.self; texts = c.join-pass.result.1.joined.texts }) before
+    c.join_marker.ensures.host
     c.join_marker.ensures.own pass.alone refl
 
 pub returns-clause-turns : goal.returns-clause-turns
@@ -55,5 +56,6 @@ returns-clause-reached g t c =
     scripts_on c.args.program.now 0 w old.pass new.pass before.is_host.table before.is_host.seat
     c.join_marker.ensures.reached
     (λ j le is.
-    of_one old.pass.seats (Caller j) old.pass.seen new.pass.seen (before.is_host.seats j le is) c.join_marker.ensures.own)
+    of_one old.pass.seats (Caller j) old.pass.seen new.pass.seen (before.is_host.seats j le is)
+    c.join_marker.ensures.own)
     (c.join-pass.ensures.second.1.1 none)

@@ -14,7 +14,8 @@ use Rattle.mk_run.proofs.running.run.Goals as goal
 
 pub close-report-requires-clause-joined : goal.close-report-requires-clause-joined
 close-report-requires-clause-joined g c =
-    all_joined g.E.Engine.on c.args.program.now c.in_ok-heap.heap c.run_beside-joined.result.joined c.run_beside-joined.ensures.over
+    all_joined g.E.Engine.on c.args.program.now c.in_ok-heap.heap c.run_beside-joined.result.joined
+    c.run_beside-joined.ensures.over
 
 pub returns-clause-runs : goal.returns-clause-runs
 returns-clause-runs g c =
@@ -53,4 +54,5 @@ returns-clause-reached g c none =
     run_is_unswept program c.args.markers es whole.history
     (subst (λ (l : List Event). ScriptsSweepNothing program 0 (config_of program c.args.markers) l)
     (sym c.close-report.ensures.history)
-    (subst (λ (d : Config). ScriptsSweepNothing program 0 d h.pass.seen) made (c.run_beside-joined.ensures.reached none)))
+    (subst (λ (d : Config). ScriptsSweepNothing program 0 d h.pass.seen) made
+    (c.run_beside-joined.ensures.reached none)))

@@ -4,7 +4,8 @@ use Rattle.mk_check.specs.Laws.{IsChecked}
 use Rattle.mk_run.specs.Running.{answers_in}
 use Rattle.mk_run.specs.Scripts.{IsFedWith}
 use Rattle.mk_words.specs.States.{PassState}
-use Rattle.mk_run.proofs.ScriptCalls.{exists_on, seat_is, asked_stays_admitted, follows_now, runs_on, one_more_op, refused_within}
+use Rattle.mk_run.proofs.ScriptCalls.{exists_on, seat_is, asked_stays_admitted, follows_now, runs_on, one_more_op}
+use Rattle.mk_run.proofs.ScriptCalls.{refused_within}
 use Rattle.mk_turns.proofs.Sweeping.{nothing_sweeps, sweeps_then}
 use Rattle.mk_run.proofs.scripts.run_script.Goals as goal
 
@@ -25,7 +26,8 @@ answer_to-answer-requires-clause-admitted g c κs within =
 pub answer_to-answer-requires-clause-exists : goal.answer_to-answer-requires-clause-exists
 answer_to-answer-requires-clause-exists g c κs within =
     let p = c.args.caller.now.pass in
-    exists_on p c.instructions.caller.pass c.args.k c.args.program.now c.instructions.invariant.running.is c.requires.number
+    exists_on p c.instructions.caller.pass c.args.k c.args.program.now c.instructions.invariant.running.is
+    c.requires.number
     c.requires.script c.requires.config
 
 pub answer_to-answer-requires-clause-alone : goal.answer_to-answer-requires-clause-alone
@@ -80,7 +82,8 @@ pub returns-in_err-answer-clause-reached : goal.returns-in_err-answer-clause-rea
 returns-in_err-answer-clause-reached g c =
     λ none.
     sweeps_then c.args.caller.now.pass c.instructions.caller.pass c.answer_to-answer.new.caller.pass
-    c.instructions.invariant.running.is (c.instructions.invariant.reached none) (c.answer_to-answer.ensures.reached none)
+    c.instructions.invariant.running.is (c.instructions.invariant.reached none)
+    (c.answer_to-answer.ensures.reached none)
 
 pub returns-in_err-script-clause-reached : goal.returns-in_err-script-clause-reached
 returns-in_err-script-clause-reached g c = λ none. nothing_sweeps c.args.caller.now.pass

@@ -10,7 +10,8 @@ use Rattle.mk_script.proofs.line.placed_line.Goals as goal
 pub returns-in_err-plain_line : goal.returns-in_err-plain_line
 returns-in_err-plain_line c = λ before scope.
     let other : c.args.keyword ≢ TypeLine = search rules in
-    let placed : is_placed before c.args.keyword ≡ true = sym (c.is_placed.ensures before scope) ∙ c.if-not-is_placed.false in
+    let placed : is_placed before c.args.keyword ≡ true = sym (c.is_placed.ensures before scope)
+    ∙ c.if-not-is_placed.false in
     let is = placed_plain before c.args.keyword (texts_of c.args.operands.now) other placed in
     gives_fault _ c.from_residual.result c.in_err-plain_line.field-0.0
     (ap (checked_behind before) is ∙ sym (c.plain_line.ensures before scope) ∙ c.in_err-plain_line.was)
@@ -19,6 +20,7 @@ returns-in_err-plain_line c = λ before scope.
 pub returns-then-ne : goal.returns-then-ne
 returns-then-ne c = λ before scope.
     let other : c.args.keyword ≢ TypeLine = search rules in
-    let placed : is_placed before c.args.keyword ≡ true = sym (c.is_placed.ensures before scope) ∙ c.if-not-is_placed.false in
+    let placed : is_placed before c.args.keyword ≡ true = sym (c.is_placed.ensures before scope)
+    ∙ c.if-not-is_placed.false in
     let is = placed_plain before c.args.keyword (texts_of c.args.operands.now) other placed in
     ap (checked_behind before) is ∙ sym (c.plain_line.ensures before scope) ∙ c.in_ok-plain_line.was

@@ -16,7 +16,8 @@ returns-in_err-name c = λ before scope placed.
     let formed : are_fields fields ≡ true = grind arith in
     let is = placed_type before c.args.word.now fields some placed formed ∙ named_type c.args.word.now fields in
     gives_fault _ c.from_residual-in_err-name.result c.in_err-name.field-0.0
-    (ap (checked_behind before) (is ∙ ap (λ named. named >>= (λ t. Ok (TypeLine t (fields_of fields)))) (sym c.name.ensures ∙ c.in_err-name.was)))
+    (ap (checked_behind before) (is
+    ∙ ap (λ named. named >>= (λ t. Ok (TypeLine t (fields_of fields)))) (sym c.name.ensures ∙ c.in_err-name.was)))
     c.from_residual-in_err-name.ensures.1
 
 pub returns : goal.returns
@@ -25,5 +26,7 @@ returns c = λ before scope placed.
     let some : 0 < length fields = grind (arith, nat_tests, length-map c.args.fields.now (λ text. text.now)) in
     let formed : are_fields fields ≡ true = grind arith in
     let is = placed_type before c.args.word.now fields some placed formed ∙ named_type c.args.word.now fields in
-    let named = is ∙ ap (λ found. found >>= (λ t. Ok (TypeLine t (fields_of fields)))) (sym c.name.ensures ∙ c.in_ok-name.was) in
-    subst (λ found. Gives (checked_behind before found) c.checked_type.result) (sym named) (c.checked_type.ensures before scope)
+    let named = is ∙ ap (λ found. found >>= (λ t. Ok (TypeLine t (fields_of fields)))) (sym c.name.ensures
+    ∙ c.in_ok-name.was) in
+    subst (λ found. Gives (checked_behind before found) c.checked_type.result) (sym named)
+    (c.checked_type.ensures before scope)

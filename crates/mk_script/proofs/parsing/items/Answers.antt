@@ -16,7 +16,8 @@ loop-index-preserved c =
     record {
       scope_of = read.scope_of;
       count = grind (arith, ap length read.items_are, length-append {A = Item});
-      rest = step c.deref-line-items.result.now c.loop-index.index c.loop-index.items.items c.read_line.new.items.items c.read_line.new.scope _ c.loop-index-test.true read ∙ so_far.rest;
+      rest = step c.deref-line-items.result.now c.loop-index.index c.loop-index.items.items c.read_line.new.items.items
+          c.read_line.new.scope _ c.loop-index-test.true read ∙ so_far.rest;
     }
 
 pub returns-in-Err-clause-fault : goal.returns-in-Err-clause-fault
@@ -28,7 +29,8 @@ returns-in-Err-clause-fault c = λ memory.
     let some : 0 < length lines = omega arith in
     whole lines (lines_of c.args.text.now) some (ap texts_of c.deref-line-items.ensures.value ∙ c.in_ok-lines.ensures)
     ∙ sym so_far.rest
-    ∙ stops_at lines c.loop-index.index c.loop-index.items.items _ c.in-Err.stop c.loop-index-test.true so_far.count (c.in-Err.ensures so_far.scope_of) memory'
+    ∙ stops_at lines c.loop-index.index c.loop-index.items.items _ c.in-Err.stop c.loop-index-test.true so_far.count
+    (c.in-Err.ensures so_far.scope_of) memory'
     ∙ ap Err (sym is)
 
 ends : (c : goal.After-drop-lines-2) → items_of_lines (lines_of c.args.text.now) ≡ at_end c.loop-index.items.items
@@ -38,10 +40,13 @@ ends c =
     let some : 0 < length lines = grind (arith, nat_tests, ap length c.deref-line-items.ensures.value) in
     whole lines (lines_of c.args.text.now) some (ap texts_of c.deref-line-items.ensures.value ∙ c.in_ok-lines.ensures)
     ∙ sym so_far.rest
-    ∙ at_drop_all (λ left. items_behind (texts_of left) c.loop-index.items.items) lines c.loop-index.index c.loop-index-test.false
+    ∙ at_drop_all (λ left. items_behind (texts_of left) c.loop-index.items.items) lines c.loop-index.index
+    c.loop-index-test.false
 
 pub returns-clause-items : goal.returns-clause-items
-returns-clause-items c = ended_well (λ kept. kept.items) c.at_end.result _ (at_end c.loop-index.items.items) (ends c) (c.at_end.ensures c.loop-index.invariant.scope_of)
+returns-clause-items c = ended_well (λ kept. kept.items) c.at_end.result _ (at_end c.loop-index.items.items) (ends c)
+    (c.at_end.ensures c.loop-index.invariant.scope_of)
 
 pub returns-clause-fault : goal.returns-clause-fault
-returns-clause-fault c = ended_badly (λ kept. kept.items) c.at_end.result _ (at_end c.loop-index.items.items) (ends c) (c.at_end.ensures c.loop-index.invariant.scope_of)
+returns-clause-fault c = ended_badly (λ kept. kept.items) c.at_end.result _ (at_end c.loop-index.items.items) (ends c)
+    (c.at_end.ensures c.loop-index.invariant.scope_of)

@@ -15,7 +15,8 @@ returns c =
     elim c.if-is_empty.branch [
       | then-is_empty w ↦
           let empty : (length last.now == 0) ≡ true = sym c.is_empty.ensures ∙ w.if-is_empty.true in
-          let rest : w.pop.new.self.items ≡ take (length pieces - 1) pieces = w.pop.ensures.rest ∙ ap (λ count. take (count - 1) pieces) (sym c.deref.ensures.len ∙ ap length here) in
+          let rest : w.pop.new.self.items ≡ take (length pieces - 1) pieces = w.pop.ensures.rest
+          ∙ ap (λ count. take (count - 1) pieces) (sym c.deref.ensures.len ∙ ap length here) in
           ap (λ lines. texts_of lines.items) w.lines-is
           ∙ ap texts_of rest
           ∙ without_last pieces last inside is_last empty

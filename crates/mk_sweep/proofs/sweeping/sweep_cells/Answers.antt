@@ -1,4 +1,5 @@
-use Rattle.std.proofs.Common.{◌≡◌, ◌∙◌, ◌+◌, ◌*◌, ◌<◌, ℕ, Bool, List, ◌++◌, length, refl, ap, subst, sym, arith, length-append}
+use Rattle.std.proofs.Common.{◌≡◌, ◌∙◌, ◌+◌, ◌*◌, ◌<◌, ℕ, Bool, List, ◌++◌, length, refl, ap, subst, sym, arith}
+use Rattle.std.proofs.Common.{length-append}
 use Rattle.mk_geom.specs.Headers.{header_of}
 use Rattle.mk_core.specs.Bits.{has_bit}
 use Rattle.mk_core.specs.Cells.{header_in, words_under}

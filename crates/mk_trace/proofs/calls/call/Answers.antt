@@ -10,15 +10,18 @@ use Rattle.mk_trace.proofs.calls.call.Goals as goal
 
 pub answer_to-answer-requires-clause-exists : goal.answer_to-answer-requires-clause-exists
 answer_to-answer-requires-clause-exists g c κs within =
-    made_exists c.args.heap.now c.args.host.now c.requires.home c.caller_again-caller.result c.caller_again-caller.ensures.caller
+    made_exists c.args.heap.now c.args.host.now c.requires.home c.caller_again-caller.result
+    c.caller_again-caller.ensures.caller
 
 pub answer_to-answer-requires-clause-alone : goal.answer_to-answer-requires-clause-alone
 answer_to-answer-requires-clause-alone g c κs within =
-    made_alone c.args.heap.now c.args.host.now c.requires.home c.caller_again-caller.result c.caller_again-caller.ensures.caller
+    made_alone c.args.heap.now c.args.host.now c.requires.home c.caller_again-caller.result
+    c.caller_again-caller.ensures.caller
 
 pub answer_to-answer-requires-clause-admitted : goal.answer_to-answer-requires-clause-admitted
 answer_to-answer-requires-clause-admitted g c κs within =
-    made_admits c.args.heap.now c.args.host.now c.requires.home c.caller_again-caller.result c.caller_again-caller.ensures.caller
+    made_admits c.args.heap.now c.args.host.now c.requires.home c.caller_again-caller.result
+    c.caller_again-caller.ensures.caller
     c.args.op c.requires.admitted c.is_idle.ensures.history
 
 pub returns-clause-home : goal.returns-clause-home

@@ -9,7 +9,8 @@ use Rattle.mk_trace.proofs.calls.look.Goals as goal
 
 pub returns-clause-home : goal.returns-clause-home
 returns-clause-home g c =
-    told_home c.args.heap.now c.args.host.now c.tell-found.new.self c.requires.home c.tell-found.ensures.host c.tell-found.ensures.overs
+    told_home c.args.heap.now c.args.host.now c.tell-found.new.self c.requires.home c.tell-found.ensures.host
+    c.tell-found.ensures.overs
 
 pub returns-clause-same : goal.returns-clause-same
 returns-clause-same g c =
@@ -25,12 +26,16 @@ returns-clause-same g c =
 
 pub returns-clause-held : goal.returns-clause-held
 returns-clause-held g c =
-    look_holds c.args.heap.now c.args.host.now c.requires.home c.is_in_order.ensures.seat c.args.word c.tell-found.result
-    c.tell-found.new.self c.tell-found.ensures.tells (subst (λ (w : WordsState). IsHistory w.config c.tell-found.new.self.pass.seen)
+    look_holds c.args.heap.now c.args.host.now c.requires.home c.is_in_order.ensures.seat c.args.word
+    c.tell-found.result
+    c.tell-found.new.self c.tell-found.ensures.tells
+    (subst (λ (w : WordsState). IsHistory w.config c.tell-found.new.self.pass.seen)
     (ap (λ (x : HostState). x.pass.table) c.tell-found.ensures.host) c.is_in_order-2.ensures.history)
 
 pub returns-clause-tells : goal.returns-clause-tells
 returns-clause-tells g c =
-    look_tells c.args.heap.now c.args.host.now c.requires.home c.is_in_order.ensures.seat c.args.word c.tell-found.result
-    c.tell-found.new.self c.tell-found.ensures.tells (subst (λ (w : WordsState). IsHistory w.config c.tell-found.new.self.pass.seen)
+    look_tells c.args.heap.now c.args.host.now c.requires.home c.is_in_order.ensures.seat c.args.word
+    c.tell-found.result
+    c.tell-found.new.self c.tell-found.ensures.tells
+    (subst (λ (w : WordsState). IsHistory w.config c.tell-found.new.self.pass.seen)
     (ap (λ (x : HostState). x.pass.table) c.tell-found.ensures.host) c.is_in_order-2.ensures.history)

@@ -19,7 +19,8 @@ loop-op-init g c = record {
   held = c.answer-first.ensures.held;
   calls =
       called_first c.args.heap.now.config c.args.host.now.pass.seen c.args.event c.first_op.result c.answer-first.result
-      c.answer-first.new.host.pass.seen c.is_full.result c.is_refusal-refused.result c.deref-op-items.result.now c.first_op.ensures
+      c.answer-first.new.host.pass.seen c.is_full.result c.is_refusal-refused.result c.deref-op-items.result.now
+      c.first_op.ensures
       c.answer-first.ensures.calls c.is_full.ensures c.is_refusal-refused.ensures
       (c.deref-op-items.ensures.value ∙ c.in_ok-ops.ensures);
 }

@@ -24,7 +24,8 @@ returns-in_err-read_line-clause-fault c =
     let i = c.loop-index.index in
     let number_is : 2 + i ≡ i + 2 = omega arith in
     hands_on c.from_residual.result c.in_err-read_line.field-0.0
-    (λ stop. stop ≢ NoMemory → written_from 2 (texts_of lines) nothing_written ≡ Err stop) c.from_residual.ensures.1 (λ memory.
+    (λ stop. stop ≢ NoMemory → written_from 2 (texts_of lines) nothing_written ≡ Err stop) c.from_residual.ensures.1
+    (λ memory.
     let read = c.in_err-read_line.ensures memory in
     sym c.loop-index.invariant
     ∙ stopped text_fault_at read_behind with_line (2 + i) _ (texts_of (drop (i + 1) lines)) (texts_of (drop i lines))

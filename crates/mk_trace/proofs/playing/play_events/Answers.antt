@@ -4,7 +4,8 @@ use Rattle.mk_core.specs.History.{IsHistory}
 use Rattle.mk_words.specs.States.{WordsState}
 use Rattle.mk_heap.specs.Hosts.{HostState}
 use Rattle.mk_trace.proofs.Playable.{is_playable}
-use Rattle.mk_trace.proofs.Played.{event_at, next_played, null_between, one_counted, still_few, played_all, played_first}
+use Rattle.mk_trace.proofs.Played.{event_at, next_played, null_between, one_counted, still_few, played_all}
+use Rattle.mk_trace.proofs.Played.{played_first}
 use Rattle.std.proofs.Common.{get_or}
 use Rattle.std.proofs.lemmas.List.{get_or_default}
 use Rattle.mk_trace.specs.declared.trace.TraceEvent.TheVariants.{A}

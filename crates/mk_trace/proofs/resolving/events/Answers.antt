@@ -34,5 +34,6 @@ returns-clause-events c =
     let lines = c.args.lines.now in
     let i = c.loop-index.index in
     sym c.loop-index.invariant
-    ∙ ended type_fault_at (λ events line. typed_event c.args.slots.now line) with_event (c.args.first + i) (drop i lines)
+    ∙ ended type_fault_at (λ events line. typed_event c.args.slots.now line) with_event (c.args.first + i)
+    (drop i lines)
     c.loop-index.events.items (at_drop_all (λ left. left) lines i c.loop-index-test.false)

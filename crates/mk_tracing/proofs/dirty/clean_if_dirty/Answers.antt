@@ -7,13 +7,15 @@ use Rattle.mk_tracing.proofs.dirty.clean_if_dirty.Goals as goal
 pub undirty_page-requires-clause-own : goal.undirty_page-requires-clause-own
 undirty_page-requires-clause-own c =
     let u = c.unblack_if_dirty.ensures in
-    let same = same_dirt (still_words c.args.stop.now.pass) (still_words c.unblack_if_dirty.new.stop.pass) c.args.page u.fewer in
+    let same = same_dirt (still_words c.args.stop.now.pass) (still_words c.unblack_if_dirty.new.stop.pass) c.args.page
+    u.fewer in
     u.unscanned.own (λ z. u.dirty c.if-unblack_if_dirty.true (sym same ∙ z))
 
 pub undirty_page-requires-clause-head : goal.undirty_page-requires-clause-head
 undirty_page-requires-clause-head c =
     let u = c.unblack_if_dirty.ensures in
-    let same = same_dirt (still_words c.args.stop.now.pass) (still_words c.unblack_if_dirty.new.stop.pass) c.args.page u.fewer in
+    let same = same_dirt (still_words c.args.stop.now.pass) (still_words c.unblack_if_dirty.new.stop.pass) c.args.page
+    u.fewer in
     u.unscanned.head (λ z. u.dirty c.if-unblack_if_dirty.true (sym same ∙ z))
 
 pub returns-then-unblack_if_dirty-clause-on : goal.returns-then-unblack_if_dirty-clause-on

@@ -9,10 +9,14 @@ returns-clause-known c = subst (λ n. IfSome c.then_some.result (λ k. k < n)) c
     (first_is_known c.from-index.result c.cells_under.result c.then_some.result c.then_some.ensures)
 
 pub returns-clause-one : goal.returns-clause-one
-returns-clause-one c = first_is_one c.args.cells c.from-index.result c.cells_under.result c.then_some.result c.requires.some
+returns-clause-one c =
+    first_is_one c.args.cells c.from-index.result c.cells_under.result c.then_some.result c.requires.some
     c.ranges.cells.fits c.from-index.ensures c.then_some.ensures
 
 pub returns-clause-none : goal.returns-clause-none
-returns-clause-none c = subst (λ n. IfNone c.then_some.result ((k : ℕ) → k < n → has_bit c.args.cells k ≡ false)) c.cells_under.ensures.exact
-    (none_is_first c.args.cells c.from-index.result c.cells_under.result c.then_some.result c.requires.some c.ranges.cells.fits
+returns-clause-none c =
+    subst (λ n. IfNone c.then_some.result ((k : ℕ) → k < n → has_bit c.args.cells k ≡ false))
+    c.cells_under.ensures.exact
+    (none_is_first c.args.cells c.from-index.result c.cells_under.result c.then_some.result c.requires.some
+    c.ranges.cells.fits
     c.from-index.ensures c.then_some.ensures)

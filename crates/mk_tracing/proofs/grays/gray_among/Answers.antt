@@ -17,7 +17,8 @@ returns-in_default-clause-on c =
 
 pub returns-in_default-clause-none : goal.returns-in_default-clause-none
 returns-in_default-clause-none c =
-    no_gray_under (still_words c.args.stop.now.pass) c.args.page c.look_at-header.result c.args.marks c.look_at-blacks.result
+    no_gray_under (still_words c.args.stop.now.pass) c.args.page c.look_at-header.result c.args.marks
+    c.look_at-blacks.result
     (c.look_at-header.ensures.found ∙ ap (λ (w : Words). header_at w c.args.page) c.look_at-blacks.ensures.words)
     c.requires.marks c.look_at-blacks.ensures.found c.in_default.ensures.none
 

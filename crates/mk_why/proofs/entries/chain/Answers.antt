@@ -25,7 +25,8 @@ loop-link-preserved c = record {
 pub returns : goal.returns
 returns c k v b ways apart way =
     subst (λ (o : Option Root). IsLed k v b c.args.found.links o c.reverse.new.self.items) (sym c.root_of.ensures)
-    (subst (λ (ls : List ℕ). IsLed k v b c.args.found.links (root_of c.loop-link.current.way) ls) (sym c.reverse.ensures.items)
+    (subst (λ (ls : List ℕ). IsLed k v b c.args.found.links (root_of c.loop-link.current.way) ls)
+    (sym c.reverse.ensures.items)
     (led_to_root k v c.args.tables.now.found.items ways apart c.loop-link.current c.loop-link.links.items b
     c.args.found.links (c.loop-link.invariant.led k v b ways apart way)
     (sym c.step_back.ensures.exact ∙ c.in_default.is)))

@@ -39,7 +39,8 @@ loop-index-preserved c =
     record {
       on = lists_then k v c.args.tables.now r s c.loop-index.invariant.on one.on;
       listed = cells_more k v r s c.args.page c.words_under-size.result _ c.args.snapshot c.args.marks
-          c.loop-index.index c.has_bit.result c.has_bit-in-loop-index.result c.has_bit.ensures c.has_bit-in-loop-index.ensures
+          c.loop-index.index c.has_bit.result c.has_bit-in-loop-index.result c.has_bit.ensures
+          c.has_bit-in-loop-index.ensures
           (has_kept_at c.args.stop.now.pass c.is_in_order.ensures.history c.requires.still c.args.words.now
           c.requires.one_table c.args.page c.args.header c.args.snapshot c.args.marks c.words_under-size.result
           c.requires.header c.requires.snapshot c.requires.marks c.words_under-size.ensures.exact)

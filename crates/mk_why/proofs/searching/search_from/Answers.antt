@@ -2,7 +2,8 @@ use Rattle.std.proofs.Common.{◌+◌, ◌<◌, refl, sym, subst, arith, length}
 use Rattle.std.specs.Prelude.{slice_index}
 use Rattle.mk_why.specs.Searching.{AreScannedFrom, IsBase, IsDone, IsSearch, SearchesOn, links_of}
 use Rattle.mk_why.specs.Stops.{View, view_by}
-use Rattle.mk_why.proofs.Scans.{done_from, entry_read, links_there, one_more_fits, queue_read, queued_base, queued_within}
+use Rattle.mk_why.proofs.Scans.{done_from, entry_read, links_there, one_more_fits, queue_read, queued_base}
+use Rattle.mk_why.proofs.Scans.{queued_within}
 use Rattle.mk_why.proofs.Searches.{looks_search, part_noted, through_stays, view_search}
 use Rattle.mk_why.proofs.searching.search_from.Goals as goal
 

@@ -5,7 +5,8 @@ use Rattle.mk_why.specs.declared.found.Way.TheVariants.{Link}
 use Rattle.mk_core.specs.Touched.{PointsIntoAllocation}
 use Rattle.mk_why.specs.Stops.{View, view_by, world_in}
 use Rattle.mk_why.proofs.Looks.{looks_then}
-use Rattle.mk_why.proofs.Searches.{looks_search, more_noted, part_noted, searches_nothing, searches_then, through_stays, view_search}
+use Rattle.mk_why.proofs.Searches.{looks_search, more_noted, part_noted, searches_nothing, searches_then, through_stays}
+use Rattle.mk_why.proofs.Searches.{view_search}
 use Rattle.mk_why.proofs.Ways.{onward_way}
 use Rattle.mk_why.proofs.searching.search_words.Goals as goal
 

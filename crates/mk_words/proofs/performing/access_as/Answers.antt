@@ -10,5 +10,9 @@ pub store-requires : goal.store-requires
 store-requires g c =
     let t = c.args.table.now in
     let k = c.args.token.now in
-    let allowed = subst (λ (a : Access). Allows (Kept t.key) t.table_id.slots k.id k.me c.args.index (becomes a) (λ n m. adds g.J.Making.event no_step k.me n m)) c.in-Store.is c.requires.allowed in
-    (c.requires.table, c.requires.within, allows_store t.key t.table_id.slots k.id k.me c.args.index g.J.Making.event c.in-Store.value allowed)
+    let allowed = subst (λ (a : Access). Allows (Kept t.key) t.table_id.slots k.id k.me c.args.index (becomes a)
+    (λ n m. adds g.J.Making.event no_step k.me n m)) c.in-Store.is c.requires.allowed in (
+      c.requires.table,
+      c.requires.within,
+      allows_store t.key t.table_id.slots k.id k.me c.args.index g.J.Making.event c.in-Store.value allowed,
+    )

@@ -9,9 +9,11 @@ use Rattle.mk_words.proofs.stopped.open_other.Goals as goal
 
 pub returns-clause-opened : goal.returns-clause-opened
 returns-clause-opened c other = elim c.if-not-is_number.branch [
-  | then-not-is_number w ↦ subst (λ (t : TurnState). Acts c.args.turn.now.pass (step.Open c.args.caller) t.pass) (sym w.turn-is) w.open_gate.ensures.acts
+  | then-not-is_number w ↦ subst (λ (t : TurnState). Acts c.args.turn.now.pass (step.Open c.args.caller) t.pass)
+      (sym w.turn-is) w.open_gate.ensures.acts
   | else-not-is_number w ↦ (
       let mine : c.is_number.result ≡ true = w.if-not-is_number.false in
-      let is : true ≡ false = sym mine ∙ c.is_number.ensures ∙ ap (λ (s : Seat). is_number_of s c.args.caller) c.seat.ensures ∙ other in
+      let is : true ≡ false = sym mine ∙ c.is_number.ensures
+      ∙ ap (λ (s : Seat). is_number_of s c.args.caller) c.seat.ensures ∙ other in
       cc)
 ]

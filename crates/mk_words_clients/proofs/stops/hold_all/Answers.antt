@@ -42,4 +42,5 @@ pub returns-in-Err-clause-tidy : goal.returns-in-Err-clause-tidy
 returns-in-Err-clause-tidy c = λ t.
     let inv = c.loop-caller.invariant in
     c.open_below.ensures.tidy
-    (tidy_kept c.loop-caller.turn.pass c.try_hold.new.self.pass (step.Hold c.loop-caller.caller) c.try_hold.ensures.acts inv.settled.seat refl (inv.tidy t))
+    (tidy_kept c.loop-caller.turn.pass c.try_hold.new.self.pass (step.Hold c.loop-caller.caller) c.try_hold.ensures.acts
+    inv.settled.seat refl (inv.tidy t))

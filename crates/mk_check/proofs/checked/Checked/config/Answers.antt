@@ -10,7 +10,8 @@ use Rattle.mk_check.proofs.checked.Checked.config.Goals as goal
 pub globals-requires : goal.globals-requires
 globals-requires c =
     let program = c.self.inside.program in
-    rw (c.in_ok-numbers.ensures, c.items-items.ensures.items) (length-global_names program (is_whole program c.items-items.ensures.of_some_text))
+    rw (c.in_ok-numbers.ensures, c.items-items.ensures.items)
+    (length-global_names program (is_whole program c.items-items.ensures.of_some_text))
 
 -- the fields are those of the definition
 pub returns-clause-config : goal.returns-clause-config
@@ -33,4 +34,5 @@ returns-clause-within_limits c =
     (c.heap_pages-heap.ensures.pages ∙ ap pages_of same) (c.heap_pages-heap.ensures.resident ∙ ap resident_of same)
     (c.scripts.ensures ∙ ap (λ items. length (script_names items)) (sym c.self.view_is))
     (c.in_ok-types.ensures ∙ ap types_of numbers) (c.in_ok-globals.ensures ∙ ap globals_of numbers)))
-    (config_within program c.args.markers (is_whole program c.items-items.ensures.of_some_text) c.self.invariant.0 c.requires)
+    (config_within program c.args.markers (is_whole program c.items-items.ensures.of_some_text) c.self.invariant.0
+    c.requires)

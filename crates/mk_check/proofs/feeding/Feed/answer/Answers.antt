@@ -16,19 +16,30 @@ use Rattle.mk_check.proofs.feeding.Feed.answer.Goals.{After-follow}
 
 -- the node that waits is that of the line
 waits : (c : After-follow)
-    → node_at c.self.inside.tree c.self.inside.running.at ≡ node.Line c.in-Line.line c.in-Line.instruction c.in-Line.next
+    → node_at c.self.inside.tree c.self.inside.running.at
+    ≡ node.Line c.in-Line.line c.in-Line.instruction c.in-Line.next
 waits c = ap (node_at c.self.inside.tree) (sym c.at.ensures) ∙ sym c.in-Line.ensures.value
 
 -- the copy, behind the text so far, stops where the script does
-stops : (c : After-follow) → c.follow.new.self ≡ record c.run.new.self { text = c.self.inside.running.text ++ c.run.new.self.text }
-    → stopped_in c.self.inside.tree c.follow.new.self ≡ stop_on_answer (left_in c.self.inside.tree c.self.inside.running) c.args.answer (kept_in c.self.inside.running)
+stops : (c : After-follow)
+    → c.follow.new.self ≡ record c.run.new.self { text = c.self.inside.running.text ++ c.run.new.self.text }
+    → stopped_in c.self.inside.tree c.follow.new.self
+    ≡ stop_on_answer (left_in c.self.inside.tree c.self.inside.running) c.args.answer (kept_in c.self.inside.running)
 stops c e =
     let nodes = c.self.inside.tree in
     let p = c.self.inside.running in
-    let starts : c.take.new.self ≡ with_kept (record p { at = c.in-Line.next }) (after_answer c.in-Line.instruction c.args.answer (record { numbers = p.numbers; text = refusal_line c.in-Line.line (refusal_text c.args.answer) })) =
-    c.in_ok-take.ensures ∙ ap (λ (q : Place). with_kept q (after_answer c.in-Line.instruction c.args.answer (kept_in q)))
-    (c.in_ok-print_refusal.ensures ∙ ap (λ (q : Place). let later : Place = record q { text = q.text ++ refusal_line c.in-Line.line (refusal_text c.args.answer) } in later) c.in_ok-copy_at.ensures) in
-    answer_stops nodes p c.take.new.self c.run.new.self c.follow.new.self c.in-Line.line c.in-Line.instruction c.in-Line.next c.args.answer
+    let starts : c.take.new.self
+    ≡ with_kept (record p { at = c.in-Line.next })
+    (after_answer c.in-Line.instruction c.args.answer
+    (record { numbers = p.numbers; text = refusal_line c.in-Line.line (refusal_text c.args.answer) })) =
+    c.in_ok-take.ensures
+    ∙ ap (λ (q : Place). with_kept q (after_answer c.in-Line.instruction c.args.answer (kept_in q)))
+    (c.in_ok-print_refusal.ensures
+    ∙ ap (λ (q : Place). let later : Place = record q
+    { text = q.text ++ refusal_line c.in-Line.line (refusal_text c.args.answer) } in later) c.in_ok-copy_at.ensures)
+    in
+    answer_stops nodes p c.take.new.self c.run.new.self c.follow.new.self c.in-Line.line c.in-Line.instruction
+    c.in-Line.next c.args.answer
     c.in-Line.ensures.tree c.self.invariant.stop.within (waits c) starts c.in_ok-run.ensures e
 
 either : {T E : Type 0} (r : Result T E) (P Q X : Type 0) → OnOk r P → OnErr r Q → (P → X) → (Q → X) → X
@@ -42,7 +53,8 @@ feed c = subst (λ (s : FeedState). IsFeed s) c.self.view_is c.self.invariant
 tree : (c : After-follow) → IsTree c.args.self.now.nodes
 tree c = subst (λ (s : FeedState). IsTree s.nodes) c.self.view_is c.in-Line.ensures.tree
 
-takes : (c : After-follow) → c.follow.new.self ≡ record c.run.new.self { text = c.self.inside.running.text ++ c.run.new.self.text }
+takes : (c : After-follow)
+    → c.follow.new.self ≡ record c.run.new.self { text = c.self.inside.running.text ++ c.run.new.self.text }
     → TakesAnswer c.args.self.now c.args.answer (record { nodes = c.self.inside.tree; place = c.follow.new.self })
 takes c e =
     let nodes = c.self.inside.tree in
@@ -51,9 +63,11 @@ takes c e =
     let after : FeedState = record { nodes = nodes; place = c.follow.new.self } in
     let asks : is_some (op_asked p.numbers c.in-Line.instruction) ≡ true =
     ap (λ (m : Node). is_some (op_of_node p.numbers m)) (sym (waits c))
-    ∙ (ap (λ (s : FeedState). is_some (op_in s)) c.self.view_is ∙ waits_for_answer c.args.self.now (tree c) (feed c) c.requires) in
+    ∙ (ap (λ (s : FeedState). is_some (op_in s)) c.self.view_is
+    ∙ waits_for_answer c.args.self.now (tree c) (feed c) c.requires) in
     subst (λ (s : FeedState). TakesAnswer s c.args.answer after) c.self.view_is
-    (λ program k answers st. answer_stands program k answers c.args.answer before after c.in-Line.line c.in-Line.instruction c.in-Line.next
+    (λ program k answers st. answer_stands program k answers c.args.answer before after c.in-Line.line
+    c.in-Line.instruction c.in-Line.next
     c.in-Line.ensures.tree c.self.invariant.stop.within (waits c) asks (stops c e) st)
 
 pub unreachable-requires : goal.unreachable-requires
@@ -80,14 +94,17 @@ invariant_of-self-2 c =
             program = f.some.program;
             k = f.some.k;
             answers = f.some.answers ++ c.args.answer ∷ [];
-            stands = takes ((goal.at.invariant_of-self-2 c).After-follow) e f.some.program f.some.k f.some.answers f.some.stands;
+            stands = takes ((goal.at.invariant_of-self-2 c).After-follow) e f.some.program f.some.k f.some.answers
+                f.some.stands;
           })
-          (λ e. subst (λ (p : Place). StandsForSome (record { nodes = c.self.inside.tree; place = p })) (sym e) c.self.invariant.some);
+          (λ e. subst (λ (p : Place). StandsForSome (record { nodes = c.self.inside.tree; place = p }))
+          (sym e) c.self.invariant.some);
     }
 
 pub returns-clause-ok : goal.returns-clause-ok
 returns-clause-ok c =
-    IfOk-weaker c.follow.result (λ _. c.follow.new.self ≡ record c.run.new.self { text = c.self.inside.running.text ++ c.run.new.self.text })
+    IfOk-weaker c.follow.result
+    (λ _. c.follow.new.self ≡ record c.run.new.self { text = c.self.inside.running.text ++ c.run.new.self.text })
     (λ _. TakesAnswer c.args.self.now c.args.answer (record { nodes = c.self.inside.tree; place = c.follow.new.self }))
     (λ _ e. takes ((goal.at.returns-clause-ok c).After-follow) e) c.follow.ensures.ok
 
@@ -96,7 +113,9 @@ returns-clause-nearer c =
     let nodes = c.self.inside.tree in
     let p = c.self.inside.running in
     let after : FeedState = record { nodes = nodes; place = c.follow.new.self } in
-    IfOk-weaker c.follow.result (λ _. c.follow.new.self ≡ record c.run.new.self { text = p.text ++ c.run.new.self.text }) (λ _. work_left after < work_left c.args.self.now)
+    IfOk-weaker c.follow.result
+    (λ _. c.follow.new.self ≡ record c.run.new.self { text = p.text ++ c.run.new.self.text })
+    (λ _. work_left after < work_left c.args.self.now)
     (λ _ e. subst (λ (s : FeedState). work_left after < work_left s) c.self.view_is
     (answer_nearer nodes p c.follow.new.self c.in-Line.line c.in-Line.instruction c.in-Line.next c.args.answer
     c.in-Line.ensures.tree c.self.invariant.stop.within (waits c) (stops c e))) c.follow.ensures.ok

@@ -18,35 +18,63 @@ names c = c.in_ok-names.ensures ∙ ap (scope_of c.args.items.now) c.script_at-l
 
 pub tree_of-requires-clause-few : goal.tree_of-requires-clause-few
 tree_of-requires-clause-few c =
-    subst (λ (s : Scope). HasFew s) (sym (names ((goal.at.tree_of-requires-clause-few c).In_ok-names))) (text_has_few c.args.items.now c.args.script c.requires.text)
+    subst (λ (s : Scope). HasFew s) (sym (names ((goal.at.tree_of-requires-clause-few c).In_ok-names)))
+    (text_has_few c.args.items.now c.args.script c.requires.text)
 
 -- it begins as the script does
-begins : (c : In_ok-run) → FeedStandsFor c.args.items.now c.args.script (record { nodes = c.in_ok-tree.tree; place = c.run.new.self }) []
+begins : (c : In_ok-run)
+    → FeedStandsFor c.args.items.now c.args.script (record { nodes = c.in_ok-tree.tree; place = c.run.new.self }) []
 begins c =
     let program = c.args.items.now in
     let k = c.args.script in
     let lines = c.script_at-lines in
     let scope = script_scope program k in
-    let named : c.in_ok-names.names ≡ scope = c.in_ok-names.ensures ∙ ap (scope_of c.args.items.now) c.script_at-lines.ensures.items in
+    let named : c.in_ok-names.names ≡ scope = c.in_ok-names.ensures
+    ∙ ap (scope_of c.args.items.now) c.script_at-lines.ensures.items in
     let script : ScriptText = script_of program k in
-    let steps : steps_at (trees c.in_ok-tree.tree) c.in_ok-tree.at ≡ steps_of scope (blocks_from script.line script.items) =
+    let steps : steps_at (trees c.in_ok-tree.tree) c.in_ok-tree.at
+    ≡ steps_of scope (blocks_from script.line script.items) =
     c.in_ok-tree.ensures.steps
     ∙ (ap (λ (s : Scope). steps_of s (blocks_from lines.result.line lines.result.items.now)) named
     ∙ (ap (λ (l : ℕ). steps_of scope (blocks_from l lines.result.items.now)) lines.ensures.line
     ∙ ap (λ (xs : List Item). steps_of scope (blocks_from script.line xs)) lines.ensures.items)) in
-    let count : c.numbers.result ≡ length scope.numbers = c.numbers.ensures ∙ ap (λ (s : Scope). length s.numbers) named in
+    let count : c.numbers.result ≡ length scope.numbers = c.numbers.ensures
+    ∙ ap (λ (s : Scope). length s.numbers) named in
     let at = c.in_ok-tree.at in
-    let place : c.in_ok-running.running ≡ record { at = at; frames = []; numbers = (fed_before_lines scope script).numbers; text = (fed_before_lines scope script).text } =
+    let place : c.in_ok-running.running
+    ≡ record {
+      at = at;
+      frames = [];
+      numbers = (fed_before_lines scope script).numbers;
+      text = (fed_before_lines scope script).text;
+    } =
     c.in_ok-running.ensures
-    ∙ (ap (λ (n : ℕ). let p : Place = record { at = at; frames = []; numbers = replicate n 0; text = codes "script " ++ (lines.result.name.now ++ newline) } in p) count
-    ∙ ap (λ (name : List ℕ). let p : Place = record { at = at; frames = []; numbers = (fed_before_lines scope script).numbers; text = codes "script " ++ (name ++ newline) } in p) lines.ensures.name) in
+    ∙ (ap (λ (n : ℕ). let p : Place = record {
+      at = at;
+      frames = [];
+      numbers = replicate n 0;
+      text = codes "script " ++ (lines.result.name.now ++ newline);
+    } in p) count
+    ∙ ap (λ (name : List ℕ). let p : Place = record {
+      at = at;
+      frames = [];
+      numbers = (fed_before_lines scope script).numbers;
+      text = codes "script " ++ (name ++ newline);
+    } in p)
+    lines.ensures.name) in
     start_stands program k (record { nodes = c.in_ok-tree.tree; place = c.run.new.self })
-    (start_stops c.in_ok-tree.tree scope script c.in_ok-tree.at c.in_ok-running.running c.run.new.self steps place c.in_ok-run.ensures)
+    (start_stops c.in_ok-tree.tree scope script c.in_ok-tree.at c.in_ok-running.running c.run.new.self steps place
+    c.in_ok-run.ensures)
 
 pub invariant_of-result : goal.invariant_of-result
 invariant_of-result c = record {
   stop = record { within = c.in_ok-run.ensures.within; stops = c.in_ok-run.ensures.at };
-  some = record { program = c.args.items.now; k = c.args.script; answers = []; stands = begins ((goal.at.invariant_of-result c).In_ok-run) };
+  some = record {
+    program = c.args.items.now;
+    k = c.args.script;
+    answers = [];
+    stands = begins ((goal.at.invariant_of-result c).In_ok-run);
+  };
 }
 
 pub returns : goal.returns

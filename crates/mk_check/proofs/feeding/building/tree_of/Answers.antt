@@ -13,6 +13,8 @@ loop-index-preserved c =
       sound = c.in_ok-add.ensures.sound;
       parts = c.in_ok-add.ensures.parts
           ∙ (ap (λ (e : Element). with_element (c.args.line + i) e (parts_in c.loop-index.builder)) c.element.ensures
-          ∙ (ap (λ (ps : List StepPart). with_element (c.args.line + i) (element_of c.args.names.now item) ps) c.loop-index.invariant.parts
-          ∙ parts_from_more c.args.names.now c.args.line i c.loop-index.index c.args.items.now item (omega arith) c.index-items-index.is (omega arith)));
+          ∙ (ap (λ (ps : List StepPart). with_element (c.args.line + i) (element_of c.args.names.now item) ps)
+          c.loop-index.invariant.parts
+          ∙ parts_from_more c.args.names.now c.args.line i c.loop-index.index c.args.items.now item
+          (omega arith) c.index-items-index.is (omega arith)));
     }

@@ -11,7 +11,8 @@ returns c =
     let more = λ (count : PartCount). record count { lines = saturated_count (count.lines + c.args.instructions) } in
     elim c.match-last_mut.branch [
       | in-Some w ↦ rw (w.self-inside-is, ← c.self.view_is, w.saturating_add-innermost.ensures)
-          (reverse-set more parts.items parts.len w.in-Some.innermost.now parts.ok.0 (omega (arith, w.in-Some.ensures.item)) w.in-Some.ensures.value)
+          (reverse-set more parts.items parts.len w.in-Some.innermost.now parts.ok.0
+          (omega (arith, w.in-Some.ensures.item)) w.in-Some.ensures.value)
       | in_default w ↦ rw (w.self-inside-is, ← c.self.view_is)
           (reverse-none more parts.items parts.len parts.ok.0 (omega (arith, w.in_default.ensures.item)))
     ]

@@ -4,4 +4,5 @@ use Rattle.mk_check.specs.Typing.{pointers_fault}
 use Rattle.mk_check.proofs.lookups.Lookups.pointers_fault.Given as goal
 
 abbrev pub invariant-loop-word : goal.invariant-loop-word
-invariant-loop-word l = pointers_fault (around l.self) l.words ≡ pointers_fault (around l.self) (drop l.word-index l.words)
+invariant-loop-word l = pointers_fault (around l.self) l.words
+    ≡ pointers_fault (around l.self) (drop l.word-index l.words)

@@ -8,5 +8,13 @@ pub returns : goal.returns
 returns c =
     let name = c.args.name.now in
     let names = type_names c.self.inside.program.now in
-    rw (c.unwrap_or.ensures, c.copied.ensures, c.get.ensures.value, c.as_bytes.ensures, place_of-among name (type_names c.args.self.now), ← c.self.view_is)
-    (ap (λ place. unwrap_or place c.self.inside.count) (c.self.invariant.places name) ∙ ap (λ n. unwrap_or (place_among name names) n) c.self.invariant.all)
+    rw (
+      c.unwrap_or.ensures,
+      c.copied.ensures,
+      c.get.ensures.value,
+      c.as_bytes.ensures,
+      place_of-among name (type_names c.args.self.now),
+      ← c.self.view_is,
+    )
+    (ap (λ place. unwrap_or place c.self.inside.count) (c.self.invariant.places name)
+    ∙ ap (λ n. unwrap_or (place_among name names) n) c.self.invariant.all)

@@ -5,4 +5,7 @@ use Rattle.mk_check.proofs.numbers.TypeNumbers.of_program.Given as goal
 
 abbrev pub invariant-loop-item : goal.invariant-loop-item
 invariant-loop-item l =
-    record { numbers : AreNumbers l.numbers l.count (type_names (take l.item-index l.program)); fits : l.count ≤ l.item-index }
+    record {
+      numbers : AreNumbers l.numbers l.count (type_names (take l.item-index l.program));
+      fits : l.count ≤ l.item-index;
+    }

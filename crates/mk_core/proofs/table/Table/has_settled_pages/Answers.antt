@@ -5,4 +5,5 @@ use Rattle.mk_core.proofs.table.Table.has_settled_pages.Goals as goal
 
 pub returns-then-not-has_settled_page : goal.returns-then-not-has_settled_page
 returns-then-not-has_settled_page c =
-    sym (all_below_not_is c.args.pages c.loop-page.page (has_settled_page c.args.self.now) (omega arith) (sym c.has_settled_page.ensures ∙ c.if-not-has_settled_page.true))
+    sym (all_below_not_is c.args.pages c.loop-page.page (has_settled_page c.args.self.now) (omega arith)
+    (sym c.has_settled_page.ensures ∙ c.if-not-has_settled_page.true))

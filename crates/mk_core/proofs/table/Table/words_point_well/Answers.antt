@@ -5,5 +5,7 @@ use Rattle.mk_core.proofs.table.Table.words_point_well.Goals as goal
 
 pub returns-then-not-word_points_well : goal.returns-then-not-word_points_well
 returns-then-not-word_points_well c =
-    sym (all_below_not_is (cell_words c.args.self.now c.args.cell) c.loop-i.i (λ i. word_points_well c.args.pages c.args.self.now (first_word c.args.self.now c.args.cell + i)) (omega arith)
-    (ap (λ n. word_points_well c.args.pages c.args.self.now (n + c.loop-i.i)) (sym c.first_word-first.ensures) ∙ sym c.word_points_well.ensures ∙ c.if-not-word_points_well.true))
+    sym (all_below_not_is (cell_words c.args.self.now c.args.cell) c.loop-i.i
+    (λ i. word_points_well c.args.pages c.args.self.now (first_word c.args.self.now c.args.cell + i)) (omega arith)
+    (ap (λ n. word_points_well c.args.pages c.args.self.now (n + c.loop-i.i)) (sym c.first_word-first.ensures)
+    ∙ sym c.word_points_well.ensures ∙ c.if-not-word_points_well.true))

@@ -12,5 +12,6 @@ pub invariant_of-result : goal.invariant_of-result
 invariant_of-result c =
     let w : WordsState = c.in_ok-words.words in
     let pass = c.in_ok-words.ensures.pass
-    ∙ ap (λ (x : Config). record { table = w; seat = Host; seats = all_seats x; seen = [] }) (sym c.in_ok-words.ensures.config) in
+    ∙ ap (λ (x : Config). record { table = w; seat = Host; seats = all_seats x; seen = [] })
+    (sym c.in_ok-words.ensures.config) in
     subst (λ (p : PassState). IsHost (record { pass = p; callers = 0; markers = 0 })) (sym pass) (first_is_host w)

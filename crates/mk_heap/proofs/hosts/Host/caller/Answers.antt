@@ -14,12 +14,14 @@ new-requires-clause-idle c =
     subst (λ (p : PassState). IsIdleCaller p) (sym c.split-pass.ensures.made)
     (next_is_idle h is
     (subst (λ (g : HostState). g.callers < g.pass.table.config.callers) (sym view)
-    (subst (λ (w : WordsState). c.args.self.now.callers < w.config.callers) (sym c.requires.one_table) c.requires.more)))
+    (subst (λ (w : WordsState). c.args.self.now.callers < w.config.callers) (sym c.requires.one_table)
+    c.requires.more)))
 
 pub invariant_of-self : goal.invariant_of-self
 invariant_of-self c =
     let s = c.self.inside in
     let h : HostState = home_host c.in-Some.home s.callers s.markers in
     let is = home_is s.pass c.in-Some.home s.callers s.markers c.in-Some.is c.self.invariant in
-    subst (λ (p : PassState). IsHost (record { pass = p; callers = h.callers + 1; markers = h.markers })) (sym c.split-pass.ensures.pass)
+    subst (λ (p : PassState). IsHost (record { pass = p; callers = h.callers + 1; markers = h.markers }))
+    (sym c.split-pass.ensures.pass)
     (caller_made_is_host h is)

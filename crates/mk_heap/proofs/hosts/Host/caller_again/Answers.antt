@@ -23,6 +23,7 @@ invariant_of-self c =
     let h : HostState = home_host c.in-Some.home s.callers s.markers in
     let is = home_is s.pass c.in-Some.home s.callers s.markers c.in-Some.is c.self.invariant in
     let view = home_view s.pass c.in-Some.home s.callers s.markers c.args.self.now c.in-Some.is c.self.view_is in
-    subst (λ (p : PassState). IsHost (record { pass = p; callers = h.callers; markers = h.markers })) (sym c.split-pass.ensures.pass)
+    subst (λ (p : PassState). IsHost (record { pass = p; callers = h.callers; markers = h.markers }))
+    (sym c.split-pass.ensures.pass)
     (caller_out_is_host h c.args.caller
     (subst (λ (g : HostState). c.args.caller < g.callers) (sym view) c.requires.made) is)

@@ -69,7 +69,8 @@ pub returns-clause-cycle : goal.returns-clause-cycle
 returns-clause-cycle g c =
     let s = c.self.inside in
     let t = c.take_idle_turn-turn.ensures.takes in
-    let view = home_view s.pass c.in-Some.home s.callers s.markers c.args.self.now (sym c.take.ensures.value ∙ c.in-Some.is)
+    let view = home_view s.pass c.in-Some.home s.callers s.markers c.args.self.now (sym c.take.ensures.value
+    ∙ c.in-Some.is)
     c.self.view_is in
     record {
       makes = record {

@@ -19,10 +19,13 @@ invariant_of-self c =
     let q : PassState = c.join.new.into in
     let table : h.pass.table ≡ c.args.heap.now = ap (λ (g : HostState). g.pass.table) view ∙ c.requires.one_table in
     let kept : q.table ≡ h.pass.table = ap (λ (p : PassState). p.table) c.join.ensures.pass in
-    subst (λ (p : PassState). IsHost (record { pass = p; callers = h.callers; markers = h.markers })) (sym c.join.ensures.pass)
-    (joined_is_host h c.args.pass q.seen is c.is_in_order-in-Some.ensures.own (out_is_done c.args.pass c.is_in_order.ensures.history c.requires.alone c.requires.marker c.requires.out)
+    subst (λ (p : PassState). IsHost (record { pass = p; callers = h.callers; markers = h.markers }))
+    (sym c.join.ensures.pass)
+    (joined_is_host h c.args.pass q.seen is c.is_in_order-in-Some.ensures.own
+    (out_is_done c.args.pass c.is_in_order.ensures.history c.requires.alone c.requires.marker c.requires.out)
     (c.requires.of_table ∙ sym table)
-    (subst (λ (w : WordsState). IsHistory w.config q.seen) kept c.is_in_order-in-Some-2.ensures.history) c.join.ensures.own c.join.ensures.came)
+    (subst (λ (w : WordsState). IsHistory w.config q.seen) kept c.is_in_order-in-Some-2.ensures.history)
+    c.join.ensures.own c.join.ensures.came)
 
 pub returns-clause-overs : goal.returns-clause-overs
 returns-clause-overs c =
@@ -31,7 +34,8 @@ returns-clause-overs c =
     let is = home_is s.pass c.in-Some.home s.callers s.markers c.in-Some.is c.self.invariant in
     let view = home_view s.pass c.in-Some.home s.callers s.markers c.args.self.now c.in-Some.is c.self.view_is in
     let q : PassState = c.join.new.into in
-    joined_overs h q is c.is_in_order-in-Some.ensures.own (ap (λ (r : PassState). r.table) c.join.ensures.pass) c.is_in_order-in-Some-2.ensures.history c.join.ensures.own
+    joined_overs h q is c.is_in_order-in-Some.ensures.own (ap (λ (r : PassState). r.table) c.join.ensures.pass)
+    c.is_in_order-in-Some-2.ensures.history c.join.ensures.own
     ∙ ap (λ (g : HostState). has_over g.pass.seen) view
 
 pub returns-clause-reached : goal.returns-clause-reached
@@ -39,4 +43,5 @@ returns-clause-reached c =
     let s = c.self.inside in
     let view = home_view s.pass c.in-Some.home s.callers s.markers c.args.self.now c.in-Some.is c.self.view_is in
     let q : PassState = c.join.new.into in
-    subst (λ (h : HostState). SweepsNothing h.pass q) view (grown_sweeps c.in-Some.home q c.is_in_order-in-Some.ensures.own c.join.ensures.own)
+    subst (λ (h : HostState). SweepsNothing h.pass q) view
+    (grown_sweeps c.in-Some.home q c.is_in_order-in-Some.ensures.own c.join.ensures.own)

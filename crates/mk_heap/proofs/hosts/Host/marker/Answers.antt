@@ -12,7 +12,8 @@ split-pass-requires-clause-out c =
     let h : HostState = home_host c.in-Some.home s.callers s.markers in
     let is = home_is s.pass c.in-Some.home s.callers s.markers c.in-Some.is c.self.invariant in
     let view = home_view s.pass c.in-Some.home s.callers s.markers c.args.self.now c.in-Some.is c.self.view_is in
-    next_is_out h is (few_markers h c.args.self.now c.heap.inside.words c.args.heap.now view c.heap.view_is c.requires.more c.is_within_limits.ensures)
+    next_is_out h is (few_markers h c.args.self.now c.heap.inside.words c.args.heap.now view c.heap.view_is
+    c.requires.more c.is_within_limits.ensures)
 
 pub new-requires-clause-marker : goal.new-requires-clause-marker
 new-requires-clause-marker c =
@@ -20,12 +21,14 @@ new-requires-clause-marker c =
     let h : HostState = home_host c.in-Some.home s.callers s.markers in
     let view = home_view s.pass c.in-Some.home s.callers s.markers c.args.self.now c.in-Some.is c.self.view_is in
     subst (λ (p : PassState). IsMarkers p) (sym c.split-pass.ensures.made)
-    (next_is_markers h (few_markers h c.args.self.now c.heap.inside.words c.args.heap.now view c.heap.view_is c.requires.more c.is_within_limits.ensures))
+    (next_is_markers h (few_markers h c.args.self.now c.heap.inside.words c.args.heap.now view c.heap.view_is
+    c.requires.more c.is_within_limits.ensures))
 
 pub invariant_of-self : goal.invariant_of-self
 invariant_of-self c =
     let s = c.self.inside in
     let h : HostState = home_host c.in-Some.home s.callers s.markers in
     let is = home_is s.pass c.in-Some.home s.callers s.markers c.in-Some.is c.self.invariant in
-    subst (λ (p : PassState). IsHost (record { pass = p; callers = h.callers; markers = h.markers + 1 })) (sym c.split-pass.ensures.pass)
+    subst (λ (p : PassState). IsHost (record { pass = p; callers = h.callers; markers = h.markers + 1 }))
+    (sym c.split-pass.ensures.pass)
     (marker_made_is_host h is)

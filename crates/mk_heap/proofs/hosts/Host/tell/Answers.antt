@@ -16,30 +16,36 @@ use Rattle.mk_heap.proofs.hosts.Host.tell.Goals as goal
 pub look-found-requires-clause-admitted : goal.look-found-requires-clause-admitted
 look-found-requires-clause-admitted g c = λ decides.
     let s = c.self.inside in
-    let is = home_is s.pass c.in-Some.home s.callers s.markers (sym c.take.ensures.value ∙ c.in-Some.is) c.self.invariant in
+    let is = home_is s.pass c.in-Some.home s.callers s.markers (sym c.take.ensures.value
+    ∙ c.in-Some.is) c.self.invariant in
     let p : PassState = c.take_turn-turn.result.pass in
-    let host : p.seat ≡ Host = ap (λ (x : PassState). x.seat) (turn_moves c.in-Some.home p c.take_turn-turn.ensures.takes).is ∙ is.seat in
+    let host : p.seat ≡ Host =
+    ap (λ (x : PassState). x.seat) (turn_moves c.in-Some.home p c.take_turn-turn.ensures.takes).is ∙ is.seat in
     look_admitted p c.args.x host c.is_in_order-in-Some.ensures.history
 
 pub give-back-requires-clause-tidy : goal.give-back-requires-clause-tidy
 give-back-requires-clause-tidy g c =
     let s = c.self.inside in
-    let is = home_is s.pass c.in-Some.home s.callers s.markers (sym c.take.ensures.value ∙ c.in-Some.is) c.self.invariant in
+    let is = home_is s.pass c.in-Some.home s.callers s.markers (sym c.take.ensures.value
+    ∙ c.in-Some.is) c.self.invariant in
     let p : PassState = c.take_turn-turn.result.pass in
-    let host : p.seat ≡ Host = ap (λ (x : PassState). x.seat) (turn_moves c.in-Some.home p c.take_turn-turn.ensures.takes).is ∙ is.seat in
+    let host : p.seat ≡ Host =
+    ap (λ (x : PassState). x.seat) (turn_moves c.in-Some.home p c.take_turn-turn.ensures.takes).is ∙ is.seat in
     look_tidy p c.look-found.new.self.pass c.args.x c.look-found.ensures.acts host c.take_turn-turn.ensures.tidy
 
 pub invariant_of-self : goal.invariant_of-self
 invariant_of-self g c =
     let s = c.self.inside in
     let h : HostState = home_host c.in-Some.home s.callers s.markers in
-    let is = home_is s.pass c.in-Some.home s.callers s.markers (sym c.take.ensures.value ∙ c.in-Some.is) c.self.invariant in
+    let is = home_is s.pass c.in-Some.home s.callers s.markers (sym c.take.ensures.value
+    ∙ c.in-Some.is) c.self.invariant in
     let p : PassState = c.take_turn-turn.result.pass in
     let q : PassState = c.look-found.new.self.pass in
     let r : PassState = c.give-back.result in
     moved_is_host h r is
     (moves_more h.pass q r step.Give
-    (moves_more h.pass p q (step.Look c.args.x) (turn_moves h.pass p c.take_turn-turn.ensures.takes) c.look-found.ensures.acts.makes)
+    (moves_more h.pass p q (step.Look c.args.x) (turn_moves h.pass p c.take_turn-turn.ensures.takes)
+    c.look-found.ensures.acts.makes)
     c.give-back.ensures.acts.makes)
     c.is_in_order-in-Some-3.ensures.history (given_no_turn q r c.give-back.ensures.acts)
 
@@ -47,9 +53,11 @@ pub returns-clause-overs : goal.returns-clause-overs
 returns-clause-overs g c =
     let s = c.self.inside in
     let h : HostState = home_host c.in-Some.home s.callers s.markers in
-    let is = home_is s.pass c.in-Some.home s.callers s.markers (sym c.take.ensures.value ∙ c.in-Some.is) c.self.invariant in
+    let is = home_is s.pass c.in-Some.home s.callers s.markers (sym c.take.ensures.value
+    ∙ c.in-Some.is) c.self.invariant in
     let view =
-    home_view s.pass c.in-Some.home s.callers s.markers c.args.self.now (sym c.take.ensures.value ∙ c.in-Some.is) c.self.view_is in
+    home_view s.pass c.in-Some.home s.callers s.markers c.args.self.now (sym c.take.ensures.value
+    ∙ c.in-Some.is) c.self.view_is in
     let p : PassState = c.take_turn-turn.result.pass in
     let q : PassState = c.look-found.new.self.pass in
     let r : PassState = c.give-back.result in

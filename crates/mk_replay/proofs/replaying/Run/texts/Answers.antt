@@ -17,12 +17,17 @@ loop-player-preserved c = record {
       let p = c.player-item.result in
       let within : n < length players = search rules in
       let item : get_or players n p ≡ p = search rules in
-      let is = subst (λ (x : Player). IsPlayerOf program n (served_to (config_of program 8) es n) x) item (h n p within) in
+      let is = subst (λ (x : Player). IsPlayerOf program n (served_to (config_of program 8) es n) x) item
+      (h n p within) in
       let t = c.in_ok-text.ensures program es n is in
       subst (λ (xs : List Text). AreFirstTexts program es xs) (sym c.in_ok-push.ensures.items)
       (texts_push program es texts c.in_ok-text.text (c.loop-player.invariant.texts program es h)
-      (subst (λ (i : ℕ). IsTextOf program es i c.in_ok-text.text.bytes.items c.in_ok-text.text.ops c.in_ok-text.text.refused) (sym c.loop-player.invariant.count) t));
+      (subst (λ (i : ℕ). IsTextOf program es i c.in_ok-text.text.bytes.items c.in_ok-text.text.ops
+      c.in_ok-text.text.refused) (sym c.loop-player.invariant.count) t));
 }
 
 pub returns : goal.returns
-returns c = λ program es h. record { count = (let n = h.count in search rules); each = c.loop-player.invariant.texts program es h.players }
+returns c = λ program es h. record {
+  count = (let n = h.count in search rules);
+  each = c.loop-player.invariant.texts program es h.players;
+}

@@ -1,25 +1,31 @@
 use Rattle.std.proofs.Common.{◌≡◌, ◌∙◌, false, ◌||◌, [], ◌∷◌, reverse, ap, refl, sym}
 use Rattle.mk_script.specs.Lines.{is_twice, is_among}
-use Rattle.mk_script.specs.Scopes.{type_names, global_names, script_names, pointer_names, number_names, this_script, is_script, is_instruction}
+use Rattle.mk_script.specs.Scopes.{type_names, global_names, script_names, pointer_names, number_names, this_script}
+use Rattle.mk_script.specs.Scopes.{is_script, is_instruction}
 use Rattle.mk_script.proofs.NamesSoFar.{among, on_ok, among_neither}
-use Rattle.mk_script.proofs.ScopeAfter.{heap_adds, type_adds, global_adds, ptr_adds, num_adds, other_adds, kept, after_line, after_script, or-false, or-true}
+use Rattle.mk_script.proofs.ScopeAfter.{heap_adds, type_adds, global_adds, ptr_adds, num_adds, other_adds, kept}
+use Rattle.mk_script.proofs.ScopeAfter.{after_line, after_script, or-false, or-true}
 use Rattle.mk_script.proofs.scope.Scope.add.Goals as goal
 
 pub returns-in-Heap : goal.returns-in-Heap
 returns-in-Heap c = λ before scope fresh.
     let old = c.args.self.now in
     let is = c.in-Heap.is in
-    after_line old _ before c.args.item.now [] [] [] [] [] scope (heap_adds c.in-Heap.pages c.in-Heap.resident c.args.item.now is) (ap is_script is)
+    after_line old _ before c.args.item.now [] [] [] [] [] scope
+    (heap_adds c.in-Heap.pages c.in-Heap.resident c.args.item.now is) (ap is_script is)
     refl refl (sym (or-false old.has_instruction (is_instruction c.args.item.now) (ap is_instruction is)))
-    (kept old.types) (kept old.globals) (kept old.scripts) (kept old.pointers) (kept old.numbers) c.in_ok-follow_blocks.ensures
+    (kept old.types) (kept old.globals) (kept old.scripts) (kept old.pointers)
+    (kept old.numbers) c.in_ok-follow_blocks.ensures
 
 pub returns-in-TypeLine : goal.returns-in-TypeLine
 returns-in-TypeLine c = λ before scope fresh.
     let old = c.args.self.now in
     let is = c.in-TypeLine.is in
-    let absent : is_among c.in-TypeLine.name old.types ≡ false = among c.in-TypeLine.name (type_names before) old.types scope.types ∙ sym (ap (is_twice before) is) ∙ fresh in
+    let absent : is_among c.in-TypeLine.name old.types ≡ false =
+    among c.in-TypeLine.name (type_names before) old.types scope.types ∙ sym (ap (is_twice before) is) ∙ fresh in
     on_ok c.insert.result (c.insert.ensures absent) (λ added.
-    after_line old _ before c.args.item.now (c.in-TypeLine.name ∷ []) [] [] [] [] scope (type_adds c.in-TypeLine.name c.in-TypeLine.words c.args.item.now is) (ap is_script is)
+    after_line old _ before c.args.item.now (c.in-TypeLine.name ∷ []) [] [] [] [] scope
+    (type_adds c.in-TypeLine.name c.in-TypeLine.words c.args.item.now is) (ap is_script is)
     refl refl (sym (or-false old.has_instruction (is_instruction c.args.item.now) (ap is_instruction is)))
     added (kept old.globals) (kept old.scripts) (kept old.pointers) (kept old.numbers) c.in_ok-follow_blocks.ensures)
 
@@ -27,9 +33,12 @@ pub returns-in-Global : goal.returns-in-Global
 returns-in-Global c = λ before scope fresh.
     let old = c.args.self.now in
     let is = c.in-Global.is in
-    let absent : is_among c.in-Global.name old.globals ≡ false = among c.in-Global.name (global_names before) old.globals scope.globals ∙ sym (ap (is_twice before) is) ∙ fresh in
+    let absent : is_among c.in-Global.name old.globals ≡ false =
+    among c.in-Global.name (global_names before) old.globals scope.globals ∙ sym (ap (is_twice before) is)
+    ∙ fresh in
     on_ok c.insert-in-Global.result (c.insert-in-Global.ensures absent) (λ added.
-    after_line old _ before c.args.item.now [] (c.in-Global.name ∷ []) [] [] [] scope (global_adds c.in-Global.name c.in-Global.ty c.args.item.now is) (ap is_script is)
+    after_line old _ before c.args.item.now [] (c.in-Global.name ∷ []) [] [] [] scope
+    (global_adds c.in-Global.name c.in-Global.ty c.args.item.now is) (ap is_script is)
     refl refl (sym (or-false old.has_instruction (is_instruction c.args.item.now) (ap is_instruction is)))
     (kept old.types) added (kept old.scripts) (kept old.pointers) (kept old.numbers) c.in_ok-follow_blocks.ensures)
 
@@ -37,9 +46,13 @@ pub returns-in-Ptr : goal.returns-in-Ptr
 returns-in-Ptr c = λ before scope fresh.
     let old = c.args.self.now in
     let is = c.in-Ptr.is in
-    let absent : is_among c.in-Ptr.name old.pointers ≡ false = (among_neither c.in-Ptr.name (pointer_names (this_script before)) old.pointers (number_names (this_script before)) old.numbers scope.pointers scope.numbers (sym (ap (is_twice before) is) ∙ fresh)).0 in
+    let absent : is_among c.in-Ptr.name old.pointers ≡ false =
+    (among_neither c.in-Ptr.name (pointer_names (this_script before)) old.pointers
+    (number_names (this_script before)) old.numbers scope.pointers scope.numbers (sym (ap (is_twice before) is)
+    ∙ fresh)).0 in
     on_ok c.insert-in-Ptr.result (c.insert-in-Ptr.ensures absent) (λ added.
-    after_line old _ before c.args.item.now [] [] [] (c.in-Ptr.name ∷ []) [] scope (ptr_adds c.in-Ptr.name c.in-Ptr.at c.args.item.now is) (ap is_script is)
+    after_line old _ before c.args.item.now [] [] [] (c.in-Ptr.name ∷ []) [] scope
+    (ptr_adds c.in-Ptr.name c.in-Ptr.at c.args.item.now is) (ap is_script is)
     refl refl (sym (or-false old.has_instruction (is_instruction c.args.item.now) (ap is_instruction is)))
     (kept old.types) (kept old.globals) (kept old.scripts) added (kept old.numbers) c.in_ok-follow_blocks.ensures)
 
@@ -47,9 +60,13 @@ pub returns-in-Num : goal.returns-in-Num
 returns-in-Num c = λ before scope fresh.
     let old = c.args.self.now in
     let is = c.in-Num.is in
-    let absent : is_among c.in-Num.name old.numbers ≡ false = (among_neither c.in-Num.name (pointer_names (this_script before)) old.pointers (number_names (this_script before)) old.numbers scope.pointers scope.numbers (sym (ap (is_twice before) is) ∙ fresh)).1 in
+    let absent : is_among c.in-Num.name old.numbers ≡ false =
+    (among_neither c.in-Num.name (pointer_names (this_script before)) old.pointers
+    (number_names (this_script before)) old.numbers scope.pointers scope.numbers (sym (ap (is_twice before) is)
+    ∙ fresh)).1 in
     on_ok c.insert-in-Num.result (c.insert-in-Num.ensures absent) (λ added.
-    after_line old _ before c.args.item.now [] [] [] [] (c.in-Num.name ∷ []) scope (num_adds c.in-Num.name c.args.item.now is) (ap is_script is)
+    after_line old _ before c.args.item.now [] [] [] [] (c.in-Num.name ∷ []) scope
+    (num_adds c.in-Num.name c.args.item.now is) (ap is_script is)
     refl refl (sym (or-false old.has_instruction (is_instruction c.args.item.now) (ap is_instruction is)))
     (kept old.types) (kept old.globals) (kept old.scripts) (kept old.pointers) added c.in_ok-follow_blocks.ensures)
 
@@ -57,10 +74,13 @@ pub returns-in-Script : goal.returns-in-Script
 returns-in-Script c = λ before scope fresh.
     let old = c.args.self.now in
     let is = c.in-Script.is in
-    let absent : is_among c.in-Script.name old.scripts ≡ false = among c.in-Script.name (script_names before) old.scripts scope.scripts ∙ sym (ap (is_twice before) is) ∙ fresh in
+    let absent : is_among c.in-Script.name old.scripts ≡ false =
+    among c.in-Script.name (script_names before) old.scripts scope.scripts ∙ sym (ap (is_twice before) is)
+    ∙ fresh in
     on_ok c.begin_script.result (c.begin_script.ensures absent) (λ begun.
     after_script old c.begin_script.new.self before c.args.item.now c.in-Script.name is scope
-    (ap (λ new. new.has_header) begun.new_is) (ap (λ new. new.has_script) begun.new_is) (ap (λ new. new.has_instruction) begun.new_is)
+    (ap (λ new. new.has_header) begun.new_is) (ap (λ new. new.has_script) begun.new_is)
+    (ap (λ new. new.has_instruction) begun.new_is)
     (ap (λ new. new.types) begun.new_is) (ap (λ new. new.globals) begun.new_is) begun.scripts
     (ap (λ new. new.pointers) begun.new_is) (ap (λ new. new.numbers) begun.new_is)
     (ap (λ new. reverse new.blocks.items) begun.new_is ∙ c.in_ok-follow_blocks.ensures))
@@ -68,7 +88,9 @@ returns-in-Script c = λ before scope fresh.
 pub returns-in_default : goal.returns-in_default
 returns-in_default c = λ before scope fresh.
     let old = c.args.self.now in
-    let other = other_adds c.args.item.now c.in_default.not-Heap c.in_default.not-TypeLine c.in_default.not-Global c.in_default.not-Script c.in_default.not-Ptr c.in_default.not-Num in
+    let other = other_adds c.args.item.now c.in_default.not-Heap c.in_default.not-TypeLine c.in_default.not-Global
+    c.in_default.not-Script c.in_default.not-Ptr c.in_default.not-Num in
     after_line old _ before c.args.item.now [] [] [] [] [] scope other.0 other.1
     refl refl (sym (ap (λ some. old.has_instruction || some) other.2 ∙ or-true old.has_instruction))
-    (kept old.types) (kept old.globals) (kept old.scripts) (kept old.pointers) (kept old.numbers) c.in_ok-follow_blocks.ensures
+    (kept old.types) (kept old.globals) (kept old.scripts) (kept old.pointers)
+    (kept old.numbers) c.in_ok-follow_blocks.ensures

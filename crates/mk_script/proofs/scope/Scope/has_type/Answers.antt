@@ -4,4 +4,5 @@ use Rattle.mk_script.proofs.NamesSoFar.{among}
 use Rattle.mk_script.proofs.scope.Scope.has_type.Goals as goal
 
 pub returns : goal.returns
-returns c = λ before scope. c.contains.ensures ∙ among c.args.name.now (type_names before) c.args.self.now.types scope.types
+returns c = λ before scope. c.contains.ensures
+    ∙ among c.args.name.now (type_names before) c.args.self.now.types scope.types

@@ -8,29 +8,34 @@ use Rattle.mk_words.proofs.Markers.{other_pass}
 use Rattle.mk_words.proofs.passes.Pass.perform.Goals as goal
 
 pub perform_as-requires-clause-one_table : goal.perform_as-requires-clause-one_table
-perform_as-requires-clause-one_table c = subst (λ (r : PassState). r.table ≡ c.args.words.now) (sym c.self.view_is) c.requires.one_table
+perform_as-requires-clause-one_table c =
+    subst (λ (r : PassState). r.table ≡ c.args.words.now) (sym c.self.view_is) c.requires.one_table
 
 pub perform_as-requires-clause-may : goal.perform_as-requires-clause-may
 perform_as-requires-clause-may c = subst (λ (r : PassState). May r c.args.step) (sym c.self.view_is) c.requires.may
 
 pub perform_as-requires-clause-word : goal.perform_as-requires-clause-word
 perform_as-requires-clause-word c =
-    subst (λ (r : PassState). c.args.word ≡ reached r.table.config (now_of r) (event_of r c.args.step)) (sym c.self.view_is) c.requires.word
+    subst (λ (r : PassState). c.args.word ≡ reached r.table.config (now_of r) (event_of r c.args.step))
+    (sym c.self.view_is) c.requires.word
 
 pub perform_as-requires-clause-access : goal.perform_as-requires-clause-access
 perform_as-requires-clause-access c =
-    subst (λ (r : PassState). c.args.by ≡ access r.table.config (now_of r) (event_of r c.args.step)) (sym c.self.view_is) c.requires.access
+    subst (λ (r : PassState). c.args.by ≡ access r.table.config (now_of r) (event_of r c.args.step))
+    (sym c.self.view_is) c.requires.access
 
 pub invariant_of-self : goal.invariant_of-self
 invariant_of-self c =
     let p = c.self.inside in
     let f = c.perform_as in
-    other_pass p.token.table_id f.new.token.table_id p.token.me f.new.token.me p.seat p.marker c.args.step f.result c.self.invariant f.ensures.order f.ensures.told c.requires.kind
+    other_pass p.token.table_id f.new.token.table_id p.token.me f.new.token.me p.seat p.marker c.args.step f.result
+    c.self.invariant f.ensures.order f.ensures.told c.requires.kind
 
 pub returns-clause-told : goal.returns-clause-told
 returns-clause-told c =
     let f = c.perform_as in
-    subst (λ (r : PassState). Tells r c.args.step f.result (state_of f.new.token.table_id f.new.token.me c.self.inside.seat)) c.self.view_is f.ensures.told
+    subst (λ (r : PassState). Tells r c.args.step f.result
+    (state_of f.new.token.table_id f.new.token.me c.self.inside.seat)) c.self.view_is f.ensures.told
 
 pub returns-clause-own : goal.returns-clause-own
 returns-clause-own c = subst (λ (r : PassState). Has r.seats r.seat) c.self.view_is c.self.invariant.order.own

@@ -9,29 +9,34 @@ use Rattle.mk_words.proofs.Markers.{other_pass_made}
 use Rattle.mk_words.proofs.passes.Pass.replace.Goals as goal
 
 pub replace_as-requires-clause-one_table : goal.replace_as-requires-clause-one_table
-replace_as-requires-clause-one_table c = subst (λ (r : PassState). r.table ≡ c.args.words.now) (sym c.self.view_is) c.requires.one_table
+replace_as-requires-clause-one_table c =
+    subst (λ (r : PassState). r.table ≡ c.args.words.now) (sym c.self.view_is) c.requires.one_table
 
 pub replace_as-requires-clause-may : goal.replace_as-requires-clause-may
 replace_as-requires-clause-may c = subst (λ (r : PassState). May r c.args.step) (sym c.self.view_is) c.requires.may
 
 pub replace_as-requires-clause-word : goal.replace_as-requires-clause-word
 replace_as-requires-clause-word c =
-    subst (λ (r : PassState). c.args.word ≡ reached r.table.config (now_of r) (event_of r c.args.step)) (sym c.self.view_is) c.requires.word
+    subst (λ (r : PassState). c.args.word ≡ reached r.table.config (now_of r) (event_of r c.args.step))
+    (sym c.self.view_is) c.requires.word
 
 pub replace_as-requires-clause-access : goal.replace_as-requires-clause-access
 replace_as-requires-clause-access c =
-    subst (λ (r : PassState). Store c.args.value ≡ access r.table.config (now_of r) (event_of r c.args.step)) (sym c.self.view_is) c.requires.access
+    subst (λ (r : PassState). Store c.args.value ≡ access r.table.config (now_of r) (event_of r c.args.step))
+    (sym c.self.view_is) c.requires.access
 
 pub invariant_of-self : goal.invariant_of-self
 invariant_of-self c =
     let p = c.self.inside in
     let f = c.replace_as in
-    other_pass_made p.token.table_id f.new.token.table_id p.token.me f.new.token.me p.seat p.marker c.args.step c.self.invariant f.ensures.order f.ensures.finds.makes c.requires.kind
+    other_pass_made p.token.table_id f.new.token.table_id p.token.me f.new.token.me p.seat p.marker c.args.step
+    c.self.invariant f.ensures.order f.ensures.finds.makes c.requires.kind
 
 pub returns-clause-finds : goal.returns-clause-finds
 returns-clause-finds c =
     let f = c.replace_as in
-    subst (λ (r : PassState). Finds r c.args.step f.result (state_of f.new.token.table_id f.new.token.me c.self.inside.seat)) c.self.view_is f.ensures.finds
+    subst (λ (r : PassState). Finds r c.args.step f.result
+    (state_of f.new.token.table_id f.new.token.me c.self.inside.seat)) c.self.view_is f.ensures.finds
 
 pub returns-clause-own : goal.returns-clause-own
 returns-clause-own c = subst (λ (r : PassState). Has r.seats r.seat) c.self.view_is c.self.invariant.order.own

@@ -6,19 +6,24 @@ pub invariant_of-result : goal.invariant_of-result
 invariant_of-result c =
     let f = c.perform-found in
     record {
-      turn = takes c.args.self c.args.op f.result f.new.self f.ensures.told f.ensures.own f.ensures.history c.if-found-eq0.true;
-      knows = fresh_knows f.new.self c.args.op (takes_fresh c.args.self c.args.op f.result f.new.self f.ensures.told f.ensures.own f.ensures.history c.if-found-eq0.true);
+      turn = takes c.args.self c.args.op f.result f.new.self f.ensures.told f.ensures.own f.ensures.history
+          c.if-found-eq0.true;
+      knows = fresh_knows f.new.self c.args.op
+          (takes_fresh c.args.self c.args.op f.result f.new.self f.ensures.told f.ensures.own f.ensures.history
+          c.if-found-eq0.true);
     }
 
 pub returns-then-found-eq0-clause-made : goal.returns-then-found-eq0-clause-made
 returns-then-found-eq0-clause-made c =
     let f = c.perform-found in
-    take_finds c.args.self c.args.op f.result f.new.self f.ensures.told f.ensures.own f.ensures.history 0 c.if-found-eq0.true
+    take_finds c.args.self c.args.op f.result f.new.self f.ensures.told f.ensures.own f.ensures.history 0
+    c.if-found-eq0.true
 
 pub returns-then-found-eq0-clause-fresh : goal.returns-then-found-eq0-clause-fresh
 returns-then-found-eq0-clause-fresh c =
     let f = c.perform-found in
-    takes_fresh c.args.self c.args.op f.result f.new.self f.ensures.told f.ensures.own f.ensures.history c.if-found-eq0.true
+    takes_fresh c.args.self c.args.op f.result f.new.self f.ensures.told f.ensures.own f.ensures.history
+    c.if-found-eq0.true
 
 pub returns-else-found-eq0-clause-busy : goal.returns-else-found-eq0-clause-busy
 returns-else-found-eq0-clause-busy c =
@@ -29,19 +34,23 @@ returns-else-found-eq0-clause-busy c =
 pub returns-then-found-eq0-clause-exact : goal.returns-then-found-eq0-clause-exact
 returns-then-found-eq0-clause-exact c =
     let f = c.perform-found in
-    (take_counts c.args.self c.args.op f.result f.new.self f.ensures.told f.ensures.own f.ensures.history c.is_in_order.ensures.tidy c.if-found-eq0.true).0
+    (take_counts c.args.self c.args.op f.result f.new.self f.ensures.told f.ensures.own f.ensures.history
+    c.is_in_order.ensures.tidy c.if-found-eq0.true).0
 
 pub returns-then-found-eq0-clause-tidy : goal.returns-then-found-eq0-clause-tidy
 returns-then-found-eq0-clause-tidy c =
     let f = c.perform-found in
-    (take_counts c.args.self c.args.op f.result f.new.self f.ensures.told f.ensures.own f.ensures.history c.is_in_order.ensures.tidy c.if-found-eq0.true).1
+    (take_counts c.args.self c.args.op f.result f.new.self f.ensures.told f.ensures.own f.ensures.history
+    c.is_in_order.ensures.tidy c.if-found-eq0.true).1
 
 pub returns-else-found-eq0-clause-stays : goal.returns-else-found-eq0-clause-stays
 returns-else-found-eq0-clause-stays c =
     let f = c.perform-found in
-    (take_waits c.args.self c.args.op f.result f.new.self f.ensures.told f.ensures.own f.ensures.history c.if-found-eq0.false).0
+    (take_waits c.args.self c.args.op f.result f.new.self f.ensures.told f.ensures.own f.ensures.history
+    c.if-found-eq0.false).0
 
 pub returns-else-found-eq0-clause-again : goal.returns-else-found-eq0-clause-again
 returns-else-found-eq0-clause-again c =
     let f = c.perform-found in
-    (take_waits c.args.self c.args.op f.result f.new.self f.ensures.told f.ensures.own f.ensures.history c.if-found-eq0.false).1
+    (take_waits c.args.self c.args.op f.result f.new.self f.ensures.told f.ensures.own f.ensures.history
+    c.if-found-eq0.false).1

@@ -6,4 +6,5 @@ use Rattle.mk_words.proofs.stopped.Stopped.used.Goals as goal
 pub invariant_of-self : goal.invariant_of-self
 invariant_of-self c =
     let f = c.used in
-    still_stopped c.self.inside.turn.pass (step.Used c.args.page c.args.v) f.new.self.pass f.ensures.acts refl c.is_in_order.ensures.turn.holds c.self.invariant
+    still_stopped c.self.inside.turn.pass (step.Used c.args.page c.args.v) f.new.self.pass f.ensures.acts refl
+    c.is_in_order.ensures.turn.holds c.self.invariant

@@ -8,10 +8,13 @@ pub invariant_of-self : goal.invariant_of-self
 invariant_of-self c =
     let f = c.perform in
     let t = c.self.inside in
-    let a = acts t.pass c.args.step f.new.self f.ensures.told.makes f.ensures.own f.ensures.history c.self.invariant.turn.holds in
+    let a = acts t.pass c.args.step f.new.self f.ensures.told.makes f.ensures.own f.ensures.history
+    c.self.invariant.turn.holds in
     record {
-      turn = still_turn t.pass c.args.step f.new.self f.ensures.told.makes f.ensures.own f.ensures.history t.op c.requires.stays c.self.invariant.turn;
-      knows = knows_still t.pass c.args.step f.new.self a t.cell c.requires.stays c.requires.takes_none c.self.invariant.knows;
+      turn = still_turn t.pass c.args.step f.new.self f.ensures.told.makes f.ensures.own f.ensures.history t.op
+          c.requires.stays c.self.invariant.turn;
+      knows = knows_still t.pass c.args.step f.new.self a t.cell c.requires.stays c.requires.takes_none
+          c.self.invariant.knows;
     }
 
 pub returns-clause-acts : goal.returns-clause-acts
@@ -19,4 +22,5 @@ returns-clause-acts c =
     let f = c.perform in
     let t = c.self.inside in
     subst (λ (v : TurnState). Acts v.pass c.args.step f.new.self) c.self.view_is
-    (acts t.pass c.args.step f.new.self f.ensures.told.makes f.ensures.own f.ensures.history c.self.invariant.turn.holds)
+    (acts t.pass c.args.step f.new.self f.ensures.told.makes f.ensures.own f.ensures.history
+    c.self.invariant.turn.holds)

@@ -15,7 +15,8 @@ invariant_of-self c =
     record {
       turn = still_turn t.pass s f.new.self makes f.ensures.own f.ensures.history t.op refl c.self.invariant.turn;
       knows = subst (λ (cell : Option Cell). KnowsCell f.new.self cell) (sym c.cell_behind-self-inside.ensures)
-          (used_turn t.pass c.args.page c.args.v f.result f.new.self makes f.ensures.own f.ensures.history t.cell c.self.invariant.turn.holds f.ensures.finds.finds c.ranges.v.fits
+          (used_turn t.pass c.args.page c.args.v f.result f.new.self makes f.ensures.own f.ensures.history t.cell
+          c.self.invariant.turn.holds f.ensures.finds.finds c.ranges.v.fits
           c.self.invariant.knows);
     }
 
@@ -24,4 +25,5 @@ returns-clause-acts c =
     let t = c.self.inside in
     let f = c.replace-found in
     subst (λ (v : TurnState). Acts v.pass (step.Used c.args.page c.args.v) f.new.self) c.self.view_is
-    (acts t.pass (step.Used c.args.page c.args.v) f.new.self f.ensures.finds.makes f.ensures.own f.ensures.history c.self.invariant.turn.holds)
+    (acts t.pass (step.Used c.args.page c.args.v) f.new.self f.ensures.finds.makes f.ensures.own f.ensures.history
+    c.self.invariant.turn.holds)

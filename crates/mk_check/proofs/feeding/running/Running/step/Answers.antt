@@ -9,23 +9,32 @@ use Rattle.mk_check.proofs.feeding.running.Running.step.Goals as goal
 pub returns-then-is_some-clause-stops : goal.returns-then-is_some-clause-stops
 returns-then-is_some-clause-stops c =
     let at = ap (λ (p : Place). p.at) c.self.view_is in
-    let here : node_at c.args.tree.now c.args.self.now.at ≡ node.Line c.in-Line.line c.in-Line.instruction c.in-Line.next =
+    let here : node_at c.args.tree.now c.args.self.now.at
+    ≡ node.Line c.in-Line.line c.in-Line.instruction c.in-Line.next =
     ap (node_at c.args.tree.now) (sym at) ∙ sym c.in-Line.ensures.value in
     let asks : is_some (op_asked c.args.self.now.numbers c.in-Line.instruction) ≡ true = cc in
-    λ f. asks_at c.args.tree.now c.args.self.now c.in-Line.line c.in-Line.instruction c.in-Line.next c.in-Line.ensures.tree c.requires here asks
+    λ f. asks_at c.args.tree.now c.args.self.now c.in-Line.line c.in-Line.instruction c.in-Line.next
+    c.in-Line.ensures.tree c.requires here asks
 
 pub returns-in-Done-clause-goes_on : goal.returns-in-Done-clause-goes_on
 returns-in-Done-clause-goes_on c =
     let at = ap (λ (p : Place). p.at) c.self.view_is in
-    let here : node_at c.args.tree.now c.args.self.now.at ≡ node.Done = ap (node_at c.args.tree.now) (sym at) ∙ sym c.in-Done.ensures.value in
-    IfOk-weaker c.leave.result (λ leaves. IsTrue leaves → LeavesBlock c.args.self.now c.leave.new.self) (λ more. IsTrue more → MovesOn c.args.tree.now c.args.self.now c.leave.new.self)
-    (λ b h t. end_goes_on c.args.tree.now c.args.self.now c.leave.new.self c.in-Done.ensures.tree c.requires here (h t)) c.leave.ensures.left
+    let here : node_at c.args.tree.now c.args.self.now.at ≡ node.Done = ap (node_at c.args.tree.now) (sym at)
+    ∙ sym c.in-Done.ensures.value in
+    IfOk-weaker c.leave.result (λ leaves. IsTrue leaves
+    → LeavesBlock c.args.self.now c.leave.new.self) (λ more. IsTrue more
+    → MovesOn c.args.tree.now c.args.self.now c.leave.new.self)
+    (λ b h t. end_goes_on c.args.tree.now c.args.self.now c.leave.new.self c.in-Done.ensures.tree c.requires here (h t))
+    c.leave.ensures.left
 
 pub returns-in-Done-clause-stops : goal.returns-in-Done-clause-stops
 returns-in-Done-clause-stops c =
     let at = ap (λ (p : Place). p.at) c.self.view_is in
-    let here : node_at c.args.tree.now c.args.self.now.at ≡ node.Done = ap (node_at c.args.tree.now) (sym at) ∙ sym c.in-Done.ensures.value in
-    IfOk-weaker c.leave.result (λ leaves. leaves ≡ false → (c.args.self.now.frames ≡ []) × (c.leave.new.self ≡ c.args.self.now)) (λ more. more ≡ false → HasStopped c.args.tree.now c.args.self.now c.leave.new.self)
+    let here : node_at c.args.tree.now c.args.self.now.at ≡ node.Done = ap (node_at c.args.tree.now) (sym at)
+    ∙ sym c.in-Done.ensures.value in
+    IfOk-weaker c.leave.result (λ leaves. leaves ≡ false
+    → (c.args.self.now.frames ≡ []) × (c.leave.new.self ≡ c.args.self.now)) (λ more. more ≡ false
+    → HasStopped c.args.tree.now c.args.self.now c.leave.new.self)
     (λ b h f. subst (λ (p : Place). HasStopped c.args.tree.now c.args.self.now p) (sym (h f).1)
     (ends_at c.args.tree.now c.args.self.now c.in-Done.ensures.tree c.requires here (h f).0)) c.leave.ensures.none
 
@@ -34,30 +43,39 @@ pub returns-in_ok-run_line-in-Line-clause-goes_on :
 returns-in_ok-run_line-in-Line-clause-goes_on c =
     let p = c.args.self.now in
     let at = ap (λ (q : Place). q.at) c.self.view_is in
-    let here : node_at c.args.tree.now c.args.self.now.at ≡ node.Line c.in-Line.line c.in-Line.instruction c.in-Line.next =
+    let here : node_at c.args.tree.now c.args.self.now.at
+    ≡ node.Line c.in-Line.line c.in-Line.instruction c.in-Line.next =
     ap (node_at c.args.tree.now) (sym at) ∙ sym c.in-Line.ensures.value in
     let none : is_some (op_asked c.args.self.now.numbers c.in-Line.instruction) ≡ false = cc in
-    let new : c.run_line.new.self ≡ with_kept (record p { at = c.in-Line.next }) (after_line c.in-Line.instruction (kept_in p)) =
-    c.in_ok-run_line-in-Line.ensures ∙ ap (λ (q : Place). with_kept (record q { at = c.in-Line.next }) (after_line c.in-Line.instruction (kept_in q))) c.self.view_is in
+    let new : c.run_line.new.self
+    ≡ with_kept (record p { at = c.in-Line.next }) (after_line c.in-Line.instruction (kept_in p)) =
+    c.in_ok-run_line-in-Line.ensures
+    ∙ ap (λ (q : Place). with_kept (record q { at = c.in-Line.next })
+    (after_line c.in-Line.instruction (kept_in q))) c.self.view_is in
     λ t. subst (λ (q : Place). MovesOn c.args.tree.now p q) (sym new)
-    (line_goes_on c.args.tree.now p c.in-Line.line c.in-Line.instruction c.in-Line.next c.in-Line.ensures.tree c.requires here none)
+    (line_goes_on c.args.tree.now p c.in-Line.line c.in-Line.instruction c.in-Line.next c.in-Line.ensures.tree
+    c.requires here none)
 
 pub returns-in_ok-enter-in-Rounds-clause-goes_on :
     goal.returns-in_ok-enter-in-Rounds-clause-goes_on
 returns-in_ok-enter-in-Rounds-clause-goes_on c =
     let p = c.args.self.now in
     let at = ap (λ (q : Place). q.at) c.self.view_is in
-    let here : node_at c.args.tree.now c.args.self.now.at ≡ node.Rounds c.in-Rounds.rounds c.in-Rounds.body c.in-Rounds.next =
+    let here : node_at c.args.tree.now c.args.self.now.at
+    ≡ node.Rounds c.in-Rounds.rounds c.in-Rounds.body c.in-Rounds.next =
     ap (node_at c.args.tree.now) (sym at) ∙ sym c.in-Rounds.ensures.value in
     λ t. subst (λ (q : Place). MovesOn c.args.tree.now p q) (sym c.in_ok-enter-in-Rounds.ensures)
-    (rounds_go_on c.args.tree.now p c.in-Rounds.rounds c.in-Rounds.body c.in-Rounds.next c.in-Rounds.ensures.tree c.requires here)
+    (rounds_go_on c.args.tree.now p c.in-Rounds.rounds c.in-Rounds.body c.in-Rounds.next c.in-Rounds.ensures.tree
+    c.requires here)
 
 pub returns-in_ok-choose-in-Choice-clause-goes_on :
     goal.returns-in_ok-choose-in-Choice-clause-goes_on
 returns-in_ok-choose-in-Choice-clause-goes_on c =
     let p = c.args.self.now in
     let at = ap (λ (q : Place). q.at) c.self.view_is in
-    let here : node_at c.args.tree.now c.args.self.now.at ≡ node.Choice c.in-Choice.number c.in-Choice.first c.in-Choice.second c.in-Choice.next =
+    let here : node_at c.args.tree.now c.args.self.now.at
+    ≡ node.Choice c.in-Choice.number c.in-Choice.first c.in-Choice.second c.in-Choice.next =
     ap (node_at c.args.tree.now) (sym at) ∙ sym c.in-Choice.ensures.value in
     λ t. subst (λ (q : Place). MovesOn c.args.tree.now p q) (sym c.in_ok-choose-in-Choice.ensures)
-    (choice_goes_on c.args.tree.now p c.in-Choice.number c.in-Choice.first c.in-Choice.second c.in-Choice.next c.in-Choice.ensures.tree c.requires here)
+    (choice_goes_on c.args.tree.now p c.in-Choice.number c.in-Choice.first c.in-Choice.second c.in-Choice.next
+    c.in-Choice.ensures.tree c.requires here)
