@@ -196,7 +196,8 @@ impl Core {
     /// Whether a cycle was begun and ended in this call, and nothing fits.
     pub(crate) fn is_full(&self, flight: Flight) -> bool
         ensures { result ≡ is_full self.now.config.resident self.now.now.words.pages
-            (object_made self.now.config flight.op) self.now.now.seats.holding.placing self.now.now.seats.holding.cycle }
+            (object_made self.now.config flight.op)
+            self.now.now.seats.holding.placing self.now.now.seats.holding.cycle }
     {
         match (self.holding.placing, self.holding.cycle) {
             (Placing::Unplaced, OwnCycle::Ended) => self.first_fit(flight.op).is_none(),
