@@ -2,7 +2,7 @@
 -- look up.
 -- Private functions cite these words, and public clauses only by what a `Feed` stands for.
 use Rattle.std.specs.Prelude.{ℕ, zero, suc, ◌+◌, ◌-◌, ◌%◌, ◌^◌, Bool, true, false, List, ◌++◌, slice_index, slice_set}
-use Rattle.std.specs.Prelude.{◌==◌, if◌then◌else◌, Option, Some, None, is_some, unwrap_or}
+use Rattle.std.specs.Prelude.{◌==◌, ◌&&◌, if◌then◌else◌, not, Option, Some, None, is_some, unwrap_or}
 use Rattle.std.specs.Option.{option_or}
 use Rattle.std.specs.Fmt.{decimal}
 use Rattle.mk_never.specs.declared.operations.Op.{Op}
@@ -18,7 +18,8 @@ use Rattle.mk_check.specs.declared.feeding.instructions.Element.TheVariants as e
 use Rattle.mk_check.specs.Declarations.{place_of}
 use Rattle.mk_check.specs.Blocks.{Blocks}
 use Rattle.mk_check.specs.Blocks as blocks
-use Rattle.mk_check.specs.Feed.{Scope, pointer_place, newline, refusal_line, refusal_text, answered_number, show_text}
+use Rattle.mk_check.specs.Feed.{Scope, pointer_place, newline, refusal_line, refusal_text, is_refusal, answered_number}
+use Rattle.mk_check.specs.Feed.{show_text}
 
 -- Lines to run, as Blocks has them.
 pub data Steps : Type 0 where
@@ -199,6 +200,14 @@ after_answer (Ask o) a kept = kept
 after_answer (Store q i number) a kept = kept
 after_answer (Load number o) a kept = with_value kept number (answered_number a)
 after_answer (Show p) a kept = with_text kept (show_text (answered_number a))
+
+abbrev pub is_show : Instruction → Bool
+is_show (Show p) = true
+is_show instruction = false
+
+-- The instruction prints nothing when it takes this answer.
+abbrev pub is_silent : Instruction → Answer → Bool
+is_silent instruction a = not (is_refusal a) && not (is_show instruction)
 
 -- where the steps stop that begin with an instruction which is answered
 abbrev pub stop_on_answer : Steps → Answer → Kept → Stopped

@@ -88,7 +88,8 @@ impl Feed {
         }
     }
 
-    /// Answers the operation that waits, and runs on to the next, or to the end.
+    /// Answers the operation that waits, and runs on to the next, or to the end. Mostly that is the next line, and then
+    /// no memory is taken.
     pub fn answer(&mut self, alloc: Global, answer: Answer) -> Result<(), NoMemory>
         requires { IsWaiting self.old }
         ensures ok { OnOk result (TakesAnswer self.old answer self.new) }
@@ -103,6 +104,10 @@ impl Feed {
         else {
             unreachable!()
         };
+        if self.tree.asks(next) && instruction.is_silent(answer) {
+            self.running.take_at(next, instruction, answer);
+            return Ok(());
+        }
         self.ahead.copy_at(&self.running, next)?;
         self.ahead.print_refusal(alloc, line, answer)?;
         self.ahead.take(instruction, answer)?;

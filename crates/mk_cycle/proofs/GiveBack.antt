@@ -8,7 +8,7 @@ use Rattle.mk_geom.specs.Headers.{header_of}
 use Rattle.mk_core.specs.declared.config.Config.{Config}
 use Rattle.mk_core.specs.declared.events.Step.TheVariants as step
 use Rattle.mk_core.specs.Bits.{has_bit, without}
-use Rattle.mk_core.specs.Cells.{header_in, left_unmarked, words_under}
+use Rattle.mk_core.specs.Cells.{header_in, is_unmapped_header, left_unmarked, words_under}
 use Rattle.mk_core.specs.TurnConditions.{drops, gives_back}
 use Rattle.mk_core.specs.Words.{header_at, used_at, quarantine_word}
 use Rattle.mk_words.specs.States.{PassState, now_of}
@@ -25,14 +25,27 @@ use Rattle.mk_cycle.proofs.KeptInParts.{same_config}
 use Rattle.mk_cycle.proofs.PageSteps.{drops_ok, gives_ok, none_is_left, page_at_once, page_then, same_header, same_left}
 use Rattle.mk_cycle.proofs.PageSteps.{same_used}
 
-pub cells_sized : (p : PassState) (page used gone size : ℕ) → gone ≡ left_unmarked (now_of p).words page
-    → size ≡ words_under (header_in (now_of p).words page) → HasFreeCells p page
-    → (k i : ℕ) → has_bit (bit_and used gone) k ≡ true → i < size → IsUnmappedWord p (64 * page + k * size + i)
-cells_sized p page used gone size is_gone is_size cells k i has lt =
-    let in_gone : has_bit gone k ≡ true =
-    (and_parts (has_bit used k) (has_bit gone k) (sym (has_bit_and used gone k) ∙ has)).1 in
-    subst (λ (n : ℕ). IsUnmappedWord p (64 * page + k * n + i)) (sym is_size)
-    (cells k i (sym (ap (λ (n : ℕ). has_bit n k) is_gone) ∙ in_gone) (subst (λ (n : ℕ). i < n) is_size lt))
+-- The words of released cells, by the header word of their page.
+module _ (p : PassState) (page header cells : ℕ) (is : header ≡ header_at (now_of p).words page)
+    (released : (k : ℕ) → has_bit cells k ≡ true → has_bit (left_unmarked (now_of p).words page) k ≡ true)
+    (free : HasFreeCells p page) where
+  pub chosen_unmapped : (k i : ℕ) → has_bit cells k ≡ true → i < words_under (header_of header)
+      → IsUnmappedWord p (64 * page + k * words_under (header_of header) + i)
+  chosen_unmapped k i has lt =
+      subst (λ (n : ℕ). IsUnmappedWord p (64 * page + k * words_under (header_of n) + i)) (sym is)
+      (free.unmapped k i (released k has) (subst (λ (n : ℕ). i < words_under (header_of n)) is lt))
+
+  pub chosen_wiped : is_unmapped_header (header_of header) ≡ true
+      → (k i : ℕ) → has_bit cells k ≡ true → i < words_under (header_of header)
+      → IsZero p (64 * page + k * words_under (header_of header) + i)
+  chosen_wiped gone k i has lt =
+      subst (λ (n : ℕ). IsZero p (64 * page + k * words_under (header_of n) + i)) (sym is)
+      (free.wiped (subst (λ (n : ℕ). is_unmapped_header (header_of n) ≡ true) is gone) k i (released k has)
+      (subst (λ (n : ℕ). i < words_under (header_of n)) is lt))
+
+-- Of the cells that are used and gone each is gone.
+pub gone_too : (used gone k : ℕ) → has_bit (bit_and used gone) k ≡ true → has_bit gone k ≡ true
+gone_too used gone k has = (and_parts (has_bit used k) (has_bit gone k) (sym (has_bit_and used gone k) ∙ has)).1
 
 pub gives_here : (p b : PassState) (page used gone size : ℕ) → FreesNone p b → used ≡ used_at (now_of p).words page
     → gone ≡ left_unmarked (now_of p).words page → size ≡ words_under (header_in (now_of p).words page)

@@ -1,35 +1,63 @@
 -- Behind a `release` the released cells have no word of a mapped allocation.
-use Rattle.std.proofs.Common.{◌≡◌, ℕ, ◌+◌, ◌*◌, ◌<◌, ◌++◌, Bool, true, false, List, refl, sym, ap, subst, ◌∙◌, arith}
+use Rattle.std.proofs.Common.{◌≡◌, ℕ, ◌+◌, ◌*◌, ◌/◌, ◌<◌, ◌++◌, Bool, true, false, List, refl, sym, ap, subst, ◌∙◌, arith}
 use Rattle.std.proofs.Common.{inl, inr}
-use Rattle.std.specs.Prelude.{◌⊎◌, slice_index, ◌==◌, ◌&&◌, ◌||◌, not, map}
+use Rattle.std.specs.Prelude.{◌⊎◌, slice_index, ◌==◌, ◌&&◌, ◌||◌, not, map, Option}
 use Rattle.std.proofs.lemmas.Bool.{and_parts, true≢false}
+use Rattle.std.proofs.Math.Bool.{and-false}
 use Rattle.mk_never.specs.Types.{kinds_of, is_large}
 use Rattle.mk_geom.specs.declared.addresses.Cell.{Cell}
+use Rattle.mk_geom.specs.declared.headers.Header.{Header}
+use Rattle.mk_geom.specs.Headers.{header_of}
 use Rattle.mk_geom.specs.StorageWords.{IsWordOf}
 use Rattle.mk_core.specs.declared.config.Config.{Config}
 use Rattle.mk_core.specs.declared.events.Event.{Event}
 use Rattle.mk_core.specs.declared.events.Step.TheVariants as step
+use Rattle.mk_core.specs.declared.seats.Holding.{Holding}
+use Rattle.mk_core.specs.declared.seats.Object.{Object}
 use Rattle.mk_core.specs.Allocations.{PlacedAllocation, is_mapped, placed_at, storage_of, storage_words, with_released}
 use Rattle.mk_core.specs.Bits.{has_bit}
-use Rattle.mk_core.specs.Cells.{cell_words, first_word, header_in, is_left_unmarked, left_unmarked, words_under}
+use Rattle.mk_core.specs.Cells.{cell_words, first_word, header_in, is_left_unmarked, is_unmapped_header, left_unmarked}
+use Rattle.mk_core.specs.Cells.{words_under}
 use Rattle.mk_core.specs.Frames.{Steady}
 use Rattle.mk_core.specs.History.{World}
 use Rattle.mk_core.specs.Moments.{is_phase}
+use Rattle.mk_core.specs.NewPlaces.{is_run_gone, is_small_object, pages_made}
+use Rattle.mk_core.specs.ObjectHeaders.{OfBlock, OfLater, OfLeafBlock, OfLeafRun, OfRun, ShowsPart}
+use Rattle.mk_core.specs.StandingAllocations.{object_placed}
+use Rattle.mk_core.specs.Words.{header_at, phase_of}
 use Rattle.mk_core.proofs.BitsWithout.{has_bit_without}
 use Rattle.mk_core.proofs.ChangedAllocations.{changed_at}
+use Rattle.mk_core.proofs.ObjectHeaders.{header_shows}
 use Rattle.mk_core.proofs.PointedAllocations.{released_where_left}
-use Rattle.mk_core.proofs.StandingAllocations.{cells_begin}
+use Rattle.mk_core.proofs.Sizes.{large_is_not_small, pages_some}
+use Rattle.mk_core.proofs.StandingAllocations.{cells_begin, placed_cell, typed_size}
 use Rattle.mk_layout.specs.Quarantine.{IsFreedCell}
 use Rattle.mk_layout.specs.Scene.{is_released_in}
 use Rattle.mk_invariant.proofs.Theorems.{allocations_are_disjoint, allocations_stand}
 use Rattle.mk_frames.proofs.LastEvents.{stands}
+use Rattle.mk_frames.proofs.RunsStill.{HolderFinds, holder_finds}
 use Rattle.mk_zeros.specs.Zeros.{IsMappedWord}
-use Rattle.mk_words.specs.States.{PassState, now_of}
+use Rattle.mk_zeros.proofs.MappedWords.{mapped_stays}
+use Rattle.mk_readings.specs.FreeWords.{IsOfNoneMapped}
+use Rattle.mk_readings.proofs.FreeWords.{unmapped_words_are_zero}
+use Rattle.mk_words.specs.States.{PassState, now_of, world_of}
 use Rattle.mk_words.specs.TurnSteps.{world_at, Acts}
 use Rattle.mk_words.proofs.Made.{made}
 use Rattle.mk_cycle.specs.EngineLaw.{IsAtPhase}
-use Rattle.mk_cycle.specs.Freeing.{HasFreeCells, IsUnmappedWord}
-use Rattle.mk_cycle.specs.TurnKeeps.{InTurn}
+use Rattle.mk_cycle.specs.Freeing.{HasFreeCells, IsUnmappedWord, IsZero}
+use Rattle.mk_cycle.specs.TurnKeeps.{InTurn, IsGone}
+
+plus_zero : (n : ℕ) → n + 0 ≡ n
+plus_zero n = omega arith
+
+-- What shows an unmapped run shows a large object.
+unmapped_is_large : (o : Object) (x : Option Header) → ShowsPart o 0 x → is_unmapped_header x ≡ true
+    → is_small_object o ≡ false
+unmapped_is_large o x (OfBlock first small leaf) h = absurd (true≢false (sym h))
+unmapped_is_large o x (OfLeafBlock first small leaf) h = absurd (true≢false (sym h))
+unmapped_is_large o x (OfRun mapped first large leaf) h = large
+unmapped_is_large o x (OfLeafRun first large leaf) h = large
+unmapped_is_large o x (OfLater mapped some large) h = large
 
 module _ (d q : PassState) (t : InTurn d) (u : InTurn q) (at : IsAtPhase d 3) (a : Acts d step.Release q) where
   abbrev c : Config
@@ -101,38 +129,108 @@ module _ (d q : PassState) (t : InTurn d) (u : InTurn q) (at : IsAtPhase d 3) (a
       first_of_or true e h = cc
       first_of_or false e h = refl
 
-  pub cells_are_free : (page : ℕ) → HasFreeCells q page
-  cells_are_free page k i has lt =
+  -- The allocation of a cell whose header is that of an unmapped run isn't mapped,
+  unmapped_owner : (page k : ℕ) (f : IsFreedCell c w.allocations page k)
+      → is_unmapped_header (header_in w.now.words page) ≡ true
+      → is_mapped c (placed_at w.allocations f.number) ≡ false
+  unmapped_owner page k f gone =
+      let history = (made d step.Release q a.makes t.own u.history).history in
+      let y : PlacedAllocation = placed_at w.allocations f.number in
+      let o : Object = object_placed c y in
+      let st = allocations_stand c es history f.number f.unreleased in
+      let sized = typed_size c y history.within_limits st.stands.typed in
+      let here : y.base / 64 + 0 ≡ page =
+      plus_zero _ ∙ ap (λ (cell : Cell). cell.page) (sym (placed_cell c y sized st.stands.begins) ∙ f.cell) in
+      let some : 0 < pages_made o = pages_some o sized in
+      let shows : ShowsPart o 0 (header_in w.now.words page) =
+      subst (λ (n : ℕ). ShowsPart o 0 (header_in w.now.words n)) here
+      (header_shows o 0 (header_at w.now.words (y.base / 64 + 0)) sized some (st.headers 0 some)) in
+      ap (λ (b : Bool). not y.released && not (b && is_large (kinds_of c.types y.ty))) f.freed
+      ∙ ap (λ (b : Bool). not y.released && not b) (large_is_not_small (kinds_of c.types y.ty)
+      ∙ ap not (unmapped_is_large o _ shows gone))
+      ∙ and-false (not y.released)
+
+  gone_there : IsGone d → is_run_gone w.now.words w.now.seats.holding.freed ≡ true
+  gone_there gone =
+      let m = made d step.Release q a.makes t.own u.history in
+      let finds : HolderFinds c d.seat (world_of d) w =
+      holder_finds c d.seat d.seen a.makes.others m.history m.others t.holds in
+      ap (λ (h : Holding). is_run_gone w.now.words h.freed) finds.holding ∙ finds.gone gone
+
+  -- so its words are 0 by then.
+  unmapped_is_zero : IsGone d → (page k n : ℕ) (f : IsFreedCell c w.allocations page k)
+      → is_unmapped_header (header_in w.now.words page) ≡ true
+      → IsWordOf (storage_of c (placed_at w.allocations f.number)) n → slice_index w.now.words.heap n ≡ 0
+  unmapped_is_zero gone page k n f unmapped word =
+      let history = (made d step.Release q a.makes t.own u.history).history in
+      let three : phase_of w.now.words ≡ 3 = ap (λ (s : Steady). s.phase) a.turn.steady ∙ at in
+      unmapped_words_are_zero c es history (λ four. absurd (omega arith)) (gone_there gone) n none
+    where
+      none : IsOfNoneMapped c w.allocations n
+      none i mapped there =
+          let history = (made d step.Release q a.makes t.own u.history).history in
+          let number : i ≡ f.number =
+          allocations_are_disjoint c es history i f.number n (mapped_stays c (placed_at w.allocations i) mapped)
+          f.unreleased there word in
+          true≢false (sym (subst (λ (j : ℕ). is_mapped c (placed_at w.allocations j) ≡ true) number mapped)
+          ∙ unmapped_owner page k f unmapped)
+
+  -- A word of a released cell is one of its allocation.
+  owned_word : (page k i : ℕ) → has_bit (left_unmarked w.now.words page) k ≡ true
+      → i < words_under (header_in w.now.words page) → (f : IsFreedCell c w.allocations page k)
+      → (64 * page + k * words_under (header_in w.now.words page) + i < 64 * c.pages)
+      × IsWordOf (storage_of c (placed_at w.allocations f.number))
+      (64 * page + k * words_under (header_in w.now.words page) + i)
+  owned_word page k i has small f =
+      let history = (made d step.Release q a.makes t.own u.history).history in
+      let y : PlacedAllocation = placed_at w.allocations f.number in
+      let st = allocations_stand c es history f.number f.unreleased in
+      let begins = cells_begin c w.now.words y history.within_limits st.stands st.headers in
+      let base : 64 * page + k * words_under (header_in w.now.words page) ≡ y.base =
+      ap (λ (cell : Cell). first_word w.now.words cell) (sym f.cell) ∙ begins.0 in
+      let words : words_under (header_in w.now.words page) ≡ storage_words c y =
+      ap (λ (cell : Cell). cell_words w.now.words cell) (sym f.cell) ∙ begins.1 in
+      let ends = st.stands.within in
+      (omega arith, (omega arith, omega arith))
+
+  unmapped_there : (page k i : ℕ) → has_bit (left_unmarked w.now.words page) k ≡ true
+      → i < words_under (header_in w.now.words page)
+      → IsUnmappedWord q (64 * page + k * words_under (header_in w.now.words page) + i)
+  unmapped_there page k i has small =
+      let f = owner page k has in
+      let n : ℕ = 64 * page + k * words_under (header_in w.now.words page) + i in
+      let own = owned_word page k i has small f in
+      record {
+        within = subst (λ (e : Config). n < 64 * e.pages) (sym same_table) own.0;
+        unmapped = λ m. none_mapped page k n f has own.1
+            (subst (λ (e : Config). IsMappedWord e (map (with_released c w.now.words) w.allocations) n) same_table
+            (subst (λ (xs : List PlacedAllocation). IsMappedWord q.table.config xs n)
+            (ap (λ (x : World). x.allocations) a.world) m));
+      }
+
+  zero_there : IsGone d → (page k i : ℕ) → is_unmapped_header (header_in w.now.words page) ≡ true
+      → has_bit (left_unmarked w.now.words page) k ≡ true
+      → i < words_under (header_in w.now.words page)
+      → IsZero q (64 * page + k * words_under (header_in w.now.words page) + i)
+  zero_there gone page k i unmapped has small =
+      let f = owner page k has in
+      let n : ℕ = 64 * page + k * words_under (header_in w.now.words page) + i in
+      ap (λ (x : World). slice_index x.now.words.heap n) a.world
+      ∙ unmapped_is_zero gone page k n f unmapped (owned_word page k i has small f).1
+
+  pub cells_are_free : IsGone d → (page : ℕ) → HasFreeCells q page
+  cells_are_free gone page =
+      let header : header_at (now_of q).words page ≡ header_at w.now.words page =
+      ap (λ (x : World). header_at x.now.words page) a.world in
       let left : left_unmarked (now_of q).words page ≡ left_unmarked w.now.words page =
       ap (λ (x : World). left_unmarked x.now.words page) a.world in
       let size : words_under (header_in (now_of q).words page) ≡ words_under (header_in w.now.words page) =
-      ap (λ (x : World). words_under (header_in x.now.words page)) a.world in
-      subst (λ (n : ℕ). IsUnmappedWord q (64 * page + k * n + i)) (sym size)
-      (here (sym (ap (λ (n : ℕ). has_bit n k) left) ∙ has) (subst (λ (n : ℕ). i < n) size lt))
-    where
-      here : has_bit (left_unmarked w.now.words page) k ≡ true → i < words_under (header_in w.now.words page)
-          → IsUnmappedWord q (64 * page + k * words_under (header_in w.now.words page) + i)
-      here on small =
-          let history = (made d step.Release q a.makes t.own u.history).history in
-          let f = owner page k on in
-          let y : PlacedAllocation = placed_at w.allocations f.number in
-          let st = allocations_stand c es history f.number f.unreleased in
-          let begins = cells_begin c w.now.words y history.within_limits st.stands st.headers in
-          let base : 64 * page + k * words_under (header_in w.now.words page) ≡ y.base =
-          ap (λ (cell : Cell). first_word w.now.words cell) (sym f.cell) ∙ begins.0 in
-          let words : words_under (header_in w.now.words page) ≡ storage_words c y =
-          ap (λ (cell : Cell). cell_words w.now.words cell) (sym f.cell) ∙ begins.1 in
-          let ends = st.stands.within in
-          let within : 64 * page + k * words_under (header_in w.now.words page) + i < 64 * c.pages = omega arith in
-          let word : IsWordOf (storage_of c y) (64 * page + k * words_under (header_in w.now.words page) + i) =
-          (omega arith, omega arith) in
-          record {
-            within = subst (λ (e : Config). 64 * page + k * words_under (header_in w.now.words page) + i < 64 * e.pages)
-                (sym same_table) within;
-            unmapped = λ m. none_mapped page k _ f on word
-                (subst (λ (e : Config). IsMappedWord e (map (with_released c w.now.words) w.allocations)
-                (64 * page + k * words_under (header_in w.now.words page) + i)) same_table
-                (subst (λ (xs : List PlacedAllocation). IsMappedWord q.table.config xs
-                (64 * page + k * words_under (header_in w.now.words page) + i))
-                (ap (λ (x : World). x.allocations) a.world) m));
-          }
+      ap (λ (n : ℕ). words_under (header_of n)) header in
+      record {
+        unmapped = λ k i has lt. subst (λ (n : ℕ). IsUnmappedWord q (64 * page + k * n + i)) (sym size)
+            (unmapped_there page k i (sym (ap (λ (n : ℕ). has_bit n k) left) ∙ has)
+            (subst (λ (n : ℕ). i < n) size lt));
+        wiped = λ unmapped k i has lt. subst (λ (n : ℕ). IsZero q (64 * page + k * n + i)) (sym size)
+            (zero_there gone page k i (sym (ap (λ (n : ℕ). is_unmapped_header (header_of n)) header) ∙ unmapped)
+            (sym (ap (λ (n : ℕ). has_bit n k) left) ∙ has) (subst (λ (n : ℕ). i < n) size lt));
+      }

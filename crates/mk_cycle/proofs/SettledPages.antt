@@ -10,7 +10,8 @@ use Rattle.mk_geom.specs.declared.addresses.Cell.{Cell}
 use Rattle.mk_geom.specs.Addresses.{head_page_under}
 use Rattle.mk_geom.specs.Headers.{header_of}
 use Rattle.mk_core.specs.Bits.{has_bit, without}
-use Rattle.mk_core.specs.Cells.{cells_under, head_page, header_in, is_used, left_unmarked, words_under}
+use Rattle.mk_core.specs.Cells.{cells_under, head_page, header_in, is_unmapped_header, is_used, left_unmarked}
+use Rattle.mk_core.specs.Cells.{words_under}
 use Rattle.mk_core.specs.Moments.{is_phase}
 use Rattle.mk_core.specs.TurnConditions.{empties}
 use Rattle.mk_core.specs.Words.{Words, header_at, used_at, quarantine_word}
@@ -23,7 +24,7 @@ use Rattle.mk_frames.proofs.LastEvents.{stands}
 use Rattle.mk_words.specs.States.{PassState, world_of, now_of}
 use Rattle.mk_cycle.specs.EngineLaw.{IsAtPhase}
 use Rattle.mk_cycle.specs.Freeing.{Frees, FreesNone, FreesPage, GivesBack, HasFreeCells, IsSettledPage, IsUnmappedWord}
-use Rattle.mk_cycle.specs.Freeing.{PageState, SamePage, page_state}
+use Rattle.mk_cycle.specs.Freeing.{IsZero, PageState, SamePage, page_state}
 use Rattle.mk_cycle.specs.TurnKeeps.{InTurn}
 use Rattle.mk_cycle.proofs.CleaningSteps.{halves}
 use Rattle.mk_cycle.proofs.GivingSteps.{still_unmapped_word}
@@ -31,13 +32,22 @@ use Rattle.mk_cycle.proofs.PageSteps.{page_at_once, page_then, same_header, same
 
 pub free_cells_stay : (p q : PassState) (page : ℕ) → Frees p q → SamePage p q page → HasFreeCells p page
     → HasFreeCells q page
-free_cells_stay p q page k same cells x i has lt =
+free_cells_stay p q page k same cells =
     let header : header_at (now_of q).words page ≡ header_at (now_of p).words page = same_header p q page same in
     let size : words_under (header_in (now_of q).words page) ≡ words_under (header_in (now_of p).words page) =
     ap (λ (n : ℕ). words_under (header_of n)) header in
-    subst (λ (n : ℕ). IsUnmappedWord q (64 * page + x * n + i)) (sym size)
-    (still_unmapped_word p q _ k (cells x i (sym (ap (λ (n : ℕ). has_bit n x) (same_left p q page same k.marks))
-    ∙ has) (subst (λ (n : ℕ). i < n) size lt)))
+    let left = same_left p q page same k.marks in
+    record {
+      unmapped = λ x i has lt. subst (λ (n : ℕ). IsUnmappedWord q (64 * page + x * n + i)) (sym size)
+          (still_unmapped_word p q _ k (cells.unmapped x i (sym (ap (λ (n : ℕ). has_bit n x) left) ∙ has)
+          (subst (λ (n : ℕ). i < n) size lt)));
+      wiped = λ gone x i has lt.
+          let there = sym (ap (λ (n : ℕ). has_bit n x) left) ∙ has in
+          let small = subst (λ (n : ℕ). i < n) size lt in
+          subst (λ (n : ℕ). IsZero q (64 * page + x * n + i)) (sym size)
+          (k.zeros _ (cells.unmapped x i there small).unmapped
+          (cells.wiped (sym (ap (λ (n : ℕ). is_unmapped_header (header_of n)) header) ∙ gone) x i there small));
+    }
 
 pub gives_then : (page : ℕ) (p b q : PassState) → FreesNone p b → GivesBack page b q → GivesBack page p q
 gives_then page p b q k g =

@@ -2,7 +2,7 @@
 use Rattle.std.specs.Prelude.{◌≡◌, ◌≢◌, ℕ, ◌+◌, ◌*◌, ◌<◌, true, false, [], slice_index}
 use Rattle.mk_geom.specs.declared.pages.Page.{Page}
 use Rattle.mk_core.specs.Bits.{has_bit}
-use Rattle.mk_core.specs.Cells.{left_unmarked, header_in, words_under}
+use Rattle.mk_core.specs.Cells.{header_in, is_unmapped_header, left_unmarked, words_under}
 use Rattle.mk_core.specs.Frames.{Steady}
 use Rattle.mk_core.specs.Moments.{is_held}
 use Rattle.mk_core.specs.StopConditions.{has_settled_page}
@@ -64,12 +64,16 @@ pub record FreesPage (page : ℕ) (p q : PassState) : Type 0 where
   pub frees : Frees p q
   pub others : (r : ℕ) → r ≢ page → SamePage p q r
 
--- The words of the page's released cells are those of no mapped allocation.
-abbrev pub HasFreeCells : PassState → ℕ → Type 0
-HasFreeCells p page =
-    (k i : ℕ) → has_bit (left_unmarked (now_of p).words page) k ≡ true
-    → i < words_under (header_in (now_of p).words page)
-    → IsUnmappedWord p (64 * page + k * words_under (header_in (now_of p).words page) + i)
+-- The words of the page's released cells are those of no mapped allocation, and those of an unmapped run are 0: its
+-- Free has wiped them.
+pub record HasFreeCells (p : PassState) (page : ℕ) : Type 0 where
+  pub unmapped : (k i : ℕ) → has_bit (left_unmarked (now_of p).words page) k ≡ true
+      → i < words_under (header_in (now_of p).words page)
+      → IsUnmappedWord p (64 * page + k * words_under (header_in (now_of p).words page) + i)
+  pub wiped : is_unmapped_header (header_in (now_of p).words page) ≡ true
+      → (k i : ℕ) → has_bit (left_unmarked (now_of p).words page) k ≡ true
+      → i < words_under (header_in (now_of p).words page)
+      → IsZero p (64 * page + k * words_under (header_in (now_of p).words page) + i)
 
 abbrev pub IsQuarantineWord : PassState → ℕ → ℕ → Type 0
 IsQuarantineWord p page n =

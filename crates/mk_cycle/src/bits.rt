@@ -1,7 +1,7 @@
 //! Bits of words, and the cells under a header.
 ghost use Rattle.std.specs.Prelude.{◌≡◌, ◌≤◌};
 ghost use Rattle.mk_core.specs.Bits.{has_bit, without};
-ghost use Rattle.mk_core.specs.Cells.{words_under};
+ghost use Rattle.mk_core.specs.Cells.{is_unmapped_header, words_under};
 ghost use Rattle.mk_geom.specs.Addresses.{head_page_under};
 ghost use Rattle.mk_geom.specs.Headers.{header_of};
 
@@ -34,6 +34,16 @@ pub(crate) fn words_under(header: u64) -> u64
         Some(Header::Block(class) | Header::LeafBlock(class)) => class_words(class),
         Some(Header::Run { pages, .. } | Header::LeafRun { pages }) => 64 * pages,
         _ => 0,
+    }
+}
+
+/// Whether a header word is that of a page of an unmapped run.
+pub(crate) fn is_unmapped(header: u64) -> bool
+    ensures { result ≡ is_unmapped_header (header_of header) }
+{
+    match decode(header) {
+        Some(Header::Run { mapped, .. } | Header::Later { mapped, .. }) => !mapped,
+        _ => false,
     }
 }
 

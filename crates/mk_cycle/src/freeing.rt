@@ -1,6 +1,6 @@
 //! Released cells are given back page by page, and pages on which nothing is left are free again.
-ghost use Rattle.std.specs.Prelude.{◌≡◌, ◌<◌, ◌≤◌, ℕ, slice_index};
-ghost use Rattle.mk_core.specs.Cells.{left_unmarked, header_in, words_under};
+ghost use Rattle.std.specs.Prelude.{◌≡◌, ◌<◌};
+ghost use Rattle.mk_core.specs.Cells.{left_unmarked};
 ghost use Rattle.mk_core.specs.Words.{header_at};
 ghost use Rattle.mk_words.specs.States.{now_of};
 ghost use Rattle.mk_cycle.specs.EngineLaw.{IsFreeForCycle, IsAtPhase};
@@ -8,18 +8,17 @@ ghost use Rattle.mk_cycle.specs.Freeing.{GivesBack, HasFreeCells, IsQuarantineWo
 
 use crate::bits::{FREED_END, without};
 use crate::turn_steps::{drop_cells, give_cells, look};
-use crate::wiping::wipe_cells;
+use crate::wiping::wipe_released;
 use mk_core::Word;
 use mk_words::{Turn, Words};
 
 /// Gives back the released cells of a page: those of the snapshot that have no mark.
-fn give_back(turn: &mut Turn, words: &Words, page: u64, size: u64, quarantine: u64, gone: u64)
+fn give_back(turn: &mut Turn, words: &Words, page: u64, header: u64, quarantine: u64, gone: u64)
     requires one_table { turn.old.pass.table ≡ words.now }
     requires free { IsFreeForCycle turn.old.pass }
     requires phase { IsAtPhase turn.old.pass 4 }
     requires within { page < words.now.config.pages }
-    requires size { size ≡ words_under (header_in (now_of turn.old.pass).words page) }
-    requires few { size ≤ 4096 }
+    requires header { header ≡ header_at (now_of turn.old.pass).words page }
     requires quarantine { IsQuarantineWord turn.old.pass page quarantine }
     requires gone { gone ≡ left_unmarked (now_of turn.old.pass).words page }
     requires cells { HasFreeCells turn.old.pass page }
@@ -27,7 +26,7 @@ fn give_back(turn: &mut Turn, words: &Words, page: u64, size: u64, quarantine: u
     ensures gives { GivesBack page turn.old.pass turn.new.pass }
 {
     let used = look(turn, words, Word::Used(page));
-    wipe_cells(turn, words, page, used & gone, size);
+    wipe_released(turn, words, page, header, used & gone);
     give_cells(turn, words, page, without(used, gone));
     let freed = without(quarantine % FREED_END, gone);
     let snapshot = quarantine / FREED_END - gone;
@@ -35,13 +34,12 @@ fn give_back(turn: &mut Turn, words: &Words, page: u64, size: u64, quarantine: u
 }
 
 /// Gives back the released cells of a page, if there are any.
-pub(crate) fn release_cells(turn: &mut Turn, words: &Words, page: u64, size: u64)
+pub(crate) fn release_cells(turn: &mut Turn, words: &Words, page: u64, header: u64)
     requires one_table { turn.old.pass.table ≡ words.now }
     requires free { IsFreeForCycle turn.old.pass }
     requires phase { IsAtPhase turn.old.pass 4 }
     requires within { page < words.now.config.pages }
-    requires size { size ≡ words_under (header_in (now_of turn.old.pass).words page) }
-    requires few { size ≤ 4096 }
+    requires header { header ≡ header_at (now_of turn.old.pass).words page }
     requires cells { HasFreeCells turn.old.pass page }
     ensures op { turn.new.op ≡ turn.old.op }
     ensures gives { GivesBack page turn.old.pass turn.new.pass }
@@ -50,6 +48,6 @@ pub(crate) fn release_cells(turn: &mut Turn, words: &Words, page: u64, size: u64
     let marks = look(turn, words, Word::Mark(page));
     let gone = without(quarantine / FREED_END, marks);
     if gone != 0 {
-        give_back(turn, words, page, size, quarantine, gone);
+        give_back(turn, words, page, header, quarantine, gone);
     }
 }

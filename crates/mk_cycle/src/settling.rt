@@ -10,7 +10,7 @@ ghost use Rattle.mk_cycle.specs.Freeing.{Frees, FreesPage, HasFreeCells, IsSettl
 ghost use Rattle.mk_cycle.specs.HeldPages.{held_at};
 ghost use Rattle.mk_cycle.specs.ReleasedPages.{IsOfOnePage, released_below, released_on};
 
-use crate::bits::{head_of, words_under};
+use crate::bits::head_of;
 use crate::counting::{held_on, look, released_on};
 use crate::finishing::Released;
 use crate::freeing::release_cells;
@@ -62,7 +62,7 @@ fn settle_taken(turn: &mut Turn, words: &Words, page: u64, header: u64) -> Settl
     ensures few { result.held ≤ 64 }
 {
     let released = released_on(turn, words, page);
-    release_cells(turn, words, page, words_under(header));
+    release_cells(turn, words, page, header);
     free_unused(turn, words, page, head_of(header, page));
     let held = held_on(turn, words, page);
     Settled { released, held }

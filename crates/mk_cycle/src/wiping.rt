@@ -1,10 +1,14 @@
 //! Released cells are wiped: their words are looked at, and what isn't 0 is stored to.
 ghost use Rattle.std.specs.Prelude.{◌≡◌, ◌<◌, ◌+◌, ◌*◌, ℕ, true};
 ghost use Rattle.mk_core.specs.Bits.{has_bit};
+ghost use Rattle.mk_core.specs.Cells.{left_unmarked, words_under};
+ghost use Rattle.mk_core.specs.Words.{header_at};
+ghost use Rattle.mk_geom.specs.Headers.{header_of};
+ghost use Rattle.mk_words.specs.States.{now_of};
 ghost use Rattle.mk_cycle.specs.EngineLaw.{IsFreeForCycle, IsAtPhase};
-ghost use Rattle.mk_cycle.specs.Freeing.{FreesNone, IsUnmapped, IsZero, IsUnmappedWord};
+ghost use Rattle.mk_cycle.specs.Freeing.{FreesNone, HasFreeCells, IsUnmapped, IsZero, IsUnmappedWord};
 
-use crate::bits::has_bit;
+use crate::bits::{has_bit, is_unmapped, words_under};
 use crate::turn_steps::{look, wipe};
 use mk_core::Word;
 use mk_words::{Turn, Words};
@@ -62,7 +66,7 @@ fn wipe_chosen(turn: &mut Turn, words: &Words, page: u64, cells: u64, size: u64,
 }
 
 /// Makes the words of a page's cells that have their bits here 0.
-pub(crate) fn wipe_cells(turn: &mut Turn, words: &Words, page: u64, cells: u64, size: u64)
+fn wipe_cells(turn: &mut Turn, words: &Words, page: u64, cells: u64, size: u64)
     requires one_table { turn.old.pass.table ≡ words.now }
     requires free { IsFreeForCycle turn.old.pass }
     requires phase { IsAtPhase turn.old.pass 4 }
@@ -78,4 +82,25 @@ pub(crate) fn wipe_cells(turn: &mut Turn, words: &Words, page: u64, cells: u64, 
     for k in 0..32 {
         wipe_chosen(turn, words, page, cells, size, k);
     }
+}
+
+/// Makes the words of these released cells of a page 0. Those of an unmapped run aren't looked at: its Free wiped them.
+pub(crate) fn wipe_released(turn: &mut Turn, words: &Words, page: u64, header: u64, cells: u64)
+    requires one_table { turn.old.pass.table ≡ words.now }
+    requires free { IsFreeForCycle turn.old.pass }
+    requires phase { IsAtPhase turn.old.pass 4 }
+    requires within { page < words.now.config.pages }
+    requires header { header ≡ header_at (now_of turn.old.pass).words page }
+    requires released { (k : ℕ) → has_bit cells k ≡ true
+        → has_bit (left_unmarked (now_of turn.old.pass).words page) k ≡ true }
+    requires cells { HasFreeCells turn.old.pass page }
+    ensures op { turn.new.op ≡ turn.old.op }
+    ensures frees { FreesNone turn.old.pass turn.new.pass }
+    ensures zeros { (k : ℕ) → k < 32 → (i : ℕ) → has_bit cells k ≡ true → i < words_under (header_of header)
+        → IsZero turn.new.pass (64 * page + k * words_under (header_of header) + i) }
+{
+    if is_unmapped(header) {
+        return;
+    }
+    wipe_cells(turn, words, page, cells, words_under(header));
 }

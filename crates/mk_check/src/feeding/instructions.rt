@@ -1,5 +1,7 @@
 //! Lines of a script, with numbers for their names.
 
+use crate::text::is_refusal;
+use mk_core::Answer;
 use mk_never::Op;
 
 /// A line that is neither the head nor the end of a block. Registers, types and globals are numbered
@@ -43,6 +45,32 @@ pub enum Instruction {
     Show {
         p: u8,
     },
+}
+
+impl Instruction {
+    ghost use Rattle.std.specs.Prelude.{◌≡◌, ℕ, List, is_some};
+    ghost use Rattle.mk_core.specs.declared.events.Answer.{Answer};
+    ghost use Rattle.mk_check.specs.Steps.{is_silent, op_asked};
+
+    /// Whether it asks for an operation.
+    pub fn asks(&self) -> bool
+        ensures { (numbers : List ℕ) → result ≡ is_some (op_asked numbers self.now) }
+    {
+        matches!(
+            self,
+            Instruction::Ask { .. }
+                | Instruction::Store { .. }
+                | Instruction::Load { .. }
+                | Instruction::Show { .. }
+        )
+    }
+
+    /// Whether it prints nothing when it takes this answer.
+    pub fn is_silent(&self, answer: Answer) -> bool
+        ensures { result ≡ is_silent self.now answer }
+    {
+        !is_refusal(answer) && !matches!(self, Instruction::Show { .. })
+    }
 }
 
 /// What a line adds to a script's tree.

@@ -327,4 +327,17 @@ impl Running {
         }
         Ok(())
     }
+
+    /// The instruction takes an answer at which it prints nothing, and the script is at another node. No memory is
+    /// taken.
+    pub fn take_at(&mut self, at: usize, instruction: Instruction, answer: Answer)
+        requires { steps.is_silent instruction answer ≡ true }
+        ensures { self.new ≡ with_kept (record self.old { at = at })
+            (steps.after_answer instruction answer (kept_in self.old)) }
+    {
+        if let Instruction::Load { number, .. } = instruction {
+            self.set(number, answered_number(answer));
+        }
+        self.at = at;
+    }
 }

@@ -60,6 +60,8 @@ impl Model for Tree {
 }
 
 impl Tree {
+    ghost use Rattle.std.specs.Prelude.{ℕ, List, is_some};
+    ghost use Rattle.mk_check.specs.Feeding.{op_of_node};
     ghost use Rattle.mk_check.specs.Trees.{IsTree, IsBelow, node_at};
 
     pub fn new(alloc: Global) -> Tree
@@ -90,5 +92,16 @@ impl Tree {
         ensures tree { IsTree self.now }
     {
         self.nodes[at]
+    }
+
+    /// Whether the node is a line that asks for an operation, which doesn't depend on the number registers.
+    pub fn asks(&self, at: usize) -> bool
+        requires { at < length self.now }
+        ensures { (numbers : List ℕ) → result ≡ is_some (op_of_node numbers (node_at self.now at)) }
+    {
+        match &self.nodes[at] {
+            Node::Line { instruction, .. } => instruction.asks(),
+            _ => false,
+        }
     }
 }

@@ -1,4 +1,7 @@
-use Rattle.std.proofs.Common.{ℕ, ◌-◌, ◌/◌, ◌%◌, ◌^◌, ap, subst, ◌∙◌}
+use Rattle.std.proofs.Common.{ℕ, ◌-◌, ◌/◌, ◌%◌, ◌^◌, ap, subst, sym, ◌∙◌}
+use Rattle.mk_geom.specs.Headers.{header_of}
+use Rattle.mk_core.specs.Bits.{has_bit}
+use Rattle.mk_core.specs.Cells.{words_under}
 use Rattle.mk_core.specs.declared.events.Step.TheVariants as step
 use Rattle.mk_core.specs.TurnConditions.{drops, gives_back}
 use Rattle.mk_core.specs.Words.{quarantine_word}
@@ -6,51 +9,65 @@ use Rattle.mk_words.specs.States.{now_of}
 use Rattle.mk_words.specs.TurnSteps.{Acts}
 use Rattle.mk_cycle.proofs.Allowed.{on_table}
 use Rattle.mk_cycle.proofs.FreeingSteps.{freed_free}
-use Rattle.mk_cycle.proofs.GiveBack.{cells_sized, drops_here, free_d, gives_all, gives_here}
-use Rattle.mk_cycle.proofs.GivingSteps.{look_frees, none_then, still_unmapped_word}
-use Rattle.mk_cycle.proofs.PageSteps.{same_used}
+use Rattle.mk_cycle.proofs.GiveBack.{drops_here, free_d, gives_all, gives_here, gone_too}
+use Rattle.mk_cycle.proofs.GivingSteps.{look_frees, none_then}
+use Rattle.mk_cycle.proofs.PageSteps.{same_header, same_left, same_used}
+use Rattle.mk_cycle.proofs.SettledPages.{free_cells_stay}
 use Rattle.mk_cycle.proofs.freeing.give_back.Goals as goal
 
-pub wipe_cells-requires-clause-free : goal.wipe_cells-requires-clause-free
-wipe_cells-requires-clause-free c =
+pub wipe_released-requires-clause-free : goal.wipe_released-requires-clause-free
+wipe_released-requires-clause-free c =
     let first = look_frees _ _ c.look-used.ensures.was c.look-used.ensures.is c.requires.free c.requires.phase _
     c.look-used.ensures.acts in
     freed_free _ _ first.frees c.requires.free
 
-pub wipe_cells-requires-clause-unmapped : goal.wipe_cells-requires-clause-unmapped
-wipe_cells-requires-clause-unmapped c k i has lt =
+pub wipe_released-requires-clause-header : goal.wipe_released-requires-clause-header
+wipe_released-requires-clause-header c =
     let first = look_frees _ _ c.look-used.ensures.was c.look-used.ensures.is c.requires.free c.requires.phase _
     c.look-used.ensures.acts in
-    still_unmapped_word _ _ _ first.frees
-    (cells_sized c.args.turn.now.pass c.args.page c.look-used.result c.args.gone c.args.size c.requires.gone
-    c.requires.size c.requires.cells k i has lt)
+    c.requires.header ∙ sym
+    (same_header c.args.turn.now.pass c.look-used.new.turn.pass c.args.page (first.same c.args.page))
+
+pub wipe_released-requires-clause-released : goal.wipe_released-requires-clause-released
+wipe_released-requires-clause-released c k has =
+    let first = look_frees _ _ c.look-used.ensures.was c.look-used.ensures.is c.requires.free c.requires.phase _
+    c.look-used.ensures.acts in
+    let left =
+    same_left c.args.turn.now.pass c.look-used.new.turn.pass c.args.page (first.same c.args.page) first.frees.marks in
+    ap (λ (n : ℕ). has_bit n k) (left ∙ sym c.requires.gone) ∙ gone_too c.look-used.result c.args.gone k has
+
+pub wipe_released-requires-clause-cells : goal.wipe_released-requires-clause-cells
+wipe_released-requires-clause-cells c =
+    let first = look_frees _ _ c.look-used.ensures.was c.look-used.ensures.is c.requires.free c.requires.phase _
+    c.look-used.ensures.acts in
+    free_cells_stay _ _ c.args.page first.frees (first.same c.args.page) c.requires.cells
 
 pub give_cells-requires-clause-free : goal.give_cells-requires-clause-free
 give_cells-requires-clause-free c =
     let first = look_frees _ _ c.look-used.ensures.was c.look-used.ensures.is c.requires.free c.requires.phase _
     c.look-used.ensures.acts in
-    freed_free _ _ (none_then _ _ _ first c.wipe_cells.ensures.frees).frees c.requires.free
+    freed_free _ _ (none_then _ _ _ first c.wipe_released.ensures.frees).frees c.requires.free
 
 pub give_cells-requires-clause-gives : goal.give_cells-requires-clause-gives
 give_cells-requires-clause-gives c =
     let first = look_frees _ _ c.look-used.ensures.was c.look-used.ensures.is c.requires.free c.requires.phase _
     c.look-used.ensures.acts in
     let p = c.args.turn.now.pass in
-    let b = c.wipe_cells.new.turn.pass in
+    let b = c.wipe_released.new.turn.pass in
     ap (λ (n : ℕ). gives_back (now_of b).words c.args.page n) c.without.ensures
-    ∙ gives_here p b c.args.page c.look-used.result c.args.gone c.args.size
-    (none_then _ _ _ first c.wipe_cells.ensures.frees)
+    ∙ gives_here p b c.args.page c.look-used.result c.args.gone (words_under (header_of c.args.header))
+    (none_then _ _ _ first c.wipe_released.ensures.frees)
     (c.look-used.ensures.reads ∙ same_used p c.look-used.new.turn.pass c.args.page (first.same c.args.page))
-    c.requires.gone c.requires.size c.wipe_cells.ensures.zeros
+    c.requires.gone (ap (λ (n : ℕ). words_under (header_of n)) c.requires.header) c.wipe_released.ensures.zeros
 
 pub drop_cells-requires-clause-free : goal.drop_cells-requires-clause-free
 drop_cells-requires-clause-free c =
     let first = look_frees _ _ c.look-used.ensures.was c.look-used.ensures.is c.requires.free c.requires.phase _
     c.look-used.ensures.acts in
     let p = c.args.turn.now.pass in
-    let b = c.wipe_cells.new.turn.pass in
+    let b = c.wipe_released.new.turn.pass in
     let d = c.give_cells.new.turn.pass in
-    free_d p b d d c.look-used.ensures.was (none_then _ _ _ first c.wipe_cells.ensures.frees) c.give_cells.ensures.was
+    free_d p b d d c.look-used.ensures.was (none_then _ _ _ first c.wipe_released.ensures.frees) c.give_cells.ensures.was
     c.requires.free c.requires.phase
     c.args.page c.look-used.result c.args.gone c.args.quarantine
     (on_table p c.args.words.now c.requires.one_table c.args.page c.requires.within)
@@ -65,12 +82,12 @@ drop_cells-requires-clause-drops c =
     let first = look_frees _ _ c.look-used.ensures.was c.look-used.ensures.is c.requires.free c.requires.phase _
     c.look-used.ensures.acts in
     let p = c.args.turn.now.pass in
-    let b = c.wipe_cells.new.turn.pass in
+    let b = c.wipe_released.new.turn.pass in
     let d = c.give_cells.new.turn.pass in
     ap (λ (n : ℕ). drops (now_of d).words c.args.page
     (quarantine_word n (c.args.quarantine / 2 ^ 32 - c.args.gone) % 2 ^ 32)
     (quarantine_word n (c.args.quarantine / 2 ^ 32 - c.args.gone) / 2 ^ 32)) c.without-freed.ensures
-    ∙ drops_here p b d d c.look-used.ensures.was (none_then _ _ _ first c.wipe_cells.ensures.frees)
+    ∙ drops_here p b d d c.look-used.ensures.was (none_then _ _ _ first c.wipe_released.ensures.frees)
     c.give_cells.ensures.was c.requires.free c.requires.phase
     c.args.page c.look-used.result c.args.gone c.args.quarantine
     (on_table p c.args.words.now c.requires.one_table c.args.page c.requires.within)
@@ -85,10 +102,10 @@ returns-clause-gives c =
     let first = look_frees _ _ c.look-used.ensures.was c.look-used.ensures.is c.requires.free c.requires.phase _
     c.look-used.ensures.acts in
     let p = c.args.turn.now.pass in
-    let b = c.wipe_cells.new.turn.pass in
+    let b = c.wipe_released.new.turn.pass in
     let d = c.give_cells.new.turn.pass in
     let q = c.drop_cells.new.turn.pass in
-    gives_all p b d q c.look-used.ensures.was (none_then _ _ _ first c.wipe_cells.ensures.frees)
+    gives_all p b d q c.look-used.ensures.was (none_then _ _ _ first c.wipe_released.ensures.frees)
     c.give_cells.ensures.was c.requires.free c.requires.phase
     c.args.page c.look-used.result c.args.gone c.args.quarantine
     (on_table p c.args.words.now c.requires.one_table c.args.page c.requires.within)

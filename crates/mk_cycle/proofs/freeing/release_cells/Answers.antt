@@ -1,6 +1,7 @@
 use Rattle.std.proofs.Common.{sym, ◌∙◌}
 use Rattle.mk_cycle.proofs.FreeingSteps.{freed_free, freed_phase}
 use Rattle.mk_cycle.proofs.GivingSteps.{look_frees, none_then}
+use Rattle.mk_cycle.proofs.PageSteps.{same_header}
 use Rattle.mk_cycle.proofs.SettledPages.{free_cells_stay, gives_none, gives_then, marked_gone}
 use Rattle.mk_cycle.proofs.freeing.release_cells.Goals as goal
 
@@ -18,6 +19,17 @@ give_back-requires-clause-free c =
     let next = look_frees _ _ c.look-marks.ensures.was c.look-marks.ensures.is free
     (freed_phase _ _ first.frees c.requires.phase) _ c.look-marks.ensures.acts in
     freed_free _ _ next.frees free
+
+pub give_back-requires-clause-header : goal.give_back-requires-clause-header
+give_back-requires-clause-header c =
+    let first = look_frees _ _ c.look-quarantine.ensures.was c.look-quarantine.ensures.is c.requires.free
+    c.requires.phase _ c.look-quarantine.ensures.acts in
+    let free = freed_free _ _ first.frees c.requires.free in
+    let next = look_frees _ _ c.look-marks.ensures.was c.look-marks.ensures.is free
+    (freed_phase _ _ first.frees c.requires.phase) _ c.look-marks.ensures.acts in
+    c.requires.header ∙ sym
+    (same_header c.args.turn.now.pass c.look-marks.new.turn.pass c.args.page
+    ((none_then _ _ _ first next).same c.args.page))
 
 pub give_back-requires-clause-gone : goal.give_back-requires-clause-gone
 give_back-requires-clause-gone c =

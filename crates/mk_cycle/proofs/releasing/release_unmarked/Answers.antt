@@ -31,9 +31,10 @@ returns-clause-cells g c page =
     let t = in_turn _ _ c.is_in_order-2.ensures.own c.is_in_order-2.ensures.turn c.is_in_order-2.ensures.history in
     let u = in_turn _ _ c.is_in_order-3.ensures.own c.is_in_order-3.ensures.turn c.is_in_order-3.ensures.history in
     let free = free_then _ _ c.close_marks.ensures.law.keeps.call c.requires.free in
+    let close = close_leaves _ _ t free c.close_marks.ensures.law.phase c.close_phase.ensures.acts u in
     cells_are_free c.close_phase.new.self.pass c.release.new.self.pass u
     (in_turn _ _ c.is_in_order-4.ensures.own c.is_in_order-4.ensures.turn c.is_in_order-4.ensures.history)
-    (close_leaves _ _ t free c.close_marks.ensures.law.phase c.close_phase.ensures.acts u).1 c.release.ensures.acts page
+    close.1 c.release.ensures.acts (free_then _ _ close.0.call free).gone page
 
 pub returns-clause-told : goal.returns-clause-told
 returns-clause-told g c =

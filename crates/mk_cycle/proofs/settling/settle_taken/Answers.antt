@@ -1,7 +1,6 @@
 use Rattle.std.proofs.Common.{ℕ, ◌≤◌, sym, subst, ap, ◌∙◌}
 use Rattle.mk_geom.specs.Addresses.{head_page_under}
 use Rattle.mk_geom.specs.Headers.{header_of}
-use Rattle.mk_core.specs.Cells.{words_under}
 use Rattle.mk_cycle.proofs.FreeingSteps.{freed_free}
 use Rattle.mk_cycle.proofs.PageSteps.{page_at_once, page_then, same_header}
 use Rattle.mk_cycle.proofs.SettledPages.{free_cells_stay, head_before, none_at, settled_alike}
@@ -10,13 +9,11 @@ use Rattle.mk_cycle.proofs.settling.settle_taken.Goals as goal
 pub release_cells-requires-clause-free : goal.release_cells-requires-clause-free
 release_cells-requires-clause-free c = freed_free _ _ c.released_on-released.ensures.frees.frees c.requires.free
 
-pub release_cells-requires-clause-size : goal.release_cells-requires-clause-size
-release_cells-requires-clause-size c =
+pub release_cells-requires-clause-header : goal.release_cells-requires-clause-header
+release_cells-requires-clause-header c =
     let first = c.released_on-released.ensures.frees in
-    c.words_under.ensures.exact
-    ∙ ap (λ (n : ℕ). words_under (header_of n))
-    (c.requires.header ∙ sym
-    (same_header c.args.turn.now.pass c.released_on-released.new.turn.pass c.args.page (first.same c.args.page)))
+    c.requires.header ∙ sym
+    (same_header c.args.turn.now.pass c.released_on-released.new.turn.pass c.args.page (first.same c.args.page))
 
 pub release_cells-requires-clause-cells : goal.release_cells-requires-clause-cells
 release_cells-requires-clause-cells c =

@@ -1,0 +1,99 @@
+-- An answer at which nothing is printed, where the next line asks: the script stops there.
+use Rattle.std.proofs.Common.{◌≡◌, ℕ, ◌<◌, Bool, true, false, List, ◌++◌, length, refl, ap, sym, ◌∙◌, subst, arith}
+use Rattle.std.specs.Prelude.{[], ◌∷◌, ◌&&◌, not, is_some}
+use Rattle.std.proofs.lemmas.Bool.{and_parts}
+use Rattle.std.proofs.lemmas.List.{append-nil}
+use Rattle.mk_core.specs.declared.events.Answer.{Answer}
+use Rattle.mk_core.specs.declared.events.Answer.TheVariants as answer
+use Rattle.mk_check.specs.declared.feeding.instructions.Instruction.{Instruction}
+use Rattle.mk_check.specs.declared.feeding.tree.Node.{Node}
+use Rattle.mk_check.specs.declared.feeding.tree.Node.TheVariants as node
+use Rattle.mk_check.specs.Feed.{is_refusal, refusal_line, refusal_text}
+use Rattle.mk_check.specs.Feeding.{FeedState, IsFeed, IsWaiting, TakesAnswer, op_of_node, work_left}
+use Rattle.mk_check.specs.Steps.{Kept, Steps, after_answer, is_show, is_silent, op_asked, stop_of, stop_on_answer}
+use Rattle.mk_check.specs.Steps.{with_text}
+use Rattle.mk_check.specs.Trees.{HasStopped, IsBelow, IsTree, IsWithin, Place, StopsAt, kept_in, left_in, node_at}
+use Rattle.mk_check.specs.Trees.{stopped_in, with_kept}
+use Rattle.mk_check.proofs.Moves.{asks_at, unfolded_line}
+use Rattle.mk_check.proofs.Stands.{answer_stands, waits_for_answer}
+use Rattle.mk_check.proofs.WorkLaws.{answer_nearer}
+
+no_text : (a : Answer) → not (is_refusal a) ≡ true → refusal_text a ≡ []
+no_text answer.Done h = refl
+no_text (answer.Num n) h = refl
+no_text (answer.Word w) h = refl
+no_text answer.Full h = cc
+no_text answer.Fault h = cc
+no_text answer.Null h = cc
+no_text answer.Double h = cc
+
+silent_kept : (line : ℕ) (instruction : Instruction) (a : Answer) (k : Kept) → is_silent instruction a ≡ true
+    → with_text k (refusal_line line (refusal_text a)) ≡ k
+silent_kept line instruction a k h =
+    ap (λ (t : List ℕ). with_text k (refusal_line line t))
+    (no_text a (and_parts (not (is_refusal a)) (not (is_show instruction)) h).0)
+    ∙ ap (λ (t : List ℕ). let kept : Kept = record k { text = t } in kept) (append-nil k.text)
+
+stopped_here : (nodes : List Node) (p : Place) (n : Node) → IsTree nodes → IsWithin (length nodes) p
+    → node_at nodes p.at ≡ n → is_some (op_of_node p.numbers n) ≡ true → HasStopped nodes p p
+stopped_here nodes p node.Done tree w e h = cc
+stopped_here nodes p (node.Line line instruction next) tree w e h = asks_at nodes p line instruction next tree w e h
+stopped_here nodes p (node.Rounds rounds body next) tree w e h = cc
+stopped_here nodes p (node.Choice number first second next) tree w e h = cc
+
+-- The place is where the steps stop behind an answer to the first.
+pub record StopsBehind (nodes : List Node) (p : Place) (a : Answer) (t : Place) : Type 0 where
+  pub within : IsWithin (length nodes) t
+  pub at : StopsAt (node_at nodes t.at) t
+  pub run : stopped_in nodes t ≡ stop_on_answer (left_in nodes p) a (kept_in p)
+
+pub stops_at_once : (nodes : List Node) (p t : Place) (line : ℕ) (instruction : Instruction) (next : ℕ) (a : Answer)
+    → IsTree nodes → IsWithin (length nodes) p → node_at nodes p.at ≡ node.Line line instruction next
+    → is_silent instruction a ≡ true → ((numbers : List ℕ) → is_some (op_of_node numbers (node_at nodes next)) ≡ true)
+    → t ≡ with_kept (record p { at = next }) (after_answer instruction a (kept_in p)) → StopsBehind nodes p a t
+stops_at_once nodes p t line instruction next a tree w e silent asks is =
+    let start : Place = with_kept (record p { at = next }) (after_answer instruction a (kept_in p)) in
+    let below : next < p.at = subst (λ (n : Node). IsBelow p.at n) e (tree p.at w.at) in
+    let at = w.at in
+    let within : IsWithin (length nodes) start = record { at = omega arith; frames = w.frames } in
+    let stopped = stopped_here nodes start (node_at nodes next) tree within refl (asks start.numbers) in
+    let rest = left_in nodes (record p { at = next }) in
+    subst (λ (x : Place). StopsBehind nodes p a x) (sym is) (record {
+      within = within;
+      at = stopped.at;
+      run = stopped.run
+          ∙ sym (ap (λ (s : Steps). stop_on_answer s a (kept_in p))
+          (unfolded_line nodes p line instruction next tree w e)
+          ∙ ap (λ (k : Kept). stop_of rest (after_answer instruction a k))
+          (silent_kept line instruction a (kept_in p) silent));
+    })
+
+-- A script that waits, answered so.
+module _ (s : FeedState) (t : Place) (a : Answer) (line : ℕ) (instruction : Instruction) (next : ℕ)
+    (tree : IsTree s.nodes) (is : IsFeed s) (waiting : IsWaiting s)
+    (here : node_at s.nodes s.place.at ≡ node.Line line instruction next)
+    (behind : StopsBehind s.nodes s.place a t) where
+  asks_here : is_some (op_asked s.place.numbers instruction) ≡ true
+  asks_here =
+      ap (λ (n : Node). is_some (op_of_node s.place.numbers n)) (sym here) ∙ waits_for_answer s tree is waiting
+
+  pub takes_at_once : TakesAnswer s a (record { nodes = s.nodes; place = t })
+  takes_at_once program k answers st =
+      answer_stands program k answers a s (record { nodes = s.nodes; place = t }) line instruction next tree
+      is.stop.within here asks_here behind.run st
+
+  pub feeds_at_once : IsFeed (record { nodes = s.nodes; place = t })
+  feeds_at_once =
+      record {
+        stop = record { within = behind.within; stops = behind.at };
+        some = record {
+          program = is.some.program;
+          k = is.some.k;
+          answers = is.some.answers ++ a ∷ [];
+          stands = takes_at_once is.some.program is.some.k is.some.answers is.some.stands;
+        };
+      }
+
+  pub nearer_at_once : work_left (record { nodes = s.nodes; place = t }) < work_left s
+  nearer_at_once =
+      answer_nearer s.nodes s.place t line instruction next a tree is.stop.within here behind.run
