@@ -19,14 +19,16 @@ use Rattle.mk_core.specs.Accesses.{caller_number}
 use Rattle.mk_core.specs.Decided.{flagged}
 use Rattle.mk_frames.proofs.OtherCalls.{never_continues}
 use Rattle.mk_words.specs.States.{PassState, WordsState}
-use Rattle.mk_caller.specs.States.{CallerState, at_home, never_of, never_then, number_of, value_of}
+use Rattle.mk_caller.specs.States.{CallerState, IsIdleCaller, at_home, never_of, never_then, number_of, value_of}
 use Rattle.mk_caller.proofs.After.{set_same}
 use Rattle.mk_alloc.specs.TurnCalls.{CalledInTurn, FreesObject, IsAnsweredDouble, IsAnsweredFull}
 use Rattle.mk_alloc.specs.declared.making.Full.{Full}
 use Rattle.mk_objects.specs.declared.freeing.Double.{Double}
 use Rattle.mk_objects.specs.declared.freeing.Freed.{Freed}
 use Rattle.mk_heap.specs.Hosts.{HostState, pass_for}
-use Rattle.mk_heap_tests.specs.HeldObjects.{HoldsObjects, IsReady, MayAllocate}
+use Rattle.mk_heap_tests.specs.HeldObjects.{HoldsObjects, IsPassOfObjects, IsReady, MayAllocate}
+use Rattle.mk_heap_tests.specs.Passes.{IsFirstPass}
+use Rattle.mk_heap_tests.proofs.JoinedHosts.{still_for}
 use Rattle.mk_heap_tests.proofs.Registers.{has_registers, null_at_first}
 
 -- what calls ask of such a caller
@@ -99,7 +101,7 @@ free_leaves n k r Null = refl
 free_leaves n k r (Num m) = refl
 free_leaves n k r (Ptr a t o) = refl
 
-freed_keeps : {on : Bool} {p q : PassState} {x : ℕ} → CalledInTurn on p (op.Free x) answer.Done q
+pub freed_keeps : {on : Bool} {p q : PassState} {x : ℕ} → CalledInTurn on p (op.Free x) answer.Done q
     → HoldsObjects p → HoldsObjects q
 freed_keeps {on} {p} {q} {x} c h r lt =
     let n : NeverState = never_then p c.decided.before in
@@ -107,7 +109,7 @@ freed_keeps {on} {p} {q} {x} c h r lt =
     (sym (left_there c r lt ∙ free_leaves n (number_of p) r (register_at n (number_of p) x) ∙ c.decided.known r lt))
     (h r lt)
 
-double_keeps : {on : Bool} {p q : PassState} {x : ℕ} → CalledInTurn on p (op.Free x) answer.Double q
+pub double_keeps : {on : Bool} {p q : PassState} {x : ℕ} → CalledInTurn on p (op.Free x) answer.Double q
     → HoldsObjects p → HoldsObjects q
 double_keeps {on} {p} {q} {x} c h r lt =
     let n : NeverState = never_then p c.decided.before in
@@ -117,7 +119,7 @@ double_keeps {on} {p} {q} {x} c h r lt =
 
 -- So a caller goes on behind each.
 
-seen_only : {on : Bool} {p q : PassState} {o : Op} {a : Answer} → CalledInTurn on p o a q
+pub seen_only : {on : Bool} {p q : PassState} {o : Op} {a : Answer} → CalledInTurn on p o a q
     → q ≡ record p { seen = q.seen }
 seen_only {on} {p} {q} c =
     c.is ∙ ap (λ (es : List Event). record p { seen = es }) (sym (ap (λ (r : PassState). r.seen) c.is))
@@ -186,3 +188,33 @@ pub may_then : (m b n d : ℕ) (s t : CallerState) → MayAllocate m b s → n �
 may_then m b n d s t may engine pages is ready =
     let at : MayAllocate m b t = may_at m b s t may (ap (λ (p : PassState). p.table) is) ready in
     record { ready = ready; ty = at.ty; engine = engine ∙ at.engine; pages = pages ∙ at.pages }
+
+-- A caller before its first call may make objects.
+pub may_at_first : (w : WordsState) (k made_for book : ℕ) (p : PassState) (s : CallerState) → IsFirstPass w k p
+    → s ≡ at_home p → k < w.config.callers → 0 < length w.config.types → made_for ≡ w.config.pages
+    → book ≡ w.config.pages → MayAllocate made_for book s
+may_at_first w k made_for book p s first is exists ty engine pages =
+    let table : s.pass.table ≡ w = ap (λ (x : CallerState). x.pass.table) is ∙ first.table in
+    record {
+      ready =
+          subst (λ (x : CallerState). IsReady x) (sym is)
+          (record {
+            number = k;
+            home = refl;
+            seat = first.seat;
+            exists = subst (λ (v : WordsState). k < v.config.callers) (sym first.table) exists;
+            alone = first.alone;
+            objects = λ r lt. subst (λ (v : Value). IsBase v) (sym (null_at_first p r first.seen)) tt;
+          });
+      ty = subst (λ (v : WordsState). 0 < length v.config.types) (sym table) ty;
+      engine = engine ∙ sym (ap (λ (v : WordsState). v.config.pages) table);
+      pages = pages ∙ sym (ap (λ (v : WordsState). v.config.pages) table);
+    }
+
+-- The pass of one that has made objects.
+pub pass_of_objects : (w : WordsState) (k : ℕ) (s t : CallerState) (q : PassState) → IsFirstPass w k s.pass
+    → t.pass ≡ record s.pass { seen = t.pass.seen } → IsReady t → q ≡ t.pass → IsIdleCaller t.pass
+    → IsPassOfObjects w k q
+pass_of_objects w k s t q first is ready same idle =
+    subst (λ (p : PassState). IsPassOfObjects w k p) (sym same)
+    (record { pass = still_for w k s.pass t.pass first is idle; objects = ready.objects })

@@ -1,10 +1,10 @@
--- The host's callers before their first call, and behind their last.
+-- The host's callers and markers before their first call, and behind their last.
 use Rattle.std.proofs.Common.{◌≡◌, ◌⊎◌, ℕ, zero, suc, ◌+◌, ◌*◌, ◌<◌, true, false, List, [], ◌∷◌, ◌++◌, refl, sym, ◌∙◌, ap, subst, inl, inr, arith}
 use Rattle.std.specs.Prelude.{not}
 use Rattle.std.proofs.lemmas.Bool.{not-true}
 use Rattle.mk_core.specs.declared.events.Event.{Event}
 use Rattle.mk_core.specs.declared.events.Seat.{Seat}
-use Rattle.mk_core.specs.declared.events.Seat.TheVariants.{Caller}
+use Rattle.mk_core.specs.declared.events.Seat.TheVariants.{Caller, Marker}
 use Rattle.mk_core.specs.History.{left}
 use Rattle.mk_core.specs.Moments.{is_held, none_is_held}
 use Rattle.mk_core.specs.Order.{host_has_turn}
@@ -14,10 +14,11 @@ use Rattle.mk_words.specs.States.{WordsState, PassState, now_of}
 use Rattle.mk_words.proofs.Seats.{has_first, has_left, has_right}
 use Rattle.mk_caller.specs.States.{CallerState, IsIdleCaller, at_home}
 use Rattle.mk_heap.specs.Clients.{IsPassOf}
-use Rattle.mk_heap.specs.Hosts.{HostState, AllAreJoined, IsHost, first_host, pass_for, with_caller_made, with_joined}
+use Rattle.mk_heap.specs.Ending.{CallersAreJoined}
+use Rattle.mk_heap.specs.Hosts.{HostState, AllAreJoined, IsHost, first_host, pass_for, with_caller_made, with_joined, with_seen}
 use Rattle.mk_heap.proofs.HostsKept.{first_is_host}
 use Rattle.mk_heap_tests.proofs.Registers.{null_at_first}
-use Rattle.mk_heap_tests.specs.Passes.{HoldsNull, IsFirstPass, IsPassFor}
+use Rattle.mk_heap_tests.specs.Passes.{HasJoinedOne, HoldsNull, IsFirstPass, IsPassFor}
 
 pub holds_null : (w : WordsState) (k : ℕ) (p : PassState) → IsFirstPass w k p → k < w.config.callers → HoldsNull p
 holds_null w k p first lt =
@@ -115,6 +116,35 @@ two_are_joined h a b p q es fs two none alone other is_a is_b =
             | inr e ↦ subst (λ (i : ℕ). Has b.pass.seats (Caller i)) (sym e) second
           ];
       markers = λ k lt. absurd (omega arith);
+    }
+
+-- One caller and one marker.
+
+pub only_zero : (k n : ℕ) → n ≡ 1 → k < n → k ≡ 0
+only_zero k n one lt = omega arith
+
+pub callers_are_joined : (w : WordsState) (h : HostState) → HasJoinedOne w h → CallersAreJoined h
+callers_are_joined w h run =
+    λ k lt. subst (λ (i : ℕ). Has h.pass.seats (Caller i)) (sym (only_zero k h.callers run.callers lt)) run.joined
+
+pub all_are_joined : (w : WordsState) (h g j : HostState) (m : PassState) → HasJoinedOne w h
+    → g ≡ with_seen h g.pass.seen → j ≡ with_joined g m j.pass.seen → m.seats ≡ Marker 0 ∷ [] → AllAreJoined j
+all_are_joined w h g j m run is_g is_j alone =
+    let seats : j.pass.seats ≡ h.pass.seats ++ m.seats =
+    ap (λ (x : HostState). x.pass.seats) is_j ∙ ap (λ (x : HostState). x.pass.seats ++ m.seats) is_g in
+    let callers : j.callers ≡ 1 =
+    ap (λ (x : HostState). x.callers) is_j ∙ ap (λ (x : HostState). x.callers) is_g ∙ run.callers in
+    let markers : j.markers ≡ 1 =
+    ap (λ (x : HostState). x.markers) is_j ∙ ap (λ (x : HostState). x.markers) is_g ∙ run.markers in
+    record {
+      callers = λ k lt.
+          subst (λ (i : ℕ). Has j.pass.seats (Caller i)) (sym (only_zero k j.callers callers lt))
+          (subst (λ (l : List Seat). Has l (Caller 0)) (sym seats)
+          (has_left h.pass.seats m.seats (Caller 0) run.joined));
+      markers = λ k lt.
+          subst (λ (i : ℕ). Has j.pass.seats (Marker i)) (sym (only_zero k j.markers markers lt))
+          (subst (λ (l : List Seat). Has l (Marker 0)) (sym seats)
+          (has_joined h.pass.seats m.seats (Marker 0) alone));
     }
 
 -- The host of a table that nobody has used hasn't the turn, and the passes that it splits off for callers are idle.

@@ -2,8 +2,9 @@
 use Rattle.std.specs.Prelude.{◌≡◌, ℕ, ◌<◌, true, [], ◌∷◌, length}
 use Rattle.mk_never.specs.Admitted.{IsBase}
 use Rattle.mk_core.specs.declared.events.Seat.TheVariants.{Caller}
-use Rattle.mk_words.specs.States.{PassState}
+use Rattle.mk_words.specs.States.{PassState, WordsState}
 use Rattle.mk_caller.specs.States.{CallerState, value_of}
+use Rattle.mk_heap_tests.specs.Passes.{IsPassFor}
 
 -- Each of the caller's registers is null, or points to an object's first word.
 abbrev pub HoldsObjects : PassState → Type 0
@@ -24,3 +25,8 @@ pub record MayAllocate (made_for book : ℕ) (s : CallerState) : Type 0 where
   pub ty : 0 < length s.pass.table.config.types
   pub engine : made_for ≡ s.pass.table.config.pages
   pub pages : book ≡ s.pass.table.config.pages
+
+-- the pass of caller k, with no call in flight, whose registers hold objects
+pub record IsPassOfObjects (w : WordsState) (k : ℕ) (p : PassState) : Type 0 where
+  pub pass : IsPassFor w k p
+  pub objects : HoldsObjects p

@@ -1,10 +1,16 @@
--- The passes that the tests hand from thread to thread.
+-- The passes and hosts that the tests hand from thread to thread.
 -- Private functions alone cite these words.
-use Rattle.std.specs.Prelude.{◌≡◌, ℕ, ◌<◌, [], ◌∷◌}
+use Rattle.std.specs.Prelude.{◌≡◌, ℕ, ◌<◌, true, false, [], ◌∷◌}
 use Rattle.mk_never.specs.declared.values.Value.TheVariants.{Null}
-use Rattle.mk_core.specs.declared.events.Seat.TheVariants.{Caller}
-use Rattle.mk_words.specs.States.{WordsState, PassState}
+use Rattle.mk_core.specs.declared.events.Seat.TheVariants.{Caller, Marker, Host}
+use Rattle.mk_core.specs.Moments.{none_is_held}
+use Rattle.mk_core.specs.Order.{host_has_turn}
+use Rattle.mk_words.specs.Seats.{Has, has_over}
+use Rattle.mk_words.specs.States.{WordsState, PassState, now_of}
 use Rattle.mk_caller.specs.States.{value_of, IsIdleCaller}
+use Rattle.mk_marker.specs.Markers.{IsOut}
+use Rattle.mk_cycle.specs.EngineLaw.{IsAtPhase, IsFreeForCycle}
+use Rattle.mk_heap.specs.Hosts.{HostState}
 
 -- a caller's pass, whose register 1 is null
 pub record HoldsNull (p : PassState) : Type 0 where
@@ -32,3 +38,33 @@ pub record IsPassFor (w : WordsState) (k : ℕ) (p : PassState) : Type 0 where
   pub seat : p.seat ≡ Caller k
   pub alone : p.seats ≡ Caller k ∷ []
   pub idle : IsIdleCaller p
+
+-- the pass of the first marker, which is out
+pub record IsMarkerOut (w : WordsState) (p : PassState) : Type 0 where
+  pub table : p.table ≡ w
+  pub seat : p.seat ≡ Marker 0
+  pub alone : p.seats ≡ Marker 0 ∷ []
+  pub out : IsOut p
+
+-- The host has joined its one caller, and made its one marker.
+pub record HasJoinedOne (w : WordsState) (h : HostState) : Type 0 where
+  pub table : h.pass.table ≡ w
+  pub before_over : has_over h.pass.seen ≡ false
+  pub callers : h.callers ≡ 1
+  pub joined : Has h.pass.seats (Caller 0)
+  pub markers : h.markers ≡ 1
+
+-- the host's pass, which hasn't the turn, before an `over`
+pub record IsHostsPass (w : WordsState) (p : PassState) : Type 0 where
+  pub table : p.table ≡ w
+  pub seat : p.seat ≡ Host
+  pub without : host_has_turn p.table.config (now_of p) ≡ false
+  pub before_over : has_over p.seen ≡ false
+
+-- the host's turn in a cycle that isn't wanted for closing, with no gate held
+pub record IsMarking (w : WordsState) (p : PassState) : Type 0 where
+  pub table : p.table ≡ w
+  pub seat : p.seat ≡ Host
+  pub phase : IsAtPhase p 1
+  pub free : IsFreeForCycle p
+  pub gates : none_is_held p.table.config.callers (now_of p).words ≡ true

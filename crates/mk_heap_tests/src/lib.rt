@@ -3,11 +3,15 @@
 
 mod callers;
 #[cfg(test)]
+mod cores;
+#[cfg(test)]
 mod frees;
 mod gates;
+mod late_markers;
 #[cfg(test)]
 mod lists;
 mod objects;
+mod retiring;
 #[cfg(test)]
 mod rows;
 #[cfg(test)]

@@ -44,7 +44,7 @@ pub(crate) fn free<E: Engine, R: Threads + Wait + Sync>(
 }
 
 /// Sets each register to a new object, and says whether all fit.
-fn make_eight<E: Engine, R: Threads + Wait + Sync>(
+pub(crate) fn make_eight<E: Engine, R: Threads + Wait + Sync>(
     rt: &R,
     caller: &mut Caller,
     bench: &mut Bench<E>,
@@ -61,7 +61,7 @@ fn make_eight<E: Engine, R: Threads + Wait + Sync>(
 }
 
 /// The same three times, in the same registers.
-fn make_eight_thrice<E: Engine, R: Threads + Wait + Sync>(
+pub(crate) fn make_eight_thrice<E: Engine, R: Threads + Wait + Sync>(
     rt: &R,
     caller: &mut Caller,
     bench: &mut Bench<E>,

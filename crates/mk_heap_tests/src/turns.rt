@@ -129,9 +129,40 @@ pub(crate) fn host_holds(alloc: Global, config: &Config) -> Result<Option<u64>, 
     Ok(host_told(&words, host, caller))
 }
 
+/// Who has the turn, as the host is told when a caller has taken it.
+fn host_is_told(words: &Words, host: Pass, caller: Pass) -> Option<u64>
+    requires one_table { host.table ≡ words.now }
+    requires host { host.seat ≡ seat.Host }
+    requires without { host_has_turn host.table.config (now_of host) ≡ false }
+    requires caller { IsPassFor words.now 1 caller }
+    requires two { words.now.config.callers ≡ 2 }
+{
+    let Ok(_turn) = caller.try_take(words, Some(FREE)) else {
+        return None;
+    };
+    match host.try_take(words, None) {
+        Ok(_) => None,
+        Err((_, busy)) => Some(busy.holder),
+    }
+}
+
+/// Of two callers the second, whose number is 1, takes the turn. What the host is told.
+pub(crate) fn caller_holds_before_host(
+    alloc: Global,
+    config: &Config,
+) -> Result<Option<u64>, NoMemory>
+    requires limits { IsWithinLimits config.now }
+    requires two { config.now.callers ≡ 2 }
+{
+    let (words, mut host) = Words::new(alloc, config)?;
+    words.is_within_limits();
+    let caller = Words::split(&words, &mut host, Seat::Caller(1));
+    Ok(host_is_told(&words, host, caller))
+}
+
 #[cfg(test)]
 mod tests {
-    use super::{caller_holds, host_holds, places};
+    use super::{caller_holds, caller_holds_before_host, host_holds, places};
     use mk_core::{Config, GlobalTable};
     use mk_never::{Kind, TypeTable};
     use std::test::Fail;
@@ -170,6 +201,8 @@ mod tests {
         assert_eq!(rt; of_caller, Some(1));
         let of_host = host_holds(rt.alloc(), &config).expect(&rt, "memory");
         assert_eq!(rt; of_host, Some(2));
+        let to_host = caller_holds_before_host(rt.alloc(), &config).expect(&rt, "memory");
+        assert_eq!(rt; to_host, Some(1));
         Ok(())
     }
 }

@@ -1,0 +1,212 @@
+-- A marker that is out, or comes in, the host's turn and cycle beside it, and the caller that was joined.
+use Rattle.std.proofs.Common.{◌≡◌, ℕ, ◌<◌, ◌%◌, true, false, List, [], ◌∷◌, refl, sym, ◌∙◌, ap, subst, arith}
+use Rattle.std.specs.Prelude.{None, ◌==◌}
+use Rattle.std.proofs.lemmas.Bool.{eq-eqb}
+use Rattle.mk_core.specs.declared.config.Config.{Config}
+use Rattle.mk_core.specs.declared.seats.Marker.{Marker as MarkerState}
+use Rattle.mk_core.specs.declared.seats.Presence.{Presence}
+use Rattle.mk_core.specs.declared.seats.Presence.TheVariants as presence
+use Rattle.mk_core.specs.declared.events.Event.{Event}
+use Rattle.mk_core.specs.declared.events.Seat.{Seat}
+use Rattle.mk_core.specs.declared.events.Seat.TheVariants.{Caller, Marker, Host}
+use Rattle.mk_core.specs.declared.events.Step.TheVariants as step
+use Rattle.mk_core.specs.declared.events.Word.TheVariants as word
+use Rattle.mk_core.specs.Counts.{TalliesAreExact, TalliesAreTidy}
+use Rattle.mk_core.specs.Enabled.{IsEnabled}
+use Rattle.mk_core.specs.Frames.{Steady}
+use Rattle.mk_core.specs.History.{IsHistory, left_from}
+use Rattle.mk_core.specs.MarkerConditions.{is_out}
+use Rattle.mk_core.specs.Moments.{is_held, is_number_of, marker_at, others_are_held, outside}
+use Rattle.mk_core.specs.StopConditions.{is_attending}
+use Rattle.mk_core.specs.Words.{phase_of}
+use Rattle.mk_words.specs.Markers.{marker_in}
+use Rattle.mk_words.specs.Seats.{Has, all_seats, has_over, without_seat}
+use Rattle.mk_words.specs.States.{PassState, WordsState, now_of}
+use Rattle.mk_words.specs.Steps.{Finds, IsEnabledTo}
+use Rattle.mk_words.specs.TurnSteps.{Acts, IsFresh}
+use Rattle.mk_words.proofs.Seats.{has_all, without_keeps}
+use Rattle.mk_caller.specs.States.{CallerState, at_home}
+use Rattle.mk_marker.specs.Markers.{IsOut, attends}
+use Rattle.mk_waiting.specs.Taking.{TakesTurn}
+use Rattle.mk_cycle.specs.BeginCycle.{BeginsCycle}
+use Rattle.mk_cycle.specs.EngineLaw.{IsAtPhase, IsFreeForCycle}
+use Rattle.mk_cycle.specs.Holding.{HoldsGates}
+use Rattle.mk_cycle.specs.TurnKeeps.{InTurn}
+use Rattle.mk_cycle.proofs.Allowed.{or_true, protocol}
+use Rattle.mk_cycle.proofs.HoldingSteps.{all_held_below, held_free, held_seat, held_table, hold_allowed, hold_holds}
+use Rattle.mk_cycle.proofs.MayAct.{may_act}
+use Rattle.mk_heap.specs.Ending.{IsIdleTurn}
+use Rattle.mk_heap.specs.Hosts.{HostState, IsHost, first_host, pass_for, with_caller_made, with_joined, with_marker_made}
+use Rattle.mk_heap.proofs.BeforeOver.{taken_overs}
+use Rattle.mk_heap.proofs.HostsKept.{first_is_host}
+use Rattle.mk_heap.proofs.IdleTurns.{begun_free, fresh_free, look_keeps, looked_idle, none_held_kept, none_is_on}
+use Rattle.mk_heap.proofs.Joining.{host_may_take}
+use Rattle.mk_heap.proofs.MovedHosts.{turn_moves}
+use Rattle.mk_heap_tests.specs.Passes.{HasJoinedOne, IsHostsPass, IsMarking, IsMarkerOut}
+use Rattle.mk_heap_tests.proofs.JoinedHosts.{free_at_first, has_joined, none_is_held_at, only_zero}
+
+out_attends_not : (x : Presence) → is_out x ≡ true → is_attending x ≡ false
+out_attends_not presence.Out h = refl
+out_attends_not presence.Visiting h = refl
+out_attends_not presence.Attending h = cc
+
+pub attends_not : (p : PassState) → IsOut p → attends p ≡ false
+attends_not p out = out_attends_not (marker_in p).presence out
+
+-- The marker of a heap that nobody has used.
+
+out_at_first : (w : WordsState) (p : PassState)
+    → p ≡ record { table = w; seat = Marker 0; seats = Marker 0 ∷ []; seen = [] } → IsMarkerOut w p
+out_at_first w p is =
+    let host : IsHost (first_host w) = first_is_host w in
+    subst (λ (q : PassState). IsMarkerOut w q) (sym is)
+    (record {
+      table = refl;
+      seat = refl;
+      alone = refl;
+      out = ap (λ (x : MarkerState). is_out x.presence)
+          (host.rests (Marker 0) (host.markers 0 (omega arith) (omega arith))).out;
+    })
+
+pub marker_at_first : (w : WordsState) (f : HostState) (m : PassState) → f ≡ first_host w
+    → m ≡ pass_for f (Marker f.markers) → IsMarkerOut w m
+marker_at_first w f m first is = out_at_first w m (is ∙ ap (λ (x : HostState). pass_for x (Marker x.markers)) first)
+
+pub marker_split : (w : WordsState) (h m : PassState) → h.table ≡ w → h.seen ≡ []
+    → m ≡ record h { seat = Marker 0; seats = Marker 0 ∷ [] } → IsMarkerOut w m
+marker_split w h m table seen is =
+    out_at_first w m
+    (is
+    ∙ ap (λ (v : WordsState). record { table = v; seat = Marker 0; seats = Marker 0 ∷ []; seen = h.seen }) table
+    ∙ ap (λ (es : List Event). record { table = w; seat = Marker 0; seats = Marker 0 ∷ []; seen = es }) seen)
+
+-- It is that one still where it has seen more.
+pub still_out : (w : WordsState) (m a q : PassState) → IsMarkerOut w m → a ≡ record m { seen = a.seen } → q ≡ a → IsOut q
+    → IsMarkerOut w q
+still_out w m a q first is_a is out =
+    let on : q ≡ record m { seen = a.seen } = is ∙ is_a in
+    record {
+      table = ap (λ (p : PassState). p.table) on ∙ first.table;
+      seat = ap (λ (p : PassState). p.seat) on ∙ first.seat;
+      alone = ap (λ (p : PassState). p.seats) on ∙ first.alone;
+      out = out;
+    }
+
+-- The host of a table that nobody has used, which split off its first caller and then its first marker.
+
+first_out : (p : PassState) → marker_at (now_of (record p { seen = [] })) (Marker 0) ≡ outside
+unfolding left_from
+first_out p = refl
+
+pub marker_is_outside : (p : PassState) → p.seen ≡ [] → marker_at (now_of p) (Marker 0) ≡ outside
+marker_is_outside p none =
+    ap (λ (es : List Event). marker_at (now_of (record p { seen = es })) (Marker 0)) none ∙ first_out p
+
+pub marker_is_home : (c : Config) (h g : PassState) → h.seats ≡ all_seats c
+    → g.seats ≡ without_seat (Caller 0) h.seats → Has g.seats (Marker 0)
+marker_is_home c h g first less =
+    subst (λ (xs : List Seat). Has xs (Marker 0)) (sym less)
+    (without_keeps (Caller 0) h.seats (Marker 0) refl
+    (subst (λ (xs : List Seat). Has xs (Marker 0)) (sym first) (has_all c (Marker 0) refl)))
+
+pub host_at_first : (w : WordsState) (p : PassState) → p.table ≡ w → p.seat ≡ Host → p.seen ≡ [] → IsHostsPass w p
+host_at_first w p table seat seen =
+    record {
+      table = table;
+      seat = seat;
+      without = free_at_first w p table seen;
+      before_over = ap has_over seen;
+    }
+
+pub host_may : (w : WordsState) (p : PassState) → IsHostsPass w p → IsEnabledTo p (step.Take None)
+host_may w p host =
+    subst (λ (s : Seat). IsEnabled p.table.config (now_of p) (record { seat = s; step = step.Take None }))
+    (sym host.seat) (host_may_take p.table.config (now_of p) host.without)
+
+-- The turn that it took for no operation, and its cycle.
+module _ (w : WordsState) (h p q : PassState) (host : IsHostsPass w h) (own : Has h.seats h.seat)
+    (takes : TakesTurn h None p) (fresh : IsFresh p None) (exact : TalliesAreExact p.table.config p.seen)
+    (tidy : TalliesAreTidy p.table.config p.seen) (t : InTurn p) (n : ℕ) (finds : Finds p (step.Look word.Phase) n q)
+    (acts : Acts p (step.Look word.Phase) q) (history : IsHistory q.table.config q.seen) where
+  pub looked_table : q.table ≡ w
+  looked_table =
+      ap (λ (x : PassState). x.table) (look_keeps p q t (fresh_free p fresh) history acts).call.pass
+      ∙ ap (λ (x : PassState). x.table) (turn_moves h p takes).is ∙ host.table
+
+  module _ (none : n % 8 ≡ 1 → ⊥) where
+    before : has_over p.seen ≡ false
+    before =
+        taken_overs h p takes (subst (λ (s : Seat). Has h.seats s) host.seat own) t.history ∙ host.before_over
+
+    pub idle : IsIdleTurn q
+    idle =
+        looked_idle p q (ap (λ (x : PassState). x.seat) (turn_moves h p takes).is ∙ host.seat) t fresh history acts
+        (none_is_on p q n t fresh before history finds none) exact tidy
+
+    pub marking : (r : PassState) → BeginsCycle q r → IsMarking w r
+    marking r begins =
+        record {
+          table = ap (λ (x : PassState). x.table) begins.pass ∙ looked_table;
+          seat = ap (λ (x : PassState). x.seat) begins.pass ∙ idle.seat;
+          phase = ap (λ (s : Steady). s.phase) begins.steady;
+          free = begun_free q r idle.free begins;
+          gates = none_held_kept q r begins.pass begins.gates idle.gates;
+        }
+
+-- The stop of the one caller, in which the close is wanted.
+module _ (w : WordsState) (p : PassState) (m : IsMarking w p) (one : w.config.callers ≡ 1) (t : InTurn p) where
+  one_caller : p.table.config.callers ≡ 1
+  one_caller = ap (λ (v : WordsState). v.config.callers) m.table ∙ one
+
+  there : 0 < p.table.config.callers
+  there = let is = one_caller in omega arith
+
+  pub may_hold : IsEnabledTo p (step.Hold 0)
+  may_hold = hold_allowed p t m.free 0 there (ap (λ (s : Seat). is_number_of s 0) m.seat) (none_is_held_at p 0 there m.gates)
+
+  module _ (q : PassState) (u : InTurn q) (acts : Acts p (step.Hold 0) q) (held : is_held (now_of q).words 0 ≡ true) where
+    holds : HoldsGates p q
+    holds = hold_holds p q t m.free u 0 acts
+
+    free : IsFreeForCycle q
+    free = held_free p q holds m.free
+
+    pub stop_table : q.table ≡ w
+    stop_table = held_table p q w holds m.table
+
+    pub all_held : others_are_held q.table.config.callers (now_of q).words q.seat ≡ true
+    all_held =
+        let count : q.table.config.callers ≡ 1 = ap (λ (v : WordsState). v.config.callers) stop_table ∙ one in
+        all_held_below q q.table.config.callers
+        (λ j lt. or_true (is_number_of q.seat j) (is_held (now_of q).words j)
+        (subst (λ (i : ℕ). is_held (now_of q).words i ≡ true) (sym (only_zero j q.table.config.callers count lt)) held))
+
+    pub may_want : IsEnabledTo q step.Want
+    may_want =
+        let phase : phase_of (now_of q).words ≡ 1 = ap (λ (s : Steady). s.phase) holds.keeps.steady ∙ m.phase in
+        may_act q step.Want (protocol q u free) u.holds free.decided refl refl all_held
+        (eq-eqb (phase_of (now_of q).words) 1 phase) refl
+
+-- The host, behind its first marker and its first caller, which has joined the caller.
+pub joined_one : (w : WordsState) (f g h j : HostState) (p : PassState) → f ≡ first_host w → g ≡ with_marker_made f
+    → h ≡ with_caller_made g → j ≡ with_joined h p j.pass.seen → p.seats ≡ Caller 0 ∷ []
+    → has_over j.pass.seen ≡ has_over h.pass.seen → HasJoinedOne w j
+joined_one w f g h j p is_f is_g is_h is_j alone overs =
+    let all : h ≡ with_caller_made (with_marker_made (first_host w)) =
+    is_h ∙ ap (λ (x : HostState). with_caller_made x) (is_g ∙ ap (λ (x : HostState). with_marker_made x) is_f) in
+    record {
+      table = ap (λ (x : HostState). x.pass.table) is_j ∙ ap (λ (x : HostState). x.pass.table) all;
+      before_over = overs ∙ ap (λ (x : HostState). has_over x.pass.seen) all;
+      callers = ap (λ (x : HostState). x.callers) is_j ∙ ap (λ (x : HostState). x.callers) all;
+      joined =
+          subst (λ (l : List Seat). Has l (Caller 0)) (sym (ap (λ (x : HostState). x.pass.seats) is_j))
+          (has_joined h.pass.seats p.seats (Caller 0) alone);
+      markers = ap (λ (x : HostState). x.markers) is_j ∙ ap (λ (x : HostState). x.markers) all;
+    }
+
+-- Its one caller's pass, which was made behind the marker's.
+pub only_seat : (w : WordsState) (f g : HostState) (s : CallerState) (p : PassState) → f ≡ first_host w
+    → g ≡ with_marker_made f → s ≡ at_home (pass_for g (Caller g.callers)) → p ≡ s.pass → p.seats ≡ Caller 0 ∷ []
+only_seat w f g s p is_f is_g is_s is_p =
+    ap (λ (x : PassState). x.seats) is_p ∙ ap (λ (x : CallerState). x.pass.seats) is_s
+    ∙ ap (λ (x : HostState). Caller x.callers ∷ []) (is_g ∙ ap (λ (x : HostState). with_marker_made x) is_f)

@@ -1,0 +1,123 @@
+-- A caller's turn for a Free, from its `take` to its `give`, with no cycle.
+use Rattle.std.proofs.Common.{◌≡◌, ◌×◌, ℕ, ◌<◌, false, refl, ◌∙◌, ap}
+use Rattle.std.specs.Prelude.{Some}
+use Rattle.std.proofs.lemmas.Bool.{lt-ltb}
+use Rattle.mk_never.specs.declared.operations.Op.TheVariants as op
+use Rattle.mk_core.specs.declared.events.Answer.{Answer}
+use Rattle.mk_core.specs.declared.events.Answer.TheVariants as answer
+use Rattle.mk_core.specs.declared.events.Step.TheVariants as step
+use Rattle.mk_core.specs.Calls.{at_rest}
+use Rattle.mk_core.specs.Counts.{TalliesAreExact, TalliesAreTidy}
+use Rattle.mk_core.specs.History.{IsHistory}
+use Rattle.mk_words.specs.Seats.{CallersAreBeforeOver, Has}
+use Rattle.mk_words.specs.States.{PassState, WordsState, call_of, now_of}
+use Rattle.mk_words.specs.Steps.{IsEnabledTo, Makes}
+use Rattle.mk_words.specs.TurnSteps.{IsFresh}
+use Rattle.mk_cycle.specs.TurnKeeps.{InTurn}
+use Rattle.mk_waiting.specs.Taking.{TakesTurn}
+use Rattle.mk_objects.specs.Placing.{IsOutOfStop}
+use Rattle.mk_objects.specs.Retired.{FindsFreed, Retires}
+use Rattle.mk_objects.specs.Retiring.{IsUnloaded}
+use Rattle.mk_alloc.specs.DueCycles.{RunsIfDue}
+use Rattle.mk_alloc.specs.Underway.{BeginsTurn, GoesOn}
+use Rattle.mk_alloc.proofs.CalledTurns.{taken_same}
+use Rattle.mk_alloc.proofs.FreedTurns.{double_on, freed_on, frees_object, is_answered_double, unloaded}
+use Rattle.mk_alloc.proofs.QuietTurns.{give_allowed}
+use Rattle.mk_alloc.proofs.TakenTurns.{callers, take_allowed, taken_phase}
+use Rattle.mk_heap_tests.specs.HeldObjects.{IsPassOfObjects}
+use Rattle.mk_heap_tests.specs.Passes.{IsPassFor}
+use Rattle.mk_heap_tests.proofs.HeldObjects.{double_keeps, freed_keeps, seen_only}
+use Rattle.mk_heap_tests.proofs.JoinedHosts.{alone_in}
+use Rattle.mk_heap_tests.proofs.NewTurns.{exists}
+
+module _ (w : WordsState) (k r : ℕ) (p : PassState) (is : IsPassOfObjects w k p) (few : k < w.config.callers)
+    (small : r < 8) where
+  pub may_retire : IsEnabledTo p (step.Take (Some (op.Free r)))
+  may_retire = take_allowed p (op.Free r) is.pass.idle (exists w k p is.pass few) refl (lt-ltb r 8 small)
+
+  module _ (q : PassState) (own : Has p.seats p.seat) (takes : TakesTurn p (Some (op.Free r)) q)
+      (fresh : IsFresh q (Some (op.Free r))) (exact : TalliesAreExact q.table.config q.seen)
+      (tidy : TalliesAreTidy q.table.config q.seen) (t : InTurn q)
+      (before : CallersAreBeforeOver q.table.config q.seats q.seen) where
+    taken_is : q ≡ record p { seen = q.seen }
+    taken_is = taken_same p q (op.Free r) (callers p is.pass.idle) own takes
+
+    pub taken_table : q.table ≡ w
+    taken_table = ap (λ (x : PassState). x.table) taken_is ∙ is.pass.table
+
+    pub phase : IsOutOfStop (now_of q)
+    phase = taken_phase p q (op.Free r) (callers p is.pass.idle) (exists w k p is.pass few) (alone_in is.pass) own takes
+        fresh t.history before
+
+    begins : BeginsTurn (op.Free r) q
+    begins = record { fresh = fresh; phase = phase; exact = exact; tidy = tidy }
+
+    pub is_unloaded : IsUnloaded q r
+    is_unloaded =
+        unloaded p q r (callers p is.pass.idle) own takes fresh t.history small (is.objects r small)
+
+    -- The pass that is given back, where the turn went on to an answer.
+    back_of : (a : Answer) (d : PassState) → GoesOn (Some a) q d → (b : PassState) → Makes d step.Give b
+        → call_of b ≡ at_rest → IsPassFor w k b
+    back_of a d on b gives rests =
+        let all : (b.table ≡ p.table) × (b.seat ≡ p.seat) × (b.seats ≡ p.seats) = (
+          ap (λ (x : PassState). x.table) gives.is ∙ ap (λ (x : PassState). x.table) on.does.is
+              ∙ ap (λ (x : PassState). x.table) taken_is,
+          ap (λ (x : PassState). x.seat) gives.is ∙ ap (λ (x : PassState). x.seat) on.does.is
+              ∙ ap (λ (x : PassState). x.seat) taken_is,
+          ap (λ (x : PassState). x.seats) gives.is ∙ ap (λ (x : PassState). x.seats) on.does.is
+              ∙ ap (λ (x : PassState). x.seats) taken_is,
+        ) in
+        record {
+          table = all.0 ∙ is.pass.table;
+          seat = all.1 ∙ is.pass.seat;
+          alone = all.2 ∙ is.pass.alone;
+          idle = record { caller = k; seat = all.1 ∙ is.pass.seat; rest = rests };
+        }
+
+    -- It was freed, and that isn't due.
+    module _ (d : PassState) (retires : Retires q r false d) (u : InTurn d) where
+      runs_none : RunsIfDue false false d d
+      runs_none = record { runs = λ h. cc; rests = λ h. refl }
+
+      pub freed : GoesOn (Some answer.Done) q d
+      freed = freed_on false false p q d d d r (callers p is.pass.idle) own takes begins t retires u runs_none u
+
+      pub freed_table : d.table ≡ w
+      freed_table = ap (λ (x : PassState). x.table) freed.does.is ∙ taken_table
+
+      pub freed_may_give : IsEnabledTo d step.Give
+      freed_may_give = give_allowed d u freed.quiet (freed.decided refl)
+
+      pub freed_back : (b : PassState) → Makes d step.Give b → call_of b ≡ at_rest → IsHistory b.table.config b.seen
+          → IsPassOfObjects w k b
+      freed_back b gives rests history =
+          record {
+            pass = back_of answer.Done d freed b gives rests;
+            objects = freed_keeps
+                (frees_object false false p q d d b r (callers p is.pass.idle) own takes begins t retires u runs_none u
+                gives rests history).called
+                is.objects;
+          }
+
+    -- It was freed already.
+    module _ (d : PassState) (finds : FindsFreed q r d) (u : InTurn d) where
+      pub double : GoesOn (Some answer.Double) q d
+      double = double_on false p q d d r (callers p is.pass.idle) own takes begins t finds u
+
+      pub double_table : d.table ≡ w
+      double_table = ap (λ (x : PassState). x.table) double.does.is ∙ taken_table
+
+      pub double_may_give : IsEnabledTo d step.Give
+      double_may_give = give_allowed d u double.quiet (double.decided refl)
+
+      pub double_back : (b : PassState) → Makes d step.Give b → call_of b ≡ at_rest → IsHistory b.table.config b.seen
+          → IsPassOfObjects w k b
+      double_back b gives rests history =
+          record {
+            pass = back_of answer.Double d double b gives rests;
+            objects = double_keeps
+                (is_answered_double false p q d b r (callers p is.pass.idle) own takes begins t finds u gives rests
+                history).called
+                is.objects;
+          }

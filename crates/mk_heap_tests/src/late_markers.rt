@@ -1,0 +1,209 @@
+//! A marker that comes before a cycle, to a cycle that is on, and when all is over. All is done on one thread.
+ghost use Rattle.std.specs.Prelude.{◌≡◌, ◌<◌, length, true, false, IfSome};
+ghost use Rattle.mk_core.specs.Config.{IsWithinLimits};
+ghost use Rattle.mk_marker.specs.Markers.{attends};
+ghost use Rattle.mk_heap_tests.specs.Passes.{IsFirstPass, IsHostsPass, IsMarkerOut, IsMarking};
+
+use crate::objects::make;
+use mk_caller::Caller;
+use mk_core::{Config, Seat, Word};
+use mk_cycle::{Bench, Engine, begin_cycle};
+use mk_heap::{Heap, Report};
+use mk_marker::{Marker, Work};
+use mk_never::NoMemory;
+use mk_waiting::take_turn;
+use mk_words::{Pass, Turn, Words};
+use std::alloc::Global;
+use std::sync::Wait;
+use std::thread::Threads;
+
+/// Whether the marker comes while no cycle is on, and finds this phase.
+fn finds_phase(marker: &mut Marker, phase: u64) -> bool
+    requires out { attends marker.old ≡ false }
+    ensures out { result ≡ true → attends marker.new ≡ false }
+    ensures pass { marker.new ≡ record marker.old { seen = marker.new.seen } }
+{
+    match marker.attend() {
+        Ok(()) => false,
+        Err(found) => found.phase == phase,
+    }
+}
+
+/// Whether it comes in, scans one cell, and then finds nothing to do.
+fn scans_one_cell(marker: &mut Marker) -> bool
+    requires out { attends marker.old ≡ false }
+    ensures attends { result ≡ true → attends marker.new ≡ true }
+    ensures pass { marker.new ≡ record marker.old { seen = marker.new.seen } }
+{
+    if marker.attend().is_err() {
+        return false;
+    }
+    let first = marker.work();
+    let second = marker.work();
+    (first == Work::Worked) & (second == Work::Idle)
+}
+
+/// The host takes the turn and begins a cycle, if none is on.
+fn begin<E: Engine, R: Threads + Wait + Sync>(
+    rt: &R,
+    words: &Words,
+    host: Pass,
+    bench: &mut Bench<E>,
+) -> Option<Turn>
+    requires host { IsHostsPass words.now host }
+    requires made_for { E.made_for bench.old.engine ≡ words.now.config.pages }
+    ensures { IfSome result (λ turn. IsMarking words.now turn.pass) }
+{
+    host.is_in_order();
+    let mut turn = take_turn(rt, words, host, None);
+    turn.is_in_order();
+    let found = turn.look(words, Word::Phase);
+    turn.is_in_order();
+    if found % 8 == 1 {
+        return None;
+    }
+    begin_cycle(rt, words, &mut turn, bench);
+    Some(turn)
+}
+
+/// The host holds the gate of the one caller and wants the close. What the marker is told, which is in and goes out
+/// then.
+fn want_close(words: &Words, turn: Turn, marker: &mut Marker) -> Option<Work>
+    requires turn { IsMarking words.now turn.pass }
+    requires one { words.now.config.callers ≡ 1 }
+    requires attends { attends marker.old ≡ true }
+{
+    let mut turn = turn;
+    turn.is_in_order();
+    if turn.try_hold(words, 0).is_err() {
+        return None;
+    }
+    turn.is_in_order();
+    let mut stop = turn.stopped();
+    stop.want(words);
+    let told = marker.work();
+    marker.quit();
+    Some(told)
+}
+
+/// The caller makes an object, and a cycle begins. What the marker is told when its close is wanted, if it found no
+/// cycle before, and one cell to scan in this one.
+fn mark_beside<E: Engine, R: Threads + Wait + Sync>(
+    rt: &R,
+    words: &Words,
+    host: Pass,
+    caller: Pass,
+    marker: Pass,
+    bench: &mut Bench<E>,
+) -> Option<Work>
+    requires host { IsHostsPass words.now host }
+    requires caller { IsFirstPass words.now 0 caller }
+    requires marker { IsMarkerOut words.now marker }
+    requires one { words.now.config.callers ≡ 1 }
+    requires ty { 0 < length words.now.config.types }
+    requires made_for { E.made_for bench.old.engine ≡ words.now.config.pages }
+    requires book { length bench.old.book ≡ words.now.config.pages }
+{
+    let mut marker = Marker::new(words, marker);
+    if !finds_phase(&mut marker, 0) {
+        return None;
+    }
+    let mut caller = Caller::new(words, caller);
+    if !make(rt, &mut caller, bench, 0) {
+        return None;
+    }
+    let turn = begin(rt, words, host, bench)?;
+    if !scans_one_cell(&mut marker) {
+        return None;
+    }
+    want_close(words, turn, &mut marker)
+}
+
+/// The same on a table of its own, which is dropped with the turn.
+pub(crate) fn come_to_a_cycle<E: Engine, R: Threads + Wait + Sync>(
+    rt: &R,
+    alloc: Global,
+    config: &Config,
+) -> Result<Option<Work>, NoMemory>
+    requires limits { IsWithinLimits config.now }
+    requires one { config.now.callers ≡ 1 }
+    requires ty { 0 < length config.now.types }
+{
+    let mut bench: Bench<E> = Bench::new(alloc, config.pages)?;
+    let (words, mut host) = Words::new(alloc, config)?;
+    let caller = Words::split(&words, &mut host, Seat::Caller(0));
+    let marker = Words::split(&words, &mut host, Seat::Marker(0));
+    Ok(mark_beside(rt, &words, host, caller, marker, &mut bench))
+}
+
+/// The marker comes when the one caller is joined and all is over. The report, if it finds that.
+pub(crate) fn come_when_over<E: Engine, R: Threads + Wait + Sync>(
+    rt: &R,
+    alloc: Global,
+    config: &Config,
+) -> Result<Option<Report>, NoMemory>
+    requires limits { IsWithinLimits config.now }
+    requires one { config.now.callers ≡ 1 }
+    requires marker { config.now.markers ≡ 1 }
+{
+    let mut bench: Bench<E> = Bench::new(alloc, config.pages)?;
+    let (heap, mut host) = Heap::new(alloc, config)?;
+    let mut marker = host.marker(&heap);
+    let caller = host.caller(&heap);
+    caller.is_idle();
+    host.join_caller(&heap, caller.finish());
+    host.over(rt, &heap, &mut bench);
+    if !finds_phase(&mut marker, 5) {
+        return Ok(None);
+    }
+    host.join_marker(&heap, marker.finish());
+    Ok(Some(heap.close(host)))
+}
+
+#[cfg(test)]
+mod tests {
+    use super::{come_to_a_cycle, come_when_over};
+    use mk_core::{Config, GlobalTable};
+    use mk_engines::MostlyEngine;
+    use mk_marker::Work;
+    use mk_never::{Kind, NoMemory, TypeTable};
+    use std::alloc::Global;
+    use std::test::Fail;
+
+    /// A heap of one caller and one marker, whose objects have a pointer and a number.
+    fn config_of(alloc: Global) -> Result<Config, NoMemory> {
+        let mut types = TypeTable::new(alloc);
+        types.add([Kind::To { ty: 0, offset: 0 }, Kind::Num].to_vec(alloc)?)?;
+        Ok(Config {
+            pages: 1,
+            resident: 1,
+            callers: 1,
+            markers: 1,
+            types,
+            globals: GlobalTable::new(alloc),
+        })
+    }
+
+    /// At the `begin` the engine marks the object that the register points to, and that one alone is scanned.
+    #[test]
+    fn a_marker_comes_to_a_cycle_and_is_told_to_go(rt: HostRuntime) -> Result<(), Fail> {
+        let config = config_of(rt.alloc()).expect(&rt, "memory");
+        let told = come_to_a_cycle::<MostlyEngine, HostRuntime>(&rt, rt.alloc(), &config).expect(
+            &rt, "memory",
+        );
+        assert_eq!(rt; told, Some(Work::Wanted));
+        Ok(())
+    }
+
+    #[test]
+    fn a_marker_that_comes_when_all_is_over_finds_that(rt: HostRuntime) -> Result<(), Fail> {
+        let config = config_of(rt.alloc()).expect(&rt, "memory");
+        let report = come_when_over::<MostlyEngine, HostRuntime>(&rt, rt.alloc(), &config).expect(
+            &rt, "memory",
+        );
+        let report = report.expect(&rt, "the phase of the end");
+        assert_eq!(rt; (report.held, report.fresh, report.quarantined), (0, 0, 0));
+        assert_eq!(rt; (report.released, report.cycles, report.full), (0, 0, 0));
+        Ok(())
+    }
+}
