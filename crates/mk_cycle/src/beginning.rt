@@ -30,8 +30,7 @@ pub fn begin_cycle<E: Engine, R: Threads + Wait + Sync>(
     ensures law { BeginsCycle turn.old.pass turn.new.pass }
     ensures reached { E.sweeps ≡ false → SweepsNothing turn.old.pass turn.new.pass }
 {
-    let goes_on = bench.engine.keeps_on();
-    clean_pages(turn, words, goes_on);
+    clean_pages(turn, words);
     tally(turn, words, Tally::Fresh, 0);
     begin(turn, words);
     bench.engine.begin(rt, words, turn);

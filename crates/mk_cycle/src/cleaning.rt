@@ -39,9 +39,8 @@ fn clear_black(turn: &mut Turn, words: &Words, page: u64)
     }
 }
 
-/// Clears the dirty word of a page, for a cycle that goes on beside the callers. One of them may set it again at once.
-/// Before the stop of another cycle no cell is black, and the stop clears the dirty words.
-fn clear_dirty(turn: &mut Turn, words: &Words, page: u64, goes_on: bool)
+/// Clears the dirty word of a page. A caller may set it again at once.
+fn clear_dirty(turn: &mut Turn, words: &Words, page: u64)
     requires one_table { turn.old.pass.table ≡ words.now }
     requires free { IsFreeForCycle turn.old.pass }
     requires phase { IsAtPhase turn.old.pass 0 }
@@ -49,9 +48,6 @@ fn clear_dirty(turn: &mut Turn, words: &Words, page: u64, goes_on: bool)
     ensures op { turn.new.op ≡ turn.old.op }
     ensures cleans { Cleans turn.old.pass turn.new.pass }
 {
-    if !goes_on {
-        return;
-    }
     if look(turn, words, Word::Dirty(page)) != 0 {
         undirty(turn, words, page);
     }
@@ -74,7 +70,7 @@ fn copy_freed(turn: &mut Turn, words: &Words, page: u64)
     }
 }
 
-fn clean_page(turn: &mut Turn, words: &Words, page: u64, goes_on: bool)
+fn clean_page(turn: &mut Turn, words: &Words, page: u64)
     requires one_table { turn.old.pass.table ≡ words.now }
     requires free { IsFreeForCycle turn.old.pass }
     requires phase { IsAtPhase turn.old.pass 0 }
@@ -85,12 +81,12 @@ fn clean_page(turn: &mut Turn, words: &Words, page: u64, goes_on: bool)
 {
     clear_marks(turn, words, page);
     clear_black(turn, words, page);
-    clear_dirty(turn, words, page, goes_on);
+    clear_dirty(turn, words, page);
     copy_freed(turn, words, page);
 }
 
-/// Makes all pages ready for a `begin`. Whether the cycle goes on beside the callers decides of the dirty words.
-pub(crate) fn clean_pages(turn: &mut Turn, words: &Words, goes_on: bool)
+/// Makes all pages ready for a `begin`.
+pub(crate) fn clean_pages(turn: &mut Turn, words: &Words)
     requires one_table { turn.old.pass.table ≡ words.now }
     requires free { IsFreeForCycle turn.old.pass }
     requires phase { IsAtPhase turn.old.pass 0 }
@@ -99,6 +95,6 @@ pub(crate) fn clean_pages(turn: &mut Turn, words: &Words, goes_on: bool)
     ensures clean { (page : ℕ) → page < words.now.config.pages → IsClean turn.new.pass page }
 {
     for page in 0..words.pages() {
-        clean_page(turn, words, page, goes_on);
+        clean_page(turn, words, page);
     }
 }

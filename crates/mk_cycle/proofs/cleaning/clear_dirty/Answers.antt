@@ -1,4 +1,4 @@
-use Rattle.mk_cycle.proofs.CleaningSteps.{cleaned_free, cleans_nothing, looked, then_cleans, undirtied}
+use Rattle.mk_cycle.proofs.CleaningSteps.{cleaned_free, looked, then_cleans, undirtied}
 use Rattle.mk_cycle.proofs.cleaning.clear_dirty.Goals as goal
 
 pub undirty-requires-clause-free : goal.undirty-requires-clause-free
@@ -15,6 +15,3 @@ returns-then-look-ne0-clause-cleans c =
 pub returns-else-look-ne0-clause-cleans : goal.returns-else-look-ne0-clause-cleans
 returns-else-look-ne0-clause-cleans c =
     looked _ _ c.look.ensures.was c.requires.free c.requires.phase c.look.ensures.is _ c.look.ensures.acts
-
-pub returns-then-not-goes_on-clause-cleans : goal.returns-then-not-goes_on-clause-cleans
-returns-then-not-goes_on-clause-cleans c = cleans_nothing c.args.turn.now.pass
