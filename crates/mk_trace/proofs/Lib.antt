@@ -1,8 +1,12 @@
 pub mod AdmittedEvents
 pub mod Along
+pub mod EndsInCalls
+pub mod EndsInLists
 pub mod EvaluatedPeaks
 pub mod EvaluatedPlays
 pub mod EvaluatedTraces
+pub mod FlagSteps
+pub mod FoundByEnds
 pub mod GrantedCalls
 pub mod HandedOn
 pub mod HeldCalls
