@@ -47,8 +47,7 @@ one_before xs ys one none b =
         → (has_step is_begin b.behind ≡ false) × At is_end b.behind
     first rest is =
         let same : b.behind ≡ rest ++ ys = first_behind xs ys b.before b.event b.behind rest b.is is in
-        let h = one (record { before = b.before; event = b.event; behind = rest; is = is; of_kind = b.of_kind }) in
-        (
+        let h = one (record { before = b.before; event = b.event; behind = rest; is = is; of_kind = b.of_kind }) in (
           ap (λ (l : List Event). has_step is_begin l) same ∙ lacks_append is_begin rest ys h.0 none,
           subst (λ (l : List Event). At is_end l) (sym same) (at_first is_end rest ys h.1),
         )
@@ -57,8 +56,7 @@ one_before xs ys one none b =
 pub one_run : (xs : List Event) (e : Event) (ys : List Event) → Lacks is_begin xs → Lacks is_begin ys → At is_end ys
     → RunsOneCycle (xs ++ e ∷ ys)
 one_run xs e ys none_before none_behind ended b =
-    let there = only_at is_begin xs e ys none_before none_behind b in
-    (
+    let there = only_at is_begin xs e ys none_before none_behind b in (
       ap (λ (l : List Event). has_step is_begin l) there.behind_is ∙ none_behind,
       subst (λ (l : List Event). At is_end l) (sym there.behind_is) ended,
     )

@@ -1,6 +1,6 @@
 -- What ends find in a list of events that has one cycle at most.
 use Rattle.std.proofs.Common.{◌≡◌, ◌⊎◌, ⊎_elim, inl, inr, ℕ, ◌+◌, ◌≤◌, Bool, true, false, List, [], ◌∷◌, ◌++◌, length, refl, sym}
-use Rattle.std.proofs.Common.{◌∙◌, ap, subst, append-nil, arith}
+use Rattle.std.proofs.Common.{◌∙◌, ap, subst, append-nil, append_assoc, arith}
 use Rattle.std.specs.Prelude.{◌||◌}
 use Rattle.std.proofs.lemmas.Bool.{cases_Bool, or_from, or_parts, or_right, true≢false}
 use Rattle.mk_core.specs.declared.config.Config.{Config}
@@ -9,7 +9,7 @@ use Rattle.mk_core.specs.declared.events.Step.{Step}
 use Rattle.mk_core.specs.declared.events.Step.TheVariants as step
 use Rattle.mk_core.specs.Allocations.{PlacedAllocation, allocations_by}
 use Rattle.mk_core.specs.Counts.{ends}
-use Rattle.mk_core.specs.Cycles.{At, Next, is_begin, is_end, through}
+use Rattle.mk_core.specs.Cycles.{At, Next, is_begin, is_end}
 use Rattle.mk_core.specs.History.{AreEnabledFrom, World, first_world, left, left_from, world_behind}
 use Rattle.mk_core.specs.Moments.{flight_of}
 use Rattle.mk_core.specs.Words.{phase_of}
@@ -20,9 +20,9 @@ use Rattle.mk_alloc.specs.TurnCycles.{RunsOneCycle, has_step}
 use Rattle.mk_alloc.proofs.ListParts.{lacks_first, lacks_second}
 use Rattle.mk_trace.specs.Ends.{EndsNone, EndsOne, EndsTell, FreesNone, IsIdle, LeavesAllocations, ReleasesNone}
 use Rattle.mk_trace.specs.Peaks.{found_by_ends_from}
-use Rattle.mk_trace.proofs.FlagSteps.{same_releases}
+use Rattle.mk_trace.proofs.FlagSteps.{releases_then, same_releases}
 use Rattle.mk_trace.proofs.FoundByEnds.{EndsOnce, FreesNoneFrom, IsOn, Rests, ends-append, ends_once, found-append}
-use Rattle.mk_trace.proofs.FoundByEnds.{found-none, grows_by, is_over, no_end-cons, rests}
+use Rattle.mk_trace.proofs.FoundByEnds.{found-none, frees_behind, frees_second, grows_by, is_over, no_end-cons, rests}
 
 -- the first event of a kind
 pub next_of : (kind : Step → Bool) (es : List Event) → has_step kind es ≡ true → Next kind es
@@ -77,8 +77,7 @@ module _ (c : Config) (w : World) (xs : List Event) (b : Event) (ys : List Event
 
   marking : (phase_of begun.now.words ≡ 1) × AreEnabledFrom c begun ys
   marking =
-      let moves = moves_phase c first b ys parts.1 in
-      (
+      let moves = moves_phase c first b ys parts.1 in (
         moves.1 ∙ ap (λ (s : Step). phase_behind s (phase_of first.now.words)) (begin_is b.step begins),
         moves.2,
       )
@@ -114,6 +113,38 @@ module _ (c : Config) (w : World) (xs : List Event) (b : Event) (ys : List Event
         released =
             subst (λ (x : World). ReleasesNone rest.finds x.allocations) (sym left_is) rest.released;
       }
+
+one_second : (xs ys : List Event) → RunsOneCycle (xs ++ ys) → RunsOneCycle ys
+one_second xs ys one b =
+    one (record {
+      before = xs ++ b.before;
+      event = b.event;
+      behind = b.behind;
+      is = ap (λ (l : List Event). xs ++ l) b.is ∙ sym (append_assoc xs b.before (b.event ∷ b.behind));
+      of_kind = b.of_kind;
+    })
+
+-- One part behind another.
+
+none_twice : (c : Config) (es fs gs : List Event) → EndsNone c es fs → EndsNone c fs gs → EndsNone c es gs
+none_twice c es fs gs h g =
+    record {
+      found = g.found ∙ h.found;
+      count = g.count ∙ h.count;
+      released =
+          releases_then (left c es).allocations (left c fs).allocations (left c gs).allocations h.released g.released;
+    }
+
+one_behind_none : (c : Config) (es fs gs : List Event) → EndsNone c es fs → EndsOne c fs gs → EndsOne c es gs
+one_behind_none c es fs gs h g =
+    record {
+      finds = g.finds;
+      found = g.found ∙ ap (λ (l : List (List PlacedAllocation)). l ++ g.finds ∷ []) h.found;
+      count = g.count ∙ ap (λ (n : ℕ). n + 1) h.count;
+      earlier = omega (arith, h.released.count, g.earlier);
+      freed = g.freed;
+      released = g.released;
+    }
 
 -- From one list to a longer one.
 
@@ -154,10 +185,8 @@ module _ (c : Config) (es more : List Event) where
         let h = rests c (left c es) more on idle none overs in
         (idle_then h.phase, inl (none_then h))
 
-    -- Behind a `begin` no call is a Free.
-    pub tells_ends : RunsOneCycle more
-        → ((b : At is_begin more) → FreesNoneFrom c (left_from c (left c es) (through b)) b.behind)
-        → EndsTell c es (es ++ more)
+    -- No call is a Free.
+    pub tells_ends : RunsOneCycle more → FreesNoneFrom c (left c es) more → EndsTell c es (es ++ more)
     unfolding left_from
     tells_ends one frees idle = ⊎_elim some none (cases_Bool (has_step is_begin more))
       where
@@ -175,10 +204,36 @@ module _ (c : Config) (es more : List Event) where
             (one_cycle c (left c es) b.before b.event b.behind
             (subst (λ (l : List Event). AreEnabledFrom c (left c es) l) b.is on) idle b.of_kind next.none_before
             (one b).0 (sym (ap (λ (l : List Event). has_step is_over l) b.is) ∙ overs)
-            (subst (λ (x : World). FreesNoneFrom c x b.behind)
-            (left_append c (left c es) b.before (b.event ∷ [])) (frees b))
+            (frees_behind c (left_from c (left c es) b.before) b.event b.behind
+            (frees_second c (left c es) b.before (b.event ∷ b.behind)
+            (subst (λ (l : List Event). FreesNoneFrom c (left c es) l) b.is frees)))
             (has_at is_end b.behind (one b).1)) in
             (idle_then h.phase, inr (one_then h))
+
+-- A list in two parts, with no cycle in the first, and no Free in the second.
+module _ (c : Config) (es xs ys : List Event) (on : AreEnabledFrom c (left c es) (xs ++ ys))
+    (overs : has_step is_over (xs ++ ys) ≡ false) (none : has_step is_begin xs ≡ false) where
+  parts_on : AreEnabledFrom c (left c es) xs × AreEnabledFrom c (left c (es ++ xs)) ys
+  parts_on =
+      let parts = enabled_parts c (left c es) xs ys on in
+      (parts.0, subst (λ (w : World). AreEnabledFrom c w ys) (sym (left_in_parts c es xs)) parts.1)
+
+  pub tells_behind_none : RunsOneCycle (xs ++ ys) → FreesNoneFrom c (left c (es ++ xs)) ys
+      → EndsTell c es (es ++ (xs ++ ys))
+  tells_behind_none one frees idle =
+      let h = rests c (left c es) xs parts_on.0 idle none (lacks_first is_over xs ys overs) in
+      let first = none_then c es xs h in
+      let told = tells_ends c (es ++ xs) ys parts_on.1 (lacks_second is_over xs ys overs) (one_second xs ys one) frees
+      (idle_then c es xs h.phase) in
+      subst (λ (l : List Event). IsIdle c l × (EndsNone c es l ⊎ EndsOne c es l)) (append_assoc es xs ys) (
+        told.0,
+        ⊎_elim
+            (λ (second : EndsNone c (es ++ xs) ((es ++ xs) ++ ys)).
+            inl (none_twice c es (es ++ xs) ((es ++ xs) ++ ys) first second))
+            (λ (second : EndsOne c (es ++ xs) ((es ++ xs) ++ ys)).
+            inr (one_behind_none c es (es ++ xs) ((es ++ xs) ++ ys) first second))
+            told.1,
+      )
 
 -- Steps that neither move a cycle on nor change allocations.
 
@@ -267,14 +322,16 @@ leaves_twice c es fs gs h g =
     }
 
 pub leaves_tell : (c : Config) (es fs : List Event) → LeavesAllocations c es fs → EndsTell c es fs
-leaves_tell c es fs h idle =
-    (h.phase ∙ idle, inl (record {
-      found = h.found;
-      count = h.count;
-      released =
-          subst (λ (xs : List PlacedAllocation). ReleasesNone (left c es).allocations xs) (sym h.allocations)
-          (same_releases (left c es).allocations);
-    }))
+leaves_tell c es fs h idle = (
+  h.phase ∙ idle,
+  inl (record {
+    found = h.found;
+    count = h.count;
+    released =
+        subst (λ (xs : List PlacedAllocation). ReleasesNone (left c es).allocations xs) (sym h.allocations)
+        (same_releases (left c es).allocations);
+  }),
+)
 
 pub tells_behind : (c : Config) (es fs gs : List Event) → LeavesAllocations c es fs → EndsTell c fs gs
     → EndsTell c es gs
@@ -305,8 +362,7 @@ tells_behind c es fs gs h tell idle =
 pub tells_before : (c : Config) (es fs gs : List Event) → EndsTell c es fs → LeavesAllocations c fs gs
     → EndsTell c es gs
 tells_before c es fs gs tell h idle =
-    let told = tell idle in
-    (
+    let told = tell idle in (
       h.phase ∙ told.0,
       ⊎_elim (λ (none : EndsNone c es fs). inl (first none)) (λ (one : EndsOne c es fs). inr (last one)) told.1,
     )

@@ -20,6 +20,7 @@ use Rattle.mk_core.specs.Decided.{Decided}
 use Rattle.mk_core.specs.History.{AreEnabledFrom, World, call_decided, calls_from, left_from, world_behind}
 use Rattle.mk_core.specs.Moments.{flight_of}
 use Rattle.mk_core.specs.Words.{phase_of}
+use Rattle.mk_core.proofs.Histories.{calls_append}
 use Rattle.mk_readings.proofs.CyclePhases.{AsksPhase, moves_phase, phase_behind}
 use Rattle.mk_alloc.specs.TurnCycles.{has_step}
 use Rattle.mk_trace.specs.Ends.{FreesNone, ReleasesNone}
@@ -106,12 +107,24 @@ free_parts c w e es none =
     let first : List Decided = call_decided c w.now e in
     let later : List Decided = calls_from c (world_behind c w e) es in
     let parts = or_parts (list_any is_free_call first) (list_any is_free_call later)
-    (sym (list_any-append is_free_call first later) ∙ none) in
-    (
+    (sym (list_any-append is_free_call first later) ∙ none) in (
       false_from_ne_true (decides_freed c w.now (flight_of w.now e.seat) e.step)
           (λ is. true≢false (sym (frees_decide c w.now e.seat e.step is) ∙ parts.0)),
       parts.1,
     )
+
+pub frees_behind : (c : Config) (w : World) (e : Event) (es : List Event) → FreesNoneFrom c w (e ∷ es)
+    → FreesNoneFrom c (world_behind c w e) es
+frees_behind c w e es none = (free_parts c w e es none).1
+
+pub frees_second : (c : Config) (w : World) (xs ys : List Event) → FreesNoneFrom c w (xs ++ ys)
+    → FreesNoneFrom c (left_from c w xs) ys
+frees_second c w xs ys none =
+    let first : List Decided = calls_from c w xs in
+    let later : List Decided = calls_from c (left_from c w xs) ys in
+    (or_parts (list_any is_free_call first) (list_any is_free_call later)
+    (sym (list_any-append is_free_call first later)
+    ∙ sym (ap (λ (l : List Decided). list_any is_free_call l) (calls_append c w xs ys)) ∙ none)).1
 
 pub none_freed_from : (c : Config) (w : World) (es : List Event) → FreesNoneFrom c w es
     → FreesNone w.allocations (left_from c w es).allocations
@@ -196,8 +209,11 @@ grows_by c w e = by e.step
     by : (s : Step) → length w.allocations
         ≤ length (allocations_by c w.now (flight_of w.now e.seat) s w.allocations)
     by step.Grant = omega (arith, length-append w.allocations (granted c w.now (flight_of w.now e.seat) ∷ []))
-    by (step.Quar p v) = omega (arith, length-map w.allocations
-        (freed_where_it_stands w.now.words (cell_freed c.pages w.now.words (flight_of w.now e.seat) p v)))
+    by (step.Quar p v) = omega (
+      arith,
+      length-map w.allocations
+          (freed_where_it_stands w.now.words (cell_freed c.pages w.now.words (flight_of w.now e.seat) p v)),
+    )
     by step.Begin = omega (arith, length-map w.allocations no_longer_fresh)
     by step.Release = omega (arith, length-map w.allocations (with_released c w.now.words))
     by _ = omega arith

@@ -1,6 +1,8 @@
 pub mod AdmittedEvents
 pub mod Along
+pub mod EndsAtHome
 pub mod EndsInCalls
+pub mod EndsInEvents
 pub mod EndsInLists
 pub mod EvaluatedPeaks
 pub mod EvaluatedPlays
@@ -27,4 +29,5 @@ pub mod PrintedLines
 pub mod ReadEvents
 pub mod ReadSlots
 pub mod SlotTypes
+pub mod TurnPieces
 pub mod WholeText
