@@ -29,5 +29,6 @@ pub mod PrintedLines
 pub mod ReadEvents
 pub mod ReadSlots
 pub mod SlotTypes
+pub mod ToldCycles
 pub mod TurnPieces
 pub mod WholeText
