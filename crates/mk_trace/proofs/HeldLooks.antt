@@ -46,10 +46,10 @@ exact_taken p q t own history =
     (others_count_nothing c (left c es) (event_of w (step.Take None)) x.known x.meets free) told.0)
 
 -- a kind that isn't what the host does
-record IsApart (kind : Step → Bool) : Type 0 where
-  take : (s : Step) → is_take s ≡ true → kind s ≡ false
-  look : (x : Word) → kind (step.Look x) ≡ false
-  give : kind step.Give ≡ false
+pub record IsApart (kind : Step → Bool) : Type 0 where
+  pub take : (s : Step) → is_take s ≡ true → kind s ≡ false
+  pub look : (x : Word) → kind (step.Look x) ≡ false
+  pub give : kind step.Give ≡ false
 
 take_grants_none : (s : Step) → is_take s ≡ true → is_grant s ≡ false
 take_grants_none (step.Take o) h = refl
@@ -94,28 +94,28 @@ module _ (p q : PassState) (x : Word) (n : ℕ) (h : Tells p x n q) (own : Has p
   waited_same : waited ≡ record p { seen = waited.seen }
   waited_same = same_pass p p waited (p.seen ++ h.takes.waits.more) refl h.takes.waits.is
 
-  taken_same : taken ≡ record p { seen = taken.seen }
+  pub taken_same : taken ≡ record p { seen = taken.seen }
   taken_same = same_pass p waited taken _ waited_same h.takes.takes.makes.is
 
-  looked_same : h.looked ≡ record p { seen = h.looked.seen }
+  pub looked_same : h.looked ≡ record p { seen = h.looked.seen }
   looked_same = same_pass p taken h.looked _ taken_same h.looks.makes.is
 
   abbrev taking : List Event
   taking = h.takes.takes.makes.others ++ event_of waited (step.Take None) ∷ []
 
-  abbrev looking : List Event
+  abbrev pub looking : List Event
   looking = h.looks.makes.others ++ event_of taken (step.Look x) ∷ []
 
-  abbrev giving : List Event
+  abbrev pub giving : List Event
   giving = h.gives.others ++ event_of h.looked step.Give ∷ []
 
-  abbrev first : List Event
+  abbrev pub first : List Event
   first = h.takes.waits.more ++ taking
 
-  abbrev behind : List Event
+  abbrev pub behind : List Event
   behind = looking ++ giving
 
-  taken_seen : taken.seen ≡ p.seen ++ first
+  pub taken_seen : taken.seen ≡ p.seen ++ first
   taken_seen =
       seen_then p.seen waited.seen taken.seen h.takes.waits.more taking
       (ap (λ (r : PassState). r.seen) h.takes.waits.is)
@@ -126,17 +126,17 @@ module _ (p q : PassState) (x : Word) (n : ℕ) (h : Tells p x n q) (own : Has p
       seen_then taken.seen h.looked.seen q.seen looking giving (seen_made taken h.looked (step.Look x) h.looks.makes)
       (seen_made h.looked q step.Give h.gives)
 
-  seen_is : q.seen ≡ p.seen ++ (first ++ behind)
+  pub seen_is : q.seen ≡ p.seen ++ (first ++ behind)
   seen_is = seen_then p.seen taken.seen q.seen first behind taken_seen behind_seen
 
-  mine : AreMine c [] first × AreMine c [] behind
+  pub mine : AreMine c [] first × AreMine c [] behind
   mine =
       mine_parts c [] first behind
       (are_mine c (left c p.seen) [] (first ++ behind)
       ((enabled_in_parts c p.seen (first ++ behind)).0
       (subst (λ (l : List Event). IsHistory c l) seen_is history).enabled).1 (others_nobody (first ++ behind)))
 
-  of_pass : (r : PassState) (es : List Event) → r ≡ record p { seen = r.seen } → AreOfOthers r.seats es
+  pub of_pass : (r : PassState) (es : List Event) → r ≡ record p { seen = r.seen } → AreOfOthers r.seats es
       → AreOfOthers p.seats es
   of_pass r es same others = subst (λ (y : PassState). AreOfOthers y.seats es) same others
 
@@ -147,7 +147,7 @@ module _ (p q : PassState) (x : Word) (n : ℕ) (h : Tells p x n q) (own : Has p
       (others_lack kind c [] p.seats es all (mine_parts c [] es (e ∷ []) whole).0 others)
       (ap (λ (b : Bool). b || false) none)
 
-  behind_lacks : (kind : Step → Bool) → IsApart kind → has_step kind behind ≡ false
+  pub behind_lacks : (kind : Step → Bool) → IsApart kind → has_step kind behind ≡ false
   behind_lacks kind apart =
       let parts = mine_parts c [] looking giving mine.1 in
       lacks_append kind looking giving
@@ -156,7 +156,7 @@ module _ (p q : PassState) (x : Word) (n : ℕ) (h : Tells p x n q) (own : Has p
       (others_none h.gives.others (event_of h.looked step.Give) kind parts.1
       (of_pass h.looked h.gives.others looked_same h.gives.of_others) apart.give)
 
-  first_lacks : (kind : Step → Bool) → IsApart kind → has_step kind first ≡ false
+  pub first_lacks : (kind : Step → Bool) → IsApart kind → has_step kind first ≡ false
   first_lacks kind apart =
       let parts = mine_parts c [] h.takes.waits.more taking mine.0 in
       lacks_append kind h.takes.waits.more taking
@@ -184,7 +184,7 @@ module _ (p q : PassState) (x : Word) (n : ℕ) (h : Tells p x n q) (own : Has p
       history_taken).held
       ∙ ap (λ (r : PassState). held_words r.table.config (left r.table.config taken.seen).allocations) taken_same
 
-  looks_alone : h.looks.makes.others ≡ []
+  pub looks_alone : h.looks.makes.others ≡ []
   looks_alone =
       none_of_others c [] p.seats h.looks.makes.others all
       (mine_parts c [] h.looks.makes.others (event_of taken (step.Look x) ∷ [])
