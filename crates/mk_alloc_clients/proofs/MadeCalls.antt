@@ -20,6 +20,7 @@ use Rattle.mk_objects.specs.Placing.{IsPlaced}
 use Rattle.mk_alloc.specs.TurnCalls.{CalledInTurn}
 use Rattle.mk_alloc.specs.Underway.{BeginsTurn, GoesOn}
 use Rattle.mk_alloc.proofs.NewTurns.{begun_quiet, begun_unplaced, new_called, operands_of}
+use Rattle.mk_alloc.proofs.OneCycles.{none_runs_one, placed_begins_none}
 use Rattle.mk_alloc.proofs.PlacedTurns.{placed_on}
 use Rattle.mk_alloc.proofs.SeekingTurns.{seeks_placed}
 use Rattle.mk_alloc.proofs.TakenTurns.{callers, take_allowed, taken_phase}
@@ -66,7 +67,8 @@ module _ (p : PassState) (d ty : ℕ) (idle : IsIdleCaller p) (exists : number_o
     made_in_turn on done q t placed t_done gives rests h =
         new_called on p taken done q d ty answer.Done (callers p idle) own (taken_at_once p taken (Some o) finds) begins
         (seeks_placed taken done t (begun_unplaced taken d ty false begins) (begun_quiet taken d ty false begins) placed
-        t_done.history) t_done gives rests h
+        t_done.history) (none_runs_one taken done (placed_begins_none taken done t placed t_done.history)) t_done gives
+        rests h
 
 -- It owns its number then.
 pub made_owns : {on : Bool} {p q : PassState} (d ty : ℕ) → CalledInTurn on p (op.New d ty false) answer.Done q
