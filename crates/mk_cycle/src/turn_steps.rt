@@ -19,7 +19,6 @@ use mk_core::{Tally, Word};
 use mk_words::{Turn, Words};
 
 /// Looks at a word that is no register.
-#[inline(always)]
 pub(crate) fn look(turn: &mut Turn, words: &Words, x: Word) -> u64
     requires one_table { turn.old.pass.table ≡ words.now }
     requires free { IsFreeForCycle turn.old.pass }

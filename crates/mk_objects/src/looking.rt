@@ -13,7 +13,6 @@ use mk_geom::Page;
 use mk_words::{Turn, Words};
 
 /// Looks at a word that none but the holder changes.
-#[inline(always)]
 pub(crate) fn look_at(words: &Words, turn: &mut Turn, word: Word) -> u64
     requires one_table { turn.old.pass.table ≡ words.now }
     requires acting { is_acting (call_of turn.old.pass).stage ≡ true }
@@ -31,7 +30,6 @@ pub(crate) fn look_at(words: &Words, turn: &mut Turn, word: Word) -> u64
 }
 
 /// Looks at the phase.
-#[inline(always)]
 pub(crate) fn look_at_phase(words: &Words, turn: &mut Turn) -> u64
     requires one_table { turn.old.pass.table ≡ words.now }
     requires acting { is_acting (call_of turn.old.pass).stage ≡ true }
@@ -46,7 +44,6 @@ pub(crate) fn look_at_phase(words: &Words, turn: &mut Turn) -> u64
 }
 
 /// Looks at the words of a page.
-#[inline(always)]
 pub(crate) fn look_at_page(words: &Words, turn: &mut Turn, page: u64) -> Page
     requires one_table { turn.old.pass.table ≡ words.now }
     requires acting { is_acting (call_of turn.old.pass).stage ≡ true }

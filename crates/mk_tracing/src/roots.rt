@@ -18,6 +18,7 @@ const REGISTERS: u64 = 8;
 const GLOBALS: u64 = 64;
 
 /// Looks at a root, and marks what its value points into.
+#[inline(always)]
 fn mark_root(words: &Words, stop: &mut Stopped, work: &mut Worklist, x: Word)
     requires one_table { stop.old.pass.table ≡ words.now }
     requires wanted { IsWanted stop.old.pass }

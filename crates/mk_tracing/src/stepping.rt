@@ -14,7 +14,6 @@ use mk_geom::Cell;
 use mk_words::{Stopped, Words};
 
 /// Looks at a word that gives no hand.
-#[inline(always)]
 pub(crate) fn look_at(words: &Words, stop: &mut Stopped, x: Word) -> u64
     requires one_table { stop.old.pass.table ≡ words.now }
     requires wanted { IsWanted stop.old.pass }
@@ -30,7 +29,6 @@ pub(crate) fn look_at(words: &Words, stop: &mut Stopped, x: Word) -> u64
 }
 
 /// Looks at a register or a global, whose value is then the hand.
-#[inline(always)]
 pub(crate) fn look_at_root(words: &Words, stop: &mut Stopped, x: Word) -> u64
     requires one_table { stop.old.pass.table ≡ words.now }
     requires wanted { IsWanted stop.old.pass }
@@ -46,7 +44,6 @@ pub(crate) fn look_at_root(words: &Words, stop: &mut Stopped, x: Word) -> u64
 }
 
 /// Looks at a word of a gray cell of so many words, whose value is then the hand, if it isn't 0.
-#[inline(always)]
 pub(crate) fn look_at_word(words: &Words, stop: &mut Stopped, cell: Cell, size: u64, i: u64) -> u64
     requires one_table { stop.old.pass.table ≡ words.now }
     requires wanted { IsWanted stop.old.pass }

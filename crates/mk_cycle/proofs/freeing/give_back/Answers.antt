@@ -67,7 +67,8 @@ drop_cells-requires-clause-free c =
     let p = c.args.turn.now.pass in
     let b = c.wipe_released.new.turn.pass in
     let d = c.give_cells.new.turn.pass in
-    free_d p b d d c.look-used.ensures.was (none_then _ _ _ first c.wipe_released.ensures.frees) c.give_cells.ensures.was
+    free_d p b d d c.look-used.ensures.was (none_then _ _ _ first c.wipe_released.ensures.frees)
+    c.give_cells.ensures.was
     c.requires.free c.requires.phase
     c.args.page c.look-used.result c.args.gone c.args.quarantine
     (on_table p c.args.words.now c.requires.one_table c.args.page c.requires.within)
