@@ -32,15 +32,15 @@ use Rattle.mk_trace.specs.declared.peaks.Peaks.{Peaks}
 use Rattle.mk_trace.specs.Traces.{Contents, trace_of}
 use Rattle.mk_trace.specs.Playing.{IsPlayed, AreCounted, IsMostHeld}
 use Rattle.mk_trace.specs.Printed.{peaks_text}
-use Rattle.markus.specs.declared.commands.Command.{Command}
-use Rattle.markus.specs.declared.commands.Command.TheVariants as asked
-use Rattle.markus.specs.declared.commands.TextCommand.{TextCommand}
-use Rattle.markus.specs.declared.commands.TextCommand.TheVariants.{Run, Check, Print, Replay, Trace}
-use Rattle.markus.specs.declared.commands.Options.{Options}
-use Rattle.markus.specs.declared.commands.Request.{Request}
+use Rattle.mk_commands.specs.declared.commands.Command.{Command}
+use Rattle.mk_commands.specs.declared.commands.Command.TheVariants as asked
+use Rattle.mk_commands.specs.declared.commands.TextCommand.{TextCommand}
+use Rattle.mk_commands.specs.declared.commands.TextCommand.TheVariants.{Run, Check, Print, Replay, Trace}
+use Rattle.mk_commands.specs.declared.commands.Options.{Options}
+use Rattle.mk_commands.specs.declared.commands.Request.{Request}
 use Rattle.markus.specs.declared.statuses.Status.{Status}
 use Rattle.markus.specs.declared.statuses.Status.TheVariants.{Ok, NoMemory, Text, IllTyped, Limit, NotEnabled}
-use Rattle.markus.specs.Commands.{command_of}
+use Rattle.mk_commands.specs.Commands.{command_of}
 use Rattle.markus.specs.KeptText.{kept_text}
 use Rattle.markus.specs.Summary.{summary}
 

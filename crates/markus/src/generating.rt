@@ -2,16 +2,16 @@
 ghost use Rattle.std.specs.Prelude.{◌≡◌, ◌≤◌, ◌⊎◌, ◌++◌, length, string_bytes, IfOk, IfErr, OnOk, false};
 ghost use Rattle.mk_gen.specs.Generated.{generated_program};
 ghost use Rattle.mk_run.specs.Headline.{StandsInOneHistory};
-ghost use Rattle.markus.specs.Commands.{IsWithin};
-ghost use Rattle.markus.specs.declared.commands.Command.TheVariants as Command;
+ghost use Rattle.mk_commands.specs.Commands.{IsWithin};
+ghost use Rattle.mk_commands.specs.declared.commands.Command.TheVariants as Command;
 ghost use Rattle.markus.specs.Statuses.{IsOfText};
 ghost use Rattle.markus.specs.Summary.{summary, total_line};
 ghost use Rattle.markus.specs.SummedTexts.{line_of_text, summary_of_texts, AreFew};
 
-use crate::commands::Request;
 use crate::running::outcome_of;
 use crate::statuses::Status;
 use mk_check::Text;
+use mk_commands::Request;
 use mk_gen::generate;
 use mk_never::NoMemory;
 use mk_run::Pace;

@@ -3,12 +3,11 @@ ghost use Rattle.std.specs.Prelude.{◌≡◌, ◌≢◌, ◌≤◌, ◌⊎◌, 
 ghost use Rattle.mk_io.specs.Bytes.{TakesAll};
 ghost use Rattle.mk_io.specs.Faults.{Rose};
 ghost use Rattle.mk_script.specs.Grammar.{program_of};
-ghost use Rattle.markus.specs.Commands.{AreWithin, IsWithin};
+ghost use Rattle.mk_commands.specs.Commands.{AreWithin, IsWithin};
 ghost use Rattle.markus.specs.Outputs.{Answers, IsOutput, IsOutputOf, IsStatusOf, status_on, status_of_program};
 ghost use Rattle.markus.specs.Outputs.{status_of_text};
 ghost use Rattle.markus.specs.Statuses.{IsBeforeWriting, IsOfText};
 
-use crate::commands::{Command, Options, TextCommand};
 use crate::generating::summed;
 use crate::refusals::{text_refusal, type_refusal};
 use crate::replays::replayed;
@@ -16,6 +15,7 @@ use crate::running::told;
 use crate::statuses::Status;
 use crate::traces::played;
 use mk_check::check;
+use mk_commands::{Command, Options, TextCommand};
 use mk_io::{INPUT_LIMIT, ReadStop, Source, read_all};
 use mk_run::Pace;
 use mk_script::{Program, Which, parse, print};

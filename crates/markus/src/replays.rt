@@ -8,11 +8,11 @@ ghost use Rattle.mk_theorems.specs.Promises.{KeepsAllPromises};
 ghost use Rattle.markus.specs.Outputs.{IsOutputOnSchedule, status_on, status_of_schedule};
 ghost use Rattle.markus.specs.Statuses.{IsOfText};
 
-use crate::commands::TextCommand;
 use crate::refusals::{replay_refusal, text_refusal, type_refusal};
 use crate::statuses::Status;
 use crate::texts::joined;
 use mk_check::check;
+use mk_commands::TextCommand;
 use mk_replay::{Schedule, parse_replay, replay};
 use mk_script::Program;
 use std::alloc::Global;

@@ -3,9 +3,9 @@ ghost use Rattle.std.specs.Prelude.{◌≡◌, ◌⊎◌, IfOk, IfErr, OnOk};
 ghost use Rattle.markus.specs.Outputs.{IsOutputOnTrace, TellsOfPlay, status_on};
 ghost use Rattle.markus.specs.Statuses.{IsOfText};
 
-use crate::commands::TextCommand;
 use crate::refusals::trace_refusal;
 use crate::statuses::Status;
+use mk_commands::TextCommand;
 use mk_never::NoMemory;
 use mk_trace::{Trace, parse_trace, play, print_peaks};
 use std::alloc::Global;

@@ -1,6 +1,6 @@
 use Rattle.std.proofs.Common.{◌≡◌, subst, List}
 use Rattle.mk_script.specs.declared.items.Item.{Item}
-use Rattle.markus.specs.declared.commands.TextCommand.TheVariants.{Run}
+use Rattle.mk_commands.specs.declared.commands.TextCommand.TheVariants.{Run}
 use Rattle.markus.specs.Outputs.{IsOutputOf}
 use Rattle.markus.proofs.outputs.run.Goals as goal
 

@@ -1,10 +1,22 @@
 -- The words behind a command's name.
-use Rattle.std.specs.Prelude.{ℕ, true, false, List, [], ◌∷◌, ◌==◌, if◌then◌else◌, Option, Some, None, is_some}
-use Rattle.std.specs.Prelude.{option_and_then, option_map}
+use Rattle.std.specs.Prelude.{ℕ, Bool, true, false, List, [], ◌∷◌, ◌==◌, if◌then◌else◌, Option, Some, None, is_some, option_and_then, option_map}
 use Rattle.std.specs.Str.{bytes_eq}
 use lib.Chars.{codes}
 use Rattle.mk_script.specs.Names.{number_of_word}
-use Rattle.markus.specs.declared.given.Given.{Given}
+
+-- what words of the command line give, as far as they were read
+pub record Given : Type 0 where
+  -- the number behind `--markers`
+  pub markers : Option ℕ
+  pub sweep : Bool
+  pub why : Bool
+  -- the first two words that are no options, which are numbers
+  pub start : Option ℕ
+  pub count : Option ℕ
+  -- `--markers` was read, and its number comes next
+  pub awaits : Bool
+  -- `--` was read: no option comes behind it
+  pub ended : Bool
 
 abbrev pub nothing_given : Given
 nothing_given =
@@ -34,10 +46,10 @@ abbrev pub with_number : Given → List ℕ → Option Given
 with_number g digits = option_and_then (with_next g) (number_of_word digits)
 
 -- what stands behind this front of a word, if the word has it
-abbrev pub bytes_behind : List ℕ → List ℕ → Option (List ℕ)
-bytes_behind [] word = Some word
-bytes_behind (x ∷ front) [] = None
-bytes_behind (x ∷ front) (y ∷ word) = if x == y then bytes_behind front word else None
+abbrev pub behind : List ℕ → List ℕ → Option (List ℕ)
+behind [] word = Some word
+behind (x ∷ front) [] = None
+behind (x ∷ front) (y ∷ word) = if x == y then behind front word else None
 
 abbrev pub with_other : Given → List ℕ → Option (List ℕ) → Option Given
 with_other g word (Some digits) = with_markers g digits
@@ -52,15 +64,15 @@ with_word g word =
     else if bytes_eq word (codes "--markers") then Some (record g { awaits = true })
     else if bytes_eq word (codes "--sweep") then with_sweep g
     else if bytes_eq word (codes "--why") then with_why g
-    else with_other g word (bytes_behind (codes "--markers=") word)
+    else with_other g word (behind (codes "--markers=") word)
 
 abbrev pub with_words : List (List ℕ) → Given → Option Given
 with_words [] g = Some g
 with_words (word ∷ words) g = option_and_then (with_words words) (with_word g word)
 
 -- `--markers` is not the last word, but for what stands behind `--`.
-abbrev pub complete_given : Given → Option Given
-complete_given g = if g.awaits then None else Some g
+abbrev pub whole : Given → Option Given
+whole g = if g.awaits then None else Some g
 
 abbrev pub given_by : List (List ℕ) → Option Given
-given_by words = option_and_then complete_given (with_words words nothing_given)
+given_by words = option_and_then whole (with_words words nothing_given)

@@ -1,14 +1,12 @@
 -- The commands of the words.
-use Rattle.std.specs.Prelude.{ℕ, ◌≤◌, ◌&&◌, ◌||◌, nat_lt, nat_le, List, [], ◌∷◌, Option, Some, None, is_some, unwrap_or}
-use Rattle.std.specs.Prelude.{option_and_then, if◌then◌else◌}
+use Rattle.std.specs.Prelude.{ℕ, ◌≤◌, ◌&&◌, ◌||◌, nat_lt, nat_le, List, [], ◌∷◌, Option, Some, None, is_some, unwrap_or, option_and_then, if◌then◌else◌}
 use Rattle.std.specs.Str.{bytes_eq}
 use lib.Chars.{codes}
-use Rattle.markus.specs.declared.commands.Command.{Command}
-use Rattle.markus.specs.declared.commands.Command.TheVariants.{OnText, Gen}
-use Rattle.markus.specs.declared.commands.TextCommand.{TextCommand}
-use Rattle.markus.specs.declared.commands.TextCommand.TheVariants.{Run, Check, Print, Replay, Trace}
-use Rattle.markus.specs.declared.given.Given.{Given}
-use Rattle.markus.specs.Given.{given_by}
+use Rattle.mk_commands.specs.declared.commands.Command.{Command}
+use Rattle.mk_commands.specs.declared.commands.Command.TheVariants.{OnText, Gen}
+use Rattle.mk_commands.specs.declared.commands.TextCommand.{TextCommand}
+use Rattle.mk_commands.specs.declared.commands.TextCommand.TheVariants.{Run, Check, Print, Replay, Trace}
+use Rattle.mk_commands.specs.Given.{Given, given_by}
 
 -- the number of markers, 0 to 8, and 0 where none is given
 abbrev pub markers_of : Given → Option ℕ

@@ -1,0 +1,9 @@
+pub mod Telling
+pub mod Lexing
+pub mod Reading
+pub mod Rows
+pub mod Walking
+pub mod Tells
+pub mod Taken
+pub mod Within
+pub mod Getting
