@@ -1,7 +1,9 @@
 -- What a word says is what it gives.
-use Rattle.std.proofs.Common.{◌≡◌, ◌⊎◌, ◌∙◌, ◌++◌, ℕ, suc, ◌+◌, Bool, true, false, not, ◌==◌, List, [], ◌∷◌, Option, Some, None, is_some, refl, sym, ap, subst, inl, inr, arith, take, drop, if◌then◌else◌, option_and_then, slice_get, chars}
+use Rattle.std.proofs.Common.{◌≡◌, ◌⊎◌, ◌∙◌, ◌++◌, ℕ, suc, ◌+◌, Bool, true, false, not, ◌==◌, [], ◌∷◌, Option}
+use Rattle.std.proofs.Common.{Some, None, refl, sym, ap, subst, inl, inr, arith, take, drop, if◌then◌else◌}
+use Rattle.std.proofs.Common.{option_and_then, slice_get, chars}
 use Rattle.std.specs.Prelude.{unwrap_or}
-use Rattle.std.specs.List.{list_any, before_first, after_first, prefix_len}
+use Rattle.std.specs.List.{list_any, prefix_len}
 use Rattle.std.specs.Str.{bytes_eq}
 use Rattle.std.proofs.lemmas.Slice.Eq.{bytes_eq-Decides}
 use Rattle.std.proofs.lemmas.Bool.Decides.{nat_tests}
@@ -9,8 +11,10 @@ use lib.Chars.{codes}
 use Rattle.mk_script.specs.Names.{number_of_word}
 use Rattle.clap.specs.Lexer.{long_of, long_of_rest, short_of, short_of_rest, strip_byte, name_and_value}
 use Rattle.clap.specs.Walk.{Text}
-use Rattle.mk_commands.specs.Given.{Given, with_markers, with_sweep, with_why, with_number, with_next, with_other, behind}
-use Rattle.mk_commands.proofs.Telling.{Said, ends, markers_said, sweep_said, why_said, unknown, plain, said, said_other, said_long, said_short, said_char}
+use Rattle.mk_commands.specs.Given.{Given, with_markers, with_sweep, with_why, with_number, with_next, with_other}
+use Rattle.mk_commands.specs.Given.{behind}
+use Rattle.mk_commands.proofs.Telling.{Said, ends, markers_said, sweep_said, why_said, unknown, plain, said, said_other}
+use Rattle.mk_commands.proofs.Telling.{said_long, said_short, said_char}
 
 -- ---- the parts of `--name=value`
 
@@ -52,7 +56,8 @@ stripped c (x ∷ xs) rest e = by_test (x == c) refl e
 long_shape : (word : Text) (p : Text × Option Text) → long_of word ≡ Some p → word ≡ 45 ∷ 45 ∷ (p.0 ++ tail_of p.1)
 long_shape word p e = first (strip_byte 45 word) refl e
   where
-    second : (r : Text) → strip_byte 45 word ≡ Some r → (o : Option Text) → strip_byte 45 r ≡ o → option_and_then long_of_rest o ≡ Some p
+    second : (r : Text) → strip_byte 45 word ≡ Some r → (o : Option Text) → strip_byte 45 r ≡ o
+        → option_and_then long_of_rest o ≡ Some p
         → word ≡ 45 ∷ 45 ∷ (p.0 ++ tail_of p.1)
     second r a None b e = cc
     second r a (Some []) b e = cc
@@ -61,7 +66,8 @@ long_shape word p e = first (strip_byte 45 word) refl e
         ∙ ap (λ l. 45 ∷ 45 ∷ l) (sym (joined (x ∷ xs)))
         ∙ ap (λ (o : Option (Text × Option Text)). 45 ∷ 45 ∷ ((unwrap_or o p).0 ++ tail_of (unwrap_or o p).1)) e
 
-    first : (o : Option Text) → strip_byte 45 word ≡ o → option_and_then long_of_rest (option_and_then (strip_byte 45) o) ≡ Some p
+    first : (o : Option Text) → strip_byte 45 word ≡ o
+        → option_and_then long_of_rest (option_and_then (strip_byte 45) o) ≡ Some p
         → word ≡ 45 ∷ 45 ∷ (p.0 ++ tail_of p.1)
     first None a e = cc
     first (Some r) a e = second r a (strip_byte 45 r) refl e
@@ -69,7 +75,8 @@ long_shape word p e = first (strip_byte 45 word) refl e
 short_shape : (word flags : Text) → short_of word ≡ Some flags → (rest : Text) × (word ≡ 45 ∷ rest)
 short_shape word flags e = first (strip_byte 45 word) refl e
   where
-    first : (o : Option Text) → strip_byte 45 word ≡ o → option_and_then short_of_rest o ≡ Some flags → (rest : Text) × (word ≡ 45 ∷ rest)
+    first : (o : Option Text) → strip_byte 45 word ≡ o → option_and_then short_of_rest o ≡ Some flags
+        → (rest : Text) × (word ≡ 45 ∷ rest)
     first None a e = cc
     first (Some r) a e = (r, stripped 45 word r a)
 
@@ -78,7 +85,8 @@ behind_shape [] word digits e = ap (λ (o : Option Text). unwrap_or o word) e
 behind_shape (x ∷ front) [] digits e = cc
 behind_shape (x ∷ front) (y ∷ word) digits e = by_test (x == y) refl e (behind_shape front word digits)
   where
-    by_test : (t : Bool) → (x == y) ≡ t → behind (x ∷ front) (y ∷ word) ≡ Some digits → (behind front word ≡ Some digits → word ≡ front ++ digits)
+    by_test : (t : Bool) → (x == y) ≡ t → behind (x ∷ front) (y ∷ word) ≡ Some digits
+        → (behind front word ≡ Some digits → word ≡ front ++ digits)
         → y ∷ word ≡ x ∷ (front ++ digits)
     by_test true t e more =
         let is : y ≡ x = grind (arith, nat_tests) in
@@ -97,7 +105,8 @@ no_number_said word = first (bytes_eq word (codes "--")) refl
     short None e = inl refl
     short (Some flags) e = let s = short_shape word flags e in inr (no_number_dashed word s.0 s.1)
 
-    long : (o : Option (Text × Option Text)) → long_of word ≡ o → (said_other o word ≡ plain) ⊎ (number_of_word word ≡ None)
+    long : (o : Option (Text × Option Text)) → long_of word ≡ o
+        → (said_other o word ≡ plain) ⊎ (number_of_word word ≡ None)
     long None e = short (short_of word) refl
     long (Some p) e = inr (no_number_dashed word _ (long_shape word p e))
 
@@ -133,7 +142,8 @@ is_not word other e same = let yes = (bytes_eq-Decides word other).1 same in let
 
 -- a word with a name, that is none of the options
 other_name : (g : Given) (word : Text) (p : Text × Option Text) → long_of word ≡ Some p
-    → bytes_eq word (codes "--markers") ≡ false → bytes_eq word (codes "--sweep") ≡ false → bytes_eq word (codes "--why") ≡ false
+    → bytes_eq word (codes "--markers") ≡ false → bytes_eq word (codes "--sweep") ≡ false
+    → bytes_eq word (codes "--why") ≡ false
     → behind (codes "--markers=") word ≡ None
     → with_number g word ≡ given_said g word (said_long p.0 p.1)
 other_name g word p l m s w b = on_markers (bytes_eq (codes "markers") p.0) refl
@@ -142,40 +152,50 @@ other_name g word p l m s w b = on_markers (bytes_eq (codes "markers") p.0) refl
     none = none_number g word (no_number_dashed word _ (long_shape word p l))
 
     named : (name : Text) → bytes_eq name p.0 ≡ true → word ≡ 45 ∷ 45 ∷ (name ++ tail_of p.1)
-    named name e = subst (λ (n : Text). word ≡ 45 ∷ 45 ∷ (n ++ tail_of p.1)) (sym ((bytes_eq-Decides name p.0).0 e)) (long_shape word p l)
+    named name e = subst (λ (n : Text). word ≡ 45 ∷ 45 ∷ (n ++ tail_of p.1)) (sym ((bytes_eq-Decides name p.0).0 e))
+        (long_shape word p l)
 
-    markers_value : (v : Option Text) → word ≡ 45 ∷ 45 ∷ (codes "markers" ++ tail_of v) → with_number g word ≡ given_said g word (markers_said v)
+    markers_value : (v : Option Text) → word ≡ 45 ∷ 45 ∷ (codes "markers" ++ tail_of v)
+        → with_number g word ≡ given_said g word (markers_said v)
     markers_value None e = absurd (is_not word (codes "--markers") m e)
     markers_value (Some v) e =
-        let some : behind (codes "--markers=") word ≡ Some v = subst (λ (u : Text). behind (codes "--markers=") u ≡ Some v) (sym e) refl in
+        let some : behind (codes "--markers=") word ≡ Some v =
+        subst (λ (u : Text). behind (codes "--markers=") u ≡ Some v) (sym e) refl in
         let bad : None ≡ Some v = sym b ∙ some in cc
 
-    sweep_value : (v : Option Text) → word ≡ 45 ∷ 45 ∷ (codes "sweep" ++ tail_of v) → with_number g word ≡ given_said g word (sweep_said v)
+    sweep_value : (v : Option Text) → word ≡ 45 ∷ 45 ∷ (codes "sweep" ++ tail_of v)
+        → with_number g word ≡ given_said g word (sweep_said v)
     sweep_value None e = absurd (is_not word (codes "--sweep") s e)
     sweep_value (Some v) e = none
 
-    why_value : (v : Option Text) → word ≡ 45 ∷ 45 ∷ (codes "why" ++ tail_of v) → with_number g word ≡ given_said g word (why_said v)
+    why_value : (v : Option Text) → word ≡ 45 ∷ 45 ∷ (codes "why" ++ tail_of v)
+        → with_number g word ≡ given_said g word (why_said v)
     why_value None e = absurd (is_not word (codes "--why") w e)
     why_value (Some v) e = none
 
-    on_why : (t : Bool) → bytes_eq (codes "why") p.0 ≡ t → with_number g word ≡ given_said g word (if t then why_said p.1 else unknown)
+    on_why : (t : Bool) → bytes_eq (codes "why") p.0 ≡ t
+        → with_number g word ≡ given_said g word (if t then why_said p.1 else unknown)
     on_why true e = why_value p.1 (named (codes "why") e)
     on_why false e = none
 
     on_sweep : (t : Bool) → bytes_eq (codes "sweep") p.0 ≡ t
-        → with_number g word ≡ given_said g word (if t then sweep_said p.1 else if bytes_eq (codes "why") p.0 then why_said p.1 else unknown)
+        → with_number g word
+        ≡ given_said g word (if t then sweep_said p.1 else if bytes_eq (codes "why") p.0 then why_said p.1 else unknown)
     on_sweep true e = sweep_value p.1 (named (codes "sweep") e)
     on_sweep false e = on_why (bytes_eq (codes "why") p.0) refl
 
-    on_markers : (t : Bool) → bytes_eq (codes "markers") p.0 ≡ t → with_number g word ≡ given_said g word (said_long p.0 p.1)
+    on_markers : (t : Bool) → bytes_eq (codes "markers") p.0 ≡ t
+        → with_number g word ≡ given_said g word (said_long p.0 p.1)
     on_markers true e = rw e (markers_value p.1 (named (codes "markers") e))
     on_markers false e = rw e (on_sweep (bytes_eq (codes "sweep") p.0) refl)
 
 pub lexed : (g : Given) (word : Text) → given_free g word ≡ given_said g word (said word)
 lexed g word = on_ends (bytes_eq word (codes "--")) refl
   where
-    literal : (other : Text) → bytes_eq word other ≡ true → given_free g other ≡ given_said g other (said other) → given_free g word ≡ given_said g word (said word)
-    literal other e h = subst (λ (w : Text). given_free g w ≡ given_said g w (said w)) (sym ((bytes_eq-Decides word other).0 e)) h
+    literal : (other : Text) → bytes_eq word other ≡ true → given_free g other ≡ given_said g other (said other)
+        → given_free g word ≡ given_said g word (said word)
+    literal other e h = subst (λ (w : Text). given_free g w ≡ given_said g w (said w))
+        (sym ((bytes_eq-Decides word other).0 e)) h
 
     short : (o : Option Text) → short_of word ≡ o → with_number g word ≡ given_said g word (said_short o)
     short None e = refl
@@ -186,20 +206,24 @@ lexed g word = on_ends (bytes_eq word (codes "--")) refl
         char (Some x) = let s = short_shape word flags e in none_number g word (no_number_dashed word s.0 s.1)
 
     long : (o : Option (Text × Option Text)) → long_of word ≡ o
-        → bytes_eq word (codes "--markers") ≡ false → bytes_eq word (codes "--sweep") ≡ false → bytes_eq word (codes "--why") ≡ false
+        → bytes_eq word (codes "--markers") ≡ false → bytes_eq word (codes "--sweep") ≡ false
+        → bytes_eq word (codes "--why") ≡ false
         → behind (codes "--markers=") word ≡ None → with_number g word ≡ given_said g word (said_other o word)
     long None l m s w b = short (short_of word) refl
     long (Some p) l m s w b = other_name g word p l m s w b
 
     on_behind : (o : Option Text) → behind (codes "--markers=") word ≡ o → bytes_eq word (codes "--") ≡ false
-        → bytes_eq word (codes "--markers") ≡ false → bytes_eq word (codes "--sweep") ≡ false → bytes_eq word (codes "--why") ≡ false
+        → bytes_eq word (codes "--markers") ≡ false → bytes_eq word (codes "--sweep") ≡ false
+        → bytes_eq word (codes "--why") ≡ false
         → given_free g word ≡ given_said g word (said word)
     on_behind (Some digits) b e m s w =
-        subst (λ (u : Text). given_free g u ≡ given_said g u (said u)) (sym (behind_shape (codes "--markers=") word digits b)) refl
+        subst (λ (u : Text). given_free g u ≡ given_said g u (said u))
+        (sym (behind_shape (codes "--markers=") word digits b)) refl
     on_behind None b e m s w = rw (e, m, s, w, b) (long (long_of word) refl m s w b)
 
     on_why : (t : Bool) → bytes_eq word (codes "--why") ≡ t → bytes_eq word (codes "--") ≡ false
-        → bytes_eq word (codes "--markers") ≡ false → bytes_eq word (codes "--sweep") ≡ false → given_free g word ≡ given_said g word (said word)
+        → bytes_eq word (codes "--markers") ≡ false → bytes_eq word (codes "--sweep") ≡ false
+        → given_free g word ≡ given_said g word (said word)
     on_why true w e m s = literal (codes "--why") w refl
     on_why false w e m s = on_behind (behind (codes "--markers=") word) refl e m s w
 
@@ -208,7 +232,8 @@ lexed g word = on_ends (bytes_eq word (codes "--")) refl
     on_sweep true s e m = literal (codes "--sweep") s refl
     on_sweep false s e m = on_why (bytes_eq word (codes "--why")) refl e m s
 
-    on_markers : (t : Bool) → bytes_eq word (codes "--markers") ≡ t → bytes_eq word (codes "--") ≡ false → given_free g word ≡ given_said g word (said word)
+    on_markers : (t : Bool) → bytes_eq word (codes "--markers") ≡ t → bytes_eq word (codes "--") ≡ false
+        → given_free g word ≡ given_said g word (said word)
     on_markers true m e = literal (codes "--markers") m refl
     on_markers false m e = on_sweep (bytes_eq word (codes "--sweep")) refl e m
 

@@ -1,15 +1,21 @@
 -- The command of the texts that the words tell is the command of what the words give.
-use Rattle.std.proofs.Common.{◌≡◌, ◌≢◌, ◌⊎◌, ◌∙◌, ℕ, Bool, true, false, not, ◌&&◌, ◌||◌, List, [], ◌∷◌, Option, Some, None, is_some, refl, sym, ap, subst, inl, inr, arith, if◌then◌else◌, option_and_then, option_map, nat_lt, nat_le}
+use Rattle.std.proofs.Common.{◌≡◌, ◌≢◌, ◌⊎◌, ◌∙◌, ℕ, Bool, true, false, not, ◌&&◌, ◌||◌, List, [], ◌∷◌, Option, Some}
+use Rattle.std.proofs.Common.{None, is_some, refl, sym, ap, subst, inl, inr, if◌then◌else◌, option_and_then}
+use Rattle.std.proofs.Common.{option_map, nat_lt, nat_le}
 use Rattle.std.specs.Prelude.{unwrap_or}
 use Rattle.mk_script.specs.Names.{number_of_word}
 use Rattle.clap.specs.Walk.{Text}
 use Rattle.mk_commands.specs.declared.commands.Command.{Command}
 use Rattle.mk_commands.specs.declared.commands.Command.TheVariants.{OnText}
 use Rattle.mk_commands.specs.declared.commands.TextCommand.TheVariants.{Run}
-use Rattle.mk_commands.specs.Given.{Given, nothing_given, with_markers, with_sweep, with_why, with_number, with_next, with_word, with_words, whole, given_by}
+use Rattle.mk_commands.specs.Given.{Given, nothing_given, with_markers, with_sweep, with_why, with_number, with_next}
+use Rattle.mk_commands.specs.Given.{with_word, with_words, whole, given_by}
 use Rattle.mk_commands.specs.Commands.{run_of, run_with, gen_of, gen_with, alone_of, markers_of}
-use Rattle.mk_commands.specs.Told.{Form, runs, gens, bare, Numbers, no_number, one_number, two_numbers, Told, nothing_told, start_told, count_told, markers_read, run_read, gen_read, gen_between}
-use Rattle.mk_commands.proofs.Telling.{Said, ends, markers_said, sweep_said, why_said, unknown, plain, said, more_numbers, number_told, markers_told, markers_by, said_told, awaiting_told, word_told, words_told, told_by, takes_markers}
+use Rattle.mk_commands.specs.Told.{Form, runs, gens, bare, Numbers, no_number, one_number, two_numbers, Told}
+use Rattle.mk_commands.specs.Told.{nothing_told, start_told, count_told, markers_read, run_read, gen_read, gen_between}
+use Rattle.mk_commands.proofs.Telling.{Said, ends, markers_said, sweep_said, why_said, unknown, plain, said}
+use Rattle.mk_commands.proofs.Telling.{number_told, markers_told, said_told, awaiting_told}
+use Rattle.mk_commands.proofs.Telling.{word_told, words_told, told_by, takes_markers}
 use Rattle.mk_commands.proofs.Lexing.{lexed, given_free, given_said, no_number_said}
 
 -- the command of a form, by the texts and by what is given
@@ -60,7 +66,9 @@ keeps_number g digits = by_number (number_of_word digits)
     by_count n true = tt
     by_count n false = record { sweep = λ h. h; why = λ h. h; start = λ h. h; markers = λ h. h }
 
-    by_start : (n : ℕ) (s : Bool) → KeepsIf g (if s then (if is_some g.count then None else Some (record g { count = Some n })) else Some (record g { start = Some n }))
+    by_start : (n : ℕ) (s : Bool)
+        → KeepsIf g (if s then (if is_some g.count then None else Some (record g { count = Some n }))
+        else Some (record g { start = Some n }))
     by_start n true = by_count n (is_some g.count)
     by_start n false = record { sweep = λ h. h; why = λ h. h; start = λ h. refl; markers = λ h. h }
 
@@ -90,7 +98,8 @@ keeps_said g word plain = keeps_number g word
 keeps_word : (g : Given) (word : Text) → KeepsIf g (with_word g word)
 keeps_word g word = by_tests g.awaits g.ended
   where
-    by_tests : (a n : Bool) → KeepsIf g (if a then with_markers g word else if n then with_number g word else given_free g word)
+    by_tests : (a n : Bool)
+        → KeepsIf g (if a then with_markers g word else if n then with_number g word else given_free g word)
     by_tests true n = keeps_markers g word
     by_tests false true = keeps_number g word
     by_tests false false = subst (KeepsIf g) (sym (lexed g word)) (keeps_said g word (said word))
@@ -142,11 +151,14 @@ bad_gen g e = by_markers (markers_of g)
     by_count markers start None = refl
     by_count markers start (Some count) = rw (or_four g.sweep g.why (nat_lt count 48) (nat_lt 3000000 count) e) refl
 
-    by_start : (markers : ℕ) (o : Option ℕ) → option_and_then (λ start. option_and_then (gen_with g markers start) g.count) o ≡ None
+    by_start : (markers : ℕ) (o : Option ℕ)
+        → option_and_then (λ start. option_and_then (gen_with g markers start) g.count) o ≡ None
     by_start markers None = refl
     by_start markers (Some start) = by_count markers start g.count
 
-    by_markers : (o : Option ℕ) → option_and_then (λ markers. option_and_then (λ start. option_and_then (gen_with g markers start) g.count) g.start) o ≡ None
+    by_markers : (o : Option ℕ)
+        → option_and_then (λ markers. option_and_then (λ start. option_and_then (gen_with g markers start) g.count)
+        g.start) o ≡ None
     by_markers None = refl
     by_markers (Some markers) = by_start markers g.start
 
@@ -157,10 +169,12 @@ or_bare false false true n e = refl
 or_bare false false false true e = refl
 or_bare false false false false e = cc
 
-bad_found : (form : Form) (command : Command) (g : Given) → is_bad form g ≡ true → option_and_then (given_as form command) (whole g) ≡ None
+bad_found : (form : Form) (command : Command) (g : Given) → is_bad form g ≡ true
+    → option_and_then (given_as form command) (whole g) ≡ None
 bad_found form command g e = by_awaits g.awaits refl form e
   where
-    by_awaits : (t : Bool) → g.awaits ≡ t → (f : Form) → is_bad f g ≡ true → option_and_then (given_as f command) (whole g) ≡ None
+    by_awaits : (t : Bool) → g.awaits ≡ t → (f : Form) → is_bad f g ≡ true
+        → option_and_then (given_as f command) (whole g) ≡ None
     by_awaits true a f e = rw a refl
     by_awaits false a runs e = rw a (bad_run g command e)
     by_awaits false a gens e = rw a (bad_gen g e)
@@ -173,7 +187,8 @@ given_lost form command (word ∷ words) g e =
     by_next (with_word g word) (keeps_word g word) (λ g' bad. given_lost form command words g' bad)
   where
     by_next : (o : Option Given) → KeepsIf g o
-        → ((g' : Given) → is_bad form g' ≡ true → option_and_then (given_as form command) (option_and_then whole (with_words words g')) ≡ None)
+        → ((g' : Given) → is_bad form g' ≡ true
+        → option_and_then (given_as form command) (option_and_then whole (with_words words g')) ≡ None)
         → option_and_then (given_as form command) (option_and_then whole (option_and_then (with_words words) o)) ≡ None
     by_next None k more = refl
     by_next (Some g') k more = more g' (stays_bad form g g' k e)
@@ -204,7 +219,8 @@ wrong_markers form t v e = by_markers t.markers refl form e
     by_markers : (m : Option Text) → t.markers ≡ m → (f : Form) → is_wrong f t ≡ true → WrongIf f (markers_told t v)
     by_markers (Some m) is f e = rw is tt
     by_markers None is runs e = let no : false ≡ true = rw is at e in cc
-    by_markers None is gens e = let left : are_wrong t.numbers ≡ true = rw is at e in rw is (or_right _ (are_wrong t.numbers) left)
+    by_markers None is gens e = let left : are_wrong t.numbers ≡ true =
+        rw is at e in rw is (or_right _ (are_wrong t.numbers) left)
     by_markers None is bare e = cc
 
 wrong_number : (form : Form) (t : Told) (word : Text) → is_wrong form t ≡ true → WrongIf form (number_told form t word)
@@ -213,17 +229,20 @@ wrong_number bare t word e = tt
 wrong_number gens t word e = by_numbers t.numbers refl
   where
     by_numbers : (ns : Numbers) → t.numbers ≡ ns → WrongIf gens (number_told gens t word)
-    by_numbers no_number is = let left : (is_wrong_text t.markers || false) ≡ true = rw is at e in rw is (elim (or_cases _ false left) [
-      | inl h ↦ or_left _ _ h
-      | inr h ↦ cc
-    ])
-    by_numbers (one_number a) is = let left : (is_wrong_text t.markers || is_wrong_text (Some a)) ≡ true = rw is at e in rw is (elim (or_cases _ (is_wrong_text (Some a)) left) [
-      | inl h ↦ or_left _ _ h
-      | inr h ↦ or_right _ _ (or_left _ _ h)
-    ])
+    by_numbers no_number is = let left : (is_wrong_text t.markers || false) ≡ true =
+        rw is at e in rw is (elim (or_cases _ false left) [
+          | inl h ↦ or_left _ _ h
+          | inr h ↦ cc
+        ])
+    by_numbers (one_number a) is = let left : (is_wrong_text t.markers || is_wrong_text (Some a)) ≡ true =
+        rw is at e in rw is (elim (or_cases _ (is_wrong_text (Some a)) left) [
+          | inl h ↦ or_left _ _ h
+          | inr h ↦ or_right _ _ (or_left _ _ h)
+        ])
     by_numbers (two_numbers a b) is = rw is tt
 
-wrong_said : (form : Form) (s : Said) (t : Told) (word : Text) → is_wrong form t ≡ true → WrongIf form (said_told form s word t)
+wrong_said : (form : Form) (s : Said) (t : Told) (word : Text) → is_wrong form t ≡ true
+    → WrongIf form (said_told form s word t)
 wrong_said runs ends t word e = e
 wrong_said gens ends t word e = e
 wrong_said bare ends t word e = e
@@ -250,7 +269,8 @@ wrong_said bare (why_said v) t word e = tt
 wrong_said form unknown t word e = tt
 wrong_said form plain t word e = wrong_number form t word e
 
-wrong_awaiting : (form : Form) (s : Said) (t : Told) (word : Text) → is_wrong form t ≡ true → WrongIf form (awaiting_told s word t)
+wrong_awaiting : (form : Form) (s : Said) (t : Told) (word : Text) → is_wrong form t ≡ true
+    → WrongIf form (awaiting_told s word t)
 wrong_awaiting form plain t word e = wrong_markers form t word e
 wrong_awaiting form ends t word e = tt
 wrong_awaiting form (markers_said v) t word e = tt
@@ -261,7 +281,9 @@ wrong_awaiting form unknown t word e = tt
 wrong_word : (form : Form) (t : Told) (word : Text) → is_wrong form t ≡ true → WrongIf form (word_told form t word)
 wrong_word form t word e = by_awaits t.awaits t.ended
   where
-    by_awaits : (a n : Bool) → WrongIf form (if a then awaiting_told (said word) word t else if n then number_told form t word else said_told form (said word) word t)
+    by_awaits : (a n : Bool)
+        → WrongIf form (if a then awaiting_told (said word) word t else if n then number_told form t word
+        else said_told form (said word) word t)
     by_awaits true n = wrong_awaiting form (said word) t word e
     by_awaits false true = wrong_number form t word e
     by_awaits false false = wrong_said form (said word) t word e
@@ -315,7 +337,8 @@ told_lost form command (word ∷ words) t e =
     by_next (word_told form t word) (wrong_word form t word e) (λ t' wrong. told_lost form command words t' wrong)
   where
     by_next : (o : Option Told) → WrongIf form o
-        → ((t' : Told) → is_wrong form t' ≡ true → option_and_then (told_as form command) (words_told form words t') ≡ None)
+        → ((t' : Told) → is_wrong form t' ≡ true
+        → option_and_then (told_as form command) (words_told form words t') ≡ None)
         → option_and_then (told_as form command) (option_and_then (words_told form words) o) ≡ None
     by_next None k more = refl
     by_next (Some t') k more = more t' k
@@ -329,7 +352,8 @@ read_text (Some v) = option_map (λ n. Some n) (number_of_word v)
 abbrev read_numbers : Numbers → Option (Option ℕ × Option ℕ)
 read_numbers no_number = Some (None, None)
 read_numbers (one_number a) = option_map (λ n. (Some n, None)) (number_of_word a)
-read_numbers (two_numbers a b) = option_and_then (λ n. option_map (λ m. (Some n, Some m)) (number_of_word b)) (number_of_word a)
+read_numbers (two_numbers a b) = option_and_then (λ n. option_map (λ m. (Some n, Some m)) (number_of_word b))
+    (number_of_word a)
 
 record Same (form : Form) (t : Told) (g : Given) : Type 0 where
   markers : read_text t.markers ≡ Some g.markers
@@ -354,23 +378,38 @@ text_read (Some v) g e = by_number (number_of_word v) e
     by_number None h = cc
     by_number (Some n) h = ap (λ (x : Option (Option ℕ)). is_some (unwrap_or x None)) h
 
-markers_step : (form : Form) (t : Told) (g : Given) (v : Text) → Same form t g → takes_markers form ≡ true → Steps form (markers_told t v) (with_markers g v)
+markers_step : (form : Form) (t : Told) (g : Given) (v : Text) → Same form t g → takes_markers form ≡ true
+    → Steps form (markers_told t v) (with_markers g v)
 markers_step form t g v same takes = by_given (is_some g.markers) refl
   where
     fresh : (f : Form) → Same f t g → takes_markers f ≡ true → (o : Option ℕ) → number_of_word v ≡ o
-        → Steps f (Some (record t { markers = Some v; awaits = false })) (option_map (λ n. record g { markers = Some n; awaits = false }) o)
+        → Steps f (Some (record t { markers = Some v; awaits = false }))
+        (option_map (λ n. record g { markers = Some n; awaits = false }) o)
     fresh runs s k None e = rw e refl
     fresh gens s k None e = or_left _ (are_wrong t.numbers) (rw e refl)
     fresh runs s k (Some n) e = record {
-      markers = rw e refl; sweep = s.sweep; why = s.why; numbers = s.numbers; awaits = refl; ended = s.ended; fits = s.fits;
+      markers = rw e refl;
+      sweep = s.sweep;
+      why = s.why;
+      numbers = s.numbers;
+      awaits = refl;
+      ended = s.ended;
+      fits = s.fits;
     }
     fresh gens s k (Some n) e = record {
-      markers = rw e refl; sweep = s.sweep; why = s.why; numbers = s.numbers; awaits = refl; ended = s.ended; fits = s.fits;
+      markers = rw e refl;
+      sweep = s.sweep;
+      why = s.why;
+      numbers = s.numbers;
+      awaits = refl;
+      ended = s.ended;
+      fits = s.fits;
     }
     fresh bare s k o e = cc
 
     by_given : (b : Bool) → is_some g.markers ≡ b → Steps form (markers_told t v) (with_markers g v)
-    by_given true e = let e2 : is_some t.markers ≡ true = text_read t.markers g.markers same.markers ∙ e in rw (e, e2) tt
+    by_given true e = let e2 : is_some t.markers ≡ true = text_read t.markers g.markers same.markers
+        ∙ e in rw (e, e2) tt
     by_given false e =
         let e2 : is_some t.markers ≡ false = text_read t.markers g.markers same.markers ∙ e in
         rw (e, e2) (fresh form same takes (number_of_word v) refl)
@@ -395,11 +434,14 @@ bad_start bare g e n = or_right g.sweep _ (or_right g.why _ (or_left (is_some g.
 stray_number : (form : Form) (g : Given) (word : Text) → form ≢ gens → Steps form None (with_number g word)
 stray_number form g word n = by_number (number_of_word word)
   where
-    by_count : (m : ℕ) (c : Bool) → is_some g.start ≡ true → Steps form None (if c then None else Some (record g { count = Some m }))
+    by_count : (m : ℕ) (c : Bool) → is_some g.start ≡ true
+        → Steps form None (if c then None else Some (record g { count = Some m }))
     by_count m true e = tt
     by_count m false e = bad_start form (record g { count = Some m }) e n
 
-    by_start : (m : ℕ) (s : Bool) → is_some g.start ≡ s → Steps form None (if s then (if is_some g.count then None else Some (record g { count = Some m })) else Some (record g { start = Some m }))
+    by_start : (m : ℕ) (s : Bool) → is_some g.start ≡ s
+        → Steps form None (if s then (if is_some g.count then None else Some (record g { count = Some m }))
+        else Some (record g { start = Some m }))
     by_start m true e = by_count m (is_some g.count) e
     by_start m false e = bad_start form (record g { start = Some m }) refl n
 
@@ -407,10 +449,12 @@ stray_number form g word n = by_number (number_of_word word)
     by_number None = tt
     by_number (Some m) = by_start m (is_some g.start) refl
 
-gens_number : (t : Told) (g : Given) (word : Text) → Same gens t g → Steps gens (number_told gens t word) (with_number g word)
+gens_number : (t : Told) (g : Given) (word : Text) → Same gens t g
+    → Steps gens (number_told gens t word) (with_number g word)
 gens_number t g word s = by_numbers t.numbers refl (number_of_word word) refl
   where
-    none_yet : t.numbers ≡ no_number → (o : Option ℕ) → number_of_word word ≡ o → read_numbers no_number ≡ Some (g.start, g.count)
+    none_yet : t.numbers ≡ no_number → (o : Option ℕ) → number_of_word word ≡ o
+        → read_numbers no_number ≡ Some (g.start, g.count)
         → Steps gens (Some (record t { numbers = one_number word })) (option_and_then (with_next g) o)
     none_yet is None e h = or_right (is_wrong_text t.markers) _ (rw e refl)
     none_yet is (Some n) e h =
@@ -418,12 +462,17 @@ gens_number t g word s = by_numbers t.numbers refl (number_of_word word) refl
         let count : None ≡ g.count = ap first_count h in
         let next : with_next g n ≡ Some (record g { start = Some n }) = rw (← start) refl in
         subst (Steps gens (Some (record t { numbers = one_number word }))) (sym next) (record {
-          markers = s.markers; sweep = s.sweep; why = s.why;
+          markers = s.markers;
+          sweep = s.sweep;
+          why = s.why;
           numbers = rw (e, ← count) refl;
-          awaits = s.awaits; ended = s.ended; fits = s.fits;
+          awaits = s.awaits;
+          ended = s.ended;
+          fits = s.fits;
         })
 
-    one_yet : (a : Text) → t.numbers ≡ one_number a → (o : Option ℕ) → number_of_word word ≡ o → (k : Option ℕ) → number_of_word a ≡ k
+    one_yet : (a : Text) → t.numbers ≡ one_number a → (o : Option ℕ) → number_of_word word ≡ o → (k : Option ℕ)
+        → number_of_word a ≡ k
         → read_numbers (one_number a) ≡ Some (g.start, g.count)
         → Steps gens (Some (record t { numbers = two_numbers a word })) (option_and_then (with_next g) o)
     one_yet a is None e k i h = or_right (is_wrong_text t.markers) _ (or_right (is_wrong_text (Some a)) _ (rw e refl))
@@ -434,9 +483,13 @@ gens_number t g word s = by_numbers t.numbers refl (number_of_word word) refl
         let count : None ≡ g.count = ap first_count h2 in
         let next : with_next g n ≡ Some (record g { count = Some n }) = rw (← start, ← count) refl in
         subst (Steps gens (Some (record t { numbers = two_numbers a word }))) (sym next) (record {
-          markers = s.markers; sweep = s.sweep; why = s.why;
+          markers = s.markers;
+          sweep = s.sweep;
+          why = s.why;
           numbers = rw (e, i, ← start) refl;
-          awaits = s.awaits; ended = s.ended; fits = s.fits;
+          awaits = s.awaits;
+          ended = s.ended;
+          fits = s.fits;
         })
 
     two_yet : (a b : Text) (o : Option ℕ) → (k l : Option ℕ) → number_of_word a ≡ k → number_of_word b ≡ l
@@ -454,33 +507,51 @@ gens_number t g word s = by_numbers t.numbers refl (number_of_word word) refl
         → Steps gens (number_told gens t word) (option_and_then (with_next g) o)
     by_numbers no_number is o e = rw is (none_yet is o e (rw is at s.numbers))
     by_numbers (one_number a) is o e = rw is (one_yet a is o e (number_of_word a) refl (rw is at s.numbers))
-    by_numbers (two_numbers a b) is o e = rw is (two_yet a b o (number_of_word a) (number_of_word b) refl refl (rw is at s.numbers))
+    by_numbers (two_numbers a b) is o e =
+        rw is (two_yet a b o (number_of_word a) (number_of_word b) refl refl (rw is at s.numbers))
 
-number_step : (form : Form) (t : Told) (g : Given) (word : Text) → Same form t g → Steps form (number_told form t word) (with_number g word)
+number_step : (form : Form) (t : Told) (g : Given) (word : Text) → Same form t g
+    → Steps form (number_told form t word) (with_number g word)
 number_step runs t g word s = stray_number runs g word (λ e. cc)
 number_step gens t g word s = gens_number t g word s
 number_step bare t g word s = stray_number bare g word (λ e. cc)
 
-sweep_step : (form : Form) (t : Told) (g : Given) (word : Text) → Same form t g → Steps form (said_told form (sweep_said None) word t) (with_sweep g)
+sweep_step : (form : Form) (t : Told) (g : Given) (word : Text) → Same form t g
+    → Steps form (said_told form (sweep_said None) word t) (with_sweep g)
 sweep_step form t g word s = by_test form g.sweep s s.sweep refl
   where
-    by_test : (f : Form) (b : Bool) → Same f t g → t.sweep ≡ g.sweep → g.sweep ≡ b → Steps f (said_told f (sweep_said None) word t) (with_sweep g)
+    by_test : (f : Form) (b : Bool) → Same f t g → t.sweep ≡ g.sweep → g.sweep ≡ b
+        → Steps f (said_told f (sweep_said None) word t) (with_sweep g)
     by_test runs true s e i = rw (e, i) tt
     by_test runs false s e i = rw (e, i) (record {
-      markers = s.markers; sweep = refl; why = s.why; numbers = s.numbers; awaits = s.awaits; ended = s.ended; fits = s.fits;
+      markers = s.markers;
+      sweep = refl;
+      why = s.why;
+      numbers = s.numbers;
+      awaits = s.awaits;
+      ended = s.ended;
+      fits = s.fits;
     })
     by_test gens true s e i = rw i tt
     by_test gens false s e i = rw i refl
     by_test bare true s e i = rw i tt
     by_test bare false s e i = rw i refl
 
-why_step : (form : Form) (t : Told) (g : Given) (word : Text) → Same form t g → Steps form (said_told form (why_said None) word t) (with_why g)
+why_step : (form : Form) (t : Told) (g : Given) (word : Text) → Same form t g
+    → Steps form (said_told form (why_said None) word t) (with_why g)
 why_step form t g word s = by_test form g.why s s.why refl
   where
-    by_test : (f : Form) (b : Bool) → Same f t g → t.why ≡ g.why → g.why ≡ b → Steps f (said_told f (why_said None) word t) (with_why g)
+    by_test : (f : Form) (b : Bool) → Same f t g → t.why ≡ g.why → g.why ≡ b
+        → Steps f (said_told f (why_said None) word t) (with_why g)
     by_test runs true s e i = rw (e, i) tt
     by_test runs false s e i = rw (e, i) (record {
-      markers = s.markers; sweep = s.sweep; why = refl; numbers = s.numbers; awaits = s.awaits; ended = s.ended; fits = s.fits;
+      markers = s.markers;
+      sweep = s.sweep;
+      why = refl;
+      numbers = s.numbers;
+      awaits = s.awaits;
+      ended = s.ended;
+      fits = s.fits;
     })
     by_test gens true s e i = rw i tt
     by_test gens false s e i = rw i (or_right g.sweep _ refl)
@@ -492,20 +563,34 @@ markers_by_step : (form : Form) (t : Told) (g : Given) (word : Text) (v : Option
 markers_by_step runs t g word (Some v) s = markers_step runs t g v s refl
 markers_by_step gens t g word (Some v) s = markers_step gens t g v s refl
 markers_by_step runs t g word None s = record {
-  markers = s.markers; sweep = s.sweep; why = s.why; numbers = s.numbers; awaits = refl; ended = s.ended; fits = s.fits;
+  markers = s.markers;
+  sweep = s.sweep;
+  why = s.why;
+  numbers = s.numbers;
+  awaits = refl;
+  ended = s.ended;
+  fits = s.fits;
 }
 markers_by_step gens t g word None s = record {
-  markers = s.markers; sweep = s.sweep; why = s.why; numbers = s.numbers; awaits = refl; ended = s.ended; fits = s.fits;
+  markers = s.markers;
+  sweep = s.sweep;
+  why = s.why;
+  numbers = s.numbers;
+  awaits = refl;
+  ended = s.ended;
+  fits = s.fits;
 }
 markers_by_step bare t g word None s = or_right g.sweep _ (or_right g.why _ (or_right (is_some g.start) _ refl))
 markers_by_step bare t g word (Some v) s = by_test (is_some g.markers) (number_of_word v)
   where
-    by_test : (b : Bool) (o : Option ℕ) → Steps bare None (if b then None else option_map (λ n. record g { markers = Some n; awaits = false }) o)
+    by_test : (b : Bool) (o : Option ℕ)
+        → Steps bare None (if b then None else option_map (λ n. record g { markers = Some n; awaits = false }) o)
     by_test true o = tt
     by_test false None = tt
     by_test false (Some n) = or_right g.sweep _ (or_right g.why _ (or_right (is_some g.start) _ refl))
 
-said_step : (form : Form) (t : Told) (g : Given) (word : Text) (x : Said) → Same form t g → Steps form (said_told form x word t) (given_said g word x)
+said_step : (form : Form) (t : Told) (g : Given) (word : Text) (x : Said) → Same form t g
+    → Steps form (said_told form x word t) (given_said g word x)
 said_step form t g word ends s = record {
   markers = s.markers;
   sweep = s.sweep;
@@ -535,7 +620,9 @@ said_step form t g word plain s = number_step form t g word s
 no_markers_given : (g : Given) (v : Text) → number_of_word v ≡ None → with_markers g v ≡ None
 no_markers_given g v e = by_test (is_some g.markers)
   where
-    by_test : (b : Bool) → (if b then None else option_map (λ n. record g { markers = Some n; awaits = false }) (number_of_word v)) ≡ None
+    by_test : (b : Bool)
+        → (if b then None else option_map (λ n. record g { markers = Some n; awaits = false }) (number_of_word v))
+        ≡ None
     by_test true = refl
     by_test false = rw e refl
 
@@ -547,8 +634,9 @@ awaiting_step form t g word s a = by_said (said word) (no_number_said word)
     takes : (f : Form) → is_bad f g ≡ false → takes_markers f ≡ true
     takes runs e = refl
     takes gens e = refl
-    takes bare e = let yes : (g.sweep || (g.why || (is_some g.start || (g.awaits || is_some g.markers)))) ≡ true = or_right g.sweep _ (or_right g.why _ (or_right (is_some g.start) _ (or_left g.awaits _ a))) in
-      let bad : true ≡ false = sym yes ∙ e in cc
+    takes bare e = let yes : (g.sweep || (g.why || (is_some g.start || (g.awaits || is_some g.markers)))) ≡ true =
+        or_right g.sweep _ (or_right g.why _ (or_right (is_some g.start) _ (or_left g.awaits _ a))) in
+        let bad : true ≡ false = sym yes ∙ e in cc
 
     refused : (x : Said) → (x ≡ plain → ⊥) → Steps form (awaiting_told x word t) None
     refused plain n = absurd (n refl)
@@ -558,7 +646,8 @@ awaiting_step form t g word s a = by_said (said word) (no_number_said word)
     refused (why_said v) n = tt
     refused unknown n = tt
 
-    by_said : (x : Said) → (x ≡ plain) ⊎ (number_of_word word ≡ None) → Steps form (awaiting_told x word t) (with_markers g word)
+    by_said : (x : Said) → (x ≡ plain) ⊎ (number_of_word word ≡ None)
+        → Steps form (awaiting_told x word t) (with_markers g word)
     by_said plain h = markers_step form t g word s (takes form s.fits)
     by_said ends (inl h) = cc
     by_said ends (inr h) = rw (no_markers_given g word h) tt
@@ -571,11 +660,13 @@ awaiting_step form t g word s a = by_said (said word) (no_number_said word)
     by_said unknown (inl h) = cc
     by_said unknown (inr h) = rw (no_markers_given g word h) tt
 
-word_step : (form : Form) (t : Told) (g : Given) (word : Text) → Same form t g → Steps form (word_told form t word) (with_word g word)
+word_step : (form : Form) (t : Told) (g : Given) (word : Text) → Same form t g
+    → Steps form (word_told form t word) (with_word g word)
 word_step form t g word s = by_tests t.awaits g.awaits t.ended g.ended s.awaits s.ended refl
   where
     by_tests : (a b m n : Bool) → a ≡ b → m ≡ n → g.awaits ≡ b
-        → Steps form (if a then awaiting_told (said word) word t else if m then number_told form t word else said_told form (said word) word t)
+        → Steps form (if a then awaiting_told (said word) word t else if m then number_told form t word
+        else said_told form (said word) word t)
         (if b then with_markers g word else if n then with_number g word else given_free g word)
     by_tests true true m n e f is = awaiting_step form t g word s is
     by_tests true false m n e f is = cc
@@ -584,34 +675,41 @@ word_step form t g word s = by_tests t.awaits g.awaits t.ended g.ended s.awaits 
     by_tests false false true false e f is = cc
     by_tests false false false true e f is = cc
     by_tests false false false false e f is =
-        subst (Steps form (said_told form (said word) word t)) (sym (lexed g word)) (said_step form t g word (said word) s)
+        subst (Steps form (said_told form (said word) word t)) (sym (lexed g word))
+        (said_step form t g word (said word) s)
 
 -- ---- the command at the end
 
-markers_same : (m : Option Text) (g : Option ℕ) → read_text m ≡ Some g → markers_read m ≡ (if nat_le (unwrap_or g 0) 8 then Some (unwrap_or g 0) else None)
+markers_same : (m : Option Text) (g : Option ℕ) → read_text m ≡ Some g
+    → markers_read m ≡ (if nat_le (unwrap_or g 0) 8 then Some (unwrap_or g 0) else None)
 markers_same None g e =
     let none : None ≡ g = ap (λ (o : Option (Option ℕ)). unwrap_or o None) e in
     subst (λ (h : Option ℕ). Some 0 ≡ (if nat_le (unwrap_or h 0) 8 then Some (unwrap_or h 0) else None)) none refl
 markers_same (Some v) g e = by_number (number_of_word v) e
   where
     by_number : (o : Option ℕ) → option_map (λ n. Some n) o ≡ Some g
-        → option_and_then (λ n. if nat_le n 8 then Some n else None) o ≡ (if nat_le (unwrap_or g 0) 8 then Some (unwrap_or g 0) else None)
+        → option_and_then (λ n. if nat_le n 8 then Some n else None) o
+        ≡ (if nat_le (unwrap_or g 0) 8 then Some (unwrap_or g 0) else None)
     by_number None h = cc
     by_number (Some n) h =
         let some : Some n ≡ g = ap (λ (x : Option (Option ℕ)). unwrap_or x None) h in
-        subst (λ (k : Option ℕ). (if nat_le n 8 then Some n else None) ≡ (if nat_le (unwrap_or k 0) 8 then Some (unwrap_or k 0) else None)) some refl
+        subst (λ (k : Option ℕ). (if nat_le n 8 then Some n else None)
+        ≡ (if nat_le (unwrap_or k 0) 8 then Some (unwrap_or k 0) else None)) some refl
 
 starts_same : (ns : Numbers) (a b : Option ℕ) → read_numbers ns ≡ Some (a, b)
     → (option_and_then number_of_word (start_told ns) ≡ a) × (option_and_then number_of_word (count_told ns) ≡ b)
 starts_same no_number a b e = (ap first_start e, ap first_count e)
 starts_same (one_number x) a b e = by_number (number_of_word x) e
   where
-    by_number : (o : Option ℕ) → option_map {U = Option ℕ × Option ℕ} (λ n. (Some n, None)) o ≡ Some (a, b) → (o ≡ a) × (None ≡ b)
+    by_number : (o : Option ℕ) → option_map {U = Option ℕ × Option ℕ} (λ n. (Some n, None)) o ≡ Some (a, b)
+        → (o ≡ a) × (None ≡ b)
     by_number None h = cc
     by_number (Some n) h = (ap first_start h, ap first_count h)
 starts_same (two_numbers x y) a b e = by_number (number_of_word x) (number_of_word y) e
   where
-    by_number : (o p : Option ℕ) → option_and_then (λ n. option_map {U = Option ℕ × Option ℕ} (λ m. (Some n, Some m)) p) o ≡ Some (a, b) → (o ≡ a) × (p ≡ b)
+    by_number : (o p : Option ℕ)
+        → option_and_then (λ n. option_map {U = Option ℕ × Option ℕ} (λ m. (Some n, Some m)) p) o ≡ Some (a, b)
+        → (o ≡ a) × (p ≡ b)
     by_number None p h = cc
     by_number (Some n) None h = cc
     by_number (Some n) (Some m) h = (ap first_start h, ap first_count h)
@@ -622,22 +720,26 @@ or_false false b e = (refl, e)
 
 run_same : (t : Told) (g : Given) → t.sweep ≡ g.sweep → t.why ≡ g.why → is_some g.start ≡ false → (o : Option ℕ)
     → option_and_then (λ markers. if t.sweep && nat_lt 0 markers then None
-    else Some (OnText (Run (record { markers = markers; sweep = t.sweep; why = t.why })))) o ≡ option_and_then (run_with g) o
+    else Some (OnText (Run (record { markers = markers; sweep = t.sweep; why = t.why })))) o
+    ≡ option_and_then (run_with g) o
 run_same t g s w none None = refl
 run_same t g s w none (Some m) = rw (s, w, none) refl
 
 gen_same : (g : Given) → g.sweep ≡ false → g.why ≡ false → (m s c : Option ℕ)
-    → option_and_then (λ markers. option_and_then (λ start. option_and_then (λ count. gen_between markers start count) c) s) m
+    → option_and_then (λ markers. option_and_then
+    (λ start. option_and_then (λ count. gen_between markers start count) c) s) m
     ≡ option_and_then (λ markers. option_and_then (λ start. option_and_then (gen_with g markers start) c) s) m
 gen_same g a b None s c = refl
 gen_same g a b (Some m) None c = refl
 gen_same g a b (Some m) (Some s) None = refl
 gen_same g a b (Some m) (Some s) (Some c) = rw (a, b) refl
 
-same_read : (form : Form) (command : Command) (t : Told) (g : Given) → Same form t g → told_as form command t ≡ given_as form command g
+same_read : (form : Form) (command : Command) (t : Told) (g : Given) → Same form t g
+    → told_as form command t ≡ given_as form command g
 same_read runs command t g s =
     ap (option_and_then (λ markers. if t.sweep && nat_lt 0 markers then None
-    else Some (OnText (Run (record { markers = markers; sweep = t.sweep; why = t.why }))))) (markers_same t.markers g.markers s.markers)
+    else Some (OnText (Run (record { markers = markers; sweep = t.sweep; why = t.why })))))
+    (markers_same t.markers g.markers s.markers)
     ∙ run_same t g s.sweep s.why s.fits (markers_of g)
 same_read gens command t g s =
     let ns = starts_same t.numbers g.start g.count s.numbers in
@@ -650,26 +752,32 @@ same_read bare command t g s =
     let four = or_false g.awaits _ three.1 in
     sym (by_tests _ _ _ _ four.1 one.0 two.0 three.0)
   where
-    by_tests : (m s w n : Bool) → m ≡ false → s ≡ false → w ≡ false → n ≡ false → (if m || s || w || n then None else Some command) ≡ Some command
+    by_tests : (m s w n : Bool) → m ≡ false → s ≡ false → w ≡ false → n ≡ false
+        → (if m || s || w || n then None else Some command) ≡ Some command
     by_tests m s w n a b c d = rw (a, b, c, d) refl
 
 same_command : (form : Form) (command : Command) (words : List Text) (t : Told) (g : Given) → Same form t g
-    → option_and_then (told_as form command) (words_told form words t) ≡ option_and_then (given_as form command) (option_and_then whole (with_words words g))
+    → option_and_then (told_as form command) (words_told form words t)
+    ≡ option_and_then (given_as form command) (option_and_then whole (with_words words g))
 same_command form command [] t g s = by_tests t.awaits g.awaits s.awaits
   where
     by_tests : (a b : Bool) → a ≡ b
-        → option_and_then (told_as form command) (if a then None else Some t) ≡ option_and_then (given_as form command) (if b then None else Some g)
+        → option_and_then (told_as form command) (if a then None else Some t)
+        ≡ option_and_then (given_as form command) (if b then None else Some g)
     by_tests true true e = refl
     by_tests true false e = cc
     by_tests false true e = cc
     by_tests false false e = same_read form command t g s
 same_command form command (word ∷ words) t g s =
-    by_next (word_told form t word) (with_word g word) (word_step form t g word s) (λ t' g' same. same_command form command words t' g' same)
+    by_next (word_told form t word) (with_word g word) (word_step form t g word s)
+    (λ t' g' same. same_command form command words t' g' same)
   where
     by_next : (o : Option Told) (p : Option Given) → Steps form o p
         → ((t' : Told) (g' : Given) → Same form t' g'
-        → option_and_then (told_as form command) (words_told form words t') ≡ option_and_then (given_as form command) (option_and_then whole (with_words words g')))
-        → option_and_then (told_as form command) (option_and_then (words_told form words) o) ≡ option_and_then (given_as form command) (option_and_then whole (option_and_then (with_words words) p))
+        → option_and_then (told_as form command) (words_told form words t')
+        ≡ option_and_then (given_as form command) (option_and_then whole (with_words words g')))
+        → option_and_then (told_as form command) (option_and_then (words_told form words) o)
+        ≡ option_and_then (given_as form command) (option_and_then whole (option_and_then (with_words words) p))
     by_next None None k more = refl
     by_next (Some t') (Some g') k more = more t' g' k
     by_next None (Some g') k more = sym (given_lost form command words g' k)
@@ -677,9 +785,16 @@ same_command form command (word ∷ words) t g s =
 
 -- the command of the texts is the command of what is given
 pub told_command : (form : Form) (command : Command) (words : List Text)
-    → option_and_then (told_as form command) (told_by form words) ≡ option_and_then (given_as form command) (given_by words)
+    → option_and_then (told_as form command) (told_by form words)
+    ≡ option_and_then (given_as form command) (given_by words)
 told_command form command words = same_command form command words nothing_told nothing_given (record {
-  markers = refl; sweep = refl; why = refl; numbers = refl; awaits = refl; ended = refl; fits = fits form;
+  markers = refl;
+  sweep = refl;
+  why = refl;
+  numbers = refl;
+  awaits = refl;
+  ended = refl;
+  fits = fits form;
 })
   where
     fits : (f : Form) → is_bad f nothing_given ≡ false

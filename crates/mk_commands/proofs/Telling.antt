@@ -1,10 +1,12 @@
 -- What a command makes of the words, one by one, as texts.
-use Rattle.std.specs.Prelude.{ℕ, Bool, true, false, not, ◌&&◌, List, [], ◌∷◌, Option, Some, None, is_some, option_map, option_and_then, if◌then◌else◌, slice_get}
+use Rattle.std.specs.Prelude.{ℕ, Bool, true, false, not, ◌&&◌, List, [], ◌∷◌, Option, Some, None, is_some, option_map}
+use Rattle.std.specs.Prelude.{option_and_then, if◌then◌else◌, slice_get}
 use Rattle.std.specs.Str.{bytes_eq, chars}
 use lib.Chars.{codes}
 use Rattle.clap.specs.Lexer.{long_of, short_of}
 use Rattle.clap.specs.Walk.{Text}
-use Rattle.mk_commands.specs.Told.{Form, runs, gens, bare, Numbers, no_number, one_number, two_numbers, Told, nothing_told}
+use Rattle.mk_commands.specs.Told.{Form, runs, gens, bare, Numbers, no_number, one_number, two_numbers, Told}
+use Rattle.mk_commands.specs.Told.{nothing_told}
 
 -- what a word says
 pub data Said : Type 0 where

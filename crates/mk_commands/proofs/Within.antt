@@ -1,16 +1,19 @@
 -- The numbers of each command are in their bounds.
-use Rattle.std.proofs.Common.{◌≡◌, ◌≤◌, ℕ, Bool, true, false, ◌&&◌, ◌||◌, List, [], ◌∷◌, Option, Some, None, is_some, IfSome, refl, arith, if◌then◌else◌, option_and_then, nat_lt, nat_le}
+use Rattle.std.proofs.Common.{◌≡◌, ◌≤◌, ℕ, Bool, true, false, ◌&&◌, ◌||◌, List, [], ◌∷◌, Option, Some, None, is_some}
+use Rattle.std.proofs.Common.{IfSome, refl, arith, if◌then◌else◌, option_and_then, nat_lt, nat_le}
 use Rattle.std.specs.Prelude.{unwrap_or}
 use Rattle.std.specs.Str.{bytes_eq}
 use Rattle.std.proofs.lemmas.Bool.Decides.{nat_tests}
 use lib.Chars.{codes}
 use Rattle.mk_commands.specs.declared.commands.Command.{Command}
 use Rattle.mk_commands.specs.declared.commands.Command.TheVariants.{OnText, Gen}
-use Rattle.mk_commands.specs.declared.commands.TextCommand.TheVariants.{Run, Check, Print, Replay, Trace}
+use Rattle.mk_commands.specs.declared.commands.TextCommand.TheVariants.{Check, Print, Replay, Trace}
 use Rattle.mk_commands.specs.Given.{Given, given_by}
-use Rattle.mk_commands.specs.Commands.{run_of, run_with, gen_of, gen_with, alone_of, markers_of, command_named, command_of, IsWithin}
+use Rattle.mk_commands.specs.Commands.{run_of, run_with, gen_of, gen_with, alone_of, command_named}
+use Rattle.mk_commands.specs.Commands.{command_of, IsWithin}
 
-within_if : (b : Bool) (x y : Option Command) → IfSome x IsWithin → IfSome y IsWithin → IfSome (if b then x else y) IsWithin
+within_if : (b : Bool) (x y : Option Command) → IfSome x IsWithin → IfSome y IsWithin
+    → IfSome (if b then x else y) IsWithin
 within_if true x y h k = h
 within_if false x y h k = k
 
@@ -33,7 +36,8 @@ last_false false false false d e = e
 within_gen : (g : Given) → IfSome (gen_of g) IsWithin
 within_gen g = by_markers (nat_le (unwrap_or g.markers 0) 8) refl
   where
-    by_bounds : (markers start count : ℕ) → markers ≤ 8 → (b : Bool) → (g.sweep || g.why || nat_lt count 48 || nat_lt 3000000 count) ≡ b
+    by_bounds : (markers start count : ℕ) → markers ≤ 8 → (b : Bool)
+        → (g.sweep || g.why || nat_lt count 48 || nat_lt 3000000 count) ≡ b
         → IfSome (if b then None else Some (Gen (record { start = start; count = count; markers = markers }))) IsWithin
     by_bounds markers start count few true e = tt
     by_bounds markers start count few false e =
@@ -41,16 +45,20 @@ within_gen g = by_markers (nat_le (unwrap_or g.markers 0) 8) refl
         let small : count ≤ 3000000 = grind (arith, nat_tests) in
         (small, few)
 
-    by_count : (markers start : ℕ) → markers ≤ 8 → (o : Option ℕ) → IfSome (option_and_then (gen_with g markers start) o) IsWithin
+    by_count : (markers start : ℕ) → markers ≤ 8 → (o : Option ℕ)
+        → IfSome (option_and_then (gen_with g markers start) o) IsWithin
     by_count markers start few None = tt
-    by_count markers start few (Some count) = by_bounds markers start count few (g.sweep || g.why || nat_lt count 48 || nat_lt 3000000 count) refl
+    by_count markers start few (Some count) =
+        by_bounds markers start count few (g.sweep || g.why || nat_lt count 48 || nat_lt 3000000 count) refl
 
-    by_start : (markers : ℕ) → markers ≤ 8 → (o : Option ℕ) → IfSome (option_and_then (λ start. option_and_then (gen_with g markers start) g.count) o) IsWithin
+    by_start : (markers : ℕ) → markers ≤ 8 → (o : Option ℕ)
+        → IfSome (option_and_then (λ start. option_and_then (gen_with g markers start) g.count) o) IsWithin
     by_start markers few None = tt
     by_start markers few (Some start) = by_count markers start few g.count
 
     by_markers : (b : Bool) → nat_le (unwrap_or g.markers 0) 8 ≡ b
-        → IfSome (option_and_then (λ markers. option_and_then (λ start. option_and_then (gen_with g markers start) g.count) g.start)
+        → IfSome (option_and_then
+        (λ markers. option_and_then (λ start. option_and_then (gen_with g markers start) g.count) g.start)
         (if b then Some (unwrap_or g.markers 0) else None)) IsWithin
     by_markers true e =
         let few : unwrap_or g.markers 0 ≤ 8 = grind (arith, nat_tests) in
@@ -67,7 +75,8 @@ within_named name g =
     (within_if (bytes_eq name (codes "print")) (alone_of (OnText Print) g) _ (within_alone (OnText Print) g tt)
     (within_if (bytes_eq name (codes "replay")) (alone_of (OnText Replay) g) _ (within_alone (OnText Replay) g tt)
     (within_if (bytes_eq name (codes "gen")) (gen_of g) _ (within_gen g)
-    (within_if (bytes_eq name (codes "trace")) (alone_of (OnText Trace) g) None (within_alone (OnText Trace) g tt) tt)))))
+    (within_if (bytes_eq name (codes "trace")) (alone_of (OnText Trace) g) None (within_alone (OnText Trace) g tt)
+    tt)))))
 
 pub within : (words : List (List ℕ)) → IfSome (command_of words) IsWithin
 within [] = tt

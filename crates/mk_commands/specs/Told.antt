@@ -1,5 +1,6 @@
 -- What clap is told of the commands, and what it makes of the words. Only private functions and laws cite these.
-use Rattle.std.specs.Prelude.{◌≡◌, ℕ, Bool, true, false, ◌&&◌, ◌||◌, List, [], ◌∷◌, Option, Some, None, is_some, if◌then◌else◌, nat_lt, nat_le, option_and_then}
+use Rattle.std.specs.Prelude.{◌≡◌, ℕ, Bool, true, false, ◌&&◌, ◌||◌, List, [], ◌∷◌, Option, Some, None}
+use Rattle.std.specs.Prelude.{if◌then◌else◌, nat_lt, nat_le, option_and_then}
 use lib.Chars.{codes}
 use Rattle.mk_script.specs.Names.{number_of_word}
 use Rattle.clap.specs.Values.{bool_text}

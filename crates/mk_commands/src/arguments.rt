@@ -22,9 +22,7 @@ fn flag<'a>(alloc: Global, name: &'a str) -> Arg<'a>
     ensures rule { rule_of result ≡ flag_rule name.entry.now }
     ensures local { result.global ≡ false }
 {
-    Arg::new(alloc, name)
-        .long(name)
-        .action(ArgAction::SetTrue)
+    Arg::new(alloc, name).long(name).action(ArgAction::SetTrue)
 }
 
 fn positional<'a>(alloc: Global, name: &'a str) -> Arg<'a>
@@ -66,12 +64,16 @@ pub fn generate(alloc: Global, name: &str) -> Result<Command<'_>, NoMemory>
 }
 
 /// What a command finds in the words; none where it refuses them.
-pub fn found_in<'a>(command: Command<'a>, words: &'a [String]) -> Result<Option<ArgMatches<'a>>, NoMemory>
+pub fn found_in<'a>(
+    command: Command<'a>,
+    words: &'a [String],
+) -> Result<Option<ArgMatches<'a>>, NoMemory>
     requires { is_simple_and_free (app_of command) ≡ true }
     ensures { IfOk result (λ found. MatchOption found
         (fault_of (app_of command.entry) (map (λ word. string_bytes word) words.entry.now) ≢ [])
         (λ m. (fault_of (app_of command.entry) (map (λ word. string_bytes word) words.entry.now) ≡ [])
-            × (rows_of (found_of m) ≡ matches_of (app_of command.entry) (map (λ word. string_bytes word) words.entry.now)))) }
+        × (rows_of (found_of m)
+        ≡ matches_of (app_of command.entry) (map (λ word. string_bytes word) words.entry.now)))) }
 {
     match command.try_get_matches_from(words) {
         Ok(matches) => Ok(Some(matches)),

@@ -69,7 +69,11 @@ fn gen_in(matches: &ArgMatches<'_>) -> Option<Command>
 }
 
 /// `run`, with its options.
-fn run_by<'a>(alloc: Global, name: &'a str, words: &'a [String]) -> Result<Option<Command>, NoMemory>
+fn run_by<'a>(
+    alloc: Global,
+    name: &'a str,
+    words: &'a [String],
+) -> Result<Option<Command>, NoMemory>
     ensures { IfOk result (λ answer. answer ≡ option_and_then run_of
         (given_by (drop 1 (map (λ word. string_bytes word) words.entry.now)))) }
 {
@@ -81,7 +85,11 @@ fn run_by<'a>(alloc: Global, name: &'a str, words: &'a [String]) -> Result<Optio
 }
 
 /// `gen`, with its numbers.
-fn gen_by<'a>(alloc: Global, name: &'a str, words: &'a [String]) -> Result<Option<Command>, NoMemory>
+fn gen_by<'a>(
+    alloc: Global,
+    name: &'a str,
+    words: &'a [String],
+) -> Result<Option<Command>, NoMemory>
     ensures { IfOk result (λ answer. answer ≡ option_and_then gen_of
         (given_by (drop 1 (map (λ word. string_bytes word) words.entry.now)))) }
 {

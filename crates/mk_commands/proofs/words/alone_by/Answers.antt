@@ -11,7 +11,8 @@ returns-in-Some c =
     let words = map (λ word. string_bytes word) c.args.words.now in
     let app = app_of c.alone.result in
     let finds = subst (λ (found : Option ArgMatches). Finds app words found) c.in-Some.is c.in_ok-found.ensures in
-    answer_is bare (OnText c.args.command) c.args.name.now app words (Some c.in-Some._matches) (Some (OnText c.args.command)) c.alone.ensures finds (λ t h. refl)
+    answer_is bare (OnText c.args.command) c.args.name.now app words (Some c.in-Some._matches)
+    (Some (OnText c.args.command)) c.alone.ensures finds (λ t h. refl)
 
 pub returns : goal.returns
 returns c =

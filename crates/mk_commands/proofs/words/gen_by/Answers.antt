@@ -12,7 +12,8 @@ returns-in-Some c =
     let words = map (λ word. string_bytes word) c.args.words.now in
     let app = app_of c.in_ok-generate.field-0 in
     let finds = subst (λ (found : Option ArgMatches). Finds app words found) c.in-Some.is c.in_ok-found.ensures in
-    answer_is gens (OnText Check) c.args.name.now app words (Some c.in-Some.matches) c.gen_in.result c.in_ok-generate.ensures finds c.gen_in.ensures
+    answer_is gens (OnText Check) c.args.name.now app words (Some c.in-Some.matches) c.gen_in.result
+    c.in_ok-generate.ensures finds c.gen_in.ensures
 
 pub returns : goal.returns
 returns c =

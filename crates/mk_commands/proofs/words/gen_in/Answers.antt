@@ -1,12 +1,13 @@
-use Rattle.std.proofs.Common.{◌≡◌, ◌∙◌, ◌||◌, ℕ, ◌<◌, ◌≤◌, Bool, true, false, Option, Some, None, refl, sym, arith, option_and_then, if◌then◌else◌, nat_lt}
+use Rattle.std.proofs.Common.{◌≡◌, ◌∙◌, ◌||◌, ℕ, Bool, true, false, Some, None, refl, sym, arith}
+use Rattle.std.proofs.Common.{option_and_then, nat_lt}
 use Rattle.std.proofs.lemmas.Bool.Decides.{nat_tests}
 use Rattle.clap.specs.Words.{found_of}
 use Rattle.mk_script.specs.Names.{number_of_word}
-use Rattle.mk_commands.specs.declared.commands.Command.{Command}
 use Rattle.mk_commands.specs.declared.commands.Command.TheVariants.{Gen}
-use Rattle.mk_commands.specs.Told.{gens, markers_read, gen_between, start_told, count_told}
+use Rattle.mk_commands.specs.Told.{gens, gen_between, start_told, count_told}
 use Rattle.mk_commands.proofs.Getting.{markers_got, start_got, count_got, gen_reads}
-use Rattle.mk_commands.proofs.words.gen_in.Goals.{then-count-lt48-via-then-count-lt48, then-count-lt48-via-else-count-lt48+then-count-gt3000000}
+use Rattle.mk_commands.proofs.words.gen_in.Goals.{then-count-lt48-via-then-count-lt48}
+use Rattle.mk_commands.proofs.words.gen_in.Goals.{then-count-lt48-via-else-count-lt48+then-count-gt3000000}
 use Rattle.mk_commands.proofs.words.gen_in.Goals as goal
 
 refused : (m s n : ℕ) (few many : Bool) → nat_lt n 48 ≡ few → nat_lt 3000000 n ≡ many → (few || many) ≡ true
@@ -21,7 +22,8 @@ pub returns-in_err-markers : goal.returns-in_err-markers
 returns-in_err-markers c t h =
     let read = c.markers_in.ensures ∙ markers_got gens (found_of c.args.matches.now) t h in
     c.from_residual.ensures
-    ∙ gen_reads t None (option_and_then number_of_word (start_told t.numbers)) (option_and_then number_of_word (count_told t.numbers))
+    ∙ gen_reads t None (option_and_then number_of_word (start_told t.numbers))
+    (option_and_then number_of_word (count_told t.numbers))
     (sym c.in_err-markers.was ∙ read) refl refl
 
 pub returns-in_err-start : goal.returns-in_err-start

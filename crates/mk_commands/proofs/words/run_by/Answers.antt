@@ -12,7 +12,8 @@ returns-in-Some c =
     let words = map (λ word. string_bytes word) c.args.words.now in
     let app = app_of c.in_ok-run.field-0 in
     let finds = subst (λ (found : Option ArgMatches). Finds app words found) c.in-Some.is c.in_ok-found.ensures in
-    answer_is runs (OnText Check) c.args.name.now app words (Some c.in-Some.matches) c.run_in.result c.in_ok-run.ensures finds c.run_in.ensures
+    answer_is runs (OnText Check) c.args.name.now app words (Some c.in-Some.matches) c.run_in.result c.in_ok-run.ensures
+    finds c.run_in.ensures
 
 pub returns : goal.returns
 returns c =
