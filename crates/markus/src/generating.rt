@@ -32,10 +32,7 @@ pub fn summed<P: Pace + Sync, R: Threads + Wait + Sync>(
     ensures refused { IfErr result (λ status. status ≡ Status.NoMemory) }
     ensures of_text { IfErr result (λ status. IsOfText status) }
 {
-    match run(rt, alloc, request, pace) {
-        Ok(summary) => Ok(summary),
-        Err(_) => Err(Status::NoMemory),
-    }
+    Ok(run(rt, alloc, request, pace)?)
 }
 
 /// The summary of a generated program, which runs to its end.

@@ -75,7 +75,7 @@ pub fn markus<S: Source, K: Sink, P: Pace + Sync, R: Threads + Wait + Sync>(
     let command = match command_in(alloc, words) {
         Ok(Some(command)) => command,
         Ok(None) => return Status::Usage,
-        Err(_) => return Status::NoMemory,
+        Err(refused) => return refused.into(),
     };
     let output = match output_of(rt, alloc, command, source, pace) {
         Ok(output) => output,

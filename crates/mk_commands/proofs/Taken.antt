@@ -23,12 +23,14 @@ use Rattle.clap.specs.declared.parser.matches.ArgMatches.{ArgMatches}
 use Rattle.mk_commands.specs.declared.commands.Command.{Command}
 use Rattle.mk_commands.specs.Given.{given_by}
 use Rattle.mk_commands.proofs.Telling.{told_by}
-use Rattle.mk_commands.proofs.Reading.{told_as, given_as, told_command}
+use Rattle.mk_commands.proofs.Lost.{told_as, given_as}
+use Rattle.mk_commands.proofs.Reading.{told_command}
 use Rattle.mk_commands.proofs.Rows.{entry, row, has_entry, values_added, entry_other, entry_same, first_of_entry}
 use Rattle.mk_commands.proofs.Rows.{one_of_entry}
 use Rattle.mk_commands.proofs.Walking.{shape, rules, standing, rest_fault, rest_rows, flag_filled}
 use Rattle.mk_commands.proofs.Walking.{markers_filled, start_filled, count_filled}
-use Rattle.mk_commands.proofs.Tells.{Holds, TellsAs, as_entry, flag_entry, tells}
+use Rattle.mk_commands.proofs.Standing.{Holds, TellsAs, as_entry, flag_entry}
+use Rattle.mk_commands.proofs.Tells.{tells}
 
 pub simple_and_free : (form : Form) (name : Text) → is_simple_and_free (app_named form name) ≡ true
 simple_and_free runs name = refl
