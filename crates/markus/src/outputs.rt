@@ -46,7 +46,7 @@ pub fn output_of<S: Source, P: Pace + Sync, R: Threads + Wait + Sync>(
             let text = input_of(alloc, source)?;
             output_on(rt, alloc, command, &text, pace)
         }
-        Command::Gen(request) => summed(rt, alloc, request, pace),
+        Command::Gen(request) => Ok(summed(rt, alloc, request, pace)?),
     }
 }
 

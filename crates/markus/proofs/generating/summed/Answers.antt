@@ -9,7 +9,7 @@ use Rattle.mk_run.specs.Running.{IsRunOf}
 use Rattle.mk_run.specs.Unswept.{IsUnswept}
 use Rattle.markus.specs.SummedTexts.{summary_of_texts}
 use Rattle.markus.proofs.Summaries.{four, are_few, run_is_summed}
-use Rattle.markus.proofs.generating.run.Goals as goal
+use Rattle.markus.proofs.generating.summed.Goals as goal
 
 pub summary_of-requires : goal.summary_of-requires
 summary_of-requires g c =
