@@ -1,4 +1,4 @@
--- What clap is told of the commands, and what it makes of the words. Only private functions and laws cite these.
+-- What clap is told of the commands, and what it makes of the words. Private functions alone cite these.
 use Rattle.std.specs.Prelude.{◌≡◌, ℕ, Bool, true, false, ◌&&◌, ◌||◌, List, [], ◌∷◌, Option, Some, None}
 use Rattle.std.specs.Prelude.{if◌then◌else◌, nat_lt, nat_le, option_and_then}
 use lib.Chars.{codes}
