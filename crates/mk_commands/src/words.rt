@@ -23,7 +23,7 @@ fn markers_in(matches: &ArgMatches<'_>) -> Option<u64>
         return Some(0);
     };
     let markers = parse_number(digits.as_bytes())?;
-    if markers <= 8 { Some(markers) } else { None }
+    (markers <= 8).then_some(markers)
 }
 
 fn run_in(matches: &ArgMatches<'_>) -> Option<Command>
@@ -46,9 +46,7 @@ fn run_in(matches: &ArgMatches<'_>) -> Option<Command>
 fn number_in(matches: &ArgMatches<'_>, name: &str) -> Option<u64>
     ensures { result ≡ option_and_then number_of_word (first_value (found_of matches.now) name.now) }
 {
-    let Some(digits) = matches.get_str(name) else {
-        return None;
-    };
+    let digits = matches.get_str(name)?;
     parse_number(digits.as_bytes())
 }
 
