@@ -253,7 +253,8 @@ pub const ANSWERS: Walk = Walk {
         ptr x A\nptr y A\nnum n\nnum m\nnew p A\nnew q D\nfree q\nconst n 5\nsetn p 1 n\ngetn m p 1\nprint m\n\
         getn m q 0\nsetp q 64 p\ngetn m z 1\nlea w p 1\ngetn m w 0\nprint m\nmove x p\nsame m x p\nprint m\n\
         getp x q 64\nshow x\nlea y p 0\nshow y\nlea y z 0\nshow y\ncasp m p 0 z p\nprint m\ncasp m p 0 z x\nprint m\n\
-        getp y p 0\nsame m y p\nprint m\nstoreg y g\nloadg x g\nshow x\nclear x\nshow x\nsame m x p\nprint m\nfree q\nfree z\n",
+        getp y p 0\nsame m y p\nprint m\nstoreg y g\nloadg x g\nshow x\n\
+        clear x\nshow x\nsame m x p\nprint m\nfree q\nfree z\n",
     lines: "\
 c0 take; head 0 1; used 0 1; grant; tally held 2; give
 c0 take; head 1 41; head 2 26; used 1 1; grant; tally held 130; give
