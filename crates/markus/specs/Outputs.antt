@@ -39,7 +39,6 @@ use Rattle.mk_commands.specs.declared.commands.Command.{Command}
 use Rattle.mk_commands.specs.declared.commands.Command.TheVariants as asked
 use Rattle.mk_commands.specs.declared.commands.TextCommand.{TextCommand}
 use Rattle.mk_commands.specs.declared.commands.TextCommand.TheVariants.{Run, Check, Print, Replay, Trace}
-use Rattle.mk_commands.specs.declared.commands.Options.{Options}
 use Rattle.mk_commands.specs.declared.commands.Request.{Request}
 use Rattle.markus.specs.declared.statuses.Status.{Status}
 use Rattle.markus.specs.declared.statuses.Status.TheVariants.{Ok, NoMemory, ReadFault, Text, IllTyped, Limit}
