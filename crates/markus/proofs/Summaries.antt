@@ -1,5 +1,6 @@
 -- The summary of a run of a generated program is that of its history.
-use Rattle.std.proofs.Common.{◌≡◌, ℕ, zero, suc, ◌+◌, ◌<◌, ◌≤◌, List, [], ◌∷◌, ◌++◌, length, get_or, drop, append_assoc, append-nil, refl, ap, sym, ◌∙◌, arith, false}
+use Rattle.std.proofs.Common.{◌≡◌, ℕ, zero, suc, ◌+◌, ◌<◌, ◌≤◌, List, [], ◌∷◌, ◌++◌, length, get_or, drop, append_assoc}
+use Rattle.std.proofs.Common.{append-nil, refl, ap, sym, ◌∙◌, arith, false}
 use Rattle.std.specs.Prelude.{slice_index_or, slice_get, Some, sum_by}
 use Rattle.std.specs.List.{flat_map, range_with_len}
 use Rattle.std.specs.Fmt.{decimal}
@@ -35,7 +36,8 @@ lines_are : (g : ℕ → List ℕ) (k : ℕ) (texts : List Text)
 lines_are g k [] each = refl
 lines_are g k (text ∷ texts) each =
     let here : k ≡ k + 0 = omega arith in
-    let first : line_of_text k text ≡ g k = ap (λ (j : ℕ). line_of_text j text) here ∙ each 0 text refl ∙ ap g (sym here) in
+    let first : line_of_text k text ≡ g k = ap (λ (j : ℕ). line_of_text j text) here ∙ each 0 text refl
+    ∙ ap g (sym here) in
     let rest = lines_are g (k + 1) texts (λ i next is.
     let there : (k + 1) + i ≡ k + suc i = omega arith in
     ap (λ (j : ℕ). line_of_text j next) there ∙ each (suc i) next is ∙ ap g (sym there)) in
@@ -54,7 +56,8 @@ sums_are g k (text ∷ texts) each =
 
 -- One text more.
 
-pub lines_more : (texts : List Text) (i : ℕ) (text : Text) (front line : List ℕ) → i < length texts → text ≡ get_or texts i text
+pub lines_more : (texts : List Text) (i : ℕ) (text : Text) (front line : List ℕ) → i < length texts
+    → text ≡ get_or texts i text
     → line ≡ front ++ line_of_text i text
     → front ++ lines_from i (drop i texts) ≡ line ++ lines_from (i + 1) (drop (i + 1) texts)
 lines_more texts i text front line inside is made =
@@ -69,8 +72,10 @@ ops_more texts i text inside is =
 
 -- Behind the last text.
 
-pub lines_done : (texts : List Text) (i : ℕ) (front : List ℕ) → length texts ≤ i → front ++ lines_from i (drop i texts) ≡ front
-lines_done texts i front past = ap (λ (left : List Text). front ++ lines_from i left) (drop_all i texts past) ∙ append-nil front
+pub lines_done : (texts : List Text) (i : ℕ) (front : List ℕ) → length texts ≤ i
+    → front ++ lines_from i (drop i texts) ≡ front
+lines_done texts i front past = ap (λ (left : List Text). front ++ lines_from i left) (drop_all i texts past)
+    ∙ append-nil front
 
 pub ops_done : (texts : List Text) (i : ℕ) → length texts ≤ i → all_ops (drop i texts) ≡ 0
 ops_done texts i past = ap all_ops (drop_all i texts past)
@@ -138,7 +143,8 @@ module _ (start count markers : ℕ) (outcome : Outcome)
       let counted = runs.count in
       ap (λ (front : List ℕ). front ++ total_line (all_ops texts)) lines
       ∙ ap (λ (n : ℕ). flat_map (line_of_script program c es) (range_with_len 0 (length texts)) ++ total_line n) sums
-      ∙ ap (λ (n : ℕ). flat_map (line_of_script program c es) (range_with_len 0 n) ++ total_line (sum_by (calls_made c es) (range_with_len 0 n))) counted
+      ∙ ap (λ (n : ℕ). flat_map (line_of_script program c es) (range_with_len 0 n)
+      ++ total_line (sum_by (calls_made c es) (range_with_len 0 n))) counted
 
   pub run_is_summed : IsUnswept c es → (bytes : List ℕ) → bytes ≡ summary_of_texts outcome.texts.items
       → StandsInOneHistory program markers false (summary program) bytes

@@ -1,6 +1,4 @@
-pub mod Commands
 pub mod DeclaredNames
-pub mod Given
 pub mod KeptText
 pub mod Outputs
 pub mod Statuses

@@ -3,6 +3,9 @@ use Rattle.std.specs.Prelude.{◌≡◌, ℕ, Bool, true, false, List, [], ◌++
 use Rattle.std.specs.Prelude.{Err as Refused, ◌⊎◌}
 use Rattle.std.specs.declared.result.Result.{Result}
 use lib.Chars.{codes}
+use Rattle.mk_io.specs.declared.reading.ReadStop.{ReadStop}
+use Rattle.mk_io.specs.declared.reading.ReadStop.TheVariants as reading
+use Rattle.mk_script.specs.declared.faults.Which.TheVariants.{Bytes}
 use Rattle.mk_script.specs.declared.items.Item.{Item}
 use Rattle.mk_script.specs.declared.faults.TextStop.{TextStop}
 use Rattle.mk_script.specs.declared.faults.TextStop.TheVariants as stop
@@ -32,15 +35,15 @@ use Rattle.mk_trace.specs.declared.peaks.Peaks.{Peaks}
 use Rattle.mk_trace.specs.Traces.{Contents, trace_of}
 use Rattle.mk_trace.specs.Playing.{IsPlayed, AreCounted, IsMostHeld}
 use Rattle.mk_trace.specs.Printed.{peaks_text}
-use Rattle.markus.specs.declared.commands.Command.{Command}
-use Rattle.markus.specs.declared.commands.Command.TheVariants as asked
-use Rattle.markus.specs.declared.commands.TextCommand.{TextCommand}
-use Rattle.markus.specs.declared.commands.TextCommand.TheVariants.{Run, Check, Print, Replay, Trace}
-use Rattle.markus.specs.declared.commands.Options.{Options}
-use Rattle.markus.specs.declared.commands.Request.{Request}
+use Rattle.mk_commands.specs.declared.commands.Command.{Command}
+use Rattle.mk_commands.specs.declared.commands.Command.TheVariants as asked
+use Rattle.mk_commands.specs.declared.commands.TextCommand.{TextCommand}
+use Rattle.mk_commands.specs.declared.commands.TextCommand.TheVariants.{Run, Check, Print, Replay, Trace}
+use Rattle.mk_commands.specs.declared.commands.Request.{Request}
 use Rattle.markus.specs.declared.statuses.Status.{Status}
-use Rattle.markus.specs.declared.statuses.Status.TheVariants.{Ok, NoMemory, Text, IllTyped, Limit, NotEnabled}
-use Rattle.markus.specs.Commands.{command_of}
+use Rattle.markus.specs.declared.statuses.Status.TheVariants.{Ok, NoMemory, ReadFault, Text, IllTyped, Limit}
+use Rattle.markus.specs.declared.statuses.Status.TheVariants.{NotEnabled}
+use Rattle.mk_commands.specs.Commands.{command_of}
 use Rattle.markus.specs.KeptText.{kept_text}
 use Rattle.markus.specs.Summary.{summary}
 
@@ -56,6 +59,12 @@ status_of_program Check program = typed_or (first_typing_fault program) Ok
 status_of_program Print program = Ok
 status_of_program Replay program = typed_or (first_typing_fault program) Ok
 status_of_program Trace program = Ok
+
+-- what reading all of an input is refused for
+abbrev pub status_of_read_stop : ReadStop → Status
+status_of_read_stop reading.ReadFault = ReadFault
+status_of_read_stop reading.TooLong = Limit 0 Bytes 1048577
+status_of_read_stop reading.NoMemory = NoMemory
 
 abbrev pub status_of_text_stop : TextStop → Status
 status_of_text_stop (stop.Text line kind) = Text line kind

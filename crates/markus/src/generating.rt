@@ -1,17 +1,15 @@
 //! Generated programs, and what is told of their runs.
-ghost use Rattle.std.specs.Prelude.{◌≡◌, ◌≤◌, ◌⊎◌, ◌++◌, length, string_bytes, IfOk, IfErr, OnOk, false};
+ghost use Rattle.std.specs.Prelude.{◌≡◌, ◌≤◌, ◌++◌, length, string_bytes, IfOk, OnOk, false};
 ghost use Rattle.mk_gen.specs.Generated.{generated_program};
 ghost use Rattle.mk_run.specs.Headline.{StandsInOneHistory};
-ghost use Rattle.markus.specs.Commands.{IsWithin};
-ghost use Rattle.markus.specs.declared.commands.Command.TheVariants as Command;
-ghost use Rattle.markus.specs.Statuses.{IsOfText};
+ghost use Rattle.mk_commands.specs.Commands.{IsWithin};
+ghost use Rattle.mk_commands.specs.declared.commands.Command.TheVariants as Command;
 ghost use Rattle.markus.specs.Summary.{summary, total_line};
 ghost use Rattle.markus.specs.SummedTexts.{line_of_text, summary_of_texts, AreFew};
 
-use crate::commands::Request;
 use crate::running::outcome_of;
-use crate::statuses::Status;
 use mk_check::Text;
+use mk_commands::Request;
 use mk_gen::generate;
 use mk_never::NoMemory;
 use mk_run::Pace;
@@ -19,27 +17,8 @@ use std::alloc::Global;
 use std::sync::Wait;
 use std::thread::Threads;
 
-/// What `gen` writes, whole.
+/// What `gen` writes, whole: the summary of a generated program, which runs to its end.
 pub fn summed<P: Pace + Sync, R: Threads + Wait + Sync>(
-    rt: &R,
-    alloc: Global,
-    request: Request,
-    pace: &P,
-) -> Result<Vec<u8>, Status>
-    requires { IsWithin (Command.Gen request) }
-    ensures ok { IfOk result (λ output. StandsInOneHistory (generated_program request.start request.count)
-        request.markers false (summary (generated_program request.start request.count)) output.items) }
-    ensures refused { IfErr result (λ status. status ≡ Status.NoMemory) }
-    ensures of_text { IfErr result (λ status. IsOfText status) }
-{
-    match run(rt, alloc, request, pace) {
-        Ok(summary) => Ok(summary),
-        Err(_) => Err(Status::NoMemory),
-    }
-}
-
-/// The summary of a generated program, which runs to its end.
-fn run<P: Pace + Sync, R: Threads + Wait + Sync>(
     rt: &R,
     alloc: Global,
     request: Request,

@@ -3,22 +3,21 @@ ghost use Rattle.std.specs.Prelude.{◌≡◌, ◌≢◌, ◌≤◌, ◌⊎◌, 
 ghost use Rattle.mk_io.specs.Bytes.{TakesAll};
 ghost use Rattle.mk_io.specs.Faults.{Rose};
 ghost use Rattle.mk_script.specs.Grammar.{program_of};
-ghost use Rattle.markus.specs.Commands.{AreWithin, IsWithin};
+ghost use Rattle.mk_commands.specs.Commands.{AreWithin, IsWithin};
 ghost use Rattle.markus.specs.Outputs.{Answers, IsOutput, IsOutputOf, IsStatusOf, status_on, status_of_program};
 ghost use Rattle.markus.specs.Outputs.{status_of_text};
 ghost use Rattle.markus.specs.Statuses.{IsBeforeWriting, IsOfText};
 
-use crate::commands::{Command, Options, TextCommand};
 use crate::generating::summed;
-use crate::refusals::{text_refusal, type_refusal};
 use crate::replays::replayed;
 use crate::running::told;
 use crate::statuses::Status;
 use crate::traces::played;
 use mk_check::check;
-use mk_io::{INPUT_LIMIT, ReadStop, Source, read_all};
+use mk_commands::{Command, Options, TextCommand};
+use mk_io::{Source, read_all};
 use mk_run::Pace;
-use mk_script::{Program, Which, parse, print};
+use mk_script::{Program, parse, print};
 use std::alloc::Global;
 use std::sync::Wait;
 use std::thread::Threads;
@@ -47,7 +46,7 @@ pub fn output_of<S: Source, P: Pace + Sync, R: Threads + Wait + Sync>(
             let text = input_of(alloc, source)?;
             output_on(rt, alloc, command, &text, pace)
         }
-        Command::Gen(request) => summed(rt, alloc, request, pace),
+        Command::Gen(request) => Ok(summed(rt, alloc, request, pace)?),
     }
 }
 
@@ -62,15 +61,7 @@ fn input_of<S: Source>(alloc: Global, source: &mut S) -> Result<Vec<u8>, Status>
     ensures sound { result ≡ Err Status.ReadFault → S.never_fails source.old ≡ false }
     ensures read_whole { result ≢ Err Status.ReadFault → S.faults source.new ≡ S.faults source.old }
 {
-    read_all(alloc, source).map_err(|stop| match stop {
-        ReadStop::ReadFault => Status::ReadFault,
-        ReadStop::TooLong => Status::Limit {
-            line: 0,
-            which: Which::Bytes,
-            found: INPUT_LIMIT as u64 + 1,
-        },
-        ReadStop::NoMemory => Status::NoMemory,
-    })
+    Ok(read_all(alloc, source)?)
 }
 
 /// What a command writes on a text, whole. A text that it refuses has the status that says why.
@@ -103,10 +94,7 @@ fn read(alloc: Global, text: &[u8]) -> Result<Program, Status>
         ⊎ ((command : TextCommand) → status ≡ status_of_text command (program_of text.now))) }
     ensures of_text { IfErr result (λ status. IsOfText status) }
 {
-    match parse(alloc, text) {
-        Ok(program) => Ok(program),
-        Err(stop) => Err(text_refusal(stop)),
-    }
+    Ok(parse(alloc, text)?)
 }
 
 /// The canonical text of a program.
@@ -114,7 +102,7 @@ fn canonical(alloc: Global, program: Program) -> Result<Vec<u8>, Status>
     ensures ok { IfOk result (λ output. IsOutputOf TextCommand.Print program output.items) }
     ensures refused { IfErr result (λ status. status ≡ Status.NoMemory) }
 {
-    print(alloc, &program).map_err(|_| Status::NoMemory)
+    Ok(print(alloc, &program)?)
 }
 
 /// The line that says that a program is well typed.
@@ -125,10 +113,8 @@ fn accept(alloc: Global, program: Program) -> Result<Vec<u8>, Status>
         ⊎ (status ≡ status_of_program TextCommand.Check program)) }
     ensures of_text { IfErr result (λ status. IsOfText status) }
 {
-    match check(alloc, program) {
-        Ok(_) => b"ok\n".to_vec(alloc).map_err(|_| Status::NoMemory),
-        Err(stop) => Err(type_refusal(stop)),
-    }
+    check(alloc, program)?;
+    Ok(b"ok\n".to_vec(alloc)?)
 }
 
 /// What a program's scripts print, and behind it, where this is asked, what the last cycle kept and why.
@@ -146,12 +132,6 @@ fn run<P: Pace + Sync, R: Threads + Wait + Sync>(
         ⊎ (status ≡ status_of_program (TextCommand.Run options) program)) }
     ensures of_text { IfErr result (λ status. IsOfText status) }
 {
-    let checked = match check(alloc, program) {
-        Ok(checked) => checked,
-        Err(stop) => return Err(type_refusal(stop)),
-    };
-    match told(rt, alloc, &checked, options, pace) {
-        Ok(output) => Ok(output),
-        Err(_) => Err(Status::NoMemory),
-    }
+    let checked = check(alloc, program)?;
+    Ok(told(rt, alloc, &checked, options, pace)?)
 }

@@ -8,11 +8,10 @@ ghost use Rattle.mk_theorems.specs.Promises.{KeepsAllPromises};
 ghost use Rattle.markus.specs.Outputs.{IsOutputOnSchedule, status_on, status_of_schedule};
 ghost use Rattle.markus.specs.Statuses.{IsOfText};
 
-use crate::commands::TextCommand;
-use crate::refusals::{replay_refusal, text_refusal, type_refusal};
 use crate::statuses::Status;
 use crate::texts::joined;
 use mk_check::check;
+use mk_commands::TextCommand;
 use mk_replay::{Schedule, parse_replay, replay};
 use mk_script::Program;
 use std::alloc::Global;
@@ -24,10 +23,8 @@ pub fn replayed(alloc: Global, text: &[u8]) -> Result<Vec<u8>, Status>
         ⊎ (status ≡ status_on TextCommand.Replay text.now)) }
     ensures of_text { IfErr result (λ status. IsOfText status) }
 {
-    match parse_replay(alloc, text) {
-        Ok((program, schedule)) => run(alloc, program, &schedule),
-        Err(stop) => Err(text_refusal(stop)),
-    }
+    let (program, schedule) = parse_replay(alloc, text)?;
+    run(alloc, program, &schedule)
 }
 
 /// What the program's scripts have printed behind the schedule.
@@ -42,13 +39,7 @@ fn run(alloc: Global, program: Program, schedule: &Schedule) -> Result<Vec<u8>, 
         ⊎ (status ≡ status_of_schedule program schedule.now)) }
     ensures of_text { IfErr result (λ status. IsOfText status) }
 {
-    let checked = match check(alloc, program) {
-        Ok(checked) => checked,
-        Err(stop) => return Err(type_refusal(stop)),
-    };
-    let texts = match replay(alloc, &checked, schedule) {
-        Ok(texts) => texts,
-        Err(stop) => return Err(replay_refusal(stop)),
-    };
-    joined(alloc, &texts).map_err(|_| Status::NoMemory)
+    let checked = check(alloc, program)?;
+    let texts = replay(alloc, &checked, schedule)?;
+    Ok(joined(alloc, &texts)?)
 }

@@ -8,13 +8,13 @@ ghost use Rattle.mk_run.specs.LastCycle.{EndsWithCycle};
 ghost use Rattle.mk_run.specs.Running.{IsRunOf};
 ghost use Rattle.mk_run.specs.Unswept.{IsUnswept};
 ghost use Rattle.mk_why.specs.Chains.{AreKept};
-ghost use Rattle.markus.specs.declared.commands.TextCommand.TheVariants as TextCommand;
+ghost use Rattle.mk_commands.specs.declared.commands.TextCommand.TheVariants as TextCommand;
 ghost use Rattle.markus.specs.Outputs.{IsOutputOf, TellsWhatIsKept};
 
-use crate::commands::Options;
 use crate::kept_text::push_kept;
 use crate::texts::joined;
 use mk_check::Checked;
+use mk_commands::Options;
 use mk_engines::{MostlyEngine, StopEngine};
 use mk_never::NoMemory;
 use mk_run::{Outcome, Pace, run_all, run_why};

@@ -4,9 +4,12 @@ ghost use Rattle.markus.specs.Statuses as spec;
 ghost use Rattle.markus.specs.Statuses.{status_number, status_line, text_words, typing_words, which_word, limit_words};
 ghost use Rattle.markus.specs.Statuses.{not_enabled_words};
 
-use mk_check::TypeKind;
+use mk_check::{TypeKind, TypeStop};
+use mk_io::{INPUT_LIMIT, ReadStop};
 use mk_never::NoMemory;
-use mk_script::{TextKind, Which};
+use mk_replay::ReplayStop;
+use mk_script::{TextKind, TextStop, Which};
+use mk_trace::TraceStop;
 use std::alloc::{AllocError, Global};
 
 /// How the program ends. Lines are counted from 1.
@@ -87,6 +90,108 @@ impl Status {
                 event,
                 condition,
             } => not_enabled_line(alloc, *line, *event, *condition),
+        }
+    }
+}
+
+impl From<AllocError> for Status {
+    ghost use Rattle.markus.specs.declared.statuses.Status.TheVariants.{NoMemory};
+
+    ghost from_gives = { λ _ status. status ≡ NoMemory };
+
+    fn from(_refused: AllocError) -> Status {
+        Status::NoMemory
+    }
+}
+
+impl From<NoMemory> for Status {
+    ghost use Rattle.markus.specs.declared.statuses.Status.TheVariants.{NoMemory};
+
+    ghost from_gives = { λ _ status. status ≡ NoMemory };
+
+    fn from(_refused: NoMemory) -> Status {
+        Status::NoMemory
+    }
+}
+
+impl From<ReadStop> for Status {
+    ghost use Rattle.markus.specs.Outputs.{status_of_read_stop};
+
+    ghost from_gives = { λ stop status. status ≡ status_of_read_stop stop };
+
+    fn from(stop: ReadStop) -> Status {
+        match stop {
+            ReadStop::ReadFault => Status::ReadFault,
+            ReadStop::TooLong => Status::Limit {
+                line: 0,
+                which: Which::Bytes,
+                found: INPUT_LIMIT as u64 + 1,
+            },
+            ReadStop::NoMemory => Status::NoMemory,
+        }
+    }
+}
+
+impl From<TextStop> for Status {
+    ghost use Rattle.markus.specs.Outputs.{status_of_text_stop};
+
+    ghost from_gives = { λ stop status. status ≡ status_of_text_stop stop };
+
+    fn from(stop: TextStop) -> Status {
+        match stop {
+            TextStop::Text { line, kind } => Status::Text { line, kind },
+            TextStop::Limit { line, which, found } => Status::Limit { line, which, found },
+            TextStop::NoMemory => Status::NoMemory,
+        }
+    }
+}
+
+impl From<TypeStop> for Status {
+    ghost use Rattle.markus.specs.Outputs.{status_of_type_stop};
+
+    ghost from_gives = { λ stop status. status ≡ status_of_type_stop stop };
+
+    fn from(stop: TypeStop) -> Status {
+        match stop {
+            TypeStop::IllTyped { line, kind } => Status::IllTyped { line, kind },
+            TypeStop::NoMemory => Status::NoMemory,
+        }
+    }
+}
+
+impl From<ReplayStop> for Status {
+    ghost use Rattle.std.specs.Prelude.{Some};
+    ghost use Rattle.markus.specs.Outputs.{status_of_refusal};
+
+    ghost from_gives = { λ stop status. status ≡ status_of_refusal (Some stop) };
+
+    fn from(stop: ReplayStop) -> Status {
+        match stop {
+            ReplayStop::NotEnabled {
+                line,
+                event,
+                condition,
+            } => Status::NotEnabled {
+                line,
+                event,
+                condition,
+            },
+            ReplayStop::NoMemory => Status::NoMemory,
+        }
+    }
+}
+
+impl From<TraceStop> for Status {
+    ghost use Rattle.markus.specs.Outputs.{status_of_trace_stop};
+
+    ghost from_gives = { λ stop status. status ≡ status_of_trace_stop stop };
+
+    fn from(stop: TraceStop) -> Status {
+        match stop {
+            TraceStop::Text { line, kind } => Status::Text { line, kind },
+            TraceStop::IllTyped { line, kind } => Status::IllTyped { line, kind },
+            TraceStop::Limit { line, which, found } => Status::Limit { line, which, found },
+            TraceStop::NoMemory => Status::NoMemory,
         }
     }
 }

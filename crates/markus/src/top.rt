@@ -1,14 +1,14 @@
 //! All that the program does.
-ghost use Rattle.std.specs.Prelude.{◌≡◌, ◌≢◌, ◌↔◌, map, string_bytes, length, false, None, IsSomeAnd};
+ghost use Rattle.std.specs.Prelude.{◌≡◌, ◌≢◌, ◌⊎◌, map, string_bytes, length, false, None, IsSomeAnd};
 ghost use Rattle.mk_io.specs.Bytes.{Appends, AppendsPart};
 ghost use Rattle.mk_io.specs.Faults.{Rose};
-ghost use Rattle.markus.specs.Commands.{command_of};
+ghost use Rattle.mk_commands.specs.Commands.{command_of};
 ghost use Rattle.markus.specs.Outputs.{HasAnswered, IsStatusOn};
 ghost use Rattle.markus.specs.Statuses.{IsBeforeWriting, IsRefusal};
 
 use crate::outputs::output_of;
 use crate::statuses::Status;
-use crate::words::command_in;
+use mk_commands::command_in;
 use mk_io::{Failed, Sink, Source, write_all};
 use mk_run::Pace;
 use std::alloc::Global;
@@ -47,7 +47,9 @@ pub fn markus<S: Source, K: Sink, P: Pace + Sync, R: Threads + Wait + Sync>(
         (AppendsPart (K.taken sink.old) (K.taken sink.new)) }
 
     // When each refusal comes.
-    ensures usage { (result ≡ Status.Usage) ↔ (command_of (map (λ word. string_bytes word) words.now) ≡ None) }
+    ensures usage { result ≡ Status.Usage → command_of (map (λ word. string_bytes word) words.now) ≡ None }
+    ensures form { command_of (map (λ word. string_bytes word) words.now) ≡ None
+        → (result ≡ Status.NoMemory) ⊎ (result ≡ Status.Usage) }
     ensures read_fault { result ≡ Status.ReadFault → Rose (S.faults source.old) (S.faults source.new) }
     ensures refused { IsRefusal result
         → IsStatusOn (command_of (map (λ word. string_bytes word) words.now)) (S.left source.old) result }
@@ -70,8 +72,10 @@ pub fn markus<S: Source, K: Sink, P: Pace + Sync, R: Threads + Wait + Sync>(
         → ¬ Rose (K.faults sink.old) (K.faults sink.new)
         → IsStatusOn (command_of (map (λ word. string_bytes word) words.now)) (S.left source.old) result }
 {
-    let Some(command) = command_in(words) else {
-        return Status::Usage;
+    let command = match command_in(alloc, words) {
+        Ok(Some(command)) => command,
+        Ok(None) => return Status::Usage,
+        Err(refused) => return refused.into(),
     };
     let output = match output_of(rt, alloc, command, source, pace) {
         Ok(output) => output,

@@ -3,9 +3,8 @@ ghost use Rattle.std.specs.Prelude.{◌≡◌, ◌⊎◌, IfOk, IfErr, OnOk};
 ghost use Rattle.markus.specs.Outputs.{IsOutputOnTrace, TellsOfPlay, status_on};
 ghost use Rattle.markus.specs.Statuses.{IsOfText};
 
-use crate::commands::TextCommand;
-use crate::refusals::trace_refusal;
 use crate::statuses::Status;
+use mk_commands::TextCommand;
 use mk_never::NoMemory;
 use mk_trace::{Trace, parse_trace, play, print_peaks};
 use std::alloc::Global;
@@ -24,13 +23,8 @@ pub fn played<R: Threads + Wait + Sync>(
         ⊎ (status ≡ status_on TextCommand.Trace text.now)) }
     ensures of_text { IfErr result (λ status. IsOfText status) }
 {
-    match parse_trace(alloc, text) {
-        Ok(trace) => match told(rt, alloc, &trace) {
-            Ok(lines) => Ok(lines),
-            Err(_) => Err(Status::NoMemory),
-        },
-        Err(stop) => Err(trace_refusal(stop)),
-    }
+    let trace = parse_trace(alloc, text)?;
+    Ok(told(rt, alloc, &trace)?)
 }
 
 /// The lines of the peaks of a trace, which is played.

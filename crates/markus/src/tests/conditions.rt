@@ -243,7 +243,8 @@ c0 head 2 46; head 3 26; used 2 1; grant; tally held 166; give
     written: "script s\n",
 };
 
-/// No place is marked in the stop. A `full` comes behind a cycle of its own: the one that ends first was begun before the call.
+/// No place is marked in the stop. A `full` comes behind a cycle of its own: the one that ends first was begun before
+/// the call.
 pub const FULL: Walk = Walk {
     scripts: "heap 1 1\ntype B n*32\nscript s\nptr p B\nptr q B\nptr r B\nnew p B\nnew q B\nnew r B\n",
     lines: "\

@@ -67,8 +67,8 @@ h close; release; end; open 0; give
 /// Released cells alone are given back: cell 0 is. Cell 1 and the run are live, and cell 2 was freed behind the
 /// begin.
 pub const RELEASE: Walk = Walk {
-    scripts: "heap 3 3\ntype A p:A n\ntype C n*65\nscript s\nptr p A\nptr q A\nptr r A\nptr c C\nnum n\nnew p A\nnew q A\n\
-        setp p 0 q\nnew r A\nnew c C\nconst n 9\nsetn p 1 n\nfree p\nclear p\nfree r\nclear r\n",
+    scripts: "heap 3 3\ntype A p:A n\ntype C n*65\nscript s\nptr p A\nptr q A\nptr r A\nptr c C\nnum n\nnew p A\n\
+        new q A\nsetp p 0 q\nnew r A\nnew c C\nconst n 9\nsetn p 1 n\nfree p\nclear p\nfree r\nclear r\n",
     lines: "\
 c0 take; head 0 1; used 0 1; grant; tally held 2; give
 c0 take; used 0 3; grant; tally held 4; give
@@ -95,8 +95,8 @@ h tally held 132; give
 
 /// Pages without used cells are freed, and all ends.
 pub const FREED_PAGES: Walk = Walk {
-    scripts: "heap 3 3\ntype B n*32\ntype C n*65\nscript s\nptr b B\nptr c C\nnew b B\nnew c C\nfree b\nclear b\nfree c\n\
-        clear c\n",
+    scripts: "heap 3 3\ntype B n*32\ntype C n*65\nscript s\nptr b B\nptr c C\nnew b B\nnew c C\nfree b\nclear b\n\
+        free c\nclear c\n",
     lines: "\
 7 h over
 c0 take; head 0 125; used 0 1; grant; tally held 32; give
@@ -249,11 +249,12 @@ c0 enter; reg; probe; read; leave
 
 /// What calls answer: `p` is an object, and `q` a freed run.
 pub const ANSWERS: Walk = Walk {
-    scripts: "heap 3 3\ntype A p:A n\ntype D n*64 p:A\nglobal g A\nscript s\nptr p A\nptr q D\nptr z A\nptr w A+1\nptr x A\n\
-        ptr y A\nnum n\nnum m\nnew p A\nnew q D\nfree q\nconst n 5\nsetn p 1 n\ngetn m p 1\nprint m\ngetn m q 0\n\
-        setp q 64 p\ngetn m z 1\nlea w p 1\ngetn m w 0\nprint m\nmove x p\nsame m x p\nprint m\ngetp x q 64\nshow x\n\
-        lea y p 0\nshow y\nlea y z 0\nshow y\ncasp m p 0 z p\nprint m\ncasp m p 0 z x\nprint m\ngetp y p 0\nsame m y p\n\
-        print m\nstoreg y g\nloadg x g\nshow x\nclear x\nshow x\nsame m x p\nprint m\nfree q\nfree z\n",
+    scripts: "heap 3 3\ntype A p:A n\ntype D n*64 p:A\nglobal g A\nscript s\nptr p A\nptr q D\nptr z A\nptr w A+1\n\
+        ptr x A\nptr y A\nnum n\nnum m\nnew p A\nnew q D\nfree q\nconst n 5\nsetn p 1 n\ngetn m p 1\nprint m\n\
+        getn m q 0\nsetp q 64 p\ngetn m z 1\nlea w p 1\ngetn m w 0\nprint m\nmove x p\nsame m x p\nprint m\n\
+        getp x q 64\nshow x\nlea y p 0\nshow y\nlea y z 0\nshow y\ncasp m p 0 z p\nprint m\ncasp m p 0 z x\nprint m\n\
+        getp y p 0\nsame m y p\nprint m\nstoreg y g\nloadg x g\nshow x\n\
+        clear x\nshow x\nsame m x p\nprint m\nfree q\nfree z\n",
     lines: "\
 c0 take; head 0 1; used 0 1; grant; tally held 2; give
 c0 take; head 1 41; head 2 26; used 1 1; grant; tally held 130; give

@@ -1,4 +1,5 @@
-//! Runs that hold instructions back until others came to their place: so scripts and markers are on threads of their own.
+//! Runs that hold instructions back until others came to their place: so scripts and markers are on threads of their
+//! own.
 
 use super::texts::behind;
 use super::{ample, run_at};
@@ -28,8 +29,8 @@ struct Place {
     instruction: u64,
 }
 
-/// Holds an instruction back until the moment came, of the other instruction. Whether it came, and whether it was waited
-/// for in vain.
+/// Holds an instruction back until the moment came, of the other instruction. Whether it came, and whether it was
+/// waited for in vain.
 #[derive(Drop)]
 struct Hold {
     held: Place,

@@ -12,7 +12,8 @@ loop-text-preserved c =
     let texts = c.args.texts.now in
     let text = c.text-item.result in
     let inside = c.loop-text-test.true in
-    let few = c.requires.calls l.text-index text (slice_get_read texts (length texts) l.text-index text refl inside c.text-item.is) in
+    let few = c.requires.calls l.text-index text
+    (slice_get_read texts (length texts) l.text-index text refl inside c.text-item.is) in
     let number = l.invariant.number in
     let small = l.invariant.small in
     let total = l.invariant.total in
@@ -21,7 +22,8 @@ loop-text-preserved c =
     record {
       number = omega arith;
       small = omega arith;
-      lines = l.invariant.lines ∙ lines_more texts l.text-index text (string_bytes l.lines) _ inside c.text-item.is line;
+      lines = l.invariant.lines
+          ∙ lines_more texts l.text-index text (string_bytes l.lines) _ inside c.text-item.is line;
       total = omega arith;
     }
 
@@ -31,7 +33,8 @@ overflow_add-total c =
     let texts = c.args.texts.now in
     let text = c.text-item.result in
     let inside = c.loop-text-test.true in
-    let few = c.requires.calls l.text-index text (slice_get_read texts (length texts) l.text-index text refl inside c.text-item.is) in
+    let few = c.requires.calls l.text-index text
+    (slice_get_read texts (length texts) l.text-index text refl inside c.text-item.is) in
     let small = l.invariant.small in
     let scripts = c.requires.scripts in
     omega arith
@@ -52,4 +55,6 @@ returns c =
     let none = ops_done texts l.text-index past in
     let counted = l.invariant.total in
     let total : l.total ≡ all_ops texts = omega arith in
-    c.in_ok-push_total.ensures ∙ (ap (λ (front : List ℕ). front ++ total_line l.total) (sym lines) ∙ ap (λ (n : ℕ). lines_from 0 texts ++ total_line n) total)
+    c.in_ok-push_total.ensures
+    ∙ (ap (λ (front : List ℕ). front ++ total_line l.total) (sym lines)
+    ∙ ap (λ (n : ℕ). lines_from 0 texts ++ total_line n) total)

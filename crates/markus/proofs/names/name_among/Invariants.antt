@@ -6,4 +6,5 @@ use Rattle.markus.proofs.names.name_among.Given as goal
 -- the name among the lines that are left
 abbrev pub invariant-loop-item : goal.invariant-loop-item
 invariant-loop-item l =
-    slice_index_or (names_of l.sort (drop l.item-index l.items)) l.left [] ≡ slice_index_or (names_of l.sort l.items) l.number []
+    slice_index_or (names_of l.sort (drop l.item-index l.items)) l.left []
+    ≡ slice_index_or (names_of l.sort l.items) l.number []

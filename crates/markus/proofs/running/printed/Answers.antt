@@ -11,6 +11,9 @@ pub returns : goal.returns
 returns g c =
     let ran = c.in_ok-outcome.ensures in
     let texts = ap (λ texts. flat_map (λ (text : Text). text.bytes.items) texts) c.deref.ensures.value in
-    IfOk-weaker c.joined.result _ (λ bytes. StandsInOneHistory c.args.program.now c.args.markers c.args.sweep (output c.args.program.now) bytes.items)
-    (λ bytes are. run_is_printed c.args.program.now c.args.markers c.args.sweep c.in_ok-outcome.outcome bytes.items ran.runs
+    IfOk-weaker c.joined.result _
+    (λ bytes. StandsInOneHistory c.args.program.now c.args.markers c.args.sweep (output c.args.program.now)
+    bytes.items)
+    (λ bytes are. run_is_printed c.args.program.now c.args.markers c.args.sweep c.in_ok-outcome.outcome bytes.items
+    ran.runs
     ran.reached (are ∙ texts)) c.joined.ensures

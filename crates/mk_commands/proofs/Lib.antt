@@ -1,0 +1,12 @@
+pub mod Telling
+pub mod Lexing
+pub mod Lost
+pub mod Reading
+pub mod Rows
+pub mod Walking
+pub mod Standing
+pub mod OptionWords
+pub mod Tells
+pub mod Taken
+pub mod Within
+pub mod Getting

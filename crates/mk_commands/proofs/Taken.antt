@@ -1,0 +1,251 @@
+-- What clap takes and finds, of a whole command line.
+use Rattle.std.proofs.Common.{◌≡◌, ◌≢◌, ◌∙◌, Bool, true, false, ◌||◌, List, [], ◌∷◌, Option, Some, None}
+use Rattle.std.proofs.Common.{is_some, refl, sym, ap, subst, if◌then◌else◌, option_and_then, option_map, slice_get}
+use Rattle.std.proofs.Common.{drop, fold, MatchOption}
+use Rattle.std.specs.Str.{bytes_eq}
+use lib.Chars.{codes}
+use Rattle.clap.specs.Values.{bool_text, read_as}
+use Rattle.clap.specs.Walk.{Row, Rule, Text, first_of, has_row, nothing_held, idle}
+use Rattle.clap.specs.Walk.{one_of, with_default, with_values}
+use Rattle.clap.specs.Simple.{App, built, matches_of}
+use Rattle.clap.specs.Kinds.{Kinds, or_else}
+use Rattle.clap.specs.Faults.{check_fault, default_fault, defaults_fault, fault_of, given_default_fault}
+use Rattle.clap.specs.Faults.{is_simple_and_free, settle_fault}
+use Rattle.clap.specs.declared.builder.value_parser.Reading.{Reading}
+use Rattle.clap.specs.declared.builder.value_parser.Reading.TheVariants.{AsWritten}
+use Rattle.clap.specs.declared.parser.matches.ValueSource.TheVariants.{DefaultValue}
+use Rattle.clap.proofs.FaultLemmas.{leaf_fault}
+use Rattle.mk_commands.specs.Told.{Form, runs, gens, bare, Told, nothing_told, no_number, app_named, HasTold}
+use Rattle.mk_commands.specs.Told.{start_told, count_told}
+use Rattle.clap.specs.Walk.{rows_of}
+use Rattle.clap.specs.Matches.{found_of}
+use Rattle.clap.specs.declared.parser.matches.ArgMatches.{ArgMatches}
+use Rattle.mk_commands.specs.declared.commands.Command.{Command}
+use Rattle.mk_commands.specs.Given.{given_by}
+use Rattle.mk_commands.proofs.Telling.{told_by}
+use Rattle.mk_commands.proofs.Lost.{told_as, given_as}
+use Rattle.mk_commands.proofs.Reading.{told_command}
+use Rattle.mk_commands.proofs.Rows.{entry, row, has_entry, values_added, entry_other, entry_same, first_of_entry}
+use Rattle.mk_commands.proofs.Rows.{one_of_entry}
+use Rattle.mk_commands.proofs.Walking.{shape, rules, standing, rest_fault, rest_rows, flag_filled}
+use Rattle.mk_commands.proofs.Walking.{markers_filled, start_filled, count_filled}
+use Rattle.mk_commands.proofs.Standing.{Holds, TellsAs, as_entry, flag_entry}
+use Rattle.mk_commands.proofs.Tells.{tells}
+
+pub simple_and_free : (form : Form) (name : Text) → is_simple_and_free (app_named form name) ≡ true
+simple_and_free runs name = refl
+simple_and_free gens name = refl
+simple_and_free bare name = refl
+
+-- ---- the values that stand where a flag wasn't given
+
+same_if : (b : Bool) (rows : List Row) → (if b then rows else rows) ≡ rows
+same_if true rows = refl
+same_if false rows = refl
+
+flag_other : (id other : Text) (rows : List Row) → bytes_eq id other ≡ false
+    → entry other (with_default rows (flag_filled id)) ≡ entry other rows
+flag_other id other rows e = by_test (has_row id rows) refl
+  where
+    by_test : (b : Bool) → has_row id rows ≡ b
+        → entry other (if b then rows else with_values id AsWritten DefaultValue (codes "false" ∷ []) rows)
+        ≡ entry other rows
+    by_test true h = refl
+    by_test false h = ap (entry other) (values_added id AsWritten DefaultValue (codes "false" ∷ []) rows h)
+        ∙ entry_other other (row id AsWritten DefaultValue (codes "false" ∷ [])) rows e
+
+flag_same : (id : Text) (rows : List Row) (b : Bool) → bytes_eq id id ≡ true → entry id rows ≡ flag_entry b
+    → entry id (with_default rows (flag_filled id)) ≡ Some (bool_text b ∷ [], AsWritten)
+flag_same id rows true e h = let has : has_row id rows ≡ true = has_entry id rows ∙ ap is_some h in rw has h
+flag_same id rows false e h =
+    let has : has_row id rows ≡ false = has_entry id rows ∙ ap is_some h in
+    rw has (ap (entry id) (values_added id AsWritten DefaultValue (codes "false" ∷ []) rows has)
+    ∙ entry_same id (row id AsWritten DefaultValue (codes "false" ∷ [])) rows e h)
+
+abbrev defaulted : Form → List Row → List Row
+defaulted runs rows = with_default (with_default rows (flag_filled (codes "sweep"))) (flag_filled (codes "why"))
+defaulted _ rows = rows
+
+abbrev with_defaults : Form → List Row → List Row
+with_defaults form rows = fold with_default rows (rules form)
+
+defaulted_is : (form : Form) (rows : List Row) → with_defaults form rows ≡ defaulted form rows
+defaulted_is runs rows = rw (same_if (has_row (codes "markers") rows) rows) refl
+defaulted_is gens rows =
+    rw (
+      same_if (has_row (codes "markers") rows) rows,
+      same_if (has_row (codes "start") rows) rows,
+      same_if (has_row (codes "count") rows) rows,
+    ) refl
+defaulted_is bare rows = refl
+
+-- ---- what the getters find
+
+first_found : (id : Text) (rows : List Row) (m : Option Text) → entry id rows ≡ as_entry m → first_of id rows ≡ m
+first_found id rows None e = first_of_entry id rows
+    ∙ ap (option_and_then (λ (p : List Text × Reading). slice_get p.0 0)) e
+first_found id rows (Some v) e = first_of_entry id rows
+    ∙ ap (option_and_then (λ (p : List Text × Reading). slice_get p.0 0)) e
+
+flag_found : (id : Text) (rows : List Row) (b : Bool) → entry id rows ≡ Some (bool_text b ∷ [], AsWritten)
+    → one_of id rows ≡ Some (bool_text b)
+flag_found id rows b e = one_of_entry id rows
+    ∙ ap (option_and_then (λ (p : List Text × Reading). option_map (read_as p.1) (slice_get p.0 0))) e
+
+has_told : (form : Form) (rows : List Row) (t : Told) → Holds rows t → HasTold form (with_defaults form rows) t
+has_told runs rows t h =
+    let sweep = flag_filled (codes "sweep") in
+    let why = flag_filled (codes "why") in
+    let one = with_default rows sweep in
+    subst (λ (r : List Row). HasTold runs r t) (sym (defaulted_is runs rows)) (record {
+      markers = first_found (codes "markers") (defaulted runs rows) t.markers
+          (flag_other (codes "why") (codes "markers") one refl ∙ flag_other (codes "sweep") (codes "markers") rows refl
+          ∙ h.markers);
+      flags = (
+        flag_found (codes "sweep") (defaulted runs rows) t.sweep (flag_other (codes "why") (codes "sweep") one refl
+            ∙ flag_same (codes "sweep") rows t.sweep refl h.sweep),
+        flag_found (codes "why") (defaulted runs rows) t.why
+            (flag_same (codes "why") one t.why refl (flag_other (codes "sweep") (codes "why") rows refl ∙ h.why)),
+      );
+      start = first_found (codes "start") (defaulted runs rows) (start_told t.numbers)
+          (flag_other (codes "why") (codes "start") one refl ∙ flag_other (codes "sweep") (codes "start") rows refl
+          ∙ h.start);
+      count = first_found (codes "count") (defaulted runs rows) (count_told t.numbers)
+          (flag_other (codes "why") (codes "count") one refl ∙ flag_other (codes "sweep") (codes "count") rows refl
+          ∙ h.count);
+    })
+has_told gens rows t h = subst (λ (r : List Row). HasTold gens r t) (sym (defaulted_is gens rows)) (record {
+  markers = first_found (codes "markers") rows t.markers h.markers;
+  flags = tt;
+  start = first_found (codes "start") rows (start_told t.numbers) h.start;
+  count = first_found (codes "count") rows (count_told t.numbers) h.count;
+})
+has_told bare rows t h = record {
+  markers = first_found (codes "markers") rows t.markers h.markers;
+  flags = tt;
+  start = first_found (codes "start") rows (start_told t.numbers) h.start;
+  count = first_found (codes "count") rows (count_told t.numbers) h.count;
+}
+
+-- ---- what comes behind the last word refuses nothing
+
+abbrev no_kinds : Kinds
+no_kinds = []
+
+two_empty : (a b : Kinds) → a ≡ [] → b ≡ [] → or_else a b ≡ []
+two_empty a b e f = rw (e, f) refl
+
+any_default : (b : Bool) (ks : Kinds) → (if b || true then [] else ks) ≡ []
+any_default true ks = refl
+any_default false ks = refl
+
+flag_default : (b : Bool) → (if b || false then no_kinds else no_kinds) ≡ no_kinds
+flag_default true = refl
+flag_default false = refl
+
+none_default : (a : Rule) → a.defaults ≡ [] → (rows : List Row) → default_fault rows a ≡ []
+none_default a e rows = rw e (any_default (has_row a.id rows) (given_default_fault a []))
+
+flag_none : (id : Text) (rows : List Row) → default_fault rows (flag_filled id) ≡ []
+flag_none id rows = flag_default (has_row id rows)
+
+no_defaults_fault : (form : Form) (name : Text) (rows : List Row) → defaults_fault rows (shape form name).rules ≡ []
+unfolding defaults_fault
+no_defaults_fault bare name rows = refl
+no_defaults_fault gens name rows =
+    let one = with_default rows markers_filled in
+    two_empty _ _ (none_default markers_filled refl rows)
+    (two_empty _ _ (none_default start_filled refl one)
+    (two_empty _ _ (none_default count_filled refl (with_default one start_filled)) refl))
+no_defaults_fault runs name rows =
+    let one = with_default rows markers_filled in
+    two_empty _ _ (none_default markers_filled refl rows)
+    (two_empty _ _ (flag_none (codes "sweep") one)
+    (two_empty _ _ (flag_none (codes "why") (with_default one (flag_filled (codes "sweep")))) refl))
+
+no_check_fault : (form : Form) (name : Text) (rows : List Row) → check_fault (shape form name) rows false ≡ []
+no_check_fault runs name rows = refl
+no_check_fault gens name rows = refl
+no_check_fault bare name rows = refl
+
+third_empty : (a b c d : Kinds) → c ≡ [] → d ≡ [] → or_else a (or_else [] (or_else b (or_else c d))) ≡ or_else a b
+third_empty [] [] c d e f = rw (e, f) refl
+third_empty [] (k ∷ ks) c d e f = refl
+third_empty (k ∷ ks) b c d e f = refl
+
+abbrev start_walk : List Text → Form → Text → Kinds
+start_walk words form name = rest_fault form name (standing [] None idle 1 false) words
+
+fault_is : (form : Form) (name : Text) (words : List Text)
+    → fault_of (app_named form name) words ≡ start_walk (drop 1 words) form name
+fault_is runs name words = leaf_fault (built (app_named runs name)) nothing_held (drop 1 words) refl
+    ∙ third_empty _ _ _ _ (no_defaults_fault runs name _) (no_check_fault runs name [])
+fault_is gens name words = leaf_fault (built (app_named gens name)) nothing_held (drop 1 words) refl
+    ∙ third_empty _ _ _ _ (no_defaults_fault gens name _) (no_check_fault gens name [])
+fault_is bare name words = leaf_fault (built (app_named bare name)) nothing_held (drop 1 words) refl
+    ∙ third_empty _ _ _ _ (no_defaults_fault bare name _) (no_check_fault bare name [])
+
+matches_are : (form : Form) (name : Text) (words : List Text)
+    → matches_of (app_named form name) words
+    ≡ with_defaults form (rest_rows form (standing [] None idle 1 false) (drop 1 words))
+matches_are runs name words = refl
+matches_are gens name words = refl
+matches_are bare name words = refl
+
+holds_nothing : Holds [] nothing_told
+holds_nothing = record {
+  markers = refl;
+  sweep = refl;
+  why = refl;
+  start = refl;
+  count = refl;
+}
+
+-- clap takes the words where they tell something, and finds it
+abbrev TakesTold : Form → Text → List Text → Option Told → Type 0
+TakesTold form name words None = fault_of (app_named form name) words ≢ []
+TakesTold form name words (Some t) = (fault_of (app_named form name) words ≡ [])
+    × HasTold form (matches_of (app_named form name) words) t
+
+nothing_pending : (form : Form) → settle_fault (rules form) false nothing_held ≡ []
+nothing_pending form = refl
+
+taken : (form : Form) (name : Text) (words : List Text) → TakesTold form name words (told_by form (drop 1 words))
+taken form name words = by_told (told_by form (drop 1 words))
+    (tells form name (drop 1 words) false nothing_told [] None no_number false refl refl
+    (nothing_pending form, holds_nothing, refl))
+  where
+    by_told : (o : Option Told) → TellsAs form name (standing [] None idle 1 false) (drop 1 words) o
+        → TakesTold form name words o
+    by_told None h = λ e. h (sym (fault_is form name words) ∙ e)
+    by_told (Some t) h = (
+      fault_is form name words ∙ h.0,
+      subst (λ (r : List Row). HasTold form r t) (sym (matches_are form name words)) (has_told form _ t h.1),
+    )
+
+-- what is found in the words, by the command that clap knows
+abbrev pub Finds : App → List Text → Option ArgMatches → Type 0
+Finds app words found = MatchOption found (fault_of app words ≢ []) (λ m. (fault_of app words ≡ [])
+    × (rows_of (found_of m) ≡ matches_of app words))
+
+abbrev pub Answers : Form → Command → Option ArgMatches → Option Command → Type 0
+Answers form command found answer = MatchOption found (answer ≡ None)
+    (λ m. (t : Told) → HasTold form (rows_of (found_of m)) t → answer ≡ told_as form command t)
+
+-- the answer is the command of the words
+pub answer_is : (form : Form) (command : Command) (name : Text) (app : App) (words : List Text)
+    (found : Option ArgMatches) (answer : Option Command)
+    → app ≡ app_named form name → Finds app words found → Answers form command found answer
+    → answer ≡ option_and_then (given_as form command) (given_by (drop 1 words))
+answer_is form command name app words found answer is finds answers =
+    by_told found (subst (λ (a : App). Finds a words found) is finds) answers (told_by form (drop 1 words))
+    (taken form name words)
+    ∙ told_command form command (drop 1 words)
+  where
+    by_told : (f : Option ArgMatches) → Finds (app_named form name) words f → Answers form command f answer
+        → (o : Option Told) → TakesTold form name words o → answer ≡ option_and_then (told_as form command) o
+    by_told None refused none None t = none
+    by_told None refused none (Some t) takes = absurd (refused takes.0)
+    by_told (Some m) found read None refuses = absurd (refuses found.0)
+    by_told (Some m) found read (Some t) takes =
+        read t (subst (λ (r : List Row). HasTold form r t) (sym found.1) takes.1)

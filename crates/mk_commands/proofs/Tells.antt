@@ -1,0 +1,215 @@
+-- What clap takes and finds is what the words tell.
+use Rattle.std.proofs.Common.{◌≡◌, ◌∙◌, Bool, true, false, List, [], ◌∷◌, Option, Some}
+use Rattle.std.proofs.Common.{None, is_some, refl, sym, ap, subst, inl, inr, if◌then◌else◌, option_and_then}
+use Rattle.std.specs.Str.{bytes_eq}
+use lib.Chars.{codes}
+use Rattle.clap.specs.Walk.{Row, Text, idle, option, next, trailing}
+use Rattle.clap.specs.Walk.{arg_by_long, has_row, plain_word, settled_rows, with_values}
+use Rattle.clap.specs.Walk.{without}
+use Rattle.clap.specs.Faults.{settle_fault, walk_fault}
+use Rattle.clap.specs.declared.error.kind.ErrorKind.TheVariants as kind
+use Rattle.clap.specs.declared.builder.value_parser.Reading.TheVariants.{AsWritten}
+use Rattle.clap.specs.declared.parser.matches.ValueSource.TheVariants.{CommandLine}
+use Rattle.mk_commands.specs.Told.{Form, runs, gens, bare, Numbers, Told}
+use Rattle.mk_commands.proofs.Telling.{Said, ends, markers_said, sweep_said, why_said, unknown, plain, said, said_long}
+use Rattle.mk_commands.proofs.Telling.{markers_told, said_told, awaiting_told}
+use Rattle.mk_commands.proofs.Telling.{word_told, words_told, takes_markers}
+use Rattle.mk_commands.proofs.Rows.{values_set}
+use Rattle.mk_commands.proofs.Walking.{View, is_ends, is_long, is_bundle, is_odd, is_plain, view, PassesBy}
+use Rattle.mk_commands.proofs.Walking.{plain_passes, odd_passes, long_is, long_says, bundle_is, bundle_stops}
+use Rattle.mk_commands.proofs.Walking.{long_stops, lost, goes_on, word_stops, rules, standing}
+use Rattle.mk_commands.proofs.Walking.{holding, position_of}
+use Rattle.mk_commands.proofs.Standing.{Holds, has_markers, holds_markers, IsAt}
+use Rattle.mk_commands.proofs.Standing.{TellsAs, More, moved, if_true, if_false, told_awaiting, told_ended}
+use Rattle.mk_commands.proofs.Standing.{told_free, number_tells}
+use Rattle.mk_commands.proofs.OptionWords.{conflict_if, some_markers, is_none, Free, at_value, Awaiting, long_go}
+
+-- ---- a word where no number is awaited
+
+free_tells : (form : Form) (name word : Text) (words : List Text) (t : Told) (rows : List Row)
+    (p : Option (Text × List Text)) (ns : Numbers) (tr : Bool)
+    → t.numbers ≡ ns → t.ended ≡ tr → IsAt false form t rows p → More form name words
+    → TellsAs form name (standing rows p idle (position_of ns) tr) (word ∷ words)
+    (option_and_then (words_told form words) (word_told form t word))
+free_tells form name word words t rows p ns true is en i more =
+    subst (λ (o : Option Told). TellsAs form name (standing rows p idle (position_of ns) true) (word ∷ words)
+    (option_and_then (words_told form words) o))
+    (sym (told_ended form t word i.2 en)) (number_tells form name word words t rows p ns true is en i refl refl more)
+free_tells form name word words t rows p ns false is en i more = on_view (view word)
+  where
+    by_said : (x : Said) → said word ≡ x → Free form name word words rows p ns (said_told form x word t)
+        → Free form name word words rows p ns (word_told form t word)
+    by_said x s h = subst (Free form name word words rows p ns)
+        (sym (told_free form t word i.2 en ∙ ap (λ (y : Said). said_told form y word t) s)) h
+
+    passing : PassesBy form name word → Free form name word words rows p ns (word_told form t word)
+    passing by = by_said plain by.says
+        (number_tells form name word words t rows p ns false is en i (by.met idle (position_of ns) rows p)
+        (by.passes idle rows p) more)
+
+    held : Holds (settled_rows (rules form) p rows) (record t { ended = true })
+    held = record {
+      markers = i.1.markers;
+      sweep = i.1.sweep;
+      why = i.1.why;
+      start = i.1.start;
+      count = i.1.count;
+    }
+
+    on_view : View word → Free form name word words rows p ns (word_told form t word)
+    on_view (is_ends e) =
+        let step = goes_on form name (standing rows p idle (position_of ns) false) word words (holding rows p)
+        (trailing (position_of ns)) refl
+        (rw e refl) (rw e refl) refl in
+        by_said ends (rw e refl)
+        (moved form name (standing rows p idle (position_of ns) false) _ (word ∷ words) words _ step
+        (more false (record t { ended = true }) rows p ns true is refl (i.0, held, i.2)))
+    on_view (is_long id v e l) =
+        by_said (said_long id v) (long_says word id v e l)
+        (long_go form name word words t rows p ns is en i e more id v l)
+    on_view (is_bundle flags x e l s c) = by_said unknown (rw (e, l, s, c) refl)
+        (word_stops form name (standing rows p idle (position_of ns) false) word words refl
+        (λ g. bundle_stops form x flags (holding rows p) c refl
+        (sym (bundle_is form name word flags idle (holding rows p) e l s) ∙ g)))
+    on_view (is_odd flags e l s c) = passing (odd_passes form name word flags e l s c)
+    on_view (is_plain e l s) = passing (plain_passes form name word e l s)
+
+-- ---- a word where the number of `--markers` is awaited
+
+awaited : (form : Form) → takes_markers form ≡ true → (rows : List Row) (b : Bool) → has_row (codes "markers") rows ≡ b
+    → (x : Text)
+    → settle_fault (rules form) false (holding rows (Some (codes "markers", x ∷ []))) ≡ conflict_if b
+awaited runs k rows true h x = rw h refl
+awaited runs k rows false h x = rw h refl
+awaited gens k rows true h x = rw h refl
+awaited gens k rows false h x = rw h refl
+awaited bare k rows b h x = cc
+
+none_awaited : (form : Form) → takes_markers form ≡ true → (rows : List Row)
+    → settle_fault (rules form) false (holding rows (Some (codes "markers", []))) ≡ [] → ⊥
+none_awaited runs k rows e = cc
+none_awaited gens k rows e = cc
+none_awaited bare k rows e = cc
+
+awaited_met : (form : Form) → takes_markers form ≡ true → (word : Text) (rows : List Row)
+    → plain_word (rules form) (option (codes "markers")) word (holding rows (Some (codes "markers", [])))
+    ≡ (holding rows (Some (codes "markers", word ∷ [])), next idle)
+awaited_met runs k word rows = refl
+awaited_met gens k word rows = refl
+awaited_met bare k word rows = cc
+
+awaited_rows : (form : Form) → takes_markers form ≡ true → (x : Text) (rows : List Row)
+    → settled_rows (rules form) (Some (codes "markers", x ∷ [])) rows
+    ≡ with_values (codes "markers") AsWritten CommandLine (x ∷ []) (without (codes "markers") rows)
+awaited_rows runs k x rows = refl
+awaited_rows gens k x rows = refl
+awaited_rows bare k x rows = cc
+
+never_long : (id : Text) (v : Option Text) (word : Text) (t : Told) → awaiting_told (said_long id v) word t ≡ None
+never_long id v word t = on_markers (bytes_eq (codes "markers") id) (bytes_eq (codes "sweep") id)
+    (bytes_eq (codes "why") id)
+  where
+    on_markers : (m s w : Bool)
+        → awaiting_told (if m then markers_said v else if s then sweep_said v else if w then why_said v
+        else unknown) word t ≡ None
+    on_markers true s w = refl
+    on_markers false true w = refl
+    on_markers false false true = refl
+    on_markers false false false = refl
+
+awaiting_tells : (form : Form) (name word : Text) (words : List Text) (t : Told) (rows : List Row) (ns : Numbers)
+    → t.numbers ≡ ns → Holds rows t → t.awaits ≡ true → t.ended ≡ false → takes_markers form ≡ true
+    → More form name words
+    → TellsAs form name (standing rows (Some (codes "markers", [])) (option (codes "markers")) (position_of ns) false)
+    (word ∷ words)
+    (option_and_then (words_told form words) (word_told form t word))
+awaiting_tells form name word words t rows ns is h a en k more = on_view (view word)
+  where
+    by_told : (o : Option Told) → awaiting_told (said word) word t ≡ o → Awaiting form name word words rows ns o
+        → Awaiting form name word words rows ns (word_told form t word)
+    by_told o s g = subst (Awaiting form name word words rows ns) (sym (told_awaiting form t word a ∙ s)) g
+
+    by_markers : PassesBy form name word → (b : Bool) → is_some t.markers ≡ b
+        → Awaiting form name word words rows ns (markers_told t word)
+    by_markers by true has =
+        let step = goes_on form name (at_value rows ns) word words (holding rows (Some (codes "markers", word ∷ [])))
+        (next idle) refl
+        (by.met (option (codes "markers")) (position_of ns) rows (Some (codes "markers", []))
+        ∙ awaited_met form k word rows)
+        (by.passes (option (codes "markers")) rows (Some (codes "markers", []))) refl in
+        let kinds = awaited form k rows true (has_markers rows t h ∙ has) word in
+        subst (Awaiting form name word words rows ns) (sym (some_markers t word true has)) (λ e.
+        lost form name words rows (Some (codes "markers", word ∷ [])) idle ns false
+        (λ g. let bad : kind.ArgumentConflict ∷ [] ≡ [] = sym kinds ∙ g in cc) (inr refl) (step.0 ∙ e))
+    by_markers by false has =
+        let step = goes_on form name (at_value rows ns) word words (holding rows (Some (codes "markers", word ∷ [])))
+        (next idle) refl
+        (by.met (option (codes "markers")) (position_of ns) rows (Some (codes "markers", []))
+        ∙ awaited_met form k word rows)
+        (by.passes (option (codes "markers")) rows (Some (codes "markers", []))) refl in
+        let fresh = has_markers rows t h ∙ has in
+        let u : Told = record t { markers = Some word; awaits = false } in
+        let held : Holds (settled_rows (rules form) (Some (codes "markers", word ∷ [])) rows) u =
+        subst (λ (r : List Row). Holds r u)
+        (sym (awaited_rows form k word rows
+        ∙ values_set (codes "markers") AsWritten CommandLine (word ∷ []) rows fresh))
+        (holds_markers rows t h (is_none t.markers has) word false) in
+        subst (Awaiting form name word words rows ns) (sym (some_markers t word false has))
+        (moved form name (at_value rows ns) _ (word ∷ words) words _ step
+        (more false u rows (Some (codes "markers", word ∷ [])) ns false is en
+        (awaited form k rows false fresh word, held, refl)))
+
+    passing : PassesBy form name word → Awaiting form name word words rows ns (word_told form t word)
+    passing by = by_told (markers_told t word) (ap (λ (x : Said). awaiting_told x word t) by.says)
+        (by_markers by (is_some t.markers) refl)
+
+    on_view : View word → Awaiting form name word words rows ns (word_told form t word)
+    on_view (is_ends e) =
+        let step = goes_on form name (at_value rows ns) word words (holding rows (Some (codes "markers", [])))
+        (trailing (position_of ns)) refl
+        (rw e refl) (rw e refl) refl in
+        by_told None (rw e refl)
+        (λ g. lost form name words rows (Some (codes "markers", [])) (option (codes "markers")) ns true
+        (none_awaited form k rows) (inl refl) (step.0 ∙ g))
+    on_view (is_long id v e l) =
+        let kinds = long_is form name word id v (option (codes "markers")) (position_of ns)
+        (holding rows (Some (codes "markers", []))) e l in
+        by_told None (ap (λ (x : Said). awaiting_told x word t) (long_says word id v e l) ∙ never_long id v word t)
+        (word_stops form name (at_value rows ns) word words refl
+        (λ g. long_stops (rules form) (arg_by_long (rules form) id) v (holding rows (Some (codes "markers", [])))
+        (none_awaited form k rows) (sym kinds.1 ∙ g)))
+    on_view (is_bundle flags x e l s c) = by_told None (rw (e, l, s, c) refl)
+        (word_stops form name (at_value rows ns) word words refl
+        (λ g. bundle_stops form x flags (holding rows (Some (codes "markers", []))) c refl
+        (sym (bundle_is form name word flags (option (codes "markers")) (holding rows (Some (codes "markers", []))) e l
+        s) ∙ g)))
+    on_view (is_odd flags e l s c) = passing (odd_passes form name word flags e l s c)
+    on_view (is_plain e l s) = passing (plain_passes form name word e l s)
+
+-- ---- all words
+
+no_words : (form : Form) (name : Text) → More form name []
+unfolding walk_fault
+no_words form name false t rows p ns tr is en i =
+    subst (TellsAs form name (standing rows p idle (position_of ns) tr) []) (sym (if_false t.awaits None (Some t) i.2))
+    (i.0, i.1)
+no_words form name true t rows p ns tr is en i =
+    subst (TellsAs form name (standing rows p (option (codes "markers")) (position_of ns) tr) [])
+    (sym (if_true t.awaits None (Some t) i.2))
+    (λ e. none_awaited form i.4 rows
+    (subst (λ (q : Option (Text × List Text)). settle_fault (rules form) false (holding rows q) ≡ []) i.0 e))
+
+pub tells : (form : Form) (name : Text) (words : List Text) → More form name words
+tells form name [] = no_words form name
+tells form name (word ∷ words) = one_more (tells form name words)
+  where
+    one_more : More form name words → More form name (word ∷ words)
+    one_more more false t rows p ns tr is en i = free_tells form name word words t rows p ns tr is en i more
+    one_more more true t rows p ns tr is en i =
+        subst (λ (q : Option (Text × List Text)). TellsAs form name
+        (standing rows q (option (codes "markers")) (position_of ns) tr) (word ∷ words)
+        (words_told form (word ∷ words) t)) (sym i.0)
+        (subst (λ (r : Bool). TellsAs form name
+        (standing rows (Some (codes "markers", [])) (option (codes "markers")) (position_of ns) r) (word ∷ words)
+        (words_told form (word ∷ words) t)) (sym i.3 ∙ en)
+        (awaiting_tells form name word words t rows ns is i.1 i.2 i.3 i.4 more))

@@ -1,0 +1,23 @@
+use Rattle.std.proofs.Common.{Option, Some, None, map, refl, string_bytes, subst}
+use Rattle.clap.specs.Words.{app_of}
+use Rattle.clap.specs.declared.parser.matches.ArgMatches.{ArgMatches}
+use Rattle.mk_commands.specs.declared.commands.Command.TheVariants.{OnText}
+use Rattle.mk_commands.specs.declared.commands.TextCommand.TheVariants.{Check}
+use Rattle.mk_commands.specs.Told.{gens}
+use Rattle.mk_commands.proofs.Taken.{Finds, answer_is}
+use Rattle.mk_commands.proofs.words.gen_by.Goals as goal
+
+pub returns-in-Some : goal.returns-in-Some
+returns-in-Some c =
+    let words = map (λ word. string_bytes word) c.args.words.now in
+    let app = app_of c.in_ok-generate.field-0 in
+    let finds = subst (λ (found : Option ArgMatches). Finds app words found) c.in-Some.is c.in_ok-found.ensures in
+    answer_is gens (OnText Check) c.args.name.now app words (Some c.in-Some.matches) c.gen_in.result
+    c.in_ok-generate.ensures finds c.gen_in.ensures
+
+pub returns : goal.returns
+returns c =
+    let words = map (λ word. string_bytes word) c.args.words.now in
+    let app = app_of c.in_ok-generate.field-0 in
+    let finds = subst (λ (found : Option ArgMatches). Finds app words found) c.in-None.is c.in_ok-found.ensures in
+    answer_is gens (OnText Check) c.args.name.now app words None None c.in_ok-generate.ensures finds refl

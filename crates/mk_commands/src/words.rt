@@ -1,0 +1,142 @@
+//! The commands of the words.
+ghost use Rattle.std.specs.Prelude.{◌≡◌, IfOk, IfSome, drop, map, option_and_then, string_bytes};
+ghost use Rattle.clap.specs.Words.{first_value, found_of, rows_of};
+ghost use lib.Chars.{codes};
+ghost use Rattle.mk_script.specs.Names.{number_of_word};
+ghost use Rattle.mk_commands.specs.Commands.{IsWithin, alone_of, command_of, gen_of, run_of};
+ghost use Rattle.mk_commands.specs.Given.{given_by};
+ghost use Rattle.mk_commands.specs.declared.commands.Command.TheVariants.{OnText};
+ghost use Rattle.mk_commands.specs.Told.{HasTold, Told, gen_read, gens, markers_read, run_read, runs};
+
+use crate::arguments::{alone, found_in, generate, run};
+use crate::commands::{Command, Options, Request, TextCommand};
+use clap::ArgMatches;
+use mk_never::NoMemory;
+use mk_script::parse_number;
+use std::alloc::Global;
+
+/// How many markers are asked for: 0 to 8, and 0 where nothing is said.
+fn markers_in(matches: &ArgMatches<'_>) -> Option<u64>
+    ensures { result ≡ markers_read (first_value (found_of matches.now) (codes "markers")) }
+{
+    let Some(digits) = matches.get_str("markers") else {
+        return Some(0);
+    };
+    let markers = parse_number(digits.as_bytes())?;
+    (markers <= 8).then_some(markers)
+}
+
+fn run_in(matches: &ArgMatches<'_>) -> Option<Command>
+    ensures { (t : Told) → HasTold runs (rows_of (found_of matches.now)) t → result ≡ run_read t }
+{
+    let markers = markers_in(matches)?;
+    let sweep = matches.get_flag("sweep");
+    if sweep && markers > 0 {
+        return None;
+    }
+    let why = matches.get_flag("why");
+    Some(Command::OnText(TextCommand::Run(Options {
+        markers,
+        sweep,
+        why,
+    })))
+}
+
+/// The number that is given under a name.
+fn number_in(matches: &ArgMatches<'_>, name: &str) -> Option<u64>
+    ensures { result ≡ option_and_then number_of_word (first_value (found_of matches.now) name.now) }
+{
+    let digits = matches.get_str(name)?;
+    parse_number(digits.as_bytes())
+}
+
+fn gen_in(matches: &ArgMatches<'_>) -> Option<Command>
+    ensures { (t : Told) → HasTold gens (rows_of (found_of matches.now)) t → result ≡ gen_read t }
+{
+    let markers = markers_in(matches)?;
+    let start = number_in(matches, "start")?;
+    let count = number_in(matches, "count")?;
+    if count < 48 || count > 3_000_000 {
+        return None;
+    }
+    Some(Command::Gen(Request {
+        start,
+        count,
+        markers,
+    }))
+}
+
+/// `run`, with its options.
+fn run_by<'a>(
+    alloc: Global,
+    name: &'a str,
+    words: &'a [String],
+) -> Result<Option<Command>, NoMemory>
+    ensures { IfOk result (λ answer. answer ≡ option_and_then run_of
+        (given_by (drop 1 (map (λ word. string_bytes word) words.entry.now)))) }
+{
+    let found = found_in(run(alloc, name)?, words)?;
+    match &found {
+        Some(matches) => Ok(run_in(matches)),
+        None => Ok(None),
+    }
+}
+
+/// `gen`, with its numbers.
+fn gen_by<'a>(
+    alloc: Global,
+    name: &'a str,
+    words: &'a [String],
+) -> Result<Option<Command>, NoMemory>
+    ensures { IfOk result (λ answer. answer ≡ option_and_then gen_of
+        (given_by (drop 1 (map (λ word. string_bytes word) words.entry.now)))) }
+{
+    let found = found_in(generate(alloc, name)?, words)?;
+    match &found {
+        Some(matches) => Ok(gen_in(matches)),
+        None => Ok(None),
+    }
+}
+
+/// A command that takes no option and no further word.
+fn alone_by<'a>(
+    alloc: Global,
+    command: TextCommand,
+    name: &'a str,
+    words: &'a [String],
+) -> Result<Option<Command>, NoMemory>
+    ensures { IfOk result (λ answer. answer ≡ option_and_then (alone_of (OnText command))
+        (given_by (drop 1 (map (λ word. string_bytes word) words.entry.now)))) }
+{
+    let found = found_in(alone(alloc, name), words)?;
+    match &found {
+        Some(_matches) => Ok(Some(Command::OnText(command))),
+        None => Ok(None),
+    }
+}
+
+/// The command of the words behind the program's name; none where they are of no form.
+pub fn command_in(alloc: Global, words: &[String]) -> Result<Option<Command>, NoMemory>
+    ensures command { IfOk result (λ command. command ≡ command_of (map (λ word. string_bytes word) words.now)) }
+    ensures within { IfOk result (λ command. IfSome command IsWithin) }
+{
+    let [name, ..] = words else {
+        return Ok(None);
+    };
+    let name = name.as_str();
+    if name == "run" {
+        run_by(alloc, name, words)
+    } else if name == "check" {
+        alone_by(alloc, TextCommand::Check, name, words)
+    } else if name == "print" {
+        alone_by(alloc, TextCommand::Print, name, words)
+    } else if name == "replay" {
+        alone_by(alloc, TextCommand::Replay, name, words)
+    } else if name == "gen" {
+        gen_by(alloc, name, words)
+    } else if name == "trace" {
+        alone_by(alloc, TextCommand::Trace, name, words)
+    } else {
+        Ok(None)
+    }
+}
