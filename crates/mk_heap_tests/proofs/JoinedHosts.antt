@@ -156,21 +156,26 @@ free_at_first w h table seen =
     (subst (λ (es : List Event). host_has_turn w.config (left w.config es).now ≡ false) (sym seen)
     (first_is_host w).no_turn)
 
-pub split_at_first : (w : WordsState) (k : ℕ) (h p : PassState) → h.table ≡ w → h.seen ≡ [] → k < w.config.callers
-    → p ≡ record h { seat = Caller k; seats = Caller k ∷ [] } → IsPassFor w k p
-split_at_first w k h p table seen some is =
+pub first_split : (w : WordsState) (k : ℕ) (h p : PassState) → h.table ≡ w → h.seen ≡ [] → k < w.config.callers
+    → p ≡ record h { seat = Caller k; seats = Caller k ∷ [] } → IsFirstPass w k p
+first_split w k h p table seen some is =
     let host : IsHost (first_host w) = first_is_host w in
     let first : p ≡ pass_for (first_host w) (Caller k) =
     is
     ∙ ap (λ (v : WordsState). record { table = v; seat = Caller k; seats = Caller k ∷ []; seen = h.seen }) table
     ∙ ap (λ (es : List Event). record { table = w; seat = Caller k; seats = Caller k ∷ []; seen = es }) seen in
-    subst (λ (q : PassState). IsPassFor w k q) (sym first)
+    subst (λ (q : PassState). IsFirstPass w k q) (sym first)
     (record {
       table = refl;
       seat = refl;
       alone = refl;
+      seen = refl;
       idle = record { caller = k; seat = refl; rest = (host.rests (Caller k) (host.callers k (omega arith) some)).call };
     })
+
+pub split_at_first : (w : WordsState) (k : ℕ) (h p : PassState) → h.table ≡ w → h.seen ≡ [] → k < w.config.callers
+    → p ≡ record h { seat = Caller k; seats = Caller k ∷ [] } → IsPassFor w k p
+split_at_first w k h p table seen some is = first_for w k p (first_split w k h p table seen some is)
 
 -- the caller's pass, as its calls ask for it
 pub pass_of : (w : WordsState) (k : ℕ) (p : PassState) (s : CallerState) → IsPassFor w k p → k < w.config.callers

@@ -9,7 +9,7 @@ pub take_turn-turn-requires-clause-enabled : goal.take_turn-turn-requires-clause
 take_turn-turn-requires-clause-enabled g c = host_may c.args.words.now c.args.host c.requires.host
 
 pub begin_cycle-requires-clause-one_table : goal.begin_cycle-requires-clause-one_table
-begin_cycle-requires-clause-one_table g c =
+begin_cycle-requires-clause-one_table g c κs within =
     let t = c.take_turn-turn in
     let o = c.is_in_order-2.ensures in
     let p : PassState = t.result.pass in
@@ -20,7 +20,7 @@ begin_cycle-requires-clause-one_table g c =
     c.look-found.ensures.acts c.is_in_order-3.ensures.history
 
 pub begin_cycle-requires-clause-phase : goal.begin_cycle-requires-clause-phase
-begin_cycle-requires-clause-phase g c =
+begin_cycle-requires-clause-phase g c κs within =
     let t = c.take_turn-turn in
     let o = c.is_in_order-2.ensures in
     let p : PassState = t.result.pass in
@@ -31,7 +31,7 @@ begin_cycle-requires-clause-phase g c =
     c.look-found.ensures.acts c.is_in_order-3.ensures.history c.if-found-eq1.false).phase
 
 pub begin_cycle-requires-clause-free : goal.begin_cycle-requires-clause-free
-begin_cycle-requires-clause-free g c =
+begin_cycle-requires-clause-free g c κs within =
     let t = c.take_turn-turn in
     let o = c.is_in_order-2.ensures in
     let p : PassState = t.result.pass in

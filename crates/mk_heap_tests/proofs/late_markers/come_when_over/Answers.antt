@@ -1,1 +1,24 @@
+use Rattle.std.proofs.Common.{◌≡◌, ◌∙◌, [], ◌∷◌, sym, ap, subst, arith}
+use Rattle.mk_core.specs.declared.config.Config.{Config}
+use Rattle.mk_core.specs.declared.events.Seat.{Seat}
+use Rattle.mk_words.specs.States.{PassState, WordsState}
+use Rattle.mk_caller.specs.States.{CallerState}
+use Rattle.mk_marker.specs.Markers.{IsOut}
+use Rattle.mk_heap.specs.Hosts.{HostState}
+use Rattle.mk_heap_tests.specs.Passes.{HasJoinedOne, IsMarkerOut}
+use Rattle.mk_heap_tests.proofs.JoinedHosts.{all_are_joined, callers_are_joined}
+use Rattle.mk_heap_tests.proofs.LateMarkers.{attends_not, joined_one, marker_at_first, only_seat, still_out}
 use Rattle.mk_heap_tests.proofs.late_markers.come_when_over.Goals as goal
+
+pub join_caller-requires-clause-alone : goal.join_caller-requires-clause-alone
+join_caller-requires-clause-alone g c = ?
+
+pub over-requires-clause-joined : goal.over-requires-clause-joined
+over-requires-clause-joined g c κs within =
+    callers_are_joined c.in_ok-heap.heap c.join_caller.new.self
+    (joined_one c.in_ok-heap.heap c.in_ok-heap.host c.marker-marker.new.self c.caller-caller.new.self
+    c.join_caller.new.self c.finish.result c.in_ok-heap.ensures.host c.marker-marker.ensures.host
+    c.caller-caller.ensures.host c.join_caller.ensures.host
+    (only_seat c.in_ok-heap.heap c.in_ok-heap.host c.marker-marker.new.self c.caller-caller.result c.finish.result
+    c.in_ok-heap.ensures.host c.marker-marker.ensures.host c.caller-caller.ensures.caller c.finish.ensures.pass)
+    c.join_caller.ensures.overs)
