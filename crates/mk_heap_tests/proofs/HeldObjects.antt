@@ -189,6 +189,10 @@ may_then m b n d s t may engine pages is ready =
     let at : MayAllocate m b t = may_at m b s t may (ap (λ (p : PassState). p.table) is) ready in
     record { ready = ready; ty = at.ty; engine = engine ∙ at.engine; pages = pages ∙ at.pages }
 
+-- A caller whose pass was just handed out is at home.
+pub home_at_first : (h : HostState) (s : CallerState) → s ≡ at_home (pass_for h (Caller h.callers)) → s ≡ at_home s.pass
+home_at_first h s is = is ∙ ap (λ (p : PassState). at_home p) (sym (ap (λ (x : CallerState). x.pass) is))
+
 -- A caller before its first call may make objects.
 pub may_at_first : (w : WordsState) (k made_for book : ℕ) (p : PassState) (s : CallerState) → IsFirstPass w k p
     → s ≡ at_home p → k < w.config.callers → 0 < length w.config.types → made_for ≡ w.config.pages

@@ -1,6 +1,7 @@
 -- A marker that is out, or comes in, the host's turn and cycle beside it, and the caller that was joined.
 use Rattle.std.proofs.Common.{◌≡◌, ℕ, ◌<◌, ◌%◌, true, false, List, [], ◌∷◌, refl, sym, ◌∙◌, ap, subst, arith}
-use Rattle.std.specs.Prelude.{None, ◌==◌}
+use Rattle.std.specs.Prelude.{None, Result, Ok, Err, OnOk}
+use Rattle.std.specs.Result.{is_err}
 use Rattle.std.proofs.lemmas.Bool.{eq-eqb}
 use Rattle.mk_core.specs.declared.config.Config.{Config}
 use Rattle.mk_core.specs.declared.seats.Marker.{Marker as MarkerState}
@@ -152,6 +153,10 @@ module _ (w : WordsState) (h p q : PassState) (host : IsHostsPass w h) (own : Ha
           free = begun_free q r idle.free begins;
           gates = none_held_kept q r begins.pass begins.gates idle.gates;
         }
+
+pub on_ok : {A B : Type 0} (x : Result A B) (P : Type 0) → is_err x ≡ false → OnOk x P → P
+on_ok (Ok a) P is h = h
+on_ok (Err e) P is h = cc
 
 -- The stop of the one caller, in which the close is wanted.
 module _ (w : WordsState) (p : PassState) (m : IsMarking w p) (one : w.config.callers ≡ 1) (t : InTurn p) where

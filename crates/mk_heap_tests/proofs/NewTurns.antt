@@ -35,7 +35,7 @@ module _ (w : WordsState) (k : ℕ) (p : PassState) (is : IsPassFor w k p) where
   number : number_of p ≡ k
   number = ap caller_number is.seat
 
-  exists : k < w.config.callers → number_of p < p.table.config.callers
+  pub exists : k < w.config.callers → number_of p < p.table.config.callers
   exists few =
       subst (λ (v : WordsState). number_of p < v.config.callers) (sym is.table)
       (subst (λ (n : ℕ). n < w.config.callers) (sym number) few)

@@ -1,4 +1,4 @@
-use Rattle.std.proofs.Common.{◌≡◌, ◌∙◌, [], ◌∷◌, sym, ap, subst, arith}
+use Rattle.std.proofs.Common.{◌≡◌, ◌∙◌, [], ◌∷◌, refl, sym, ap, subst, arith}
 use Rattle.mk_core.specs.declared.config.Config.{Config}
 use Rattle.mk_core.specs.declared.events.Seat.{Seat}
 use Rattle.mk_words.specs.States.{PassState, WordsState}
@@ -11,7 +11,9 @@ use Rattle.mk_heap_tests.proofs.LateMarkers.{attends_not, joined_one, marker_at_
 use Rattle.mk_heap_tests.proofs.late_markers.come_when_over.Goals as goal
 
 pub join_caller-requires-clause-alone : goal.join_caller-requires-clause-alone
-join_caller-requires-clause-alone g c = ?
+join_caller-requires-clause-alone g c =
+    subst (λ (p : PassState). p.seats ≡ p.seat ∷ [])
+    (sym (c.finish.ensures.pass ∙ ap (λ (x : CallerState). x.pass) c.caller-caller.ensures.caller)) refl
 
 pub over-requires-clause-joined : goal.over-requires-clause-joined
 over-requires-clause-joined g c κs within =
