@@ -1,5 +1,6 @@
 -- The host's callers and markers before their first call, and behind their last.
-use Rattle.std.proofs.Common.{◌≡◌, ◌⊎◌, ℕ, zero, suc, ◌+◌, ◌*◌, ◌<◌, true, false, List, [], ◌∷◌, ◌++◌, refl, sym, ◌∙◌, ap, subst, inl, inr, arith}
+use Rattle.std.proofs.Common.{◌≡◌, ◌⊎◌, ℕ, zero, suc, ◌+◌, ◌*◌, ◌<◌, true, false, List, [], ◌∷◌, ◌++◌, refl, sym, ◌∙◌}
+use Rattle.std.proofs.Common.{ap, subst, inl, inr, arith}
 use Rattle.std.specs.Prelude.{not}
 use Rattle.std.proofs.lemmas.Bool.{not-true}
 use Rattle.mk_core.specs.declared.events.Event.{Event}
@@ -15,7 +16,8 @@ use Rattle.mk_words.proofs.Seats.{has_first, has_left, has_right}
 use Rattle.mk_caller.specs.States.{CallerState, IsIdleCaller, at_home}
 use Rattle.mk_heap.specs.Clients.{IsPassOf}
 use Rattle.mk_heap.specs.Ending.{CallersAreJoined}
-use Rattle.mk_heap.specs.Hosts.{HostState, AllAreJoined, IsHost, first_host, pass_for, with_caller_made, with_joined, with_seen}
+use Rattle.mk_heap.specs.Hosts.{HostState, AllAreJoined, IsHost, first_host, pass_for, with_caller_made, with_joined}
+use Rattle.mk_heap.specs.Hosts.{with_seen}
 use Rattle.mk_heap.proofs.HostsKept.{first_is_host}
 use Rattle.mk_heap_tests.proofs.Registers.{null_at_first}
 use Rattle.mk_heap_tests.specs.Passes.{HasJoinedOne, HoldsNull, IsFirstPass, IsPassFor}
@@ -170,7 +172,11 @@ first_split w k h p table seen some is =
       seat = refl;
       alone = refl;
       seen = refl;
-      idle = record { caller = k; seat = refl; rest = (host.rests (Caller k) (host.callers k (omega arith) some)).call };
+      idle = record {
+        caller = k;
+        seat = refl;
+        rest = (host.rests (Caller k) (host.callers k (omega arith) some)).call;
+      };
     })
 
 pub split_at_first : (w : WordsState) (k : ℕ) (h p : PassState) → h.table ≡ w → h.seen ≡ [] → k < w.config.callers

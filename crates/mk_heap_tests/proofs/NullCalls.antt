@@ -84,7 +84,8 @@ later p q is same h =
     }
 
 pass_called : {p q : PassState} {o : Op} {a : Answer} → Called p o a q → q ≡ record p { seen = q.seen }
-pass_called {p} {q} c = c.is ∙ ap (λ (es : List Event). record p { seen = es }) (sym (ap (λ (r : PassState). r.seen) c.is))
+pass_called {p} {q} c = c.is
+    ∙ ap (λ (es : List Event). record p { seen = es }) (sym (ap (λ (r : PassState). r.seen) c.is))
 
 pass_held : {p q : PassState} {o : Op} → FindsGateHeld p o q → q ≡ record p { seen = q.seen }
 pass_held {p} {q} f =
@@ -158,7 +159,8 @@ sets_none (Some i) is e = cc
 
 pub stays_moved : {T E : Type 0} {p q : PassState} (r : Result T E) → OnOk r (Called p (op.Move 0 1) answer.Done q)
     → OnErr r (FindsGateHeld p (op.Move 0 1) q) → HoldsNull p → StaysNull p q
-stays_moved {T} {E} {p} {q} r called held h = stays_done p q (op.Move 0 1) answer.Done r called held (sets_another 0 (λ e. absurd (omega arith))) h
+stays_moved {T} {E} {p} {q} r called held h =
+    stays_done p q (op.Move 0 1) answer.Done r called held (sets_another 0 (λ e. absurd (omega arith))) h
 
 pub stays_stored : {T E : Type 0} {p q : PassState} (r : Result T E)
     → OnOk r (Called p (op.SetGlobal 0 1) answer.Done q) → OnErr r (FindsGateHeld p (op.SetGlobal 0 1) q)
@@ -168,7 +170,8 @@ stays_stored {T} {E} {p} {q} r called held h =
 
 pub stays_loaded : {T E : Type 0} {p q : PassState} (r : Result T E) → OnOk r (IsAnswered p (op.GetGlobal 2 0) q)
     → OnErr r (FindsGateHeld p (op.GetGlobal 2 0) q) → HoldsNull p → StaysNull p q
-stays_loaded {T} {E} {p} {q} r answered held h = stays_answered p q (op.GetGlobal 2 0) r answered held (sets_another 2 (λ e. absurd (omega arith))) h
+stays_loaded {T} {E} {p} {q} r answered held h =
+    stays_answered p q (op.GetGlobal 2 0) r answered held (sets_another 2 (λ e. absurd (omega arith))) h
 
 pub stays_compared : {E : Type 0} {p q : PassState} (r : Result Bool E) → IfOk r (λ b. Says p (op.Same 1 2) b q)
     → OnErr r (FindsGateHeld p (op.Same 1 2) q) → HoldsNull p → StaysNull p q

@@ -19,12 +19,14 @@ split-caller-requires-clause-here g c =
 pub split-marker-requires-clause-here : goal.split-marker-requires-clause-here
 split-marker-requires-clause-here g c =
     marker_is_home c.args.config.now c.in_ok-words.host c.split-caller.new.pass
-    (ap (λ (x : PassState). x.seats) c.in_ok-words.ensures.pass) (ap (λ (x : PassState). x.seats) c.split-caller.ensures.pass)
+    (ap (λ (x : PassState). x.seats) c.in_ok-words.ensures.pass)
+    (ap (λ (x : PassState). x.seats) c.split-caller.ensures.pass)
 
 pub split-marker-requires-clause-out : goal.split-marker-requires-clause-out
 split-marker-requires-clause-out g c =
     marker_is_outside c.split-caller.new.pass
-    (ap (λ (x : PassState). x.seen) c.split-caller.ensures.pass ∙ ap (λ (x : PassState). x.seen) c.in_ok-words.ensures.pass)
+    (ap (λ (x : PassState). x.seen) c.split-caller.ensures.pass
+    ∙ ap (λ (x : PassState). x.seen) c.in_ok-words.ensures.pass)
 
 pub mark_beside-requires-clause-host : goal.mark_beside-requires-clause-host
 mark_beside-requires-clause-host g c κs within =
@@ -54,7 +56,8 @@ mark_beside-requires-clause-marker g c κs within =
     c.split-marker.ensures.made
 
 pub mark_beside-requires-clause-one : goal.mark_beside-requires-clause-one
-mark_beside-requires-clause-one g c κs within = ap (λ (d : Config). d.callers) c.in_ok-words.ensures.config ∙ c.requires.one
+mark_beside-requires-clause-one g c κs within = ap (λ (d : Config). d.callers) c.in_ok-words.ensures.config
+    ∙ c.requires.one
 
 pub mark_beside-requires-clause-ty : goal.mark_beside-requires-clause-ty
 mark_beside-requires-clause-ty g c κs within =

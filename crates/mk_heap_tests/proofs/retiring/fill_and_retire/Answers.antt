@@ -42,7 +42,8 @@ make_eight-once-requires-clause-may g c κs within =
     (length c.make_eight_thrice-three_times.new.bench.book) s t c.make_eight_thrice-three_times.ensures.may
     (ap (λ (x : CallerState). x.pass.table) c.caller-second.ensures.caller ∙ table
     ∙ sym (ap (λ (x : PassState). x.table) c.make_eight_thrice-three_times.ensures.same
-    ∙ ap (λ (x : CallerState). x.pass.table) c.caller-first.ensures.caller ∙ ap (λ (x : HostState). x.pass.table) first))
+    ∙ ap (λ (x : CallerState). x.pass.table) c.caller-first.ensures.caller
+    ∙ ap (λ (x : HostState). x.pass.table) first))
     (ready_at_first h t (ap (λ (x : HostState). x.pass.seen) made ∙ ap (λ (x : HostState). x.pass.seen) first)
     (omega arith) c.caller-second.ensures.caller)
 

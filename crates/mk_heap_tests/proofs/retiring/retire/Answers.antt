@@ -68,7 +68,8 @@ give-back-requires-in-Err-clause-enabled g c =
     let k = c.is_in_order-in-Err.ensures in
     double_may_give c.args.words.now c.args.number c.args.p c.args.home c.requires.pass c.requires.exists
     c.requires.register t.result.pass c.is_in_order.ensures.own t.ensures.takes t.ensures.fresh t.ensures.exact
-    t.ensures.tidy (in_turn t.result.pass t.result.op j.own j.turn j.history) j.before_over d.pass c.in-Err.ensures.double
+    t.ensures.tidy (in_turn t.result.pass t.result.op j.own j.turn j.history) j.before_over d.pass
+    c.in-Err.ensures.double
     (in_turn d.pass d.op k.own k.turn k.history)
 
 pub returns-in-Err : goal.returns-in-Err
@@ -79,7 +80,8 @@ returns-in-Err g c =
     let k = c.is_in_order-in-Err.ensures in
     double_back c.args.words.now c.args.number c.args.p c.args.home c.requires.pass c.requires.exists
     c.requires.register t.result.pass c.is_in_order.ensures.own t.ensures.takes t.ensures.fresh t.ensures.exact
-    t.ensures.tidy (in_turn t.result.pass t.result.op j.own j.turn j.history) j.before_over d.pass c.in-Err.ensures.double
+    t.ensures.tidy (in_turn t.result.pass t.result.op j.own j.turn j.history) j.before_over d.pass
+    c.in-Err.ensures.double
     (in_turn d.pass d.op k.own k.turn k.history)
     c.give-back-in-Err.result c.give-back-in-Err.ensures.acts.makes c.give-back-in-Err.ensures.rests
     c.is_in_order-in-Err-2.ensures.history
