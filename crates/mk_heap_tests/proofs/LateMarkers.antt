@@ -30,11 +30,11 @@ use Rattle.mk_caller.specs.States.{CallerState, at_home}
 use Rattle.mk_marker.specs.Markers.{IsOut, attends}
 use Rattle.mk_waiting.specs.Taking.{TakesTurn}
 use Rattle.mk_cycle.specs.BeginCycle.{BeginsCycle}
-use Rattle.mk_cycle.specs.EngineLaw.{IsAtPhase, IsFreeForCycle}
+use Rattle.mk_cycle.specs.EngineLaw.{IsFreeForCycle}
 use Rattle.mk_cycle.specs.Holding.{HoldsGates}
 use Rattle.mk_cycle.specs.TurnKeeps.{InTurn}
 use Rattle.mk_cycle.proofs.Allowed.{or_true, protocol}
-use Rattle.mk_cycle.proofs.HoldingSteps.{all_held_below, held_free, held_seat, held_table, hold_allowed, hold_holds}
+use Rattle.mk_cycle.proofs.HoldingSteps.{all_held_below, held_free, held_table, hold_allowed, hold_holds}
 use Rattle.mk_cycle.proofs.MayAct.{may_act}
 use Rattle.mk_heap.specs.Ending.{IsIdleTurn}
 use Rattle.mk_heap.specs.Hosts.{HostState, IsHost, first_host, pass_for, with_caller_made, with_joined}

@@ -26,7 +26,7 @@ use Rattle.mk_alloc.proofs.QuietTurns.{give_allowed}
 use Rattle.mk_alloc.proofs.TakenTurns.{callers, take_allowed, taken_phase}
 use Rattle.mk_heap_tests.specs.HeldObjects.{IsPassOfObjects}
 use Rattle.mk_heap_tests.specs.Passes.{IsPassFor}
-use Rattle.mk_heap_tests.proofs.HeldObjects.{double_keeps, freed_keeps, seen_only}
+use Rattle.mk_heap_tests.proofs.HeldObjects.{double_keeps, freed_keeps}
 use Rattle.mk_heap_tests.proofs.JoinedHosts.{alone_in}
 use Rattle.mk_heap_tests.proofs.NewTurns.{exists}
 

@@ -1,7 +1,6 @@
 use Rattle.mk_words.specs.States.{PassState}
 use Rattle.mk_cycle.specs.TurnKeeps.{InTurn}
 use Rattle.mk_cycle.proofs.Allowed.{in_turn}
-use Rattle.mk_heap.specs.Ending.{IsIdleTurn}
 use Rattle.mk_heap_tests.proofs.LateMarkers.{host_may, idle, looked_table, marking}
 use Rattle.mk_heap_tests.proofs.late_markers.begin.Goals as goal
 

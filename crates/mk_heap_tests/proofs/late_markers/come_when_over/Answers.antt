@@ -1,13 +1,8 @@
-use Rattle.std.proofs.Common.{◌≡◌, ◌∙◌, [], ◌∷◌, refl, sym, ap, subst, arith}
-use Rattle.mk_core.specs.declared.config.Config.{Config}
-use Rattle.mk_core.specs.declared.events.Seat.{Seat}
-use Rattle.mk_words.specs.States.{PassState, WordsState}
+use Rattle.std.proofs.Common.{◌≡◌, ◌∙◌, [], ◌∷◌, refl, sym, ap, subst}
+use Rattle.mk_words.specs.States.{PassState}
 use Rattle.mk_caller.specs.States.{CallerState}
-use Rattle.mk_marker.specs.Markers.{IsOut}
-use Rattle.mk_heap.specs.Hosts.{HostState}
-use Rattle.mk_heap_tests.specs.Passes.{HasJoinedOne, IsMarkerOut}
-use Rattle.mk_heap_tests.proofs.JoinedHosts.{all_are_joined, callers_are_joined}
-use Rattle.mk_heap_tests.proofs.LateMarkers.{attends_not, joined_one, marker_at_first, only_seat, still_out}
+use Rattle.mk_heap_tests.proofs.JoinedHosts.{callers_are_joined}
+use Rattle.mk_heap_tests.proofs.LateMarkers.{joined_one, only_seat}
 use Rattle.mk_heap_tests.proofs.late_markers.come_when_over.Goals as goal
 
 pub join_caller-requires-clause-alone : goal.join_caller-requires-clause-alone

@@ -1,9 +1,8 @@
 use Rattle.std.proofs.Common.{◌≡◌, ◌∙◌, true, sym, ap, subst}
 use Rattle.mk_core.specs.declared.events.Step.TheVariants as step
 use Rattle.mk_core.specs.Moments.{is_held}
-use Rattle.mk_words.specs.States.{PassState, TurnState, now_of}
+use Rattle.mk_words.specs.States.{TurnState, now_of}
 use Rattle.mk_words.specs.Steps.{IsEnabledTo}
-use Rattle.mk_cycle.specs.TurnKeeps.{InTurn}
 use Rattle.mk_cycle.proofs.Allowed.{in_turn}
 use Rattle.mk_heap_tests.proofs.LateMarkers.{all_held, may_hold, may_want, on_ok, stop_table}
 use Rattle.mk_heap_tests.proofs.late_markers.want_close.Goals as goal
