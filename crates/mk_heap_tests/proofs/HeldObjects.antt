@@ -1,5 +1,6 @@
 -- Callers that make and free objects keep to pointers to first words.
-use Rattle.std.proofs.Common.{◌≡◌, ◌≢◌, ℕ, ◌+◌, ◌*◌, ◌<◌, Bool, true, false, List, [], ◌∷◌, ◌++◌, length, refl, sym, ◌∙◌, ap, subst, inl, inr, arith}
+use Rattle.std.proofs.Common.{◌≡◌, ◌≢◌, ℕ, ◌+◌, ◌*◌, ◌<◌, Bool, true, false, List, [], ◌∷◌, length, refl, sym}
+use Rattle.std.proofs.Common.{◌∙◌, ap, subst, inl, inr, arith}
 use Rattle.std.specs.Prelude.{Result, Ok, Err, IfOk, IfErr, OnOk, OnErr}
 use Rattle.std.proofs.lemmas.Bool.{cases_eq}
 use Rattle.std.proofs.lemmas.List.{get_or-set_other}
@@ -19,7 +20,7 @@ use Rattle.mk_core.specs.Accesses.{caller_number}
 use Rattle.mk_core.specs.Decided.{flagged}
 use Rattle.mk_frames.proofs.OtherCalls.{never_continues}
 use Rattle.mk_words.specs.States.{PassState, WordsState}
-use Rattle.mk_caller.specs.States.{CallerState, IsIdleCaller, at_home, never_of, never_then, number_of, value_of}
+use Rattle.mk_caller.specs.States.{CallerState, IsIdleCaller, at_home, never_then, number_of, value_of}
 use Rattle.mk_caller.proofs.After.{set_same}
 use Rattle.mk_alloc.specs.TurnCalls.{CalledInTurn, FreesObject, IsAnsweredDouble, IsAnsweredFull}
 use Rattle.mk_alloc.specs.declared.making.Full.{Full}
@@ -188,6 +189,10 @@ pub may_then : (m b n d : ℕ) (s t : CallerState) → MayAllocate m b s → n �
 may_then m b n d s t may engine pages is ready =
     let at : MayAllocate m b t = may_at m b s t may (ap (λ (p : PassState). p.table) is) ready in
     record { ready = ready; ty = at.ty; engine = engine ∙ at.engine; pages = pages ∙ at.pages }
+
+-- A caller whose pass was just handed out is at home.
+pub home_at_first : (h : HostState) (s : CallerState) → s ≡ at_home (pass_for h (Caller h.callers)) → s ≡ at_home s.pass
+home_at_first h s is = is ∙ ap (λ (p : PassState). at_home p) (sym (ap (λ (x : CallerState). x.pass) is))
 
 -- A caller before its first call may make objects.
 pub may_at_first : (w : WordsState) (k made_for book : ℕ) (p : PassState) (s : CallerState) → IsFirstPass w k p

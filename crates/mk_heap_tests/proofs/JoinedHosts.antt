@@ -1,5 +1,6 @@
 -- The host's callers and markers before their first call, and behind their last.
-use Rattle.std.proofs.Common.{◌≡◌, ◌⊎◌, ℕ, zero, suc, ◌+◌, ◌*◌, ◌<◌, true, false, List, [], ◌∷◌, ◌++◌, refl, sym, ◌∙◌, ap, subst, inl, inr, arith}
+use Rattle.std.proofs.Common.{◌≡◌, ◌⊎◌, ℕ, zero, suc, ◌<◌, true, false, List, [], ◌∷◌, ◌++◌, refl, sym, ◌∙◌}
+use Rattle.std.proofs.Common.{ap, subst, inl, inr, arith}
 use Rattle.std.specs.Prelude.{not}
 use Rattle.std.proofs.lemmas.Bool.{not-true}
 use Rattle.mk_core.specs.declared.events.Event.{Event}
@@ -15,7 +16,8 @@ use Rattle.mk_words.proofs.Seats.{has_first, has_left, has_right}
 use Rattle.mk_caller.specs.States.{CallerState, IsIdleCaller, at_home}
 use Rattle.mk_heap.specs.Clients.{IsPassOf}
 use Rattle.mk_heap.specs.Ending.{CallersAreJoined}
-use Rattle.mk_heap.specs.Hosts.{HostState, AllAreJoined, IsHost, first_host, pass_for, with_caller_made, with_joined, with_seen}
+use Rattle.mk_heap.specs.Hosts.{HostState, AllAreJoined, IsHost, first_host, pass_for, with_caller_made, with_joined}
+use Rattle.mk_heap.specs.Hosts.{with_seen}
 use Rattle.mk_heap.proofs.HostsKept.{first_is_host}
 use Rattle.mk_heap_tests.proofs.Registers.{null_at_first}
 use Rattle.mk_heap_tests.specs.Passes.{HasJoinedOne, HoldsNull, IsFirstPass, IsPassFor}
@@ -156,21 +158,30 @@ free_at_first w h table seen =
     (subst (λ (es : List Event). host_has_turn w.config (left w.config es).now ≡ false) (sym seen)
     (first_is_host w).no_turn)
 
-pub split_at_first : (w : WordsState) (k : ℕ) (h p : PassState) → h.table ≡ w → h.seen ≡ [] → k < w.config.callers
-    → p ≡ record h { seat = Caller k; seats = Caller k ∷ [] } → IsPassFor w k p
-split_at_first w k h p table seen some is =
+pub first_split : (w : WordsState) (k : ℕ) (h p : PassState) → h.table ≡ w → h.seen ≡ [] → k < w.config.callers
+    → p ≡ record h { seat = Caller k; seats = Caller k ∷ [] } → IsFirstPass w k p
+first_split w k h p table seen some is =
     let host : IsHost (first_host w) = first_is_host w in
     let first : p ≡ pass_for (first_host w) (Caller k) =
     is
     ∙ ap (λ (v : WordsState). record { table = v; seat = Caller k; seats = Caller k ∷ []; seen = h.seen }) table
     ∙ ap (λ (es : List Event). record { table = w; seat = Caller k; seats = Caller k ∷ []; seen = es }) seen in
-    subst (λ (q : PassState). IsPassFor w k q) (sym first)
+    subst (λ (q : PassState). IsFirstPass w k q) (sym first)
     (record {
       table = refl;
       seat = refl;
       alone = refl;
-      idle = record { caller = k; seat = refl; rest = (host.rests (Caller k) (host.callers k (omega arith) some)).call };
+      seen = refl;
+      idle = record {
+        caller = k;
+        seat = refl;
+        rest = (host.rests (Caller k) (host.callers k (omega arith) some)).call;
+      };
     })
+
+pub split_at_first : (w : WordsState) (k : ℕ) (h p : PassState) → h.table ≡ w → h.seen ≡ [] → k < w.config.callers
+    → p ≡ record h { seat = Caller k; seats = Caller k ∷ [] } → IsPassFor w k p
+split_at_first w k h p table seen some is = first_for w k p (first_split w k h p table seen some is)
 
 -- the caller's pass, as its calls ask for it
 pub pass_of : (w : WordsState) (k : ℕ) (p : PassState) (s : CallerState) → IsPassFor w k p → k < w.config.callers

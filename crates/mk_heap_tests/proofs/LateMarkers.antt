@@ -1,6 +1,7 @@
 -- A marker that is out, or comes in, the host's turn and cycle beside it, and the caller that was joined.
 use Rattle.std.proofs.Common.{◌≡◌, ℕ, ◌<◌, ◌%◌, true, false, List, [], ◌∷◌, refl, sym, ◌∙◌, ap, subst, arith}
-use Rattle.std.specs.Prelude.{None, ◌==◌}
+use Rattle.std.specs.Prelude.{None, Result, Ok, Err, OnOk}
+use Rattle.std.specs.Result.{is_err}
 use Rattle.std.proofs.lemmas.Bool.{eq-eqb}
 use Rattle.mk_core.specs.declared.config.Config.{Config}
 use Rattle.mk_core.specs.declared.seats.Marker.{Marker as MarkerState}
@@ -29,14 +30,15 @@ use Rattle.mk_caller.specs.States.{CallerState, at_home}
 use Rattle.mk_marker.specs.Markers.{IsOut, attends}
 use Rattle.mk_waiting.specs.Taking.{TakesTurn}
 use Rattle.mk_cycle.specs.BeginCycle.{BeginsCycle}
-use Rattle.mk_cycle.specs.EngineLaw.{IsAtPhase, IsFreeForCycle}
+use Rattle.mk_cycle.specs.EngineLaw.{IsFreeForCycle}
 use Rattle.mk_cycle.specs.Holding.{HoldsGates}
 use Rattle.mk_cycle.specs.TurnKeeps.{InTurn}
 use Rattle.mk_cycle.proofs.Allowed.{or_true, protocol}
-use Rattle.mk_cycle.proofs.HoldingSteps.{all_held_below, held_free, held_seat, held_table, hold_allowed, hold_holds}
+use Rattle.mk_cycle.proofs.HoldingSteps.{all_held_below, held_free, held_table, hold_allowed, hold_holds}
 use Rattle.mk_cycle.proofs.MayAct.{may_act}
 use Rattle.mk_heap.specs.Ending.{IsIdleTurn}
-use Rattle.mk_heap.specs.Hosts.{HostState, IsHost, first_host, pass_for, with_caller_made, with_joined, with_marker_made}
+use Rattle.mk_heap.specs.Hosts.{HostState, IsHost, first_host, pass_for, with_caller_made, with_joined}
+use Rattle.mk_heap.specs.Hosts.{with_marker_made}
 use Rattle.mk_heap.proofs.BeforeOver.{taken_overs}
 use Rattle.mk_heap.proofs.HostsKept.{first_is_host}
 use Rattle.mk_heap.proofs.IdleTurns.{begun_free, fresh_free, look_keeps, looked_idle, none_held_kept, none_is_on}
@@ -81,7 +83,8 @@ marker_split w h m table seen is =
     ∙ ap (λ (es : List Event). record { table = w; seat = Marker 0; seats = Marker 0 ∷ []; seen = es }) seen)
 
 -- It is that one still where it has seen more.
-pub still_out : (w : WordsState) (m a q : PassState) → IsMarkerOut w m → a ≡ record m { seen = a.seen } → q ≡ a → IsOut q
+pub still_out : (w : WordsState) (m a q : PassState) → IsMarkerOut w m → a ≡ record m { seen = a.seen } → q ≡ a
+    → IsOut q
     → IsMarkerOut w q
 still_out w m a q first is_a is out =
     let on : q ≡ record m { seen = a.seen } = is ∙ is_a in
@@ -153,6 +156,10 @@ module _ (w : WordsState) (h p q : PassState) (host : IsHostsPass w h) (own : Ha
           gates = none_held_kept q r begins.pass begins.gates idle.gates;
         }
 
+pub on_ok : {A B : Type 0} (x : Result A B) (P : Type 0) → is_err x ≡ false → OnOk x P → P
+on_ok (Ok a) P is h = h
+on_ok (Err e) P is h = cc
+
 -- The stop of the one caller, in which the close is wanted.
 module _ (w : WordsState) (p : PassState) (m : IsMarking w p) (one : w.config.callers ≡ 1) (t : InTurn p) where
   one_caller : p.table.config.callers ≡ 1
@@ -162,30 +169,32 @@ module _ (w : WordsState) (p : PassState) (m : IsMarking w p) (one : w.config.ca
   there = let is = one_caller in omega arith
 
   pub may_hold : IsEnabledTo p (step.Hold 0)
-  may_hold = hold_allowed p t m.free 0 there (ap (λ (s : Seat). is_number_of s 0) m.seat) (none_is_held_at p 0 there m.gates)
+  may_hold = hold_allowed p t m.free 0 there (ap (λ (s : Seat). is_number_of s 0) m.seat)
+      (none_is_held_at p 0 there m.gates)
 
-  module _ (q : PassState) (u : InTurn q) (acts : Acts p (step.Hold 0) q) (held : is_held (now_of q).words 0 ≡ true) where
-    holds : HoldsGates p q
-    holds = hold_holds p q t m.free u 0 acts
+  module _ (q : PassState) (u : InTurn q) (acts : Acts p (step.Hold 0) q) (held : is_held (now_of q).words 0 ≡ true)
+    where
+      holds : HoldsGates p q
+      holds = hold_holds p q t m.free u 0 acts
 
-    free : IsFreeForCycle q
-    free = held_free p q holds m.free
+      free : IsFreeForCycle q
+      free = held_free p q holds m.free
 
-    pub stop_table : q.table ≡ w
-    stop_table = held_table p q w holds m.table
+      pub stop_table : q.table ≡ w
+      stop_table = held_table p q w holds m.table
 
-    pub all_held : others_are_held q.table.config.callers (now_of q).words q.seat ≡ true
-    all_held =
-        let count : q.table.config.callers ≡ 1 = ap (λ (v : WordsState). v.config.callers) stop_table ∙ one in
-        all_held_below q q.table.config.callers
-        (λ j lt. or_true (is_number_of q.seat j) (is_held (now_of q).words j)
-        (subst (λ (i : ℕ). is_held (now_of q).words i ≡ true) (sym (only_zero j q.table.config.callers count lt)) held))
+      pub all_held : others_are_held q.table.config.callers (now_of q).words q.seat ≡ true
+      all_held =
+          let count : q.table.config.callers ≡ 1 = ap (λ (v : WordsState). v.config.callers) stop_table ∙ one in
+          all_held_below q q.table.config.callers
+          (λ j lt. or_true (is_number_of q.seat j) (is_held (now_of q).words j)
+          (subst (λ (i : ℕ). is_held (now_of q).words i ≡ true) (sym (only_zero j q.table.config.callers count lt)) held))
 
-    pub may_want : IsEnabledTo q step.Want
-    may_want =
-        let phase : phase_of (now_of q).words ≡ 1 = ap (λ (s : Steady). s.phase) holds.keeps.steady ∙ m.phase in
-        may_act q step.Want (protocol q u free) u.holds free.decided refl refl all_held
-        (eq-eqb (phase_of (now_of q).words) 1 phase) refl
+      pub may_want : IsEnabledTo q step.Want
+      may_want =
+          let phase : phase_of (now_of q).words ≡ 1 = ap (λ (s : Steady). s.phase) holds.keeps.steady ∙ m.phase in
+          may_act q step.Want (protocol q u free) u.holds free.decided refl refl all_held
+          (eq-eqb (phase_of (now_of q).words) 1 phase) refl
 
 -- The host, behind its first marker and its first caller, which has joined the caller.
 pub joined_one : (w : WordsState) (f g h j : HostState) (p : PassState) → f ≡ first_host w → g ≡ with_marker_made f

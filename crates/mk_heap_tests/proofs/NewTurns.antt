@@ -7,7 +7,6 @@ use Rattle.mk_core.specs.declared.events.Answer.TheVariants as answer
 use Rattle.mk_core.specs.declared.events.Seat.{Seat}
 use Rattle.mk_core.specs.declared.events.Seat.TheVariants.{Caller}
 use Rattle.mk_core.specs.declared.events.Step.TheVariants as step
-use Rattle.mk_core.specs.declared.seats.Stage.TheVariants as stage
 use Rattle.mk_core.specs.Accesses.{caller_number}
 use Rattle.mk_core.specs.Calls.{at_rest, has_operands}
 use Rattle.mk_core.specs.Counts.{TalliesAreExact, TalliesAreTidy}
@@ -16,12 +15,12 @@ use Rattle.mk_words.specs.Seats.{CallersAreBeforeOver, Has}
 use Rattle.mk_words.specs.States.{PassState, WordsState, call_of}
 use Rattle.mk_words.specs.Steps.{IsEnabledTo, Makes}
 use Rattle.mk_words.specs.TurnSteps.{IsFresh}
-use Rattle.mk_caller.specs.States.{IsIdleCaller, number_of}
+use Rattle.mk_caller.specs.States.{number_of}
 use Rattle.mk_cycle.specs.TurnKeeps.{InTurn}
 use Rattle.mk_waiting.specs.Taking.{TakesTurn}
 use Rattle.mk_objects.specs.Placing.{IsPlaced, IsUnplaced}
 use Rattle.mk_alloc.specs.Rooms.{Seeks}
-use Rattle.mk_alloc.specs.Underway.{BeginsTurn, IsQuiet}
+use Rattle.mk_alloc.specs.Underway.{BeginsTurn}
 use Rattle.mk_alloc.proofs.CalledTurns.{taken_same}
 use Rattle.mk_alloc.proofs.NewTurns.{begun_quiet, begun_unplaced, operands_of}
 use Rattle.mk_alloc.proofs.SeekingTurns.{seeks_placed}
@@ -35,7 +34,7 @@ module _ (w : WordsState) (k : ℕ) (p : PassState) (is : IsPassFor w k p) where
   number : number_of p ≡ k
   number = ap caller_number is.seat
 
-  exists : k < w.config.callers → number_of p < p.table.config.callers
+  pub exists : k < w.config.callers → number_of p < p.table.config.callers
   exists few =
       subst (λ (v : WordsState). number_of p < v.config.callers) (sym is.table)
       (subst (λ (n : ℕ). n < w.config.callers) (sym number) few)

@@ -1,5 +1,5 @@
 -- Calls on registers that are null.
-use Rattle.std.proofs.Common.{◌≡◌, ◌≢◌, ℕ, ◌+◌, ◌*◌, ◌<◌, List, [], length, refl, sym, ◌∙◌, ap, subst, arith}
+use Rattle.std.proofs.Common.{◌≡◌, ◌≢◌, ℕ, ◌<◌, List, length, refl, sym, ◌∙◌, ap, subst, arith}
 use Rattle.std.specs.Prelude.{Bool, Option, Some, None, IfSome, Result, Ok, Err, IfOk, IfErr, OnOk, OnErr, slice_get}
 use Rattle.mk_never.specs.declared.operations.Op.{Op}
 use Rattle.mk_never.specs.declared.operations.Op.TheVariants as op
@@ -11,7 +11,6 @@ use Rattle.mk_never.specs.Admitted.{IsCaller, IsNumber, IsOfKind, Meets}
 use Rattle.mk_core.specs.declared.events.Answer.{Answer}
 use Rattle.mk_core.specs.declared.events.Answer.TheVariants as answer
 use Rattle.mk_core.specs.declared.events.Event.{Event}
-use Rattle.mk_core.specs.declared.events.Seat.TheVariants.{Caller}
 use Rattle.mk_core.specs.Accesses.{caller_number}
 use Rattle.mk_words.specs.States.{PassState}
 use Rattle.mk_caller.specs.Called.{Called, IsAnswered, Says}
@@ -84,7 +83,8 @@ later p q is same h =
     }
 
 pass_called : {p q : PassState} {o : Op} {a : Answer} → Called p o a q → q ≡ record p { seen = q.seen }
-pass_called {p} {q} c = c.is ∙ ap (λ (es : List Event). record p { seen = es }) (sym (ap (λ (r : PassState). r.seen) c.is))
+pass_called {p} {q} c = c.is
+    ∙ ap (λ (es : List Event). record p { seen = es }) (sym (ap (λ (r : PassState). r.seen) c.is))
 
 pass_held : {p q : PassState} {o : Op} → FindsGateHeld p o q → q ≡ record p { seen = q.seen }
 pass_held {p} {q} f =
@@ -158,7 +158,8 @@ sets_none (Some i) is e = cc
 
 pub stays_moved : {T E : Type 0} {p q : PassState} (r : Result T E) → OnOk r (Called p (op.Move 0 1) answer.Done q)
     → OnErr r (FindsGateHeld p (op.Move 0 1) q) → HoldsNull p → StaysNull p q
-stays_moved {T} {E} {p} {q} r called held h = stays_done p q (op.Move 0 1) answer.Done r called held (sets_another 0 (λ e. absurd (omega arith))) h
+stays_moved {T} {E} {p} {q} r called held h =
+    stays_done p q (op.Move 0 1) answer.Done r called held (sets_another 0 (λ e. absurd (omega arith))) h
 
 pub stays_stored : {T E : Type 0} {p q : PassState} (r : Result T E)
     → OnOk r (Called p (op.SetGlobal 0 1) answer.Done q) → OnErr r (FindsGateHeld p (op.SetGlobal 0 1) q)
@@ -168,7 +169,8 @@ stays_stored {T} {E} {p} {q} r called held h =
 
 pub stays_loaded : {T E : Type 0} {p q : PassState} (r : Result T E) → OnOk r (IsAnswered p (op.GetGlobal 2 0) q)
     → OnErr r (FindsGateHeld p (op.GetGlobal 2 0) q) → HoldsNull p → StaysNull p q
-stays_loaded {T} {E} {p} {q} r answered held h = stays_answered p q (op.GetGlobal 2 0) r answered held (sets_another 2 (λ e. absurd (omega arith))) h
+stays_loaded {T} {E} {p} {q} r answered held h =
+    stays_answered p q (op.GetGlobal 2 0) r answered held (sets_another 2 (λ e. absurd (omega arith))) h
 
 pub stays_compared : {E : Type 0} {p q : PassState} (r : Result Bool E) → IfOk r (λ b. Says p (op.Same 1 2) b q)
     → OnErr r (FindsGateHeld p (op.Same 1 2) q) → HoldsNull p → StaysNull p q

@@ -1,6 +1,6 @@
 -- A caller's turn for a Free, from its `take` to its `give`, with no cycle.
-use Rattle.std.proofs.Common.{◌≡◌, ◌×◌, ℕ, ◌<◌, false, refl, ◌∙◌, ap}
-use Rattle.std.specs.Prelude.{Some}
+use Rattle.std.proofs.Common.{◌≡◌, ℕ, ◌<◌, Bool, true, false, refl, ◌∙◌, ap}
+use Rattle.std.specs.Prelude.{◌&&◌, Some}
 use Rattle.std.proofs.lemmas.Bool.{lt-ltb}
 use Rattle.mk_never.specs.declared.operations.Op.TheVariants as op
 use Rattle.mk_core.specs.declared.events.Answer.{Answer}
@@ -26,14 +26,15 @@ use Rattle.mk_alloc.proofs.QuietTurns.{give_allowed}
 use Rattle.mk_alloc.proofs.TakenTurns.{callers, take_allowed, taken_phase}
 use Rattle.mk_heap_tests.specs.HeldObjects.{IsPassOfObjects}
 use Rattle.mk_heap_tests.specs.Passes.{IsPassFor}
-use Rattle.mk_heap_tests.proofs.HeldObjects.{double_keeps, freed_keeps, seen_only}
+use Rattle.mk_heap_tests.proofs.HeldObjects.{double_keeps, freed_keeps}
 use Rattle.mk_heap_tests.proofs.JoinedHosts.{alone_in}
 use Rattle.mk_heap_tests.proofs.NewTurns.{exists}
 
 module _ (w : WordsState) (k r : ℕ) (p : PassState) (is : IsPassOfObjects w k p) (few : k < w.config.callers)
     (small : r < 8) where
   pub may_retire : IsEnabledTo p (step.Take (Some (op.Free r)))
-  may_retire = take_allowed p (op.Free r) is.pass.idle (exists w k p is.pass few) refl (lt-ltb r 8 small)
+  may_retire = take_allowed p (op.Free r) is.pass.idle (exists w k p is.pass few) refl
+      (ap (λ (b : Bool). true && b && true && true && true && true) (lt-ltb r 8 small))
 
   module _ (q : PassState) (own : Has p.seats p.seat) (takes : TakesTurn p (Some (op.Free r)) q)
       (fresh : IsFresh q (Some (op.Free r))) (exact : TalliesAreExact q.table.config q.seen)

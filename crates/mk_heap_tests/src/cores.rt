@@ -1,4 +1,5 @@
-//! A schedule that is stepped on a core: what was freed behind a cycle's `begin` stays, and the next cycle gives it back.
+//! A schedule that is stepped on a core: what was freed behind a cycle's `begin` stays, and the next cycle gives it
+//! back.
 
 use mk_core::{Answer, Config, Core, Event, GlobalTable, NotEnabled, Seat, Step, Tally};
 use mk_never::{Kind, Op, TypeTable};

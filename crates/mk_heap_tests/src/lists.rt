@@ -7,8 +7,8 @@ use std::sync::atomic::{AtomicBool, Ordering};
 use std::test::Fail;
 use std::thread::yield_now;
 
-/// Two scripts, each with a list of 1,000 objects. `a` frees others until a cycle is on. Then each walks along its list and
-/// stores each pointer again, and at last adds up the numbers from 0 to 999.
+/// Two scripts, each with a list of 1,000 objects. `a` frees others until a cycle is on. Then each walks along its list
+/// and stores each pointer again, and at last adds up the numbers from 0 to 999.
 const LISTS: &str = "\
 heap 200 200/type N n p:N/type G n*32/\
     script a/ptr h N/ptr x N/ptr y N/ptr g G/num n/num one/num sum/const one 1/\

@@ -10,10 +10,10 @@ use std::sync::Wait;
 use std::test::Fail;
 use std::thread::Threads;
 
-/// A program, with `/` for a newline, and behind ` -> ` what it prints. They are: a heap that is full until an object isn't
-/// reached any more; a freed run whose pages are kept while a pointer leads there; a number in an object without pointers
-/// that would be an address; the same beside pointers, with the numbers below, at and behind both ends of the cell and of
-/// the heap; a ring of two freed objects; and an object that an interior pointer keeps.
+/// A program, with `/` for a newline, and behind ` -> ` what it prints. They are: a heap that is full until an object
+/// isn't reached any more; a freed run whose pages are kept while a pointer leads there; a number in an object without
+/// pointers that would be an address; the same beside pointers, with the numbers below, at and behind both ends of the
+/// cell and of the heap; a ring of two freed objects; and an object that an interior pointer keeps.
 const ROWS: &str = "\
 heap 1 1/type A n*32/script s/ptr p A/ptr q A/ptr r A/num n/new p A/new q A/free p/free q/new r A/clear p/new r A/\
     show r/same n r q/print n/ -> script s/12: full/ptr/0/
@@ -21,16 +21,16 @@ heap 4 2/type B n*65/script s/ptr p B/ptr q B/ptr r B/num n/new p B/free p/getn 
     new r B/clear p/new r B/show r/ -> script s/10: fault/0/ptr/15: full/ptr/
 heap 1 1/type A n*32/script s/ptr p A/ptr q A/ptr r A/num n/new p A/new q A/const n 65536/setn q 0 n/free p/clear p/\
     new r A/show r/ -> script s/ptr/
-heap 1 1/type A p:A n*31/script s/ptr p A/ptr q A/ptr r A/num n/new p A/new q A/const n 65535/setn q 1 n/free p/clear p/\
-    new r A/show r/ -> script s/ptr/
-heap 1 1/type A p:A n*31/script s/ptr p A/ptr q A/ptr r A/num n/new p A/new q A/const n 65536/setn q 1 n/free p/clear p/\
-    new r A/show r/ -> script s/14: full/null/
-heap 1 1/type A p:A n*31/script s/ptr p A/ptr q A/ptr r A/num n/new p A/new q A/const n 65791/setn q 1 n/free p/clear p/\
-    new r A/show r/ -> script s/14: full/null/
-heap 1 1/type A p:A n*31/script s/ptr p A/ptr q A/ptr r A/num n/new p A/new q A/const n 65792/setn q 1 n/free p/clear p/\
-    new r A/show r/ -> script s/ptr/
-heap 1 1/type A p:A n*31/script s/ptr p A/ptr q A/ptr r A/num n/new p A/new q A/const n 66048/setn q 1 n/free p/clear p/\
-    new r A/show r/ -> script s/ptr/
+heap 1 1/type A p:A n*31/script s/ptr p A/ptr q A/ptr r A/num n/new p A/new q A/const n 65535/setn q 1 n/free p/\
+    clear p/new r A/show r/ -> script s/ptr/
+heap 1 1/type A p:A n*31/script s/ptr p A/ptr q A/ptr r A/num n/new p A/new q A/const n 65536/setn q 1 n/free p/\
+    clear p/new r A/show r/ -> script s/14: full/null/
+heap 1 1/type A p:A n*31/script s/ptr p A/ptr q A/ptr r A/num n/new p A/new q A/const n 65791/setn q 1 n/free p/\
+    clear p/new r A/show r/ -> script s/14: full/null/
+heap 1 1/type A p:A n*31/script s/ptr p A/ptr q A/ptr r A/num n/new p A/new q A/const n 65792/setn q 1 n/free p/\
+    clear p/new r A/show r/ -> script s/ptr/
+heap 1 1/type A p:A n*31/script s/ptr p A/ptr q A/ptr r A/num n/new p A/new q A/const n 66048/setn q 1 n/free p/\
+    clear p/new r A/show r/ -> script s/ptr/
 heap 1 1/type A p:A n*31/script s/ptr p A/ptr q A/new p A/new q A/setp p 0 q/setp q 0 p/free p/free q/clear p/clear q/\
     new p A/new q A/show p/show q/ -> script s/ptr/ptr/
 heap 1 1/type A n*32/script s/ptr p A/ptr i A+31/ptr q A/ptr r A/new p A/new q A/lea i p 31/free p/clear p/new r A/\

@@ -20,7 +20,8 @@ make_both-one-requires-clause-second g c κs within =
     c.caller.ensures.host c.caller-2.ensures.caller c.finish-second.ensures.pass c.finish-second.ensures.idle
 
 pub make_both-one-requires-clause-two : goal.make_both-one-requires-clause-two
-make_both-one-requires-clause-two g c κs within = ap (λ (d : Config). d.callers) c.in_ok-heap.ensures.config ∙ c.requires.two
+make_both-one-requires-clause-two g c κs within = ap (λ (d : Config). d.callers) c.in_ok-heap.ensures.config
+    ∙ c.requires.two
 
 pub join_caller-requires-clause-alone : goal.join_caller-requires-clause-alone
 join_caller-requires-clause-alone g c = alone_in c.make_both-one.ensures.second

@@ -1,14 +1,10 @@
-use Rattle.std.proofs.Common.{◌≡◌, ◌<◌, ◌∙◌, true, false, refl, sym, ap, subst, arith}
-use Rattle.std.specs.Prelude.{not}
-use Rattle.mk_core.specs.declared.config.Config.{Config}
+use Rattle.std.proofs.Common.{◌≡◌, ◌<◌, ◌∙◌, sym, ap, subst, arith}
 use Rattle.mk_core.specs.declared.events.Seat.{Seat}
 use Rattle.mk_core.specs.declared.events.Seat.TheVariants.{Host}
-use Rattle.mk_core.specs.Moments.{is_held, is_number_of}
-use Rattle.mk_words.specs.States.{PassState, WordsState, now_of}
-use Rattle.mk_caller.specs.States.{CallerState}
+use Rattle.mk_core.specs.Moments.{is_number_of}
+use Rattle.mk_words.specs.States.{PassState, WordsState}
 use Rattle.mk_cycle.proofs.Allowed.{in_turn}
 use Rattle.mk_cycle.proofs.HoldingSteps.{hold_allowed}
-use Rattle.mk_heap.specs.Clients.{IsPassOf}
 use Rattle.mk_heap.proofs.ClientSteps.{pass_of_later}
 use Rattle.mk_heap.proofs.IdleTurns.{fresh_free}
 use Rattle.mk_heap_tests.proofs.JoinedHosts.{none_is_held_at, pass_of}

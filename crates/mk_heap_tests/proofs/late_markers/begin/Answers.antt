@@ -1,7 +1,6 @@
 use Rattle.mk_words.specs.States.{PassState}
 use Rattle.mk_cycle.specs.TurnKeeps.{InTurn}
 use Rattle.mk_cycle.proofs.Allowed.{in_turn}
-use Rattle.mk_heap.specs.Ending.{IsIdleTurn}
 use Rattle.mk_heap_tests.proofs.LateMarkers.{host_may, idle, looked_table, marking}
 use Rattle.mk_heap_tests.proofs.late_markers.begin.Goals as goal
 
@@ -9,7 +8,7 @@ pub take_turn-turn-requires-clause-enabled : goal.take_turn-turn-requires-clause
 take_turn-turn-requires-clause-enabled g c = host_may c.args.words.now c.args.host c.requires.host
 
 pub begin_cycle-requires-clause-one_table : goal.begin_cycle-requires-clause-one_table
-begin_cycle-requires-clause-one_table g c =
+begin_cycle-requires-clause-one_table g c κs within =
     let t = c.take_turn-turn in
     let o = c.is_in_order-2.ensures in
     let p : PassState = t.result.pass in
@@ -20,7 +19,7 @@ begin_cycle-requires-clause-one_table g c =
     c.look-found.ensures.acts c.is_in_order-3.ensures.history
 
 pub begin_cycle-requires-clause-phase : goal.begin_cycle-requires-clause-phase
-begin_cycle-requires-clause-phase g c =
+begin_cycle-requires-clause-phase g c κs within =
     let t = c.take_turn-turn in
     let o = c.is_in_order-2.ensures in
     let p : PassState = t.result.pass in
@@ -31,7 +30,7 @@ begin_cycle-requires-clause-phase g c =
     c.look-found.ensures.acts c.is_in_order-3.ensures.history c.if-found-eq1.false).phase
 
 pub begin_cycle-requires-clause-free : goal.begin_cycle-requires-clause-free
-begin_cycle-requires-clause-free g c =
+begin_cycle-requires-clause-free g c κs within =
     let t = c.take_turn-turn in
     let o = c.is_in_order-2.ensures in
     let p : PassState = t.result.pass in

@@ -1,10 +1,8 @@
-use Rattle.std.proofs.Common.{◌≡◌, ◌<◌, ◌+◌, ◌∙◌, ℕ, [], ◌∷◌, length, refl, sym, ap, subst, arith}
+use Rattle.std.proofs.Common.{◌≡◌, ◌<◌, ◌+◌, ◌∙◌, [], ◌∷◌, length, sym, ap, subst, arith}
 use Rattle.mk_core.specs.declared.config.Config.{Config}
 use Rattle.mk_words.specs.States.{PassState, WordsState}
 use Rattle.mk_caller.specs.States.{CallerState}
 use Rattle.mk_heap.specs.Hosts.{HostState}
-use Rattle.mk_heap_tests.specs.HeldObjects.{IsReady}
-use Rattle.mk_heap_tests.proofs.JoinedHosts.{two_are_joined}
 use Rattle.mk_heap_tests.proofs.HeldObjects.{is_alone, ready_at_first}
 use Rattle.mk_heap_tests.proofs.objects.fill_a_page.Goals as goal
 

@@ -28,7 +28,8 @@ returns-clause-may g c =
     may_then (made_for c.args.bench.now.engine) (length c.args.bench.now.book) (made_for f.new.bench.engine)
     (length f.new.bench.book) s f.new.caller c.requires.may f.ensures.made_for f.ensures.book
     (same_free g.E.Engine.on c.args.p s f.new.caller f.result f.ensures.freed f.ensures.double)
-    (ready_free g.E.Engine.on c.args.p s f.new.caller f.result c.requires.may.ready f.ensures.home f.ensures.freed f.ensures.double)
+    (ready_free g.E.Engine.on c.args.p s f.new.caller f.result c.requires.may.ready f.ensures.home f.ensures.freed
+    f.ensures.double)
 
 pub returns-clause-same : goal.returns-clause-same
 returns-clause-same g c =

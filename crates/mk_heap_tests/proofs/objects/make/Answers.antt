@@ -28,7 +28,8 @@ returns-clause-may g c =
     may_then (made_for c.args.bench.now.engine) (length c.args.bench.now.book) (made_for n.new.bench.engine)
     (length n.new.bench.book) s n.new.caller c.requires.may n.ensures.made_for n.ensures.book
     (same_new g.E.Engine.on c.args.d 0 s n.new.caller n.result n.ensures.made n.ensures.full)
-    (ready_new g.E.Engine.on c.args.d 0 s n.new.caller n.result c.requires.may.ready c.requires.register n.ensures.home n.ensures.made
+    (ready_new g.E.Engine.on c.args.d 0 s n.new.caller n.result c.requires.may.ready c.requires.register n.ensures.home
+    n.ensures.made
     n.ensures.full)
 
 pub returns-clause-same : goal.returns-clause-same

@@ -1,7 +1,8 @@
-use Rattle.mk_words.specs.States.{PassState}
+use Rattle.std.proofs.Common.{subst}
 use Rattle.mk_cycle.proofs.Allowed.{in_turn}
-use Rattle.mk_heap_tests.proofs.RetiringTurns.{double, double_back, double_may_give, double_table, freed, freed_back}
-use Rattle.mk_heap_tests.proofs.RetiringTurns.{freed_may_give, freed_table, is_unloaded, may_retire, phase, taken_table}
+use Rattle.mk_objects.specs.Retired.{Retires}
+use Rattle.mk_heap_tests.proofs.RetiringTurns.{double_back, double_may_give, freed_back, freed_may_give, is_unloaded}
+use Rattle.mk_heap_tests.proofs.RetiringTurns.{may_retire, phase, taken_table}
 use Rattle.mk_heap_tests.proofs.retiring.retire.Goals as goal
 
 pub take_turn-turn-requires-clause-enabled : goal.take_turn-turn-requires-clause-enabled
@@ -10,25 +11,77 @@ take_turn-turn-requires-clause-enabled g c =
     c.requires.register
 
 pub retire_object-requires-clause-one_table : goal.retire_object-requires-clause-one_table
-retire_object-requires-clause-one_table g c =
+retire_object-requires-clause-one_table g c κs within =
     let t = c.take_turn-turn in
     let j = c.is_in_order-2.ensures in
-    taken_table c.args.words.now c.args.number c.args.p c.args.home c.requires.pass c.requires.exists c.requires.register
-    t.result.pass c.is_in_order.ensures.own t.ensures.takes t.ensures.fresh t.ensures.exact t.ensures.tidy
-    (in_turn t.result.pass t.result.op j.own j.turn j.history) j.before_over
+    taken_table c.args.words.now c.args.number c.args.p c.args.home c.requires.pass c.requires.exists
+    c.requires.register t.result.pass c.is_in_order.ensures.own t.ensures.takes t.ensures.fresh t.ensures.exact
+    t.ensures.tidy (in_turn t.result.pass t.result.op j.own j.turn j.history) j.before_over
 
 pub retire_object-requires-clause-unloaded : goal.retire_object-requires-clause-unloaded
-retire_object-requires-clause-unloaded g c =
+retire_object-requires-clause-unloaded g c κs within =
     let t = c.take_turn-turn in
     let j = c.is_in_order-2.ensures in
-    is_unloaded c.args.words.now c.args.number c.args.p c.args.home c.requires.pass c.requires.exists c.requires.register
-    t.result.pass c.is_in_order.ensures.own t.ensures.takes t.ensures.fresh t.ensures.exact t.ensures.tidy
-    (in_turn t.result.pass t.result.op j.own j.turn j.history) j.before_over
+    is_unloaded c.args.words.now c.args.number c.args.p c.args.home c.requires.pass c.requires.exists
+    c.requires.register t.result.pass c.is_in_order.ensures.own t.ensures.takes t.ensures.fresh t.ensures.exact
+    t.ensures.tidy (in_turn t.result.pass t.result.op j.own j.turn j.history) j.before_over
 
 pub retire_object-requires-clause-phase : goal.retire_object-requires-clause-phase
-retire_object-requires-clause-phase g c =
+retire_object-requires-clause-phase g c κs within =
     let t = c.take_turn-turn in
     let j = c.is_in_order-2.ensures in
-    phase c.args.words.now c.args.number c.args.p c.args.home c.requires.pass c.requires.exists c.requires.register
-    t.result.pass c.is_in_order.ensures.own t.ensures.takes t.ensures.fresh t.ensures.exact t.ensures.tidy
-    (in_turn t.result.pass t.result.op j.own j.turn j.history) j.before_over
+    phase c.args.words.now c.args.number c.args.p c.args.home c.requires.pass c.requires.exists
+    c.requires.register t.result.pass c.is_in_order.ensures.own t.ensures.takes t.ensures.fresh t.ensures.exact
+    t.ensures.tidy (in_turn t.result.pass t.result.op j.own j.turn j.history) j.before_over
+
+pub give-back-requires-clause-enabled : goal.give-back-requires-clause-enabled
+give-back-requires-clause-enabled g c =
+    let t = c.take_turn-turn in
+    let j = c.is_in_order-2.ensures in
+    let d = c.retire_object.new.turn in
+    let k = c.is_in_order-in-Ok.ensures in
+    freed_may_give c.args.words.now c.args.number c.args.p c.args.home c.requires.pass c.requires.exists
+    c.requires.register t.result.pass c.is_in_order.ensures.own t.ensures.takes t.ensures.fresh t.ensures.exact
+    t.ensures.tidy (in_turn t.result.pass t.result.op j.own j.turn j.history) j.before_over d.pass
+    (subst (λ b. Retires t.result.pass c.args.p b d.pass) c.if-freed.false c.in-Ok.ensures.freed)
+    (in_turn d.pass d.op k.own k.turn k.history)
+
+pub returns-else-freed : goal.returns-else-freed
+returns-else-freed g c =
+    let t = c.take_turn-turn in
+    let j = c.is_in_order-2.ensures in
+    let d = c.retire_object.new.turn in
+    let k = c.is_in_order-in-Ok.ensures in
+    freed_back c.args.words.now c.args.number c.args.p c.args.home c.requires.pass c.requires.exists
+    c.requires.register t.result.pass c.is_in_order.ensures.own t.ensures.takes t.ensures.fresh t.ensures.exact
+    t.ensures.tidy (in_turn t.result.pass t.result.op j.own j.turn j.history) j.before_over d.pass
+    (subst (λ b. Retires t.result.pass c.args.p b d.pass) c.if-freed.false c.in-Ok.ensures.freed)
+    (in_turn d.pass d.op k.own k.turn k.history)
+    c.give-back.result c.give-back.ensures.acts.makes c.give-back.ensures.rests
+    c.is_in_order-in-Ok-2.ensures.history
+
+pub give-back-requires-in-Err-clause-enabled : goal.give-back-requires-in-Err-clause-enabled
+give-back-requires-in-Err-clause-enabled g c =
+    let t = c.take_turn-turn in
+    let j = c.is_in_order-2.ensures in
+    let d = c.retire_object.new.turn in
+    let k = c.is_in_order-in-Err.ensures in
+    double_may_give c.args.words.now c.args.number c.args.p c.args.home c.requires.pass c.requires.exists
+    c.requires.register t.result.pass c.is_in_order.ensures.own t.ensures.takes t.ensures.fresh t.ensures.exact
+    t.ensures.tidy (in_turn t.result.pass t.result.op j.own j.turn j.history) j.before_over d.pass
+    c.in-Err.ensures.double
+    (in_turn d.pass d.op k.own k.turn k.history)
+
+pub returns-in-Err : goal.returns-in-Err
+returns-in-Err g c =
+    let t = c.take_turn-turn in
+    let j = c.is_in_order-2.ensures in
+    let d = c.retire_object.new.turn in
+    let k = c.is_in_order-in-Err.ensures in
+    double_back c.args.words.now c.args.number c.args.p c.args.home c.requires.pass c.requires.exists
+    c.requires.register t.result.pass c.is_in_order.ensures.own t.ensures.takes t.ensures.fresh t.ensures.exact
+    t.ensures.tidy (in_turn t.result.pass t.result.op j.own j.turn j.history) j.before_over d.pass
+    c.in-Err.ensures.double
+    (in_turn d.pass d.op k.own k.turn k.history)
+    c.give-back-in-Err.result c.give-back-in-Err.ensures.acts.makes c.give-back-in-Err.ensures.rests
+    c.is_in_order-in-Err-2.ensures.history

@@ -26,5 +26,6 @@ holder_told-requires-clause-first c =
 
 pub holder_told-requires-clause-two : goal.holder_told-requires-clause-two
 holder_told-requires-clause-two c =
-    ap (λ (v : WordsState). v.config.callers) c.words.ensures ∙ ap (λ (d : Config). d.callers) c.in_ok-heap.ensures.config
+    ap (λ (v : WordsState). v.config.callers) c.words.ensures
+    ∙ ap (λ (d : Config). d.callers) c.in_ok-heap.ensures.config
     ∙ c.requires.two

@@ -1,5 +1,4 @@
-use Rattle.std.proofs.Common.{refl, ◌∙◌}
-use Rattle.mk_words.specs.States.{PassState, WordsState}
+use Rattle.std.proofs.Common.{refl}
 use Rattle.mk_cycle.proofs.Allowed.{in_turn}
 use Rattle.mk_alloc.proofs.QuietTurns.{give_allowed}
 use Rattle.mk_heap_tests.proofs.NewTurns.{may_make, passed_back, placed_table, seeks, taken_table, unplaced}
@@ -33,7 +32,8 @@ give-requires-clause-one_table g c =
     let t = c.take_turn-turn in
     let j = c.is_in_order-2.ensures in
     let k = c.is_in_order-3.ensures in
-    placed_table c.args.words.now 0 c.args.home c.requires.pass t.result.pass c.requires.exists c.is_in_order.ensures.own
+    placed_table c.args.words.now 0 c.args.home c.requires.pass t.result.pass c.requires.exists
+    c.is_in_order.ensures.own
     t.ensures.takes t.ensures.fresh t.ensures.exact t.ensures.tidy
     (in_turn t.result.pass t.result.op j.own j.turn j.history) j.before_over
     c.place_object-placed.new.turn.pass (c.place_object-placed.ensures.placed c.if-not-placed.false) k.history
@@ -44,7 +44,8 @@ give-requires-clause-enabled g c =
     let j = c.is_in_order-2.ensures in
     let k = c.is_in_order-3.ensures in
     let r = c.place_object-placed.new.turn in
-    let s = seeks c.args.words.now 0 c.args.home c.requires.pass t.result.pass c.requires.exists c.is_in_order.ensures.own
+    let s = seeks c.args.words.now 0 c.args.home c.requires.pass t.result.pass c.requires.exists
+    c.is_in_order.ensures.own
     t.ensures.takes t.ensures.fresh t.ensures.exact t.ensures.tidy
     (in_turn t.result.pass t.result.op j.own j.turn j.history) j.before_over
     c.place_object-placed.new.turn.pass (c.place_object-placed.ensures.placed c.if-not-placed.false) k.history in
@@ -55,7 +56,8 @@ give-requires-clause-tidy g c =
     let t = c.take_turn-turn in
     let j = c.is_in_order-2.ensures in
     let k = c.is_in_order-3.ensures in
-    let s = seeks c.args.words.now 0 c.args.home c.requires.pass t.result.pass c.requires.exists c.is_in_order.ensures.own
+    let s = seeks c.args.words.now 0 c.args.home c.requires.pass t.result.pass c.requires.exists
+    c.is_in_order.ensures.own
     t.ensures.takes t.ensures.fresh t.ensures.exact t.ensures.tidy
     (in_turn t.result.pass t.result.op j.own j.turn j.history) j.before_over
     c.place_object-placed.new.turn.pass (c.place_object-placed.ensures.placed c.if-not-placed.false) k.history in
@@ -69,4 +71,5 @@ returns-clause-pass g c =
     passed_back c.args.words.now 0 c.args.home c.requires.pass t.result.pass c.requires.exists c.is_in_order.ensures.own
     t.ensures.takes t.ensures.fresh t.ensures.exact t.ensures.tidy
     (in_turn t.result.pass t.result.op j.own j.turn j.history) j.before_over
-    c.place_object-placed.new.turn.pass (c.place_object-placed.ensures.placed c.if-not-placed.false) k.history c.give.result c.give.ensures.acts.makes c.give.ensures.rests
+    c.place_object-placed.new.turn.pass (c.place_object-placed.ensures.placed c.if-not-placed.false) k.history
+    c.give.result c.give.ensures.acts.makes c.give.ensures.rests
