@@ -27,10 +27,10 @@ use Rattle.mk_core.proofs.ChangedAllocations.{changed_at, fresh_leaves, none_fre
 use Rattle.mk_core.proofs.HistoryParts.{earlier_part_is_history, left_in_parts, never_in_parts}
 use Rattle.mk_images.proofs.Kept.{exists_placed}
 use Rattle.mk_invariant.proofs.Theorems.{reach_is_kept}
-use Rattle.mk_trace.specs.Freeing.{number_freed, unfreed}
+use Rattle.mk_trace.specs.Freeing.{AreLater, FlagsBehind, number_freed, unfreed}
 use Rattle.mk_trace.proofs.FreedFlags.{is_freed_behind, is_freed_there, others_kept, points_there, twins, was_unfreed}
 use Rattle.mk_trace.proofs.FreedSteps.{flagged_free, freeing_decides, is_free, is_free_call}
-use Rattle.mk_trace.proofs.LaterFlags.{AreLater, later_left}
+use Rattle.mk_trace.proofs.LaterFlags.{later_left}
 
 -- Events that decide no Free free none.
 
@@ -74,17 +74,7 @@ events_free_none c w (e ∷ es) none i =
     events_free_none c (world_behind c w e) es parts.1 i
     ∙ step_frees_none c w.now e.seat e.step w.allocations parts.0 i
 
--- Behind a call the flags are as before, but for the one that it frees.
-pub record FreesFlag (xs ys : List PlacedAllocation) (i : ℕ) : Type 0 where
-  pub exists : i < length xs
-  pub unreleased : (placed_at xs i).released ≡ false
-  pub before : (placed_at xs i).freed ≡ false
-  pub behind : (placed_at ys i).freed ≡ true
-
-pub record FlagsBehind (xs ys : List PlacedAllocation) (x : Option ℕ) : Type 0 where
-  pub later : AreLater xs ys
-  pub kept : (i : ℕ) → (x ≡ Some i → ⊥) → (placed_at ys i).freed ≡ (placed_at xs i).freed
-  pub frees : (i : ℕ) → x ≡ Some i → FreesFlag xs ys i
+-- One call.
 
 module _ (c : Config) (es more : List Event) (whole : IsHistory c (es ++ more)) where
   abbrev xs : List PlacedAllocation

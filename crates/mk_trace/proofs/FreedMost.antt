@@ -38,7 +38,8 @@ use Rattle.mk_trace.proofs.FreedSteps.{rises_without_release}
 use Rattle.mk_trace.proofs.FreedSums.{freed_adds}
 use Rattle.mk_trace.proofs.FreedWords.{weighed}
 use Rattle.mk_trace.proofs.GreatestParts.{from-append, last_below}
-use Rattle.mk_trace.proofs.LaterFlags.{AreLater, SameReleased, later_left, same_released}
+use Rattle.mk_trace.specs.Freeing.{AreLater}
+use Rattle.mk_trace.proofs.LaterFlags.{SameReleased, later_left, same_released}
 
 -- An event frees, before any is released.
 pub record FreesBefore (c : Config) (es more : List Event) : Type 0 where

@@ -17,7 +17,8 @@ use Rattle.mk_trace.specs.Freeing.{unfreed, words_of_some}
 use Rattle.mk_trace.proofs.FreedFlags.{as_many_behind, is_freed_behind, is_freed_there, others_kept, points_there}
 use Rattle.mk_trace.proofs.FreedFlags.{twins, was_unfreed}
 use Rattle.mk_trace.proofs.FreedWords.{part, same_sums, sums_but_one, weighed}
-use Rattle.mk_trace.proofs.LaterFlags.{AreLater, SameReleased}
+use Rattle.mk_trace.specs.Freeing.{AreLater}
+use Rattle.mk_trace.proofs.LaterFlags.{SameReleased}
 
 -- What an allocation adds follows from its flags and its type.
 pub part_by : (weight : ℕ → ℕ) (a b : PlacedAllocation) → a.freed ≡ b.freed → a.released ≡ b.released → a.ty ≡ b.ty

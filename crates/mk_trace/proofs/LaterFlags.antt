@@ -23,12 +23,7 @@ use Rattle.mk_geom.specs.Addresses.{address_of}
 use Rattle.mk_core.proofs.ChangedAllocations.{LeavesPlaces, changed_at, earlier_at, freed_leaves, freed_released}
 use Rattle.mk_core.proofs.ChangedAllocations.{fresh_leaves, released_leaves}
 use Rattle.mk_alloc.specs.TurnCycles.{has_step}
-
-pub record AreLater (xs ys : List PlacedAllocation) : Type 0 where
-  pub count : length xs ≤ length ys
-  pub base : (i : ℕ) → i < length xs → (placed_at ys i).base ≡ (placed_at xs i).base
-  pub ty : (i : ℕ) → i < length xs → (placed_at ys i).ty ≡ (placed_at xs i).ty
-  pub released : (i : ℕ) → i < length xs → (placed_at xs i).released ≡ true → (placed_at ys i).released ≡ true
+use Rattle.mk_trace.specs.Freeing.{AreLater}
 
 abbrev pub SameReleased : List PlacedAllocation → List PlacedAllocation → Type 0
 SameReleased xs ys = (i : ℕ) → i < length xs → (placed_at ys i).released ≡ (placed_at xs i).released

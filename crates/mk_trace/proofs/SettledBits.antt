@@ -15,7 +15,7 @@ use Rattle.mk_layout.specs.Quarantine.{IsFreedCell, IsQuarantined}
 use Rattle.mk_layout.specs.Scene.{is_released_in}
 use Rattle.mk_layout.proofs.Settled.{unreleased_are_apart}
 use Rattle.mk_invariant.proofs.Histories.{histories_keep_the_invariant}
-use Rattle.mk_trace.proofs.LaterFlags.{AreLater}
+use Rattle.mk_trace.specs.Freeing.{AreLater}
 
 -- The cell follows from the place and the type.
 pub cell_by : (c : Config) (a b : PlacedAllocation) → a.base ≡ b.base → a.ty ≡ b.ty

@@ -1,6 +1,6 @@
 -- What an operation of the caller frees, and how many words were quarantined and reserved at most.
 -- Private functions alone cite these words.
-use Rattle.std.specs.Prelude.{◌≡◌, ℕ, ◌+◌, max, List, Option, Some, None, if◌then◌else◌}
+use Rattle.std.specs.Prelude.{◌≡◌, ℕ, ◌+◌, ◌<◌, ◌≤◌, max, true, false, List, length, Option, Some, None, if◌then◌else◌}
 use Rattle.mk_never.specs.declared.operations.Op.{Op}
 use Rattle.mk_never.specs.declared.operations.Op.TheVariants.{Free}
 use Rattle.mk_never.specs.declared.values.Value.{Value}
@@ -45,3 +45,27 @@ IsMostWhereFreed c measure words es o fs =
 pub record QuarantinesMostWhereFreed (c : Config) (es : List Event) (o : Op) (fs : List Event) : Type 0 where
   pub quarantined : IsMostWhereFreed c (quarantined_words c) (storage_words c) es o fs
   pub reserved : IsMostWhereFreed c (reserved_words c) (large_words c) es o fs
+
+-- Allocations behind a call. They stay at their places, and what is released stays released.
+pub record AreLater (xs ys : List PlacedAllocation) : Type 0 where
+  pub count : length xs ≤ length ys
+  pub base : (i : ℕ) → i < length xs → (placed_at ys i).base ≡ (placed_at xs i).base
+  pub ty : (i : ℕ) → i < length xs → (placed_at ys i).ty ≡ (placed_at xs i).ty
+  pub released : (i : ℕ) → i < length xs → (placed_at xs i).released ≡ true → (placed_at ys i).released ≡ true
+
+-- one that the call freed
+pub record FreesFlag (xs ys : List PlacedAllocation) (i : ℕ) : Type 0 where
+  pub exists : i < length xs
+  pub unreleased : (placed_at xs i).released ≡ false
+  pub before : (placed_at xs i).freed ≡ false
+  pub behind : (placed_at ys i).freed ≡ true
+
+-- As many are freed as before, but for the one that the call frees.
+pub record FlagsBehind (xs ys : List PlacedAllocation) (x : Option ℕ) : Type 0 where
+  pub later : AreLater xs ys
+  pub kept : (i : ℕ) → (x ≡ Some i → ⊥) → (placed_at ys i).freed ≡ (placed_at xs i).freed
+  pub frees : (i : ℕ) → x ≡ Some i → FreesFlag xs ys i
+
+abbrev pub FlagsBehindCall : Config → List Event → Op → List Event → Type 0
+FlagsBehindCall c es o fs =
+    FlagsBehind (left c es).allocations (left c fs).allocations (number_freed (never_behind c es) o)
