@@ -1,0 +1,24 @@
+-- Words of kept objects, summed up one by one, where a number above 2^64 - 1 stands as 2^64 - 1.
+use Rattle.std.proofs.Common.{◌≡◌, ℕ, ◌+◌, ◌<◌, List, [], ◌∷◌, ◌++◌, map, refl, sym, ◌∙◌, ap, arith, length, take, get_or}
+use Rattle.std.specs.Prelude.{sum_by}
+use Rattle.std.proofs.lemmas.List.{map-append, take-snoc}
+use Rattle.std.proofs.lemmas.List.Sums.{sum_by-cons, sum_by-append}
+use Rattle.mk_core.specs.Counts.{in_a_word}
+use Rattle.mk_trace.specs.declared.ledger.FreedObject.{FreedObject}
+use Rattle.mk_trace.specs.declared.ledger.Quarantined.{Quarantined}
+use Rattle.mk_trace.specs.Ledgers.{objects_in}
+
+one_more : (f : FreedObject → ℕ) (xs : List Quarantined) (x : Quarantined)
+    → sum_by f (objects_in (xs ++ x ∷ [])) ≡ sum_by f (objects_in xs) + f x.object
+one_more f xs x =
+    ap (λ (l : List FreedObject). sum_by f l) (map-append (λ (y : Quarantined). y.object) xs (x ∷ []))
+    ∙ sum_by-append f (objects_in xs) (x.object ∷ [])
+    ∙ ap (λ (n : ℕ). sum_by f (objects_in xs) + n) (sum_by-cons f x.object [] ∙ (omega arith))
+
+pub total_more : (f : FreedObject → ℕ) (xs : List Quarantined) (i words : ℕ) (x : Quarantined) → i < length xs
+    → x ≡ get_or xs i x → words ≡ in_a_word (sum_by f (objects_in (take i xs)))
+    → in_a_word (words + f x.object) ≡ in_a_word (sum_by f (objects_in (take (i + 1) xs)))
+total_more f xs i words x lt there so_far =
+    let sums : sum_by f (objects_in (take (i + 1) xs)) ≡ sum_by f (objects_in (take i xs)) + f x.object =
+    ap (λ (l : List Quarantined). sum_by f (objects_in l)) (take_one xs i x lt there) ∙ one_more f (take i xs) x in
+    omega (arith, so_far, sums)
