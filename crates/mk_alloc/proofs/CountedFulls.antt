@@ -20,7 +20,7 @@ use Rattle.mk_core.specs.declared.seats.RunPages.{RunPages}
 use Rattle.mk_core.specs.declared.seats.Stage.TheVariants as stage
 use Rattle.mk_core.specs.Allocations.{PlacedAllocation, fresh_words_of, held_words}
 use Rattle.mk_core.specs.Counts.{ends, fulls, in_a_word, releases}
-use Rattle.mk_core.specs.Cycles.{is_end}
+use Rattle.mk_core.specs.Cycles.{is_begin, is_end}
 use Rattle.mk_core.specs.Decided.{Decided, entry_of}
 use Rattle.mk_core.specs.Effects.{answer_decided}
 use Rattle.mk_core.specs.Frames.{Steady, steady_of}
@@ -44,11 +44,12 @@ use Rattle.mk_cycle.specs.TurnKeeps.{Done, InTurn, KeepsTurn, done_of, whole}
 use Rattle.mk_cycle.proofs.CleaningSteps.{calm_keeps}
 use Rattle.mk_cycle.proofs.KeptInParts.{free_then, gates_behind, gates_then, same_config}
 use Rattle.mk_objects.specs.Placing.{IsUnplaced, object_for, place_now_for}
-use Rattle.mk_alloc.specs.Rooms.{AnswersFull, asks_room}
+use Rattle.mk_alloc.specs.Rooms.{AnswersFull, BeginsNone, asks_room}
 use Rattle.mk_alloc.specs.TurnCycles.{lets_go}
 use Rattle.mk_alloc.specs.Underway.{IsQuiet}
 use Rattle.mk_alloc.proofs.CalledTurns.{of_others_alone, step_adds_none}
 use Rattle.mk_alloc.proofs.Going.{IsCallers}
+use Rattle.mk_alloc.proofs.OneCycles.{begins_none_by}
 use Rattle.mk_alloc.proofs.Parts.{part_lacks, seen_behind}
 use Rattle.mk_alloc.proofs.PlacedTurns.{none_freed_yet}
 use Rattle.mk_alloc.proofs.QuietTurns.{none_held_kept, same_phase}
@@ -72,6 +73,11 @@ counting_stays (step.Look w) h = refl
 counting_stays (step.Tally n v) h = refl
 counting_stays step.Full h = refl
 counting_stays _ h = cc
+
+counting_no_begin : AreApart counts_full is_begin
+unfolding counts_full
+counting_no_begin step.Begin h = cc
+counting_no_begin _ h = refl
 
 counting_no_room : AreApart counts_full asks_room
 unfolding counts_full
@@ -292,6 +298,9 @@ module _ (p p1 p2 : PassState) (n v : ℕ) (t : InTurn p) (quiet : IsQuiet p) (u
         does_then counts_full p p1 q (does_step counts_full p p1 (step.Look word.Full) t.own look.makes refl)
         (does_then counts_full p1 p2 q (does_step counts_full p1 p2 (step.Tally tally.Full v) t1.own tallies.makes refl)
         (does_step counts_full p2 q step.Full t2.own full.makes refl))
+
+    pub full_begins_none : BeginsNone p q
+    full_begins_none = begins_none_by counts_full p q counting_stays counting_no_begin t does history
 
     pub answers_full : AnswersFull p q
     answers_full =

@@ -14,6 +14,7 @@ use Rattle.mk_core.specs.Moments.{Moment, flight_of}
 use Rattle.mk_objects.specs.Retiring.{is_freeing, is_loading}
 use Rattle.mk_alloc.specs.TurnCycles.{CycleIsOn, FreeIsExact, FreesFirst, IsDueIn, finishes, has_step, is_of_cycle}
 use Rattle.mk_alloc.proofs.CycleParts.{EndsIn}
+use Rattle.mk_alloc.proofs.DueParts.{end_at}
 use Rattle.mk_alloc.proofs.ListParts.{IsAt, Lacks, SomeKind, cycle_in, lacks_at, none_at, only_at}
 use Rattle.mk_alloc.proofs.StepKinds.{AreApart, IsHolders}
 
@@ -80,6 +81,7 @@ module _ (on : Bool) (c : Config) (s : Seat) (es : List Event) (t : TurnOf c s e
         first = λ d. absurd (not_due d);
         undue = λ n. none;
         stopped = λ off b. absurd (no_begin b);
+        one = λ off b. absurd (no_begin b);
         goes_on = λ keeps b. absurd (no_begin b);
         older = λ keeps one b. absurd (no_begin b);
       }
@@ -98,6 +100,10 @@ module _ (on : Bool) (c : Config) (s : Seat) (es : List Event) (t : TurnOf c s e
         first = λ d. frees;
         undue = λ n. absurd (n frees.due);
         stopped = λ off b. ended (stopped off);
+        one = λ off b. (
+          ap (λ (l : List Event). has_step is_begin l) (there b).behind_is ∙ none_behind,
+          subst (λ (l : List Event). At is_end l) (sym (there b).behind_is) (end_at ys (stopped off)),
+        );
         goes_on = λ keeps b.
             subst (λ (l : List Event). has_step finishes l ≡ false) (sym (there b).behind_is) (goes_on keeps);
         older = λ keeps one b. subst (λ (l : List Event). At is_end l) (sym (there b).before_is) (older one);

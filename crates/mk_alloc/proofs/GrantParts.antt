@@ -52,7 +52,7 @@ last_of_calm es calm g =
     (lacks_second lets_go g.before (g.event ∷ g.behind) (ap (λ (l : List Event). has_step lets_go l) (sym g.is) ∙ calm))
 
 -- what stands behind an event of the first part
-first_behind : (xs ys before : List Event) (e : Event) (behind rest : List Event) → xs ++ ys ≡ before ++ e ∷ behind
+pub first_behind : (xs ys before : List Event) (e : Event) (behind rest : List Event) → xs ++ ys ≡ before ++ e ∷ behind
     → xs ≡ before ++ e ∷ rest → behind ≡ rest ++ ys
 first_behind xs ys before e behind rest is first =
     let same : e ∷ behind ≡ e ∷ (rest ++ ys) =

@@ -19,6 +19,7 @@ pub mod FreedTurns
 pub mod PlacedTurns
 pub mod RoomParts
 pub mod GrantParts
+pub mod OneCycles
 pub mod SeekingTurns
 pub mod FullTurns
 pub mod CountedFulls

@@ -40,15 +40,18 @@ use Rattle.mk_cycle.specs.EngineLaw.{is_pending_free}
 use Rattle.mk_cycle.specs.TurnKeeps.{InTurn}
 use Rattle.mk_objects.specs.Placing.{IsUnplaced, object_for}
 use Rattle.mk_waiting.specs.Taking.{TakesTurn}
-use Rattle.mk_alloc.specs.Rooms.{AnswersFull, Misfits, Seeks, asks_room}
+use Rattle.mk_alloc.specs.Rooms.{AnswersFull, BeginsNone, Misfits, RunsOne, Seeks, asks_room}
 use Rattle.mk_alloc.specs.TurnCalls.{CalledInTurn, IsAnsweredFull}
-use Rattle.mk_alloc.specs.TurnCycles.{HasNoPlace, NewIsExact, is_grant, is_want, lets_go, within_turn}
+use Rattle.mk_alloc.specs.TurnCycles.{HasNoPlace, NewIsExact, RunsOneCycle, is_grant, is_want, lets_go, within_turn}
 use Rattle.mk_alloc.specs.Underway.{BeginsTurn, IsQuiet}
 use Rattle.mk_alloc.proofs.CalledTurns.{called, taken_same, turn_of, within_is}
+use Rattle.mk_alloc.proofs.CycleParts.{begins_held}
 use Rattle.mk_alloc.proofs.Going.{IsCallers}
 use Rattle.mk_alloc.proofs.GrantParts.{grants_held, last_before, lets_go_held}
 use Rattle.mk_alloc.proofs.ListParts.{InFirst, InSecond, SomeKind, lacks_at, stands}
 use Rattle.mk_alloc.proofs.Parts.{others_lack, seen_behind, seen_made}
+use Rattle.mk_alloc.proofs.OneCycles.{one_before, one_then_none}
+use Rattle.mk_alloc.proofs.RetiredTurns.{same_rest}
 use Rattle.mk_alloc.proofs.RoomParts.{rooms_held}
 use Rattle.mk_alloc.proofs.SeekingTurns.{seeks_then}
 
@@ -84,8 +87,8 @@ operands_of c d ty small typed =
 module _ (flag : Bool) (p taken done q : PassState) (d ty : ℕ) (a : Answer) (seat : IsCallers p)
     (own : Has p.seats p.seat)
     (takes : TakesTurn p (Some (op.New d ty false)) taken) (begins : BeginsTurn (op.New d ty false) taken)
-    (seeks : Seeks (Some a) taken done) (t_done : InTurn done) (gives : Makes done step.Give q)
-    (rests : call_of q ≡ at_rest)
+    (seeks : Seeks (Some a) taken done) (runs : RunsOne taken done) (t_done : InTurn done)
+    (gives : Makes done step.Give q) (rests : call_of q ≡ at_rest)
     (history : IsHistory q.table.config q.seen) where
   abbrev pub o : Op
   o = op.New d ty false
@@ -118,11 +121,20 @@ module _ (flag : Bool) (p taken done q : PassState) (d ty : ℕ) (a : Answer) (s
       (others_lack asks_room done q step.Give rooms_held t_done gives history) x.is (within at.event.step at.of_kind)))
       (stands seeks.on.does.more gives.others at.before at.event at.behind at.is)
 
+  one_done : RunsOneCycle seeks.on.does.more
+  one_done =
+      subst (λ (l : List Event). RunsOneCycle l)
+      (same_rest taken.seen runs.more seeks.on.does.more
+      (sym runs.is ∙ seen_behind turn_stays taken done seeks.on.does))
+      runs.one
+
   pub exact : NewIsExact turn (object_made p.table.config o)
   exact =
       record {
         begins = room_at is_begin (λ x h. or_left (is_begin x) (is_want x) h);
         ends = room_at is_want (λ x h. or_right (is_begin x) (is_want x) h);
+        one = one_before seeks.on.does.more gives.others one_done
+            (others_lack is_begin done q step.Give begins_held t_done gives history);
         keeps =
             last_before seeks.on.does.more gives.others
             (seeks.last seeks.on.does.more (seen_behind turn_stays taken done seeks.on.does))
@@ -161,7 +173,8 @@ given_allocations p q t m history =
 module _ (flag : Bool) (p taken last done q : PassState) (d ty : ℕ) (census : Census) (seat : IsCallers p)
     (own : Has p.seats p.seat)
     (takes : TakesTurn p (Some (op.New d ty false)) taken) (begins : BeginsTurn (op.New d ty false) taken)
-    (misfits : Misfits taken last) (full : AnswersFull last done) (t_done : InTurn done)
+    (misfits : Misfits taken last) (runs : RunsOne taken last) (full : AnswersFull last done)
+    (calm : BeginsNone last done) (t_done : InTurn done)
     (gives : Makes done step.Give q)
     (rests : call_of q ≡ at_rest) (history : IsHistory q.table.config q.seen)
     (told : census ≡ census_of_allocations last.table.config (world_of last).allocations) where
@@ -200,7 +213,8 @@ module _ (flag : Bool) (p taken last done q : PassState) (d ty : ℕ) (census : 
   pub is_answered_full : IsAnsweredFull flag p (op.New d ty false) census q
   is_answered_full =
       record {
-        called = new_called flag p taken done q d ty answer.Full seat own takes begins seeks t_done gives rests history;
+        called = new_called flag p taken done q d ty answer.Full seat own takes begins seeks
+            (one_then_none taken last done runs calm) t_done gives rests history;
         before = full.before;
         behind = behind;
         is = seen_is;

@@ -7,11 +7,11 @@ use Rattle.mk_core.specs.declared.events.Step.{Step}
 use Rattle.mk_core.specs.declared.events.Step.TheVariants as step
 use Rattle.mk_core.specs.declared.seats.Object.{Object}
 use Rattle.mk_core.specs.declared.seats.OwnCycle.TheVariants.{Ended}
-use Rattle.mk_core.specs.Cycles.{At, is_begin}
+use Rattle.mk_core.specs.Cycles.{At, is_begin, is_end}
 use Rattle.mk_words.specs.States.{PassState, event_of, now_of, world_of}
 use Rattle.mk_cycle.specs.EngineLaw.{IsAtPhase}
 use Rattle.mk_objects.specs.Placing.{IsUnplaced, object_for, place_now_for}
-use Rattle.mk_alloc.specs.TurnCycles.{HasNoPlace, has_step, is_grant, is_want, lets_go}
+use Rattle.mk_alloc.specs.TurnCycles.{HasNoPlace, RunsOneCycle, has_step, is_grant, is_want, lets_go}
 use Rattle.mk_alloc.specs.Underway.{GoesOn}
 
 -- the steps that begin a cycle, or its end
@@ -33,6 +33,25 @@ GrantsNone p q = (more : List Event) → q.seen ≡ p.seen ++ more → has_step 
 abbrev pub GrantsLast : PassState → PassState → Type 0
 GrantsLast p q =
     (more : List Event) → q.seen ≡ p.seen ++ more → (g : At is_grant more) → has_step lets_go g.behind ≡ false
+
+-- What was seen since has no begin of a cycle,
+pub record BeginsNone (p q : PassState) : Type 0 where
+  pub more : List Event
+  pub is : q.seen ≡ p.seen ++ more
+  pub none : has_step is_begin more ≡ false
+
+-- or only the end of one,
+pub record EndsOnly (p q : PassState) : Type 0 where
+  pub more : List Event
+  pub is : q.seen ≡ p.seen ++ more
+  pub none : has_step is_begin more ≡ false
+  pub ended : At is_end more
+
+-- or one cycle at most that is begun, and it is ended.
+pub record RunsOne (p q : PassState) : Type 0 where
+  pub more : List Event
+  pub is : q.seen ≡ p.seen ++ more
+  pub one : RunsOneCycle more
 
 -- The turn of a New went on, and asked for room so. Until it is answered it is granted nothing, and then it lets
 -- nothing go.

@@ -66,14 +66,19 @@ pub record FreesFirst {c : Config} {s : Seat} {es : List Event} (t : TurnOf c s 
   pub due : IsDueIn t
   pub no_cycle : has_step is_of_cycle due.before ≡ false
 
+-- These events begin one cycle at most, and end what they begin.
+abbrev pub RunsOneCycle : List Event → Type 0
+RunsOneCycle es = (b : At is_begin es) → (has_step is_begin b.behind ≡ false) × At is_end b.behind
+
 -- A Free begins a cycle exactly where it is due, behind the event that frees, and else does nothing with cycles. An
 -- engine that keeps on leaves that cycle on, and has ended the one that was on before; one that doesn't ends it in the
--- call.
+-- call, and begins no other.
 pub record FreeIsExact (on : Bool) {c : Config} {s : Seat} {es : List Event} (t : TurnOf c s es) : Type 0 where
   pub begins : BeginsIn t ↔ IsDueIn t
   pub first : IsDueIn t → FreesFirst t
   pub undue : (IsDueIn t → ⊥) → has_step is_of_cycle t.behind ≡ false
   pub stopped : on ≡ false → BeginsIn t → BeginsAndEndsIn t
+  pub one : on ≡ false → RunsOneCycle t.behind
   pub goes_on : on ≡ true → (b : BeginsIn t) → has_step finishes b.behind ≡ false
   pub older : on ≡ true → CycleIsOn t → (b : BeginsIn t) → At is_end b.before
 
@@ -81,11 +86,12 @@ pub record FreeIsExact (on : Bool) {c : Config} {s : Seat} {es : List Event} (t 
 abbrev pub HasNoPlace : Config → Object → List Event → Type 0
 HasNoPlace c o es = FitsAmongAllocations c o.words o.leaf (left c es).allocations → ⊥
 
--- A New begins a cycle, and ends one, only where its object has no place. Behind the grant of its object it lets
--- nothing go.
+-- A New begins a cycle, and ends one, only where its object has no place. It begins one at most, and ends it. Behind the
+-- grant of its object it lets nothing go.
 pub record NewIsExact {c : Config} {s : Seat} {es : List Event} (t : TurnOf c s es) (o : Object) : Type 0 where
   pub begins : (b : BeginsIn t) → HasNoPlace c o (within_turn t b.before)
   pub ends : (w : At is_want t.behind) → HasNoPlace c o (within_turn t w.before)
+  pub one : RunsOneCycle t.behind
   pub keeps : (g : At is_grant t.behind) → has_step lets_go g.behind ≡ false
 
 abbrev pub CallIsExact : Bool → {c : Config} {s : Seat} {es : List Event} → TurnOf c s es → Option Op → Type 0

@@ -5,7 +5,7 @@ ghost use Rattle.mk_words.specs.States.{now_of};
 ghost use Rattle.mk_turns.specs.Sweeping.{SweepsNothing};
 ghost use Rattle.mk_cycle.specs.EngineLaw.{IsAtPhase};
 ghost use Rattle.mk_objects.specs.Placing.{IsUnplaced, place_now_for};
-ghost use Rattle.mk_alloc.specs.Rooms.{AnswersFull};
+ghost use Rattle.mk_alloc.specs.Rooms.{AnswersFull, BeginsNone};
 ghost use Rattle.mk_alloc.specs.Underway.{IsQuiet};
 
 use mk_core::{Tally, Word};
@@ -21,6 +21,7 @@ pub(crate) fn answer_full(words: &Words, turn: &mut Turn)
     requires ended { (now_of turn.old.pass).seats.holding.cycle ≡ Ended }
     ensures op { turn.new.op ≡ turn.old.op }
     ensures full { AnswersFull turn.old.pass turn.new.pass }
+    ensures begins { BeginsNone turn.old.pass turn.new.pass }
     ensures reached { SweepsNothing turn.old.pass turn.new.pass }
 {
     turn.is_in_order();

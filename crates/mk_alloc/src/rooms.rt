@@ -6,7 +6,7 @@ ghost use Rattle.mk_turns.specs.Sweeping.{SweepsNothing};
 ghost use Rattle.mk_cycle.specs.EngineLaw.{IsAtPhase};
 ghost use Rattle.mk_core.specs.Effects.{cycle_ended};
 ghost use Rattle.mk_objects.specs.Placing.{IsUnplaced, OnlyLooks, place_now_for};
-ghost use Rattle.mk_alloc.specs.Rooms.{Misfits, MisfitsAtLast, MisfitsIdly, Seeks};
+ghost use Rattle.mk_alloc.specs.Rooms.{BeginsNone, EndsOnly, Misfits, MisfitsAtLast, MisfitsIdly, RunsOne, Seeks};
 ghost use Rattle.mk_alloc.specs.Underway.{IsQuiet};
 
 use crate::turns::is_cycle_on;
@@ -29,6 +29,7 @@ fn try_place<E: Engine>(words: &Words, turn: &mut Turn, bench: &mut Bench<E>) ->
     ensures misfits { result ≡ false → Misfits turn.old.pass turn.new.pass }
     ensures looks { result ≡ false → OnlyLooks turn.old.pass turn.new.pass }
     ensures shows { result ≡ false → bench.new.book ≡ (now_of turn.new.pass).words.pages }
+    ensures begins { BeginsNone turn.old.pass turn.new.pass }
     ensures reached { SweepsNothing turn.old.pass turn.new.pass }
 {
     turn.is_in_order();
@@ -59,6 +60,7 @@ fn finish_and_place<E: Engine, R: Threads + Wait + Sync>(
     ensures cycle { result.1 ≡ false → (now_of result.0.pass).seats.holding.cycle
         ≡ cycle_ended (now_of turn.pass).seats.holding.cycle }
     ensures shows { result.1 ≡ false → bench.new.book ≡ (now_of result.0.pass).words.pages }
+    ensures ends { EndsOnly turn.pass result.0.pass }
     ensures reached { E.sweeps ≡ false → SweepsNothing turn.pass result.0.pass }
 {
     turn.is_in_order();
@@ -86,6 +88,7 @@ fn place_behind_older<E: Engine, R: Threads + Wait + Sync>(
     ensures book { length bench.new.book ≡ length bench.old.book }
     ensures placed { result.1 ≡ true → Seeks (Some answer.Done) turn.pass result.0.pass }
     ensures misfits { result.1 ≡ false → MisfitsIdly turn.pass result.0.pass }
+    ensures begins { BeginsNone turn.pass result.0.pass }
     ensures reached { E.sweeps ≡ false → SweepsNothing turn.pass result.0.pass }
 {
     let mut turn = turn;
@@ -124,6 +127,7 @@ fn place_behind_cycle<E: Engine, R: Threads + Wait + Sync>(
     ensures placed { result.1 ≡ true → Seeks (Some answer.Done) turn.pass result.0.pass }
     ensures misfits { result.1 ≡ false → MisfitsAtLast turn.pass result.0.pass }
     ensures shows { result.1 ≡ false → bench.new.book ≡ (now_of result.0.pass).words.pages }
+    ensures one { RunsOne turn.pass result.0.pass }
     ensures reached { E.sweeps ≡ false → SweepsNothing turn.pass result.0.pass }
 {
     let mut turn = turn;
@@ -153,6 +157,7 @@ pub(crate) fn place<E: Engine, R: Threads + Wait + Sync>(
     ensures placed { result.1 ≡ true → Seeks (Some answer.Done) turn.pass result.0.pass }
     ensures misfits { result.1 ≡ false → MisfitsAtLast turn.pass result.0.pass }
     ensures shows { result.1 ≡ false → bench.new.book ≡ (now_of result.0.pass).words.pages }
+    ensures one { RunsOne turn.pass result.0.pass }
     ensures reached { E.sweeps ≡ false → SweepsNothing turn.pass result.0.pass }
 {
     turn.is_in_order();

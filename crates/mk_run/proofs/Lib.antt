@@ -1,3 +1,4 @@
+mod BesideTurns
 mod FedScripts
 mod JoinedScripts
 mod LaterLists

@@ -39,6 +39,7 @@ use Rattle.mk_run.specs.Running.{answers_in, FollowsScript}
 use Rattle.mk_run.specs.declared.scripts.Script.{Script}
 use Rattle.mk_run.specs.Scripts.{as_told, unflagged, IsCalled, StaysAdmitted, MakesNoCall, Answers}
 use Rattle.mk_run.specs.Scripts.{IsFedWith, TakesAnswer, IsRunning}
+use Rattle.mk_run.proofs.BesideTurns.{beside_then, called_beside, held_beside}
 use Rattle.mk_run.proofs.FedScripts.{fed_as_told}
 use Rattle.mk_alloc.proofs.ExactTurns.{stay_exact_behind_calls, stay_exact_where_held, stay_exact_behind_turns}
 use Rattle.mk_run.proofs.NotedCalls.{still_noted, same_answers, one_answer_more, one_more_noted, next_admitted}
@@ -59,18 +60,20 @@ answered_by_call on p o told q own entered h = record {
   entry = ap (λ (r : PassState). own_calls p r.seen) h.called.is ∙ h.called.entry;
   exact = stay_exact_behind_calls on p o h.answer q own h.called;
   in_turn = λ under. absurd (true≢false (sym under ∙ entered));
+  beside = λ besides. called_beside p o h.answer q h.called;
 }
 
 pub answered_in_turn : (on : Bool) (p : PassState) (o : Op) (a : Answer) (q : PassState) → Has p.seats p.seat
-    → unflagged o ≡ o → CalledInTurn on p o a q
+    → unflagged o ≡ o → is_under_turn o ≡ true → CalledInTurn on p o a q
     → Answers on p o (as_told a) q
-answered_in_turn on p o a q own plain h = record {
+answered_in_turn on p o a q own plain turn h = record {
   answer = a;
   is_told = refl;
   is = seen_alone p h.more q h.is;
   entry = ap (λ (r : PassState). own_calls p r.seen) h.is ∙ h.entry;
   exact = stay_exact_behind_turns on p o a q own h;
   in_turn = λ under. subst (λ (x : Op). CalledInTurn on p x a q) (sym plain) h;
+  beside = λ besides. absurd (true≢false (sym turn ∙ besides));
 }
 
 pub makes_none : (on : Bool) (p : PassState) (o : Op) (q : PassState) → Has p.seats p.seat → FindsGateHeld p o q
@@ -79,6 +82,7 @@ makes_none on p o q own h = record {
   is = h.finds.makes.is ∙ ap (λ (r : PassState). record p { seen = r.seen }) (sym h.finds.makes.is);
   entries = h.entries;
   exact = stay_exact_where_held on p o q own h;
+  beside = held_beside p o q own h;
 }
 
 -- own calls are the same for passes of one seat
@@ -94,6 +98,7 @@ none_then_none on p q r h g = record {
   is = then_seen p q r h.is g.is;
   entries = sym (same_own p q r.seen h.is) ∙ g.entries ∙ same_own p q q.seen h.is ∙ h.entries;
   exact = λ e. g.exact (h.exact e);
+  beside = beside_then p q r h.is h.beside g.beside;
 }
 
 pub none_then_answers : (on : Bool) (p q : PassState) (o : Op) (told : Answer) (r : PassState) → MakesNoCall on p q
@@ -108,6 +113,7 @@ none_then_answers on p q o told r h entered g = record {
       ∙ ap (λ (s : PassState). own_calls p p.seen ++ entry_of (number_of s) o (Some g.answer)) h.is;
   exact = λ e. g.exact (h.exact e);
   in_turn = λ under. absurd (true≢false (sym under ∙ entered));
+  beside = λ besides. beside_then p q r h.is h.beside (g.beside entered);
 }
 
 -- What stays admitted is admitted behind a list to which the caller added no call.
@@ -129,7 +135,7 @@ pub answered_new : (on : Bool) (p : PassState) (o : Op) (d ty : ℕ) (full : Boo
     → o ≡ op.New d ty full → CalledInTurn on p (op.New d ty false) a q → Answers on p o (as_told a) q
 unfolding answered_in_turn
 answered_new on p o d ty full a q own is h =
-    let made = answered_in_turn on p (op.New d ty false) a q own refl h in
+    let made = answered_in_turn on p (op.New d ty false) a q own refl refl h in
     subst (λ (x : Op). Answers on p x (as_told a) q) (sym is) (record {
       answer = a;
       is_told = refl;
@@ -139,12 +145,13 @@ answered_new on p o d ty full a q own is h =
           (flagged_alike d ty full a);
       exact = made.exact;
       in_turn = λ under. h;
+      beside = λ besides. absurd (true≢false besides);
     })
 
 pub answered_free : (on : Bool) (p : PassState) (o : Op) (r : ℕ) (a : Answer) (q : PassState) → Has p.seats p.seat
     → o ≡ op.Free r → CalledInTurn on p (op.Free r) a q → Answers on p o (as_told a) q
 answered_free on p o r a q own is h =
-    subst (λ (x : Op). Answers on p x (as_told a) q) (sym is) (answered_in_turn on p (op.Free r) a q own refl h)
+    subst (λ (x : Op). Answers on p x (as_told a) q) (sym is) (answered_in_turn on p (op.Free r) a q own refl refl h)
 
 pub type_exists : (p : PassState) (o : Op) (d ty : ℕ) (full : Bool) → o ≡ op.New d ty full → Admits p o
     → ty < length p.table.config.types

@@ -5,9 +5,14 @@ use Rattle.mk_never.specs.declared.operations.Op.TheVariants as op
 use Rattle.mk_core.specs.declared.events.Answer.{Answer}
 use Rattle.mk_core.specs.declared.events.Answer.TheVariants as answer
 use Rattle.mk_core.specs.declared.events.Event.{Event}
+use Rattle.mk_core.specs.declared.events.Group.{Group}
+use Rattle.mk_core.specs.declared.events.Group.TheVariants as group
+use Rattle.mk_core.specs.declared.events.Step.{Step}
 use Rattle.mk_core.specs.Calls.{is_under_turn}
 use Rattle.mk_core.specs.Decided.{entry_of}
 use Rattle.mk_core.specs.History.{IsHistory}
+use Rattle.mk_core.specs.Order.{group_of}
+use Rattle.mk_turns.specs.Doing.{are_of, done_in}
 use Rattle.mk_words.specs.States.{PassState}
 use Rattle.mk_caller.specs.States.{number_of, Admits}
 use Rattle.mk_caller.specs.Called.{own_calls, Called}
@@ -36,18 +41,34 @@ StaysAdmitted p o =
     (es : List Event) → IsHistory p.table.config es → own_calls p es ≡ own_calls p p.seen
     → Admits (record p { seen = es }) o
 
+-- the steps of calls that need no turn
+abbrev pub is_of_callers : Group → Bool
+is_of_callers group.Callers = true
+is_of_callers _ = false
+
+abbrev pub is_beside_turns : Step → Bool
+is_beside_turns s = is_of_callers (group_of s)
+
+-- What the pass's seat did since was beside all turns.
+pub record StaysBeside (p q : PassState) : Type 0 where
+  pub more : List Event
+  pub is : q.seen ≡ p.seen ++ more
+  pub steps : are_of is_beside_turns (done_in p more) ≡ true
+
 -- The pass has seen more, in which its caller made no call.
 pub record MakesNoCall (on : Bool) (p q : PassState) : Type 0 where
   pub is : q ≡ record p { seen = q.seen }
   pub entries : own_calls p q.seen ≡ own_calls p p.seen
   pub exact : OwnAreExact on p → OwnAreExact on q
+  pub beside : StaysBeside p q
 
 -- A New that isn't known to be full
 abbrev pub unflagged : Op → Op
 unflagged (op.New d ty full) = op.New d ty false
 unflagged o = o
 
--- The caller made one call, of this operation, and is told this of its answer. A New or a Free it made in one turn.
+-- The caller made one call, of this operation, and is told this of its answer. A New or a Free it made in one turn, and
+-- all else beside the turn.
 pub record Answers (on : Bool) (p : PassState) (o : Op) (told : Answer) (q : PassState) : Type 0 where
   pub answer : Answer
   pub is_told : told ≡ as_told answer
@@ -55,6 +76,7 @@ pub record Answers (on : Bool) (p : PassState) (o : Op) (told : Answer) (q : Pas
   pub entry : own_calls p q.seen ≡ own_calls p p.seen ++ entry_of (number_of p) o (Some answer)
   pub exact : OwnAreExact on p → OwnAreExact on q
   pub in_turn : is_under_turn o ≡ true → CalledInTurn on p (unflagged o) answer q
+  pub beside : is_under_turn o ≡ false → StaysBeside p q
 
 -- Script k, fed with these answers.
 pub record IsFedWith (program : List Item) (k : ℕ) (answers : List Answer) (s : Script) : Type 0 where

@@ -46,10 +46,10 @@ exact_taken p q t own history =
     (others_count_nothing c (left c es) (event_of w (step.Take None)) x.known x.meets free) told.0)
 
 -- a kind that isn't what the host does
-record IsApart (kind : Step → Bool) : Type 0 where
-  take : (s : Step) → is_take s ≡ true → kind s ≡ false
-  look : (x : Word) → kind (step.Look x) ≡ false
-  give : kind step.Give ≡ false
+pub record IsApart (kind : Step → Bool) : Type 0 where
+  pub take : (s : Step) → is_take s ≡ true → kind s ≡ false
+  pub look : (x : Word) → kind (step.Look x) ≡ false
+  pub give : kind step.Give ≡ false
 
 take_grants_none : (s : Step) → is_take s ≡ true → is_grant s ≡ false
 take_grants_none (step.Take o) h = refl
@@ -109,10 +109,10 @@ module _ (p q : PassState) (x : Word) (n : ℕ) (h : Tells p x n q) (own : Has p
   abbrev giving : List Event
   giving = h.gives.others ++ event_of h.looked step.Give ∷ []
 
-  abbrev first : List Event
+  abbrev pub first : List Event
   first = h.takes.waits.more ++ taking
 
-  abbrev behind : List Event
+  abbrev pub behind : List Event
   behind = looking ++ giving
 
   taken_seen : taken.seen ≡ p.seen ++ first
@@ -126,7 +126,7 @@ module _ (p q : PassState) (x : Word) (n : ℕ) (h : Tells p x n q) (own : Has p
       seen_then taken.seen h.looked.seen q.seen looking giving (seen_made taken h.looked (step.Look x) h.looks.makes)
       (seen_made h.looked q step.Give h.gives)
 
-  seen_is : q.seen ≡ p.seen ++ (first ++ behind)
+  pub seen_is : q.seen ≡ p.seen ++ (first ++ behind)
   seen_is = seen_then p.seen taken.seen q.seen first behind taken_seen behind_seen
 
   mine : AreMine c [] first × AreMine c [] behind
@@ -147,7 +147,7 @@ module _ (p q : PassState) (x : Word) (n : ℕ) (h : Tells p x n q) (own : Has p
       (others_lack kind c [] p.seats es all (mine_parts c [] es (e ∷ []) whole).0 others)
       (ap (λ (b : Bool). b || false) none)
 
-  behind_lacks : (kind : Step → Bool) → IsApart kind → has_step kind behind ≡ false
+  pub behind_lacks : (kind : Step → Bool) → IsApart kind → has_step kind behind ≡ false
   behind_lacks kind apart =
       let parts = mine_parts c [] looking giving mine.1 in
       lacks_append kind looking giving
@@ -156,7 +156,7 @@ module _ (p q : PassState) (x : Word) (n : ℕ) (h : Tells p x n q) (own : Has p
       (others_none h.gives.others (event_of h.looked step.Give) kind parts.1
       (of_pass h.looked h.gives.others looked_same h.gives.of_others) apart.give)
 
-  first_lacks : (kind : Step → Bool) → IsApart kind → has_step kind first ≡ false
+  pub first_lacks : (kind : Step → Bool) → IsApart kind → has_step kind first ≡ false
   first_lacks kind apart =
       let parts = mine_parts c [] h.takes.waits.more taking mine.0 in
       lacks_append kind h.takes.waits.more taking

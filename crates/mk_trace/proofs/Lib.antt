@@ -1,8 +1,14 @@
 pub mod AdmittedEvents
 pub mod Along
+pub mod EndsAtHome
+pub mod EndsInCalls
+pub mod EndsInEvents
+pub mod EndsInLists
 pub mod EvaluatedPeaks
 pub mod EvaluatedPlays
 pub mod EvaluatedTraces
+pub mod FlagSteps
+pub mod FoundByEnds
 pub mod GrantedCalls
 pub mod HandedOn
 pub mod HeldCalls
@@ -23,4 +29,5 @@ pub mod PrintedLines
 pub mod ReadEvents
 pub mod ReadSlots
 pub mod SlotTypes
+pub mod TurnPieces
 pub mod WholeText

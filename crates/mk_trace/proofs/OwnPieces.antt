@@ -19,7 +19,7 @@ use Rattle.mk_waiting.specs.Taking.{is_take, waits_for}
 use Rattle.mk_alloc.specs.TurnCycles.{has_step}
 
 -- The seat of the event is one that there is, and none of these.
-abbrev is_mine : Config → List Seat → Event → Bool
+abbrev pub is_mine : Config → List Seat → Event → Bool
 is_mine c elsewhere e = seat_exists c e.seat && not (is_one_of elsewhere e.seat)
 
 abbrev pub AreMine : Config → List Seat → List Event → Type 0
@@ -45,7 +45,7 @@ mine_parts c elsewhere xs ys h =
 abbrev pub HasTheRest : Config → List Seat → List Seat → Type 0
 HasTheRest c elsewhere seats = HasAll c (elsewhere ++ seats)
 
-has_mine : (c : Config) (elsewhere seats : List Seat) (e : Event) → HasTheRest c elsewhere seats
+pub has_mine : (c : Config) (elsewhere seats : List Seat) (e : Event) → HasTheRest c elsewhere seats
     → is_mine c elsewhere e ≡ true → Has seats e.seat
 has_mine c elsewhere seats e all mine =
     let parts = and_parts (seat_exists c e.seat) (not (is_one_of elsewhere e.seat)) mine in

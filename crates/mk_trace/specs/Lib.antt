@@ -1,4 +1,5 @@
 pub mod Calls
+pub mod Ends
 pub mod Grammar
 pub mod Laws
 pub mod Lines

@@ -5,6 +5,8 @@ ghost use Rattle.mk_heap.specs.Turns.{is_register};
 ghost use Rattle.mk_trace.specs.Traces.{slot_of};
 ghost use Rattle.mk_core.specs.declared.events.Word.TheVariants as table_word;
 ghost use Rattle.mk_trace.specs.Calls.{IsHome, MayCome, MayBePlayed, SameCalls, Calls, PlaysEvent};
+ghost use Rattle.mk_core.specs.Calls.{is_under_turn};
+ghost use Rattle.mk_trace.specs.Ends.{EndsTell, LeavesAllocations};
 ghost use Rattle.mk_trace.specs.Calls.{held_behind, most_held, HoldsNoMore, HoldsMostAtEnd};
 
 use crate::operations::{first_op, is_full, later_ops};
@@ -36,6 +38,9 @@ fn call<E: Engine, R: Threads + Wait + Sync>(
     ensures book { length bench.new.book ≡ length bench.old.book }
     ensures calls { Calls heap.now.config host.old.pass.seen op result host.new.pass.seen }
     ensures held { HoldsMostAtEnd heap.now.config host.old.pass.seen host.new.pass.seen }
+    ensures ends { E.on ≡ false → EndsTell heap.now.config host.old.pass.seen host.new.pass.seen }
+    ensures beside { is_under_turn op ≡ false →
+        LeavesAllocations heap.now.config host.old.pass.seen host.new.pass.seen }
 {
     let mut caller = host.caller_again(heap, 0);
     caller.is_idle();
@@ -54,6 +59,7 @@ pub(crate) fn look<R: Wait>(rt: &R, heap: &Heap, host: &mut Host, word: Word) ->
     ensures home { IsHome heap.now host.new }
     ensures same { SameCalls heap.now.config host.old.pass.seen host.new.pass.seen }
     ensures held { HoldsNoMore heap.now.config host.old.pass.seen host.new.pass.seen }
+    ensures leaves { LeavesAllocations heap.now.config host.old.pass.seen host.new.pass.seen }
     ensures tells { word ≡ table_word.Held → result ≡ held_behind heap.now.config host.old.pass.seen }
 {
     host.is_in_order();
@@ -82,6 +88,9 @@ fn answer<E: Engine, R: Threads + Wait + Sync>(
     ensures book { length bench.new.book ≡ length bench.old.book }
     ensures calls { Calls heap.now.config host.old.pass.seen op result host.new.pass.seen }
     ensures held { held.new ≡ most_held heap.now.config host.new.pass.seen }
+    ensures ends { E.on ≡ false → EndsTell heap.now.config host.old.pass.seen host.new.pass.seen }
+    ensures beside { is_under_turn op ≡ false →
+        LeavesAllocations heap.now.config host.old.pass.seen host.new.pass.seen }
 {
     let told = call(rt, heap, host, bench, op);
     let now = look(rt, heap, host, Word::Held);
@@ -111,6 +120,8 @@ pub(crate) fn refuses<E: Engine, R: Threads + Wait + Sync>(
     ensures plays { IfOk result (λ refused.
         PlaysEvent heap.now.config host.old.pass.seen event refused host.new.pass.seen) }
     ensures held { IfOk result (λ refused. held.new ≡ most_held heap.now.config host.new.pass.seen) }
+    ensures ends { IfOk result (λ refused.
+        E.on ≡ false → EndsTell heap.now.config host.old.pass.seen host.new.pass.seen) }
 {
     let first = answer(rt, heap, host, bench, held, first_op(event));
     let mut refused = is_refusal(first);

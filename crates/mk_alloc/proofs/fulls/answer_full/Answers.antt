@@ -1,6 +1,6 @@
 use Rattle.mk_words.specs.States.{PassState}
 use Rattle.mk_cycle.proofs.Allowed.{in_turn}
-use Rattle.mk_alloc.proofs.CountedFulls.{answers_full, tallied_ended, tallied_idle, tallied_nowhere, tallied_unplaced}
+use Rattle.mk_alloc.proofs.CountedFulls.{answers_full, full_begins_none, tallied_ended, tallied_idle, tallied_nowhere, tallied_unplaced}
 use Rattle.mk_alloc.proofs.FullTurns.{full_admitted, full_allowed}
 use Rattle.std.proofs.Common.{refl}
 use Rattle.mk_alloc.proofs.UnsweptTurns.{full_sweeps}
@@ -65,3 +65,18 @@ returns-clause-reached c =
     full_sweeps c.args.turn.now.pass c.look-count.new.self.pass c.tally.new.self.pass c.full.new.self.pass _ _ _
     c.look-count.ensures.acts c.tally.ensures.acts c.full.ensures.acts c.is_in_order.ensures.own
     c.is_in_order-2.ensures.own c.is_in_order-3.ensures.own refl refl refl
+
+pub returns-clause-begins : goal.returns-clause-begins
+returns-clause-begins c =
+    let p : PassState = c.args.turn.now.pass in
+    let p1 : PassState = c.look-count.new.self.pass in
+    let p2 : PassState = c.tally.new.self.pass in
+    let i = c.is_in_order.ensures in
+    let j = c.is_in_order-2.ensures in
+    let k = c.is_in_order-3.ensures in
+    full_begins_none p p1 p2 c.look-count.result c.saturating_add.result
+    (in_turn p _ i.own i.turn i.history) c.requires.quiet
+    c.requires.unplaced c.look-count.ensures.acts c.look-count.ensures.finds
+    (in_turn p1 _ j.own j.turn j.history) c.tally.ensures.acts
+    (in_turn p2 _ k.own k.turn k.history) c.full.new.self.pass c.full.ensures.acts c.is_in_order-4.ensures.history
+    c.saturating_add.ensures

@@ -30,7 +30,8 @@ returns-then-placed-clause-made g c =
     (sym c.back.ensures)
     (new_called g.E.Engine.on p taken done c.give.result d ty answer.Done
     (callers p c.is_idle.ensures.idle) c.is_idle.ensures.own takes
-    c.take-turn.ensures.begins (c.place-turn.ensures.placed c.if-placed.true) (in_turn done _ j.own j.turn j.history)
+    c.take-turn.ensures.begins (c.place-turn.ensures.placed c.if-placed.true) c.place-turn.ensures.one
+    (in_turn done _ j.own j.turn j.history)
     c.give.ensures.gives c.give.ensures.rests c.give.ensures.history)
 
 pub returns-clause-full : goal.returns-clause-full
@@ -53,8 +54,8 @@ returns-clause-full g c =
     (sym c.back-2.ensures)
     (is_answered_full g.E.Engine.on p taken last done c.give-2.result d ty c.census-census.result
     (callers p c.is_idle.ensures.idle)
-    c.is_idle.ensures.own takes c.take-turn.ensures.begins m.misfits c.answer_full.ensures.full
-    (in_turn done _ k.own k.turn k.history)
+    c.is_idle.ensures.own takes c.take-turn.ensures.begins m.misfits c.place-turn.ensures.one
+    c.answer_full.ensures.full c.answer_full.ensures.begins (in_turn done _ k.own k.turn k.history)
     c.give-2.ensures.gives c.give-2.ensures.rests c.give-2.ensures.history told)
 
 pub returns-then-placed-clause-reached : goal.returns-then-placed-clause-reached

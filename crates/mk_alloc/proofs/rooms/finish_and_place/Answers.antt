@@ -2,6 +2,7 @@ use Rattle.std.specs.Prelude.{Some}
 use Rattle.mk_core.specs.declared.events.Answer.TheVariants as answer
 use Rattle.mk_words.specs.States.{PassState}
 use Rattle.mk_cycle.proofs.Allowed.{in_turn}
+use Rattle.mk_alloc.proofs.OneCycles.{finish_then_none}
 use Rattle.mk_alloc.proofs.SeekingTurns.{misfits_finished, seeks_finished, seeks_then}
 use Rattle.mk_turns.proofs.Sweeping.{sweeps_then}
 use Rattle.mk_alloc.proofs.rooms.finish_and_place.Goals as goal
@@ -34,3 +35,11 @@ returns-clause-reached g c =
     λ none.
     sweeps_then c.args.turn.pass c.finish_cycle-turn.result.0.pass c.try_place-placed.new.turn.pass
     c.finish_cycle-turn.ensures.law.pass (c.finish_cycle-turn.ensures.reached none) c.try_place-placed.ensures.reached
+
+pub returns-clause-ends : goal.returns-clause-ends
+returns-clause-ends g c =
+    let t = c.args.turn in
+    let i = c.is_in_order.ensures in
+    finish_then_none t.pass c.finish_cycle-turn.result.0.pass c.try_place-placed.new.turn.pass
+    (in_turn t.pass t.op i.own i.turn i.history) c.finish_cycle-turn.ensures.law c.is_in_order-2.ensures.history
+    c.try_place-placed.ensures.begins

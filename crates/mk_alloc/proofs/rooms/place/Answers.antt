@@ -1,5 +1,6 @@
 use Rattle.std.specs.Prelude.{Some}
 use Rattle.mk_core.specs.declared.events.Answer.TheVariants as answer
+use Rattle.mk_alloc.proofs.OneCycles.{none_runs_one, none_then_one}
 use Rattle.mk_alloc.proofs.SeekingTurns.{misfits_then, seeks_then}
 use Rattle.mk_words.specs.TurnSteps.{turn_stays}
 use Rattle.mk_alloc.proofs.UnsweptTurns.{part_then_sweeps}
@@ -33,3 +34,12 @@ returns-clause-reached g c =
     part_then_sweeps turn_stays c.args.turn.pass c.place_behind_older-turn.result.0.pass
     c.place_behind_cycle-turn.result.0.pass m.misfits.seeks.on.does (c.place_behind_older-turn.ensures.reached none)
     (c.place_behind_cycle-turn.ensures.reached none)
+
+pub returns-then-placed-clause-one : goal.returns-then-placed-clause-one
+returns-then-placed-clause-one g c =
+    none_runs_one c.args.turn.pass c.place_behind_older-turn.result.0.pass c.place_behind_older-turn.ensures.begins
+
+pub returns-clause-one : goal.returns-clause-one
+returns-clause-one g c =
+    none_then_one c.args.turn.pass c.place_behind_older-turn.result.0.pass c.place_behind_cycle-turn.result.0.pass
+    c.place_behind_older-turn.ensures.begins c.place_behind_cycle-turn.ensures.one

@@ -4,6 +4,7 @@ use Rattle.mk_core.specs.declared.events.Answer.TheVariants as answer
 use Rattle.mk_words.specs.States.{PassState}
 use Rattle.mk_cycle.specs.TurnKeeps.{Done}
 use Rattle.mk_cycle.proofs.Allowed.{in_turn}
+use Rattle.mk_alloc.proofs.OneCycles.{begin_then_ends}
 use Rattle.mk_alloc.proofs.QuietTurns.{quiet_begun}
 use Rattle.mk_alloc.proofs.SeekingTurns.{misfits_then, nowhere_begun, seeks_begun, seeks_then}
 use Rattle.mk_turns.proofs.Sweeping.{sweeps_then}
@@ -57,3 +58,11 @@ returns-clause-reached g c =
     λ none.
     sweeps_then c.args.turn.pass c.begin_cycle.new.turn.pass c.finish_and_place-turn.result.0.pass
     c.begin_cycle.ensures.law.pass (c.begin_cycle.ensures.reached none) (c.finish_and_place-turn.ensures.reached none)
+
+pub returns-clause-one : goal.returns-clause-one
+returns-clause-one g c =
+    let t = c.args.turn in
+    let i = c.is_in_order.ensures in
+    begin_then_ends t.pass c.begin_cycle.new.turn.pass c.finish_and_place-turn.result.0.pass
+    (in_turn t.pass t.op i.own i.turn i.history) c.begin_cycle.ensures.law c.is_in_order-2.ensures.history
+    c.finish_and_place-turn.ensures.ends

@@ -3,6 +3,7 @@ use Rattle.std.specs.Prelude.{Some}
 use Rattle.mk_core.specs.declared.events.Answer.TheVariants as answer
 use Rattle.mk_words.specs.States.{PassState}
 use Rattle.mk_cycle.proofs.Allowed.{in_turn}
+use Rattle.mk_alloc.proofs.OneCycles.{ends_none, look_begins_none, none_then_none}
 use Rattle.mk_alloc.proofs.QuietTurns.{quiet_looked}
 use Rattle.mk_alloc.proofs.SeekingTurns.{misfits_seen, misfits_then, phase_seen, seen_at, seeks_then}
 use Rattle.mk_words.specs.TurnSteps.{turn_stays}
@@ -82,3 +83,24 @@ returns-clause-reached g c =
     λ none.
     part_then_sweeps turn_stays c.args.turn.pass t.pass s m.seeks.on.does c.try_place.ensures.reached
     (looking_then_sweeps t.pass r s c.is_cycle_on.ensures.looks (c.finish_and_place-turn.ensures.reached none))
+
+pub returns-then-not-is_cycle_on-clause-begins : goal.returns-then-not-is_cycle_on-clause-begins
+returns-then-not-is_cycle_on-clause-begins g c =
+    let t = c.try_place.new.turn in
+    let j = c.is_in_order-2.ensures in
+    let r : PassState = c.is_cycle_on.new.turn.pass in
+    none_then_none c.args.turn.pass t.pass r c.try_place.ensures.begins
+    (look_begins_none t.pass r (in_turn t.pass t.op j.own j.turn j.history) c.is_cycle_on.ensures.looks
+    c.is_in_order-then-not-is_cycle_on.ensures.history)
+
+pub returns-clause-begins : goal.returns-clause-begins
+returns-clause-begins g c =
+    let t = c.try_place.new.turn in
+    let j = c.is_in_order-2.ensures in
+    let r : PassState = c.is_cycle_on.new.turn.pass in
+    let s : PassState = c.finish_and_place-turn.result.0.pass in
+    none_then_none c.args.turn.pass t.pass s c.try_place.ensures.begins
+    (none_then_none t.pass r s
+    (look_begins_none t.pass r (in_turn t.pass t.op j.own j.turn j.history) c.is_cycle_on.ensures.looks
+    c.is_in_order-3.ensures.history)
+    (ends_none r s c.finish_and_place-turn.ensures.ends))

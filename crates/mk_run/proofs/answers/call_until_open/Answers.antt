@@ -1,4 +1,5 @@
 use Rattle.std.proofs.Common.{true, refl}
+use Rattle.mk_run.proofs.BesideTurns.{stays_still}
 use Rattle.mk_run.proofs.ScriptCalls.{answered_by_call, makes_none, none_then_none, none_then_answers, still_admitted}
 use Rattle.mk_turns.proofs.Sweeping.{nothing_sweeps, sweeps_then}
 use Rattle.mk_alloc.proofs.UnsweptTurns.{calls_sweep_nothing, sweep_nothing_where_held}
@@ -41,6 +42,11 @@ pub held-init : goal.held-init
 held-init g c =
     record {
       home = c.requires.home;
-      none = λ on. record { is = refl; entries = refl; exact = λ e. e };
+      none = λ on. record {
+        is = refl;
+        entries = refl;
+        exact = λ e. e;
+        beside = stays_still c.args.caller.now.pass;
+      };
       reached = nothing_sweeps c.args.caller.now.pass;
     }

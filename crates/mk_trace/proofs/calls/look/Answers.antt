@@ -3,6 +3,7 @@ use Rattle.mk_core.specs.History.{IsHistory}
 use Rattle.mk_words.specs.States.{WordsState}
 use Rattle.mk_heap.specs.Hosts.{HostState}
 use Rattle.mk_trace.specs.Calls.{SameCalls}
+use Rattle.mk_trace.proofs.EndsAtHome.{look_leaves}
 use Rattle.mk_trace.proofs.HeldCalls.{look_holds, look_tells}
 use Rattle.mk_trace.proofs.OneCaller.{told_calls, told_home}
 use Rattle.mk_trace.proofs.calls.look.Goals as goal
@@ -27,6 +28,14 @@ returns-clause-same g c =
 pub returns-clause-held : goal.returns-clause-held
 returns-clause-held g c =
     look_holds c.args.heap.now c.args.host.now c.requires.home c.is_in_order.ensures.seat c.args.word
+    c.tell-found.result
+    c.tell-found.new.self c.tell-found.ensures.tells
+    (subst (λ (w : WordsState). IsHistory w.config c.tell-found.new.self.pass.seen)
+    (ap (λ (x : HostState). x.pass.table) c.tell-found.ensures.host) c.is_in_order-2.ensures.history)
+
+pub returns-clause-leaves : goal.returns-clause-leaves
+returns-clause-leaves g c =
+    look_leaves c.args.heap.now c.args.host.now c.requires.home c.is_in_order.ensures.seat c.args.word
     c.tell-found.result
     c.tell-found.new.self c.tell-found.ensures.tells
     (subst (λ (w : WordsState). IsHistory w.config c.tell-found.new.self.pass.seen)

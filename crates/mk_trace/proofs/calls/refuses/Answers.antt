@@ -3,6 +3,7 @@ use Rattle.std.specs.Prelude.{◌||◌}
 use Rattle.std.proofs.lemmas.List.{get_or_default}
 use Rattle.mk_never.specs.declared.operations.Op.{Op}
 use Rattle.mk_never.specs.declared.operations.Op.TheVariants.{New}
+use Rattle.mk_trace.proofs.EndsInEvents.{ends_first, ends_more}
 use Rattle.mk_trace.proofs.LaterOps.{called_all, called_first, called_one_more, first_may_come, may_come_now}
 use Rattle.mk_trace.proofs.calls.refuses.Goals as goal
 
@@ -17,6 +18,10 @@ loop-op-init g c = record {
   made_for = c.answer-first.ensures.made_for;
   book = c.answer-first.ensures.book;
   held = c.answer-first.ensures.held;
+  ends =
+      ends_first g.E.Engine.on c.args.heap.now.config c.args.host.now.pass.seen c.args.event c.first_op.result
+      c.is_full.result c.deref-op-items.result.now c.answer-first.new.host.pass.seen c.first_op.ensures
+      (c.deref-op-items.ensures.value ∙ c.in_ok-ops.ensures) c.answer-first.ensures.ends c.answer-first.ensures.beside;
   calls =
       called_first c.args.heap.now.config c.args.host.now.pass.seen c.args.event c.first_op.result c.answer-first.result
       c.answer-first.new.host.pass.seen c.is_full.result c.is_refusal-refused.result c.deref-op-items.result.now
@@ -54,6 +59,10 @@ loop-op-preserved g c =
       made_for = c.answer-later.ensures.made_for ∙ c.loop-op.invariant.made_for;
       book = c.answer-later.ensures.book ∙ c.loop-op.invariant.book;
       held = c.answer-later.ensures.held;
+      ends =
+          ends_more g.E.Engine.on c.args.heap.now.config c.args.host.now.pass.seen ops i c.loop-op.host.pass.seen
+          c.loop-op.invariant.ends o c.loop-op-test.true there c.answer-later.new.host.pass.seen
+          c.answer-later.ensures.ends c.answer-later.ensures.beside;
       calls =
           called_one_more c.args.heap.now.config c.args.host.now.pass.seen c.args.event ops i c.loop-op.refused
           c.loop-op.host.pass.seen c.loop-op.invariant.calls o c.loop-op-test.true there c.answer-later.result
@@ -74,3 +83,6 @@ pub returns-clause-plays : goal.returns-clause-plays
 returns-clause-plays g c =
     called_all c.args.heap.now.config c.args.host.now.pass.seen c.args.event c.deref-op-items.result.now
     c.loop-op.op-index c.loop-op.refused c.loop-op.host.pass.seen c.loop-op.invariant.calls (omega arith)
+
+pub returns-clause-ends : goal.returns-clause-ends
+returns-clause-ends g c = λ off. c.loop-op.invariant.ends.tells off

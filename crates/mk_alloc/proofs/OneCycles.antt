@@ -1,0 +1,148 @@
+-- One cycle at most: in lists, and in parts of a turn.
+use Rattle.std.proofs.Common.{◌≡◌, ⊎_elim, true, false, List, [], ◌∷◌, ◌++◌, refl, sym, ◌∙◌, ap, subst, append_assoc}
+use Rattle.mk_core.specs.declared.events.Event.{Event}
+use Rattle.mk_core.specs.declared.events.Step.TheVariants as step
+use Rattle.mk_core.specs.Cycles.{At, is_begin, is_end}
+use Rattle.mk_core.specs.History.{IsHistory}
+use Rattle.mk_words.specs.States.{PassState}
+use Rattle.mk_turns.specs.Doing.{Does}
+use Rattle.mk_cycle.specs.BeginCycle.{BeginsCycle}
+use Rattle.mk_cycle.specs.FinishCycle.{FinishesCycle}
+use Rattle.mk_cycle.specs.TurnKeeps.{InTurn}
+use Rattle.mk_objects.specs.Placing.{FitsNowhere, IsPlaced, is_look, is_placing}
+use Rattle.mk_alloc.specs.Rooms.{BeginsNone, EndsOnly, RunsOne}
+use Rattle.mk_alloc.specs.TurnCycles.{RunsOneCycle, has_step}
+use Rattle.mk_alloc.specs.Underway.{Looks}
+use Rattle.mk_alloc.proofs.CycleParts.{begin_in, begins_held, finish_in}
+use Rattle.mk_alloc.proofs.DueParts.{at_behind, at_first, end_at}
+use Rattle.mk_alloc.proofs.GrantParts.{first_behind}
+use Rattle.mk_alloc.proofs.ListParts.{InFirst, InSecond, Lacks, lacks_append, lacks_at, none_at, only_at, stands}
+use Rattle.mk_alloc.proofs.Parts.{part_lacks, seen_behind, seen_then}
+use Rattle.mk_alloc.proofs.PlacedTurns.{look_stays, placing_stays}
+use Rattle.mk_alloc.proofs.StepKinds.{AreApart}
+use Rattle.mk_alloc.proofs.Stretches.{AreOfTurn, SomeKinds}
+
+-- lists
+
+pub one_of_none : (es : List Event) → Lacks is_begin es → RunsOneCycle es
+one_of_none es none b = absurd (none_at is_begin es none b)
+
+pub one_behind : (xs ys : List Event) → Lacks is_begin xs → RunsOneCycle ys → RunsOneCycle (xs ++ ys)
+one_behind xs ys none one b =
+    ⊎_elim
+    (λ (x : InFirst xs b.before b.event). absurd (lacks_at is_begin xs b.before b.event x.behind none x.is b.of_kind))
+    (λ (x : InSecond xs ys b.before b.event b.behind).
+    one (record { before = x.rest; event = b.event; behind = b.behind; is = x.is; of_kind = b.of_kind }))
+    (stands xs ys b.before b.event b.behind b.is)
+
+pub one_before : (xs ys : List Event) → RunsOneCycle xs → Lacks is_begin ys → RunsOneCycle (xs ++ ys)
+one_before xs ys one none b =
+    ⊎_elim
+    (λ (x : InFirst xs b.before b.event). first x.behind x.is)
+    (λ (x : InSecond xs ys b.before b.event b.behind).
+    absurd (lacks_at is_begin ys x.rest b.event b.behind none x.is b.of_kind))
+    (stands xs ys b.before b.event b.behind b.is)
+  where
+    first : (rest : List Event) → xs ≡ b.before ++ b.event ∷ rest
+        → (has_step is_begin b.behind ≡ false) × At is_end b.behind
+    first rest is =
+        let same : b.behind ≡ rest ++ ys = first_behind xs ys b.before b.event b.behind rest b.is is in
+        let h = one (record { before = b.before; event = b.event; behind = rest; is = is; of_kind = b.of_kind }) in (
+          ap (λ (l : List Event). has_step is_begin l) same ∙ lacks_append is_begin rest ys h.0 none,
+          subst (λ (l : List Event). At is_end l) (sym same) (at_first is_end rest ys h.1),
+        )
+
+-- a begin and an end
+pub one_run : (xs : List Event) (e : Event) (ys : List Event) → Lacks is_begin xs → Lacks is_begin ys → At is_end ys
+    → RunsOneCycle (xs ++ e ∷ ys)
+one_run xs e ys none_before none_behind ended b =
+    let there = only_at is_begin xs e ys none_before none_behind b in (
+      ap (λ (l : List Event). has_step is_begin l) there.behind_is ∙ none_behind,
+      subst (λ (l : List Event). At is_end l) (sym there.behind_is) ended,
+    )
+
+-- parts of a turn
+
+placing_no_begin : AreApart is_placing is_begin
+placing_no_begin step.Begin h = cc
+placing_no_begin _ h = refl
+
+look_no_begin : AreApart is_look is_begin
+look_no_begin step.Begin h = cc
+look_no_begin _ h = refl
+
+pub begins_none_by : (kinds : SomeKinds) (p q : PassState) → AreOfTurn kinds → AreApart kinds is_begin → InTurn p
+    → Does kinds p q → IsHistory q.table.config q.seen → BeginsNone p q
+begins_none_by kinds p q stays apart t d history =
+    record {
+      more = d.more;
+      is = seen_behind kinds p q d;
+      none = part_lacks kinds is_begin p q stays begins_held apart t d history;
+    }
+
+pub placed_begins_none : (p q : PassState) → InTurn p → IsPlaced p q → IsHistory q.table.config q.seen
+    → BeginsNone p q
+placed_begins_none p q t placed history =
+    begins_none_by is_placing p q placing_stays placing_no_begin t placed.granted.does history
+
+pub nowhere_begins_none : (p q : PassState) → InTurn p → FitsNowhere p q → IsHistory q.table.config q.seen
+    → BeginsNone p q
+nowhere_begins_none p q t f history = begins_none_by is_look p q look_stays look_no_begin t f.looks.does history
+
+pub look_begins_none : (p q : PassState) → InTurn p → Looks p q → IsHistory q.table.config q.seen → BeginsNone p q
+look_begins_none p q t k history = begins_none_by is_look p q look_stays look_no_begin t k.does history
+
+-- one behind the other
+
+pub none_then_none : (p q r : PassState) → BeginsNone p q → BeginsNone q r → BeginsNone p r
+none_then_none p q r x y =
+    record {
+      more = x.more ++ y.more;
+      is = seen_then p.seen q.seen r.seen x.more y.more x.is y.is;
+      none = lacks_append is_begin x.more y.more x.none y.none;
+    }
+
+pub ends_none : (p q : PassState) → EndsOnly p q → BeginsNone p q
+ends_none p q x = record { more = x.more; is = x.is; none = x.none }
+
+pub finish_then_none : (p q r : PassState) → InTurn p → FinishesCycle p q → IsHistory q.table.config q.seen
+    → BeginsNone q r → EndsOnly p r
+finish_then_none p q r t law history y =
+    let f = finish_in p q t.own law t history in
+    record {
+      more = f.more ++ y.more;
+      is = seen_then p.seen q.seen r.seen f.more y.more f.is y.is;
+      none = lacks_append is_begin f.more y.more f.begins_none y.none;
+      ended = at_first is_end f.more y.more (end_at f.more f.ends);
+    }
+
+pub begin_then_ends : (p q r : PassState) → InTurn p → BeginsCycle p q → IsHistory q.table.config q.seen
+    → EndsOnly q r → RunsOne p r
+begin_then_ends p q r t law history y =
+    let b = begin_in p q t.own law t history in
+    record {
+      more = b.before ++ b.begin ∷ (b.behind ++ y.more);
+      is = seen_then p.seen q.seen r.seen (b.before ++ b.begin ∷ b.behind) y.more b.is y.is
+          ∙ ap (λ (l : List Event). p.seen ++ l) (append_assoc b.before (b.begin ∷ b.behind) y.more);
+      one = one_run b.before b.begin (b.behind ++ y.more) b.none_before
+          (lacks_append is_begin b.behind y.more b.none_behind y.none) (at_behind is_end b.behind y.more y.ended);
+    }
+
+pub none_runs_one : (p q : PassState) → BeginsNone p q → RunsOne p q
+none_runs_one p q x = record { more = x.more; is = x.is; one = one_of_none x.more x.none }
+
+pub none_then_one : (p q r : PassState) → BeginsNone p q → RunsOne q r → RunsOne p r
+none_then_one p q r x y =
+    record {
+      more = x.more ++ y.more;
+      is = seen_then p.seen q.seen r.seen x.more y.more x.is y.is;
+      one = one_behind x.more y.more x.none y.one;
+    }
+
+pub one_then_none : (p q r : PassState) → RunsOne p q → BeginsNone q r → RunsOne p r
+one_then_none p q r x y =
+    record {
+      more = x.more ++ y.more;
+      is = seen_then p.seen q.seen r.seen x.more y.more x.is y.is;
+      one = one_before x.more y.more x.one y.none;
+    }

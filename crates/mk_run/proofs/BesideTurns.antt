@@ -1,0 +1,80 @@
+-- Calls that need no turn, and those that find their gate held, make only steps beside all turns.
+use Rattle.std.proofs.Common.{◌≡◌, Bool, true, List, [], ◌∷◌, ◌++◌, map, refl, sym, ◌∙◌, ap, subst, append-nil}
+use Rattle.std.specs.Prelude.{◌&&◌}
+use Rattle.std.specs.List.{list_all}
+use Rattle.std.proofs.lemmas.Bool.{and_from}
+use Rattle.mk_never.specs.declared.operations.Op.{Op}
+use Rattle.mk_core.specs.declared.events.Answer.{Answer}
+use Rattle.mk_core.specs.declared.events.Event.{Event}
+use Rattle.mk_core.specs.declared.events.Step.{Step}
+use Rattle.mk_core.specs.declared.events.Step.TheVariants as step
+use Rattle.mk_core.specs.declared.seats.Stage.{Stage}
+use Rattle.mk_core.specs.declared.seats.Stage.TheVariants as stage
+use Rattle.mk_core.specs.Growing.{Finding, own_from}
+use Rattle.mk_words.specs.Seats.{Has}
+use Rattle.mk_words.specs.States.{PassState}
+use Rattle.mk_caller.specs.Called.{Called, own_steps, stages_made, step_at}
+use Rattle.mk_caller.specs.Causes.{FindsGateHeld}
+use Rattle.mk_turns.specs.Doing.{are_of, done_in}
+use Rattle.mk_turns.proofs.Doing.{does_step, done_in_parts, of_kinds_in_parts}
+use Rattle.mk_alloc.proofs.Parts.{seen_then}
+use Rattle.mk_run.specs.Scripts.{StaysBeside, is_beside_turns}
+
+nothing_done : (p : PassState) → are_of is_beside_turns (done_in p []) ≡ true
+unfolding own_from
+nothing_done p = refl
+
+pub stays_still : (p : PassState) → StaysBeside p p
+stays_still p = record { more = []; is = sym (append-nil p.seen); steps = nothing_done p }
+
+pub beside_then : (p q r : PassState) → q ≡ record p { seen = q.seen } → StaysBeside p q → StaysBeside q r
+    → StaysBeside p r
+beside_then p q r same x y =
+    record {
+      more = x.more ++ y.more;
+      is = seen_then p.seen q.seen r.seen x.more y.more x.is y.is;
+      steps =
+          ap (λ (l : List Finding). are_of is_beside_turns l) (done_in_parts p x.more y.more)
+          ∙ of_kinds_in_parts is_beside_turns (done_in p x.more) (done_in (record p { seen = p.seen ++ x.more }) y.more)
+          x.steps
+          (subst (λ (z : PassState). are_of is_beside_turns (done_in z y.more) ≡ true)
+          (same ∙ ap (λ (l : List Event). record p { seen = l }) x.is) y.steps);
+    }
+
+steps_of_all : (xs : List Finding)
+    → list_all is_beside_turns (map (λ (x : Finding). x.event.step) xs) ≡ are_of is_beside_turns xs
+steps_of_all [] = refl
+steps_of_all (x ∷ xs) = ap (λ (b : Bool). is_beside_turns x.event.step && b) (steps_of_all xs)
+
+stage_beside : (s : Stage) → is_beside_turns (step_at s) ≡ true
+stage_beside stage.Probe = refl
+stage_beside stage.Read = refl
+stage_beside stage.Write = refl
+stage_beside stage.Cas = refl
+stage_beside stage.Getg = refl
+stage_beside stage.Setg = refl
+stage_beside stage.Dirty = refl
+stage_beside stage.Leave = refl
+stage_beside _ = refl
+
+stages_beside : (xs : List Stage) → list_all is_beside_turns (map step_at xs) ≡ true
+stages_beside [] = refl
+stages_beside (x ∷ xs) =
+    and_from (is_beside_turns (step_at x)) (list_all is_beside_turns (map step_at xs)) (stage_beside x)
+    (stages_beside xs)
+
+pub called_beside : (p : PassState) (o : Op) (a : Answer) (q : PassState) → Called p o a q → StaysBeside p q
+called_beside p o a q called =
+    let all : list_all is_beside_turns (own_steps p called.more) ≡ true =
+    ap (λ (l : List Step). list_all is_beside_turns l) called.steps ∙ stages_beside (stages_made o a) in
+    record {
+      more = called.more;
+      is = ap (λ (x : PassState). x.seen) called.is;
+      steps = sym (steps_of_all (done_in p called.more)) ∙ all;
+    }
+
+pub held_beside : (p : PassState) (o : Op) (q : PassState) → Has p.seats p.seat → FindsGateHeld p o q
+    → StaysBeside p q
+held_beside p o q own held =
+    let d = does_step is_beside_turns p q (step.Enter o) own held.finds.makes refl in
+    record { more = d.more; is = ap (λ (x : PassState). x.seen) d.is; steps = d.of_kinds }

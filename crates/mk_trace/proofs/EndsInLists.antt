@@ -1,0 +1,388 @@
+-- What ends find in a list of events that has one cycle at most.
+use Rattle.std.proofs.Common.{◌≡◌, ◌⊎◌, ⊎_elim, inl, inr, ℕ, ◌+◌, ◌≤◌, Bool, true, false, List, [], ◌∷◌, ◌++◌, length, refl, sym}
+use Rattle.std.proofs.Common.{◌∙◌, ap, subst, append-nil, append_assoc, arith}
+use Rattle.std.specs.Prelude.{◌||◌}
+use Rattle.std.proofs.lemmas.Bool.{cases_Bool, or_from, or_parts, or_right, true≢false}
+use Rattle.mk_core.specs.declared.config.Config.{Config}
+use Rattle.mk_core.specs.declared.events.Event.{Event}
+use Rattle.mk_core.specs.declared.events.Step.{Step}
+use Rattle.mk_core.specs.declared.events.Step.TheVariants as step
+use Rattle.mk_core.specs.Allocations.{PlacedAllocation, allocations_by}
+use Rattle.mk_core.specs.Counts.{ends}
+use Rattle.mk_core.specs.Cycles.{At, Next, is_begin, is_end}
+use Rattle.mk_core.specs.History.{AreEnabledFrom, World, first_world, left, left_from, world_behind}
+use Rattle.mk_core.specs.Moments.{flight_of}
+use Rattle.mk_core.specs.Words.{phase_of}
+use Rattle.mk_core.proofs.Histories.{enabled_parts, left_append}
+use Rattle.mk_core.proofs.HistoryParts.{left_in_parts}
+use Rattle.mk_readings.proofs.CyclePhases.{AsksPhase, begin_is, moves_phase, phase_behind}
+use Rattle.mk_alloc.specs.TurnCycles.{RunsOneCycle, has_step}
+use Rattle.mk_alloc.proofs.ListParts.{lacks_first, lacks_second}
+use Rattle.mk_trace.specs.Ends.{EndsNone, EndsOne, EndsTell, FreesNone, IsIdle, LeavesAllocations, ReleasesNone}
+use Rattle.mk_trace.specs.Peaks.{found_by_ends_from}
+use Rattle.mk_trace.proofs.FlagSteps.{releases_then, same_releases}
+use Rattle.mk_trace.proofs.FoundByEnds.{EndsOnce, FreesNoneFrom, IsOn, Rests, ends-append, ends_once, found-append}
+use Rattle.mk_trace.proofs.FoundByEnds.{found-none, frees_behind, frees_second, grows_by, is_over, no_end-cons, rests}
+
+-- the first event of a kind
+pub next_of : (kind : Step → Bool) (es : List Event) → has_step kind es ≡ true → Next kind es
+next_of kind [] some = absurd (true≢false (sym some))
+next_of kind (e ∷ es) some =
+    ⊎_elim
+    (λ (is : kind e.step ≡ true).
+    record { at = record { before = []; event = e; behind = es; is = refl; of_kind = is }; none_before = refl })
+    (λ (none : kind e.step ≡ false).
+    (let rest = next_of kind es (sym (ap (λ (b : Bool). b || has_step kind es) none) ∙ some) in
+    record {
+      at = record {
+        before = e ∷ rest.at.before;
+        event = rest.at.event;
+        behind = rest.at.behind;
+        is = ap (λ (l : List Event). e ∷ l) rest.at.is;
+        of_kind = rest.at.of_kind;
+      };
+      none_before = or_from (kind e.step) (has_step kind rest.at.before) none rest.none_before;
+    }))
+    (cases_Bool (kind e.step))
+
+has_behind : (kind : Step → Bool) (xs : List Event) (e : Event) (ys : List Event) → kind e.step ≡ true
+    → has_step kind (xs ++ e ∷ ys) ≡ true
+has_behind kind [] e ys is = ap (λ (b : Bool). b || has_step kind ys) is
+has_behind kind (x ∷ xs) e ys is =
+    or_right (kind x.step) (has_step kind (xs ++ e ∷ ys)) (has_behind kind xs e ys is)
+
+pub has_at : (kind : Step → Bool) (es : List Event) → At kind es → has_step kind es ≡ true
+has_at kind es at =
+    ap (λ (l : List Event). has_step kind l) at.is ∙ has_behind kind at.before at.event at.behind at.of_kind
+
+begins_no_end : (s : Step) → is_begin s ≡ true → is_end s ≡ false
+begins_no_end step.Begin h = refl
+begins_no_end _ h = cc
+
+module _ (c : Config) (w : World) (xs : List Event) (b : Event) (ys : List Event)
+    (on : AreEnabledFrom c w (xs ++ b ∷ ys)) (idle : phase_of w.now.words ≡ 0) (begins : is_begin b.step ≡ true)
+    (none_before : has_step is_begin xs ≡ false) (none_behind : has_step is_begin ys ≡ false)
+    (overs : has_step is_over (xs ++ b ∷ ys) ≡ false) where
+  abbrev first : World
+  first = left_from c w xs
+
+  abbrev begun : World
+  begun = world_behind c first b
+
+  parts : AreEnabledFrom c w xs × AreEnabledFrom c first (b ∷ ys)
+  parts = enabled_parts c w xs (b ∷ ys) on
+
+  resting : Rests c w xs
+  resting = rests c w xs parts.0 idle none_before (lacks_first is_over xs (b ∷ ys) overs)
+
+  marking : (phase_of begun.now.words ≡ 1) × AreEnabledFrom c begun ys
+  marking =
+      let moves = moves_phase c first b ys parts.1 in (
+        moves.1 ∙ ap (λ (s : Step). phase_behind s (phase_of first.now.words)) (begin_is b.step begins),
+        moves.2,
+      )
+
+  later : FreesNoneFrom c begun ys → has_step is_end ys ≡ true → EndsOnce c begun ys
+  later frees ends_in =
+      ends_once c begun ys marking.1
+      (subst IsOn (sym marking.0) (record { least = omega arith; most = omega arith }))
+      none_behind (or_parts (is_over b.step) (has_step is_over ys) (lacks_second is_over xs (b ∷ ys) overs)).1
+      frees ends_in
+
+  left_is : left_from c w (xs ++ b ∷ ys) ≡ left_from c begun ys
+  unfolding left_from
+  left_is = left_append c w xs (b ∷ ys)
+
+  -- A cycle begins in the list, and ends in it.
+  pub one_cycle : FreesNoneFrom c begun ys → has_step is_end ys ≡ true → EndsOnce c w (xs ++ b ∷ ys)
+  one_cycle frees ends_in =
+      let rest = later frees ends_in in
+      let none = begins_no_end b.step begins in
+      record {
+        finds = rest.finds;
+        phase = ap (λ (x : World). phase_of x.now.words) left_is ∙ rest.phase;
+        found =
+            found-append c w xs (b ∷ ys)
+            ∙ ap (λ (l : List (List PlacedAllocation)). l ++ found_by_ends_from c first (b ∷ ys)) resting.found
+            ∙ found-none c first b ys none ∙ rest.found;
+        count = ends-append xs (b ∷ ys) ∙ ap (λ (n : ℕ). n + ends (b ∷ ys)) resting.count
+            ∙ (omega (arith, no_end-cons b ys none, rest.count));
+        earlier = omega (arith, resting.released.count, grows_by c first b, rest.earlier);
+        freed =
+            subst (λ (x : World). FreesNone rest.finds x.allocations) (sym left_is) rest.freed;
+        released =
+            subst (λ (x : World). ReleasesNone rest.finds x.allocations) (sym left_is) rest.released;
+      }
+
+one_second : (xs ys : List Event) → RunsOneCycle (xs ++ ys) → RunsOneCycle ys
+one_second xs ys one b =
+    one (record {
+      before = xs ++ b.before;
+      event = b.event;
+      behind = b.behind;
+      is = ap (λ (l : List Event). xs ++ l) b.is ∙ sym (append_assoc xs b.before (b.event ∷ b.behind));
+      of_kind = b.of_kind;
+    })
+
+-- One part behind another.
+
+none_twice : (c : Config) (es fs gs : List Event) → EndsNone c es fs → EndsNone c fs gs → EndsNone c es gs
+none_twice c es fs gs h g =
+    record {
+      found = g.found ∙ h.found;
+      count = g.count ∙ h.count;
+      released =
+          releases_then (left c es).allocations (left c fs).allocations (left c gs).allocations h.released g.released;
+    }
+
+one_behind_none : (c : Config) (es fs gs : List Event) → EndsNone c es fs → EndsOne c fs gs → EndsOne c es gs
+one_behind_none c es fs gs h g =
+    record {
+      finds = g.finds;
+      found = g.found ∙ ap (λ (l : List (List PlacedAllocation)). l ++ g.finds ∷ []) h.found;
+      count = g.count ∙ ap (λ (n : ℕ). n + 1) h.count;
+      earlier = omega (arith, h.released.count, g.earlier);
+      freed = g.freed;
+      released = g.released;
+    }
+
+-- From one list to a longer one.
+
+module _ (c : Config) (es more : List Event) where
+  left_then : left c (es ++ more) ≡ left_from c (left c es) more
+  left_then = left_in_parts c es more
+
+  pub none_then : Rests c (left c es) more → EndsNone c es (es ++ more)
+  none_then h =
+      record {
+        found =
+            found-append c (first_world c) es more
+            ∙ ap (λ (l : List (List PlacedAllocation)). found_by_ends_from c (first_world c) es ++ l) h.found
+            ∙ append-nil (found_by_ends_from c (first_world c) es);
+        count = ends-append es more ∙ (omega (arith, h.count));
+        released = subst (λ (x : World). ReleasesNone (left c es).allocations x.allocations) (sym left_then) h.released;
+      }
+
+  pub one_then : EndsOnce c (left c es) more → EndsOne c es (es ++ more)
+  one_then h =
+      record {
+        finds = h.finds;
+        found =
+            found-append c (first_world c) es more
+            ∙ ap (λ (l : List (List PlacedAllocation)). found_by_ends_from c (first_world c) es ++ l) h.found;
+        count = ends-append es more ∙ (omega (arith, h.count));
+        earlier = h.earlier;
+        freed = subst (λ (x : World). FreesNone h.finds x.allocations) (sym left_then) h.freed;
+        released = subst (λ (x : World). ReleasesNone h.finds x.allocations) (sym left_then) h.released;
+      }
+
+  idle_then : phase_of (left_from c (left c es) more).now.words ≡ 0 → IsIdle c (es ++ more)
+  idle_then h = ap (λ (x : World). phase_of x.now.words) left_then ∙ h
+
+  module _ (on : AreEnabledFrom c (left c es) more) (overs : has_step is_over more ≡ false) where
+    pub tells_none : has_step is_begin more ≡ false → EndsTell c es (es ++ more)
+    tells_none none idle =
+        let h = rests c (left c es) more on idle none overs in
+        (idle_then h.phase, inl (none_then h))
+
+    -- No call is a Free.
+    pub tells_ends : RunsOneCycle more → FreesNoneFrom c (left c es) more → EndsTell c es (es ++ more)
+    unfolding left_from
+    tells_ends one frees idle = ⊎_elim some none (cases_Bool (has_step is_begin more))
+      where
+        none : has_step is_begin more ≡ false
+            → IsIdle c (es ++ more) × (EndsNone c es (es ++ more) ⊎ EndsOne c es (es ++ more))
+        none lacks = tells_none lacks idle
+
+        some : has_step is_begin more ≡ true
+            → IsIdle c (es ++ more) × (EndsNone c es (es ++ more) ⊎ EndsOne c es (es ++ more))
+        some has =
+            let next = next_of is_begin more has in
+            let b = next.at in
+            let h : EndsOnce c (left c es) more =
+            subst (λ (l : List Event). EndsOnce c (left c es) l) (sym b.is)
+            (one_cycle c (left c es) b.before b.event b.behind
+            (subst (λ (l : List Event). AreEnabledFrom c (left c es) l) b.is on) idle b.of_kind next.none_before
+            (one b).0 (sym (ap (λ (l : List Event). has_step is_over l) b.is) ∙ overs)
+            (frees_behind c (left_from c (left c es) b.before) b.event b.behind
+            (frees_second c (left c es) b.before (b.event ∷ b.behind)
+            (subst (λ (l : List Event). FreesNoneFrom c (left c es) l) b.is frees)))
+            (has_at is_end b.behind (one b).1)) in
+            (idle_then h.phase, inr (one_then h))
+
+-- A list in two parts, with no cycle in the first, and no Free in the second.
+module _ (c : Config) (es xs ys : List Event) (on : AreEnabledFrom c (left c es) (xs ++ ys))
+    (overs : has_step is_over (xs ++ ys) ≡ false) (none : has_step is_begin xs ≡ false) where
+  parts_on : AreEnabledFrom c (left c es) xs × AreEnabledFrom c (left c (es ++ xs)) ys
+  parts_on =
+      let parts = enabled_parts c (left c es) xs ys on in
+      (parts.0, subst (λ (w : World). AreEnabledFrom c w ys) (sym (left_in_parts c es xs)) parts.1)
+
+  pub tells_behind_none : RunsOneCycle (xs ++ ys) → FreesNoneFrom c (left c (es ++ xs)) ys
+      → EndsTell c es (es ++ (xs ++ ys))
+  tells_behind_none one frees idle =
+      let h = rests c (left c es) xs parts_on.0 idle none (lacks_first is_over xs ys overs) in
+      let first = none_then c es xs h in
+      let told = tells_ends c (es ++ xs) ys parts_on.1 (lacks_second is_over xs ys overs) (one_second xs ys one) frees
+      (idle_then c es xs h.phase) in
+      subst (λ (l : List Event). IsIdle c l × (EndsNone c es l ⊎ EndsOne c es l)) (append_assoc es xs ys) (
+        told.0,
+        ⊎_elim
+            (λ (second : EndsNone c (es ++ xs) ((es ++ xs) ++ ys)).
+            inl (none_twice c es (es ++ xs) ((es ++ xs) ++ ys) first second))
+            (λ (second : EndsOne c (es ++ xs) ((es ++ xs) ++ ys)).
+            inr (one_behind_none c es (es ++ xs) ((es ++ xs) ++ ys) first second))
+            told.1,
+      )
+
+-- Steps that neither move a cycle on nor change allocations.
+
+abbrev pub changes : Step → Bool
+changes step.Grant = true
+changes (step.Quar p v) = true
+changes step.Begin = true
+changes step.Want = true
+changes step.Close = true
+changes step.Release = true
+changes step.End = true
+changes step.Over = true
+changes _ = false
+
+record Leaves (c : Config) (w : World) (es : List Event) : Type 0 where
+  phase : phase_of (left_from c w es).now.words ≡ phase_of w.now.words
+  found : found_by_ends_from c w es ≡ []
+  count : ends es ≡ 0
+  allocations : (left_from c w es).allocations ≡ w.allocations
+
+no_end : (s : Step) → changes s ≡ false → is_end s ≡ false
+no_end step.End h = cc
+no_end _ h = refl
+
+same_phase : (s : Step) (n : ℕ) → changes s ≡ false → phase_behind s n ≡ n
+same_phase step.Begin n h = cc
+same_phase step.Want n h = cc
+same_phase step.Close n h = cc
+same_phase step.Release n h = cc
+same_phase step.End n h = cc
+same_phase step.Over n h = cc
+same_phase _ n h = refl
+
+same_allocations : (c : Config) (w : World) (e : Event) → changes e.step ≡ false
+    → (world_behind c w e).allocations ≡ w.allocations
+same_allocations c w e none = by e.step none
+  where
+    by : (s : Step) → changes s ≡ false
+        → allocations_by c w.now (flight_of w.now e.seat) s w.allocations ≡ w.allocations
+    by step.Grant h = cc
+    by (step.Quar p v) h = cc
+    by step.Begin h = cc
+    by step.Release h = cc
+    by _ h = refl
+
+leaves : (c : Config) (w : World) (es : List Event) → AreEnabledFrom c w es → has_step changes es ≡ false
+    → Leaves c w es
+unfolding left_from found_by_ends_from
+leaves c w [] on none = record { phase = refl; found = refl; count = refl; allocations = refl }
+leaves c w (e ∷ es) on none =
+    let outs = or_parts (changes e.step) (has_step changes es) none in
+    let moves = moves_phase c w e es on in
+    let rest = leaves c (world_behind c w e) es moves.2 outs.1 in
+    record {
+      phase = rest.phase ∙ moves.1 ∙ same_phase e.step (phase_of w.now.words) outs.0;
+      found = found-none c w e es (no_end e.step outs.0) ∙ rest.found;
+      count = no_end-cons e es (no_end e.step outs.0) ∙ rest.count;
+      allocations = rest.allocations ∙ same_allocations c w e outs.0;
+    }
+
+pub leaves_then : (c : Config) (es more : List Event) → AreEnabledFrom c (left c es) more
+    → has_step changes more ≡ false → LeavesAllocations c es (es ++ more)
+leaves_then c es more on none =
+    let h = leaves c (left c es) more on none in
+    let there = left_in_parts c es more in
+    record {
+      phase = ap (λ (x : World). phase_of x.now.words) there ∙ h.phase;
+      found =
+          found-append c (first_world c) es more
+          ∙ ap (λ (l : List (List PlacedAllocation)). found_by_ends_from c (first_world c) es ++ l) h.found
+          ∙ append-nil (found_by_ends_from c (first_world c) es);
+      count = ends-append es more ∙ (omega (arith, h.count));
+      allocations = ap (λ (x : World). x.allocations) there ∙ h.allocations;
+    }
+
+-- One behind the other.
+
+pub leaves_twice : (c : Config) (es fs gs : List Event) → LeavesAllocations c es fs → LeavesAllocations c fs gs
+    → LeavesAllocations c es gs
+leaves_twice c es fs gs h g =
+    record {
+      phase = g.phase ∙ h.phase;
+      found = g.found ∙ h.found;
+      count = g.count ∙ h.count;
+      allocations = g.allocations ∙ h.allocations;
+    }
+
+pub leaves_tell : (c : Config) (es fs : List Event) → LeavesAllocations c es fs → EndsTell c es fs
+leaves_tell c es fs h idle = (
+  h.phase ∙ idle,
+  inl (record {
+    found = h.found;
+    count = h.count;
+    released =
+        subst (λ (xs : List PlacedAllocation). ReleasesNone (left c es).allocations xs) (sym h.allocations)
+        (same_releases (left c es).allocations);
+  }),
+)
+
+pub tells_behind : (c : Config) (es fs gs : List Event) → LeavesAllocations c es fs → EndsTell c fs gs
+    → EndsTell c es gs
+tells_behind c es fs gs h tell idle =
+    let told = tell (h.phase ∙ idle) in
+    (told.0, ⊎_elim (λ (none : EndsNone c fs gs). inl (first none)) (λ (one : EndsOne c fs gs). inr (last one)) told.1)
+  where
+    first : EndsNone c fs gs → EndsNone c es gs
+    first none =
+        record {
+          found = none.found ∙ h.found;
+          count = none.count ∙ h.count;
+          released = subst (λ (xs : List PlacedAllocation). ReleasesNone xs (left c gs).allocations) h.allocations
+              none.released;
+        }
+
+    last : EndsOne c fs gs → EndsOne c es gs
+    last one =
+        record {
+          finds = one.finds;
+          found = one.found ∙ ap (λ (l : List (List PlacedAllocation)). l ++ one.finds ∷ []) h.found;
+          count = one.count ∙ ap (λ (n : ℕ). n + 1) h.count;
+          earlier = subst (λ (xs : List PlacedAllocation). length xs ≤ length one.finds) h.allocations one.earlier;
+          freed = one.freed;
+          released = one.released;
+        }
+
+pub tells_before : (c : Config) (es fs gs : List Event) → EndsTell c es fs → LeavesAllocations c fs gs
+    → EndsTell c es gs
+tells_before c es fs gs tell h idle =
+    let told = tell idle in (
+      h.phase ∙ told.0,
+      ⊎_elim (λ (none : EndsNone c es fs). inl (first none)) (λ (one : EndsOne c es fs). inr (last one)) told.1,
+    )
+  where
+    first : EndsNone c es fs → EndsNone c es gs
+    first none =
+        record {
+          found = h.found ∙ none.found;
+          count = h.count ∙ none.count;
+          released = subst (λ (xs : List PlacedAllocation). ReleasesNone (left c es).allocations xs)
+              (sym h.allocations) none.released;
+        }
+
+    last : EndsOne c es fs → EndsOne c es gs
+    last one =
+        record {
+          finds = one.finds;
+          found = h.found ∙ one.found;
+          count = h.count ∙ one.count;
+          earlier = one.earlier;
+          freed = subst (λ (xs : List PlacedAllocation). FreesNone one.finds xs) (sym h.allocations) one.freed;
+          released = subst (λ (xs : List PlacedAllocation). ReleasesNone one.finds xs) (sym h.allocations) one.released;
+        }

@@ -1,0 +1,274 @@
+-- What ends find in a list of events that begins without a cycle, or in one.
+use Rattle.std.proofs.Common.{◌≡◌, ⊎_elim, ℕ, ◌+◌, ◌<◌, ◌≤◌, Bool, true, false, List, [], ◌∷◌, ◌++◌, length, refl, sym}
+use Rattle.std.proofs.Common.{◌∙◌, ap, subst, append_assoc, arith}
+use Rattle.std.specs.Prelude.{◌||◌, cond, count_by, if◌then◌else◌}
+use Rattle.std.specs.List.{list_any}
+use Rattle.std.proofs.lemmas.Bool.{cases_Bool, false_from_ne_true, or_parts, true≢false}
+use Rattle.std.proofs.lemmas.List.{length-append, length-map}
+use Rattle.std.proofs.lemmas.List.Folds.{list_any-append}
+use Rattle.std.proofs.lemmas.List.Sums.{sum_by-append, sum_by-cons}
+use Rattle.mk_core.specs.declared.config.Config.{Config}
+use Rattle.mk_core.specs.declared.events.Event.{Event}
+use Rattle.mk_core.specs.declared.events.Step.{Step}
+use Rattle.mk_core.specs.declared.events.Step.TheVariants as step
+use Rattle.mk_core.specs.Allocations.{PlacedAllocation, allocations_by, freed_where_it_stands, granted, no_longer_fresh}
+use Rattle.mk_core.specs.Allocations.{with_released}
+use Rattle.mk_core.specs.TurnConditions.{cell_freed}
+use Rattle.mk_core.specs.Counts.{decides_freed, ends}
+use Rattle.mk_core.specs.Cycles.{is_begin, is_end, is_release}
+use Rattle.mk_core.specs.Decided.{Decided}
+use Rattle.mk_core.specs.History.{AreEnabledFrom, World, call_decided, calls_from, left_from, world_behind}
+use Rattle.mk_core.specs.Moments.{flight_of}
+use Rattle.mk_core.specs.Words.{phase_of}
+use Rattle.mk_core.proofs.Histories.{calls_append}
+use Rattle.mk_readings.proofs.CyclePhases.{AsksPhase, moves_phase, phase_behind}
+use Rattle.mk_alloc.specs.TurnCycles.{has_step}
+use Rattle.mk_trace.specs.Ends.{FreesNone, ReleasesNone}
+use Rattle.mk_trace.specs.Peaks.{found_by_ends_from}
+use Rattle.mk_trace.proofs.FlagSteps.{frees_by, frees_decide, frees_then, is_free_call, releases_by, releases_then}
+use Rattle.mk_trace.proofs.FlagSteps.{same_releases}
+
+abbrev pub is_over : Step → Bool
+is_over step.Over = true
+is_over _ = false
+
+-- what an event adds
+
+ends-cons : (e : Event) (es : List Event) → ends (e ∷ es) ≡ cond (is_end e.step) 1 0 + ends es
+ends-cons e es = sum_by-cons (λ (x : Event). cond (is_end x.step) 1 0) e es
+
+counts_none : (b : Bool) (n m : ℕ) → n ≡ cond b 1 0 + m → b ≡ false → n ≡ m
+counts_none false n m is none = omega arith
+counts_none true n m is none = cc
+
+counts_one : (b : Bool) (n m : ℕ) → n ≡ cond b 1 0 + m → b ≡ true → n ≡ 1 + m
+counts_one true n m is one = is
+counts_one false n m is one = cc
+
+pub no_end-cons : (e : Event) (es : List Event) → is_end e.step ≡ false → ends (e ∷ es) ≡ ends es
+no_end-cons e es none = counts_none (is_end e.step) (ends (e ∷ es)) (ends es) (ends-cons e es) none
+
+end-cons : (e : Event) (es : List Event) → is_end e.step ≡ true → ends (e ∷ es) ≡ 1 + ends es
+end-cons e es is = counts_one (is_end e.step) (ends (e ∷ es)) (ends es) (ends-cons e es) is
+
+pub ends-append : (xs ys : List Event) → ends (xs ++ ys) ≡ ends xs + ends ys
+ends-append xs ys = sum_by-append (λ (x : Event). cond (is_end x.step) 1 0) xs ys
+
+found_by_test : (b : Bool) (first : List PlacedAllocation) (xs ys : List (List PlacedAllocation))
+    → (if b then first ∷ (xs ++ ys) else xs ++ ys) ≡ (if b then first ∷ xs else xs) ++ ys
+found_by_test true first xs ys = refl
+found_by_test false first xs ys = refl
+
+pub found-append : (c : Config) (w : World) (xs ys : List Event)
+    → found_by_ends_from c w (xs ++ ys) ≡ found_by_ends_from c w xs ++ found_by_ends_from c (left_from c w xs) ys
+unfolding found_by_ends_from left_from
+found-append c w [] ys = refl
+found-append c w (e ∷ xs) ys =
+    let on : World = world_behind c w e in
+    ap (λ (l : List (List PlacedAllocation)). if is_end e.step then w.allocations ∷ l else l) (found-append c on xs ys)
+    ∙ found_by_test (is_end e.step) w.allocations (found_by_ends_from c on xs)
+    (found_by_ends_from c (left_from c on xs) ys)
+
+pub found-none : (c : Config) (w : World) (e : Event) (es : List Event) → is_end e.step ≡ false
+    → found_by_ends_from c w (e ∷ es) ≡ found_by_ends_from c (world_behind c w e) es
+unfolding found_by_ends_from
+found-none c w e es none =
+    let rest = found_by_ends_from c (world_behind c w e) es in
+    ap (λ (b : Bool). if b then w.allocations ∷ rest else rest) none
+
+found-one : (c : Config) (w : World) (e : Event) (es : List Event) → is_end e.step ≡ true
+    → found_by_ends_from c w (e ∷ es) ≡ w.allocations ∷ found_by_ends_from c (world_behind c w e) es
+unfolding found_by_ends_from
+found-one c w e es is =
+    let rest = found_by_ends_from c (world_behind c w e) es in
+    ap (λ (b : Bool). if b then w.allocations ∷ rest else rest) is
+
+-- An `end` itself leaves all allocations.
+end_leaves : (c : Config) (w : World) (e : Event) → is_end e.step ≡ true
+    → (world_behind c w e).allocations ≡ w.allocations
+end_leaves c w e is = by e.step is
+  where
+    by : (s : Step) → is_end s ≡ true → allocations_by c w.now (flight_of w.now e.seat) s w.allocations ≡ w.allocations
+    by step.End h = refl
+    by _ h = cc
+
+one_releases_none : (c : Config) (w : World) (e : Event) → is_release e.step ≡ false
+    → ReleasesNone w.allocations (world_behind c w e).allocations
+one_releases_none c w e none = releases_by c w.now (flight_of w.now e.seat) e.step w.allocations none
+
+-- No call of these events is a Free.
+abbrev pub FreesNoneFrom : Config → World → List Event → Type 0
+FreesNoneFrom c w es = list_any is_free_call (calls_from c w es) ≡ false
+
+free_parts : (c : Config) (w : World) (e : Event) (es : List Event) → FreesNoneFrom c w (e ∷ es)
+    → (decides_freed c w.now (flight_of w.now e.seat) e.step ≡ false) × FreesNoneFrom c (world_behind c w e) es
+unfolding calls_from
+free_parts c w e es none =
+    let first : List Decided = call_decided c w.now e in
+    let later : List Decided = calls_from c (world_behind c w e) es in
+    let parts = or_parts (list_any is_free_call first) (list_any is_free_call later)
+    (sym (list_any-append is_free_call first later) ∙ none) in (
+      false_from_ne_true (decides_freed c w.now (flight_of w.now e.seat) e.step)
+          (λ is. true≢false (sym (frees_decide c w.now e.seat e.step is) ∙ parts.0)),
+      parts.1,
+    )
+
+pub frees_behind : (c : Config) (w : World) (e : Event) (es : List Event) → FreesNoneFrom c w (e ∷ es)
+    → FreesNoneFrom c (world_behind c w e) es
+frees_behind c w e es none = (free_parts c w e es none).1
+
+pub frees_second : (c : Config) (w : World) (xs ys : List Event) → FreesNoneFrom c w (xs ++ ys)
+    → FreesNoneFrom c (left_from c w xs) ys
+frees_second c w xs ys none =
+    let first : List Decided = calls_from c w xs in
+    let later : List Decided = calls_from c (left_from c w xs) ys in
+    (or_parts (list_any is_free_call first) (list_any is_free_call later)
+    (sym (list_any-append is_free_call first later)
+    ∙ sym (ap (λ (l : List Decided). list_any is_free_call l) (calls_append c w xs ys)) ∙ none)).1
+
+pub none_freed_from : (c : Config) (w : World) (es : List Event) → FreesNoneFrom c w es
+    → FreesNone w.allocations (left_from c w es).allocations
+unfolding left_from
+none_freed_from c w [] none = λ n. refl
+none_freed_from c w (e ∷ es) none =
+    let parts = free_parts c w e es none in
+    let on : World = world_behind c w e in
+    frees_then w.allocations on.allocations (left_from c on es).allocations
+    (frees_by c w.now (flight_of w.now e.seat) e.step w.allocations parts.0) (none_freed_from c on es parts.1)
+
+-- Where no cycle is on and none begins, none ends, and nothing is released.
+pub record Rests (c : Config) (w : World) (es : List Event) : Type 0 where
+  pub phase : phase_of (left_from c w es).now.words ≡ 0
+  pub found : found_by_ends_from c w es ≡ []
+  pub count : ends es ≡ 0
+  pub released : ReleasesNone w.allocations (left_from c w es).allocations
+
+idle_step : (s : Step) → AsksPhase s 0 → is_begin s ≡ false → is_over s ≡ false
+    → (phase_behind s 0 ≡ 0) × (is_end s ≡ false) × (is_release s ≡ false)
+idle_step step.Begin asks begin over = cc
+idle_step step.Over asks begin over = cc
+idle_step step.Want asks begin over = absurd (omega arith)
+idle_step step.Close asks begin over = absurd (omega arith)
+idle_step step.Release asks begin over = absurd (omega arith)
+idle_step step.End asks begin over = absurd (omega arith)
+idle_step _ asks begin over = (refl, refl, refl)
+
+pub rests : (c : Config) (w : World) (es : List Event) → AreEnabledFrom c w es → phase_of w.now.words ≡ 0
+    → has_step is_begin es ≡ false → has_step is_over es ≡ false → Rests c w es
+unfolding left_from found_by_ends_from
+rests c w [] on idle begins overs =
+    record { phase = idle; found = refl; count = refl; released = same_releases w.allocations }
+rests c w (e ∷ es) on idle begins overs =
+    let behind : World = world_behind c w e in
+    let begin = or_parts (is_begin e.step) (has_step is_begin es) begins in
+    let over = or_parts (is_over e.step) (has_step is_over es) overs in
+    let moves = moves_phase c w e es on in
+    let one = idle_step e.step (subst (λ (n : ℕ). AsksPhase e.step n) idle moves.0) begin.0 over.0 in
+    let next = moves.1 ∙ ap (λ (n : ℕ). phase_behind e.step n) idle ∙ one.0 in
+    let rest = rests c behind es moves.2 next begin.1 over.1 in
+    record {
+      phase = rest.phase;
+      found = found-none c w e es one.1 ∙ rest.found;
+      count = no_end-cons e es one.1 ∙ rest.count;
+      released =
+          releases_then w.allocations behind.allocations (left_from c behind es).allocations
+          (one_releases_none c w e one.2) rest.released;
+    }
+
+-- Where a cycle is on, which ends, and none begins, that is the only end.
+pub record EndsOnce (c : Config) (w : World) (es : List Event) : Type 0 where
+  pub finds : List PlacedAllocation
+  pub phase : phase_of (left_from c w es).now.words ≡ 0
+  pub found : found_by_ends_from c w es ≡ finds ∷ []
+  pub count : ends es ≡ 1
+  pub earlier : length w.allocations ≤ length finds
+  pub freed : FreesNone finds (left_from c w es).allocations
+  pub released : ReleasesNone finds (left_from c w es).allocations
+
+-- The phase is one of a cycle.
+pub record IsOn (phase : ℕ) : Type 0 where
+  pub least : 1 ≤ phase
+  pub most : phase ≤ 4
+
+on_step : (s : Step) (n : ℕ) → AsksPhase s n → IsOn n → is_end s ≡ false → IsOn (phase_behind s n)
+on_step step.Begin n asks on none = record { least = omega arith; most = omega arith }
+on_step step.Want n asks on none = record { least = omega arith; most = omega arith }
+on_step step.Close n asks on none = record { least = omega arith; most = omega arith }
+on_step step.Release n asks on none = record { least = omega arith; most = omega arith }
+on_step step.End n asks on none = cc
+on_step step.Over n asks on none = absurd (omega (arith, on.least))
+on_step _ n asks on none = on
+
+end_step : (s : Step) (n : ℕ) → is_end s ≡ true → phase_behind s n ≡ 0
+end_step step.End n is = refl
+end_step _ n is = cc
+
+pub grows_by : (c : Config) (w : World) (e : Event) → length w.allocations ≤ length (world_behind c w e).allocations
+grows_by c w e = by e.step
+  where
+    by : (s : Step) → length w.allocations
+        ≤ length (allocations_by c w.now (flight_of w.now e.seat) s w.allocations)
+    by step.Grant = omega (arith, length-append w.allocations (granted c w.now (flight_of w.now e.seat) ∷ []))
+    by (step.Quar p v) = omega (
+      arith,
+      length-map w.allocations
+          (freed_where_it_stands w.now.words (cell_freed c.pages w.now.words (flight_of w.now e.seat) p v)),
+    )
+    by step.Begin = omega (arith, length-map w.allocations no_longer_fresh)
+    by step.Release = omega (arith, length-map w.allocations (with_released c w.now.words))
+    by _ = omega arith
+
+module _ (c : Config) (w : World) (e : Event) (es : List Event) (on : AreEnabledFrom c w (e ∷ es))
+    (begins : has_step is_begin (e ∷ es) ≡ false) (overs : has_step is_over (e ∷ es) ≡ false)
+    (frees : FreesNoneFrom c w (e ∷ es)) where
+  abbrev behind : World
+  behind = world_behind c w e
+
+  ends_here : is_end e.step ≡ true → EndsOnce c w (e ∷ es)
+  unfolding left_from
+  ends_here is =
+      let moves = moves_phase c w e es on in
+      let rest = rests c behind es moves.2 (moves.1 ∙ end_step e.step (phase_of w.now.words) is)
+      (or_parts (is_begin e.step) (has_step is_begin es) begins).1
+      (or_parts (is_over e.step) (has_step is_over es) overs).1 in
+      record {
+        finds = w.allocations;
+        phase = rest.phase;
+        found = found-one c w e es is ∙ ap (λ (l : List (List PlacedAllocation)). w.allocations ∷ l) rest.found;
+        count = end-cons e es is ∙ ap (λ (n : ℕ). 1 + n) rest.count;
+        earlier = omega arith;
+        freed = none_freed_from c w (e ∷ es) frees;
+        released =
+            subst (λ (l : List PlacedAllocation). ReleasesNone l (left_from c behind es).allocations)
+            (end_leaves c w e is) rest.released;
+      }
+
+  ends_later : is_end e.step ≡ false → EndsOnce c behind es → EndsOnce c w (e ∷ es)
+  unfolding left_from
+  ends_later none rest =
+      record {
+        finds = rest.finds;
+        phase = rest.phase;
+        found = found-none c w e es none ∙ rest.found;
+        count = no_end-cons e es none ∙ rest.count;
+        earlier = omega (arith, grows_by c w e, rest.earlier);
+        freed = rest.freed;
+        released = rest.released;
+      }
+
+pub ends_once : (c : Config) (w : World) (es : List Event) → AreEnabledFrom c w es → IsOn (phase_of w.now.words)
+    → has_step is_begin es ≡ false → has_step is_over es ≡ false → FreesNoneFrom c w es → has_step is_end es ≡ true
+    → EndsOnce c w es
+ends_once c w [] on phase begins overs frees ends_in = absurd (true≢false (sym ends_in))
+ends_once c w (e ∷ es) on phase begins overs frees ends_in =
+    let moves = moves_phase c w e es on in
+    ⊎_elim
+    (λ (is : is_end e.step ≡ true). ends_here c w e es on begins overs frees is)
+    (λ (none : is_end e.step ≡ false).
+    ends_later c w e es on begins overs frees none
+    (ends_once c (world_behind c w e) es moves.2
+    (subst IsOn (sym moves.1) (on_step e.step (phase_of w.now.words) moves.0 phase none))
+    (or_parts (is_begin e.step) (has_step is_begin es) begins).1
+    (or_parts (is_over e.step) (has_step is_over es) overs).1 (free_parts c w e es frees).1
+    (sym (ap (λ (b : Bool). b || has_step is_end es) none) ∙ ends_in)))
+    (cases_Bool (is_end e.step))
