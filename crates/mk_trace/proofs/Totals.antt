@@ -1,7 +1,7 @@
 -- Words of kept objects, summed up one by one, where a number above 2^64 - 1 stands as 2^64 - 1.
-use Rattle.std.proofs.Common.{◌≡◌, ℕ, ◌+◌, ◌<◌, List, [], ◌∷◌, ◌++◌, map, refl, sym, ◌∙◌, ap, arith, length, take, get_or}
+use Rattle.std.proofs.Common.{◌≡◌, ℕ, ◌+◌, ◌<◌, ◌≤◌, List, [], ◌∷◌, ◌++◌, map, refl, sym, ◌∙◌, ap, arith, length, take, get_or}
 use Rattle.std.specs.Prelude.{sum_by}
-use Rattle.std.proofs.lemmas.List.{map-append, take-snoc}
+use Rattle.std.proofs.lemmas.List.{map-append, take_all, take_more}
 use Rattle.std.proofs.lemmas.List.Sums.{sum_by-cons, sum_by-append}
 use Rattle.mk_core.specs.Counts.{in_a_word}
 use Rattle.mk_trace.specs.declared.ledger.FreedObject.{FreedObject}
@@ -15,10 +15,16 @@ one_more f xs x =
     ∙ sum_by-append f (objects_in xs) (x.object ∷ [])
     ∙ ap (λ (n : ℕ). sum_by f (objects_in xs) + n) (sum_by-cons f x.object [] ∙ (omega arith))
 
-pub total_more : (f : FreedObject → ℕ) (xs : List Quarantined) (i words : ℕ) (x : Quarantined) → i < length xs
-    → x ≡ get_or xs i x → words ≡ in_a_word (sum_by f (objects_in (take i xs)))
-    → in_a_word (words + f x.object) ≡ in_a_word (sum_by f (objects_in (take (i + 1) xs)))
-total_more f xs i words x lt there so_far =
+pub total_more : (f : FreedObject → ℕ) (xs : List Quarantined) (i words : ℕ) (d : Quarantined) → i < length xs
+    → words ≡ in_a_word (sum_by f (objects_in (take i xs)))
+    → in_a_word (words + f (get_or xs i d).object) ≡ in_a_word (sum_by f (objects_in (take (i + 1) xs)))
+total_more f xs i words d lt so_far =
+    let x : Quarantined = get_or xs i d in
     let sums : sum_by f (objects_in (take (i + 1) xs)) ≡ sum_by f (objects_in (take i xs)) + f x.object =
-    ap (λ (l : List Quarantined). sum_by f (objects_in l)) (take_one xs i x lt there) ∙ one_more f (take i xs) x in
+    ap (λ (l : List Quarantined). sum_by f (objects_in l)) (take_more xs i d lt) ∙ one_more f (take i xs) x in
     omega (arith, so_far, sums)
+
+pub all_summed : (f : FreedObject → ℕ) (xs : List Quarantined) (i words : ℕ) → length xs ≤ i
+    → words ≡ in_a_word (sum_by f (objects_in (take i xs))) → words ≡ in_a_word (sum_by f (objects_in xs))
+all_summed f xs i words all so_far =
+    so_far ∙ ap (λ (l : List Quarantined). in_a_word (sum_by f (objects_in l))) (take_all i xs all)
