@@ -86,8 +86,8 @@ pub record FreeIsExact (on : Bool) {c : Config} {s : Seat} {es : List Event} (t 
 abbrev pub HasNoPlace : Config → Object → List Event → Type 0
 HasNoPlace c o es = FitsAmongAllocations c o.words o.leaf (left c es).allocations → ⊥
 
--- A New begins a cycle, and ends one, only where its object has no place. It begins one at most, and ends it. Behind the
--- grant of its object it lets nothing go.
+-- A New begins a cycle, and ends one, only where its object has no place. It begins one at most, and ends it. Behind
+-- the grant of its object it lets nothing go.
 pub record NewIsExact {c : Config} {s : Seat} {es : List Event} (t : TurnOf c s es) (o : Object) : Type 0 where
   pub begins : (b : BeginsIn t) → HasNoPlace c o (within_turn t b.before)
   pub ends : (w : At is_want t.behind) → HasNoPlace c o (within_turn t w.before)

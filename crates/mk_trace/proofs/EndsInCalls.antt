@@ -36,7 +36,8 @@ use Rattle.mk_heap.specs.Hosts.{HostState, pass_for}
 use Rattle.mk_turns.specs.Doing.{are_of}
 use Rattle.mk_waiting.specs.Taking.{is_take}
 use Rattle.mk_alloc.specs.TurnCalls.{CalledInTurn}
-use Rattle.mk_alloc.specs.TurnCycles.{CallIsExact, FreeIsExact, FreesFirst, NewIsExact, RunsOneCycle, finishes, has_step}
+use Rattle.mk_alloc.specs.TurnCycles.{CallIsExact, FreeIsExact, FreesFirst, NewIsExact, RunsOneCycle, finishes}
+use Rattle.mk_alloc.specs.TurnCycles.{has_step}
 use Rattle.mk_alloc.specs.TurnCycles.{is_of_cycle, within_turn}
 use Rattle.mk_alloc.proofs.ListParts.{lacks_append}
 use Rattle.mk_alloc.proofs.OneCycles.{one_before, one_behind}

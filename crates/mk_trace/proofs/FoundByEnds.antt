@@ -51,6 +51,12 @@ no_end-cons e es none = counts_none (is_end e.step) (ends (e ∷ es)) (ends es) 
 end-cons : (e : Event) (es : List Event) → is_end e.step ≡ true → ends (e ∷ es) ≡ 1 + ends es
 end-cons e es is = counts_one (is_end e.step) (ends (e ∷ es)) (ends es) (ends-cons e es) is
 
+pub none_end : (es : List Event) → has_step is_end es ≡ false → ends es ≡ 0
+none_end [] none = refl
+none_end (e ∷ es) none =
+    let parts = or_parts (is_end e.step) (has_step is_end es) none in
+    no_end-cons e es parts.0 ∙ none_end es parts.1
+
 pub ends-append : (xs ys : List Event) → ends (xs ++ ys) ≡ ends xs + ends ys
 ends-append xs ys = sum_by-append (λ (x : Event). cond (is_end x.step) 1 0) xs ys
 

@@ -94,19 +94,19 @@ module _ (p q : PassState) (x : Word) (n : ℕ) (h : Tells p x n q) (own : Has p
   waited_same : waited ≡ record p { seen = waited.seen }
   waited_same = same_pass p p waited (p.seen ++ h.takes.waits.more) refl h.takes.waits.is
 
-  taken_same : taken ≡ record p { seen = taken.seen }
+  pub taken_same : taken ≡ record p { seen = taken.seen }
   taken_same = same_pass p waited taken _ waited_same h.takes.takes.makes.is
 
-  looked_same : h.looked ≡ record p { seen = h.looked.seen }
+  pub looked_same : h.looked ≡ record p { seen = h.looked.seen }
   looked_same = same_pass p taken h.looked _ taken_same h.looks.makes.is
 
   abbrev taking : List Event
   taking = h.takes.takes.makes.others ++ event_of waited (step.Take None) ∷ []
 
-  abbrev looking : List Event
+  abbrev pub looking : List Event
   looking = h.looks.makes.others ++ event_of taken (step.Look x) ∷ []
 
-  abbrev giving : List Event
+  abbrev pub giving : List Event
   giving = h.gives.others ++ event_of h.looked step.Give ∷ []
 
   abbrev pub first : List Event
@@ -115,7 +115,7 @@ module _ (p q : PassState) (x : Word) (n : ℕ) (h : Tells p x n q) (own : Has p
   abbrev pub behind : List Event
   behind = looking ++ giving
 
-  taken_seen : taken.seen ≡ p.seen ++ first
+  pub taken_seen : taken.seen ≡ p.seen ++ first
   taken_seen =
       seen_then p.seen waited.seen taken.seen h.takes.waits.more taking
       (ap (λ (r : PassState). r.seen) h.takes.waits.is)
@@ -129,14 +129,14 @@ module _ (p q : PassState) (x : Word) (n : ℕ) (h : Tells p x n q) (own : Has p
   pub seen_is : q.seen ≡ p.seen ++ (first ++ behind)
   seen_is = seen_then p.seen taken.seen q.seen first behind taken_seen behind_seen
 
-  mine : AreMine c [] first × AreMine c [] behind
+  pub mine : AreMine c [] first × AreMine c [] behind
   mine =
       mine_parts c [] first behind
       (are_mine c (left c p.seen) [] (first ++ behind)
       ((enabled_in_parts c p.seen (first ++ behind)).0
       (subst (λ (l : List Event). IsHistory c l) seen_is history).enabled).1 (others_nobody (first ++ behind)))
 
-  of_pass : (r : PassState) (es : List Event) → r ≡ record p { seen = r.seen } → AreOfOthers r.seats es
+  pub of_pass : (r : PassState) (es : List Event) → r ≡ record p { seen = r.seen } → AreOfOthers r.seats es
       → AreOfOthers p.seats es
   of_pass r es same others = subst (λ (y : PassState). AreOfOthers y.seats es) same others
 
@@ -184,7 +184,7 @@ module _ (p q : PassState) (x : Word) (n : ℕ) (h : Tells p x n q) (own : Has p
       history_taken).held
       ∙ ap (λ (r : PassState). held_words r.table.config (left r.table.config taken.seen).allocations) taken_same
 
-  looks_alone : h.looks.makes.others ≡ []
+  pub looks_alone : h.looks.makes.others ≡ []
   looks_alone =
       none_of_others c [] p.seats h.looks.makes.others all
       (mine_parts c [] h.looks.makes.others (event_of taken (step.Look x) ∷ [])

@@ -43,6 +43,7 @@ pub mod ReadEvents
 pub mod ReadSlots
 pub mod SettledBits
 pub mod SlotTypes
+pub mod ToldCycles
 pub mod Totals
 pub mod TurnPieces
 pub mod WholeText

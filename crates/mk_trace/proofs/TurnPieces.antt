@@ -1,5 +1,5 @@
 -- What is seen of a call under the turn: the wait for the turn and its `take`, what the turn does, and its `give`.
-use Rattle.std.proofs.Common.{◌≡◌, ⊎_elim, Bool, true, false, List, [], ◌∷◌, ◌++◌, refl, sym, ◌∙◌, ap, subst, append_assoc}
+use Rattle.std.proofs.Common.{◌≡◌, Bool, true, false, List, [], ◌∷◌, ◌++◌, refl, sym, ◌∙◌, ap, subst, append_assoc}
 use Rattle.std.specs.Prelude.{◌||◌, Some}
 use Rattle.std.proofs.lemmas.List.{append_cancel_right}
 use Rattle.mk_never.specs.declared.operations.Op.{Op}

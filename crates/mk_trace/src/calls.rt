@@ -6,6 +6,7 @@ ghost use Rattle.mk_trace.specs.Traces.{slot_of};
 ghost use Rattle.mk_core.specs.declared.events.Word.TheVariants as table_word;
 ghost use Rattle.mk_trace.specs.Calls.{IsHome, MayCome, MayBePlayed, SameCalls, Calls, PlaysEvent};
 ghost use Rattle.mk_core.specs.Calls.{is_under_turn};
+ghost use Rattle.mk_core.specs.Counts.{ends, in_a_word};
 ghost use Rattle.mk_trace.specs.Ends.{EndsTell, LeavesAllocations};
 ghost use Rattle.mk_trace.specs.Calls.{held_behind, most_held, HoldsNoMore, HoldsMostAtEnd};
 
@@ -61,6 +62,7 @@ pub(crate) fn look<R: Wait>(rt: &R, heap: &Heap, host: &mut Host, word: Word) ->
     ensures held { HoldsNoMore heap.now.config host.old.pass.seen host.new.pass.seen }
     ensures leaves { LeavesAllocations heap.now.config host.old.pass.seen host.new.pass.seen }
     ensures tells { word ≡ table_word.Held → result ≡ held_behind heap.now.config host.old.pass.seen }
+    ensures counts { word ≡ table_word.Cycles → result ≡ in_a_word (ends host.old.pass.seen) }
 {
     host.is_in_order();
     let found = host.tell(rt, heap, word);

@@ -1,6 +1,7 @@
 use Rattle.mk_words.specs.States.{PassState}
 use Rattle.mk_cycle.proofs.Allowed.{in_turn}
-use Rattle.mk_alloc.proofs.CountedFulls.{answers_full, full_begins_none, tallied_ended, tallied_idle, tallied_nowhere, tallied_unplaced}
+use Rattle.mk_alloc.proofs.CountedFulls.{answers_full, full_begins_none, tallied_ended, tallied_idle, tallied_nowhere}
+use Rattle.mk_alloc.proofs.CountedFulls.{tallied_unplaced}
 use Rattle.mk_alloc.proofs.FullTurns.{full_admitted, full_allowed}
 use Rattle.std.proofs.Common.{refl}
 use Rattle.mk_alloc.proofs.UnsweptTurns.{full_sweeps}

@@ -79,8 +79,8 @@ returns-clause-ends g c = λ off.
     let table =
     ap (λ (x : HostState). x.pass.table) c.join_caller.ensures.host
     ∙ ap (λ (x : HostState). x.pass.table) c.caller_again-caller.ensures.host ∙ c.requires.home.table in
-    call_tells_ends w h c.caller_again-caller.result.pass g.E.Engine.on c.args.op c.answer_to-answer.result q k.pass.seen
-    c.requires.home (ap (λ (x : CallerState). x.pass) c.caller_again-caller.ensures.caller)
+    call_tells_ends w h c.caller_again-caller.result.pass g.E.Engine.on c.args.op c.answer_to-answer.result q
+    k.pass.seen c.requires.home (ap (λ (x : CallerState). x.pass) c.caller_again-caller.ensures.caller)
     c.answer_to-answer.ensures.answers
     (subst (λ (x : HostState). Grows x.pass.seats x.pass.seen k.pass.seen) c.caller_again-caller.ensures.host
     c.join_caller.ensures.own)

@@ -1,4 +1,5 @@
 use Rattle.std.proofs.Common.{◌∙◌, ap, subst}
+use Rattle.mk_core.specs.Counts.{IsTidy}
 use Rattle.mk_core.specs.History.{IsHistory}
 use Rattle.mk_words.specs.States.{WordsState}
 use Rattle.mk_heap.specs.Hosts.{HostState}
@@ -6,6 +7,7 @@ use Rattle.mk_trace.specs.Calls.{SameCalls}
 use Rattle.mk_trace.proofs.EndsAtHome.{look_leaves}
 use Rattle.mk_trace.proofs.HeldCalls.{look_holds, look_tells}
 use Rattle.mk_trace.proofs.OneCaller.{told_calls, told_home}
+use Rattle.mk_trace.proofs.ToldCycles.{look_counts}
 use Rattle.mk_trace.proofs.calls.look.Goals as goal
 
 pub returns-clause-home : goal.returns-clause-home
@@ -48,3 +50,13 @@ returns-clause-tells g c =
     c.tell-found.new.self c.tell-found.ensures.tells
     (subst (λ (w : WordsState). IsHistory w.config c.tell-found.new.self.pass.seen)
     (ap (λ (x : HostState). x.pass.table) c.tell-found.ensures.host) c.is_in_order-2.ensures.history)
+
+pub returns-clause-counts : goal.returns-clause-counts
+returns-clause-counts g c =
+    look_counts c.args.heap.now c.args.host.now c.requires.home c.is_in_order.ensures.seat c.args.word
+    c.tell-found.result
+    c.tell-found.new.self c.tell-found.ensures.tells
+    (subst (λ (w : WordsState). IsHistory w.config c.tell-found.new.self.pass.seen)
+    (ap (λ (x : HostState). x.pass.table) c.tell-found.ensures.host) c.is_in_order-2.ensures.history)
+    (subst (λ (w : WordsState). IsTidy w.config c.tell-found.new.self.pass.seen)
+    (ap (λ (x : HostState). x.pass.table) c.tell-found.ensures.host) c.is_in_order-2.ensures.tidy)
