@@ -25,6 +25,8 @@ pub mod HeldCalls
 pub mod HeldLooks
 pub mod HeldSteps
 pub mod Kept
+pub mod KeptObjects
+pub mod KeptPeaks
 pub mod LaterFlags
 pub mod LaterOps
 pub mod LookedTables
