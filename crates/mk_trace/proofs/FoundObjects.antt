@@ -104,6 +104,13 @@ module _ (c : Config) (es : List Event) (history : IsHistory c es) (slot : ℕ) 
     pub words_shown : cell_words w (cell_of_allocation c a) ≡ storage_words c a
     words_shown = (cells_begin c w a history.within_limits stands.stands stands.headers).1
 
+    pub page_within : (cell_of_allocation c a).page < c.pages
+    page_within =
+        let holds = storage_holds c a history.within_limits stands.stands.typed in
+        let some = holds.1.0 in
+        let ends = stands.stands.within in
+        omega arith
+
     pub freed_shown : phase_of w ≢ 4 → is_freed w (cell_of_allocation c a) ≡ (allocation_at n number).freed
     freed_shown out =
         bit_tells_freed c es history out number unreleased
@@ -120,6 +127,7 @@ module _ (c : Config) (es : List Event) (history : IsHistory c es) (slot : ℕ) 
   pub record PointsToCell (cell : Cell) : Type 0 where
     pub number : ℕ
     pub is_cell : cell ≡ cell_of_allocation c (placed_at xs number)
+    pub within : cell.page < c.pages
     pub words : cell_words w cell ≡ storage_words c (placed_at xs number)
     pub large : is_large (kinds_of c.types (placed_at xs number).ty)
         ≡ not (nat_le (storage_words c (placed_at xs number)) 32)
@@ -142,6 +150,7 @@ module _ (c : Config) (es : List Event) (history : IsHistory c es) (slot : ℕ) 
       record {
         number = number;
         is_cell = sym same;
+        within = subst (λ (x : Cell). x.page < c.pages) same (page_within number ty offset is);
         words = ap (λ (x : Cell). cell_words w x) (sym same) ∙ words_shown number ty offset is;
         large = large_shown number ty offset is;
         frees = λ out.

@@ -131,7 +131,7 @@ module _ (c : Config) (es fs : List Event) (o : Op) (before : IsHistory c es) (b
     (most : QuarantinesMostWhereFreed c es o fs) (first second third : Freed) (x : Option FreedObject)
     (is : x ≡ option_map (object_of c (left c es).allocations) (number_freed (never_behind c es) o))
     (keeps : Keeps c es first) (notes : Notes first x second)
-    (settles : Settles (left c fs).now.words (in_a_word (ends fs)) second third) where
+    (settles : Settles (left c fs).now.words.freed (in_a_word (ends fs)) second third) where
   abbrev xs : List PlacedAllocation
   xs = (left c es).allocations
 
@@ -164,11 +164,11 @@ module _ (c : Config) (es fs : List Event) (o : Op) (before : IsHistory c es) (b
       none_released c es fs (number_freed (never_behind c es) o) flags none.released.released
       (objects_kept first ++ one_or_none x) with_freed
 
-  rest_kept : Kept (still_kept w second)
+  rest_kept : Kept (still_kept w.freed (objects_kept second))
   rest_kept =
       let_go c es fs (number_freed (never_behind c es) o) flags before behind out (objects_kept second) noted_objects
 
-  by_count : (b : Bool) → is_count_same (in_a_word (ends fs)) second ≡ b → SettlesWhere b w second third
+  by_count : (b : Bool) → is_count_same (in_a_word (ends fs)) second ≡ b → SettlesWhere b w.freed second third
       → Keeps c fs third
   by_count true same s = elim tells [
     | inr one ↦
@@ -190,11 +190,11 @@ module _ (c : Config) (es fs : List Event) (o : Op) (before : IsHistory c es) (b
     quarantined =
         peak_anew c (quarantined_words c) (λ (y : FreedObject). y.storage) (storage_weight c) (quarantined_is c)
         (λ zs i. refl) es fs o first.quarantined second.quarantined third.quarantined x is keeps.quarantined
-        notes.quarantined most.quarantined (still_kept w second) rest_kept s.0;
+        notes.quarantined most.quarantined (still_kept w.freed (objects_kept second)) rest_kept s.0;
     reserved =
         peak_anew c (reserved_words c) (λ (y : FreedObject). y.reserved) (large_weight c) (reserved_is c)
         (λ zs i. refl) es fs o first.reserved second.reserved third.reserved x is keeps.reserved
-        notes.reserved most.reserved (still_kept w second) rest_kept s.1;
+        notes.reserved most.reserved (still_kept w.freed (objects_kept second)) rest_kept s.1;
     objects = subst (λ (l : List FreedObject). Kept l) (sym s.2) rest_kept;
     ends = settles.ends;
   }

@@ -8,13 +8,16 @@ pub mod EndsInLists
 pub mod EvaluatedPeaks
 pub mod EvaluatedPlays
 pub mod EvaluatedTraces
+pub mod FirstLedgers
 pub mod FlagSteps
 pub mod FoundByEnds
+pub mod FoundCells
 pub mod FoundObjects
 pub mod FreePieces
 pub mod FreedCalls
 pub mod FreedFlags
 pub mod FreedMost
+pub mod FreedSlots
 pub mod FreedSteps
 pub mod FreedSums
 pub mod FreedWords
@@ -29,6 +32,7 @@ pub mod KeptObjects
 pub mod KeptPeaks
 pub mod LaterFlags
 pub mod LaterOps
+pub mod LedgerCalls
 pub mod LookedTables
 pub mod NewPieces
 pub mod NoForm
@@ -46,6 +50,7 @@ pub mod ReadSlots
 pub mod SettledBits
 pub mod SlotTypes
 pub mod ToldCycles
+pub mod ToldWords
 pub mod Totals
 pub mod TurnPieces
 pub mod WholeText

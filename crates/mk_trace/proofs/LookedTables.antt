@@ -12,6 +12,7 @@ use Rattle.mk_core.specs.Allocations.{PlacedAllocation}
 use Rattle.mk_core.specs.History.{World, left_from, world_behind}
 use Rattle.mk_core.specs.Words.{Words, named_word}
 use Rattle.mk_alloc.specs.TurnCycles.{has_step}
+use Rattle.mk_trace.specs.Looking.{LeavesTable}
 use Rattle.mk_trace.specs.Peaks.{greatest_from}
 
 -- no step of one who looks at words
@@ -20,10 +21,6 @@ is_no_look (step.Take o) = false
 is_no_look (step.Look x) = false
 is_no_look step.Give = false
 is_no_look _ = true
-
-pub record LeavesTable (w v : World) : Type 0 where
-  pub allocations : v.allocations ≡ w.allocations
-  pub words : v.now.words ≡ record w.now.words { turn = v.now.words.turn }
 
 pub named_same : (w : Words) (turn : ℕ) (x : Word) → named_word (record w { turn = turn }) x ≡ named_word w x
 named_same w turn word.Phase = refl
@@ -47,7 +44,7 @@ pub word_left : (w v : World) → LeavesTable w v → (x : Word) → named_word 
 word_left w v leaves x =
     ap (λ (y : Words). named_word y x) leaves.words ∙ named_same w.now.words v.now.words.turn x
 
-leaves_then : (u v w : World) → LeavesTable u v → LeavesTable v w → LeavesTable u w
+pub leaves_then : (u v w : World) → LeavesTable u v → LeavesTable v w → LeavesTable u w
 leaves_then u v w one two = record {
   allocations = two.allocations ∙ one.allocations;
   words = two.words ∙ ap (λ (x : Words). record x { turn = w.now.words.turn }) one.words;

@@ -1,17 +1,20 @@
 -- What an operation of the caller frees, and how many words were quarantined and reserved at most.
 -- Private functions alone cite these words.
-use Rattle.std.specs.Prelude.{◌≡◌, ℕ, ◌+◌, ◌<◌, ◌≤◌, max, true, false, List, length, Option, Some, None, if◌then◌else◌}
+use Rattle.std.specs.Prelude.{◌≡◌, ℕ, ◌+◌, ◌<◌, ◌≤◌, max, Bool, true, false, List, ◌∷◌, ◌++◌, length, Option, Some, None, if◌then◌else◌}
 use Rattle.mk_never.specs.declared.operations.Op.{Op}
 use Rattle.mk_never.specs.declared.operations.Op.TheVariants.{Free}
 use Rattle.mk_never.specs.declared.values.Value.{Value}
 use Rattle.mk_never.specs.declared.values.Value.TheVariants.{Null, Num, Ptr}
-use Rattle.mk_never.specs.NeverHeap.{NeverState, allocation_at, register_at}
+use Rattle.mk_never.specs.NeverHeap.{NeverState, after_calls, allocation_at, global_at, register_at}
 use Rattle.mk_never.specs.Types.{kinds_of, is_large}
 use Rattle.mk_core.specs.declared.config.Config.{Config}
 use Rattle.mk_core.specs.declared.events.Event.{Event}
 use Rattle.mk_core.specs.Allocations.{PlacedAllocation, placed_at, storage_words}
 use Rattle.mk_core.specs.History.{left, never_behind}
+use Rattle.mk_trace.specs.declared.trace.TraceEvent.{TraceEvent}
 use Rattle.mk_trace.specs.Peaks.{greatest, quarantined_words, reserved_words}
+use Rattle.mk_trace.specs.Playing.{calls_of_caller, ops_of}
+use Rattle.mk_trace.specs.Traces.{slot_of}
 
 -- the allocation that the value points to, if it isn't freed yet
 abbrev pub unfreed : NeverState → Value → Option ℕ
@@ -23,6 +26,16 @@ unfreed n (Ptr number ty offset) = if (allocation_at n number).freed then None e
 abbrev pub number_freed : NeverState → Op → Option ℕ
 number_freed n (Free p) = unfreed n (register_at n 0 p)
 number_freed n _ = None
+
+-- A Free's register points to what the global points to.
+abbrev pub FreesSlot : NeverState → ℕ → Op → Type 0
+FreesSlot n slot o = (p : ℕ) → o ≡ Free p → register_at n 0 p ≡ global_at n slot
+
+-- So it does wherever one comes among the operations of the event.
+abbrev pub FreesItsSlot : NeverState → TraceEvent → Type 0
+FreesItsSlot n event =
+    (full : Bool) (before : List Op) (o : Op) (rest : List Op) → ops_of full event ≡ before ++ o ∷ rest
+    → FreesSlot (after_calls n (calls_of_caller before)) (slot_of event) o
 
 -- that of a large allocation, whose addresses are reserved
 abbrev pub large_words : Config → PlacedAllocation → ℕ

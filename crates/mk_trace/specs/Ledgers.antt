@@ -1,15 +1,15 @@
 -- What is kept of freed objects while a trace is played.
 -- Private functions alone cite these words.
 use Rattle.std.specs.Prelude.{◌≡◌, ℕ, ◌+◌, ◌-◌, ◌^◌, max, Bool, true, false, ◌&&◌, ◌==◌, nat_lt, List, [], ◌∷◌, ◌++◌, map}
-use Rattle.std.specs.Prelude.{filter, sum_by, Option, Some, None, option_map}
+use Rattle.std.specs.Prelude.{filter, sum_by, slice_index, Option, Some, None}
+use Rattle.mk_geom.specs.declared.addresses.Cell.{Cell}
 use Rattle.mk_core.specs.declared.config.Config.{Config}
 use Rattle.mk_core.specs.declared.events.Event.{Event}
 use Rattle.mk_core.specs.Allocations.{PlacedAllocation, cell_of_allocation, placed_at, storage_words}
-use Rattle.mk_core.specs.Cells.{is_freed}
+use Rattle.mk_core.specs.Bits.{has_bit}
 use Rattle.mk_core.specs.Counts.{ends, in_a_word}
 use Rattle.mk_core.specs.Cycles.{is_quarantined}
 use Rattle.mk_core.specs.History.{left}
-use Rattle.mk_core.specs.Words.{Words}
 use Rattle.mk_trace.specs.declared.ledger.Freed.{Freed}
 use Rattle.mk_trace.specs.declared.ledger.FreedObject.{FreedObject}
 use Rattle.mk_trace.specs.declared.ledger.Peak.{Peak}
@@ -77,23 +77,27 @@ pub record Notes (old : Freed) (object : Option FreedObject) (new : Freed) : Typ
 abbrev pub weighed_anew : (FreedObject → ℕ) → List FreedObject → Peak → Peak
 weighed_anew words objects peak = record { now = in_a_word (sum_by words objects); most = peak.most }
 
+-- The cell's bit is among the freed bits of the pages.
+abbrev pub is_freed_among : List ℕ → Cell → Bool
+is_freed_among freed cell = has_bit (slice_index freed cell.page) cell.index
+
 -- Those are kept whose cells are freed yet.
-abbrev pub still_kept : Words → Freed → List FreedObject
-still_kept w f = filter (λ (x : FreedObject). is_freed w x.cell) (objects_kept f)
+abbrev pub still_kept : List ℕ → List FreedObject → List FreedObject
+still_kept freed objects = filter (λ (x : FreedObject). is_freed_among freed x.cell) objects
 
 -- No cycle ended that can be counted.
 abbrev pub is_count_same : ℕ → Freed → Bool
 is_count_same count f = (count == f.ends) && nat_lt count (2 ^ 64 - 1)
 
-abbrev pub SettlesWhere : Bool → Words → Freed → Freed → Type 0
-SettlesWhere true w old new =
+abbrev pub SettlesWhere : Bool → List ℕ → Freed → Freed → Type 0
+SettlesWhere true freed old new =
     (new.quarantined ≡ old.quarantined) × (new.reserved ≡ old.reserved) × (objects_kept new ≡ objects_kept old)
-SettlesWhere false w old new =
-    (new.quarantined ≡ weighed_anew (λ (x : FreedObject). x.storage) (still_kept w old) old.quarantined)
-    × (new.reserved ≡ weighed_anew (λ (x : FreedObject). x.reserved) (still_kept w old) old.reserved)
-    × (objects_kept new ≡ still_kept w old)
+SettlesWhere false freed old new =
+    (new.quarantined ≡ weighed_anew (λ (x : FreedObject). x.storage) (still_kept freed (objects_kept old)) old.quarantined)
+    × (new.reserved ≡ weighed_anew (λ (x : FreedObject). x.reserved) (still_kept freed (objects_kept old)) old.reserved)
+    × (objects_kept new ≡ still_kept freed (objects_kept old))
 
 -- What was released is let go, where so many cycles have ended.
-pub record Settles (w : Words) (count : ℕ) (old new : Freed) : Type 0 where
+pub record Settles (freed : List ℕ) (count : ℕ) (old new : Freed) : Type 0 where
   pub ends : new.ends ≡ count
-  pub objects : SettlesWhere (is_count_same count old) w old new
+  pub objects : SettlesWhere (is_count_same count old) freed old new

@@ -5,6 +5,7 @@ pub mod Grammar
 pub mod Laws
 pub mod Ledgers
 pub mod Lines
+pub mod Looking
 pub mod Numbers
 pub mod Peaks
 pub mod Playing

@@ -1,10 +1,8 @@
 //! What is kept of a heap while a trace is played on it: what is held and quarantined, the most that it ever was, and
 //! the ages of what was released.
 
-ghost use Rattle.std.specs.Prelude.{◌≡◌, ◌<◌, ◌+◌, [], max, nat_le, not, if◌then◌else◌, OnOk, IfOk};
+ghost use Rattle.std.specs.Prelude.{◌≡◌, ◌<◌, [], nat_le, not, sum_by, if◌then◌else◌, OnOk};
 ghost use Rattle.mk_core.specs.Counts.{in_a_word};
-ghost use Rattle.std.specs.Prelude.{sum_by, filter};
-ghost use Rattle.mk_core.specs.Cells.{is_freed};
 ghost use Rattle.mk_trace.specs.Ledgers.{Notes, objects_kept, risen, weighed_anew, objects_in};
 
 use mk_geom::Cell;
@@ -63,6 +61,13 @@ pub(crate) struct Quarantined {
     pub(crate) object: FreedObject,
     /// How many cycles had ended when it was freed.
     ends: u64,
+}
+
+impl Quarantined {
+    /// Its age, where so many have ended now.
+    pub(crate) fn age(&self, ends: u64) -> u64 {
+        ends.saturating_sub(self.ends)
+    }
 }
 
 /// What is kept of freed objects.
@@ -126,16 +131,6 @@ impl Freed {
         self.quarantine = kept;
         self.ends = ends;
     }
-
-    /// An object is released, behind so many ends.
-    pub(crate) fn release(&mut self, object: Quarantined, ends: u64) -> Result<(), NoMemory>
-        ensures quarantined { self.new.quarantined ≡ self.old.quarantined }
-        ensures reserved { self.new.reserved ≡ self.old.reserved }
-        ensures objects { objects_kept self.new ≡ objects_kept self.old }
-        ensures ends { self.new.ends ≡ self.old.ends }
-    {
-        count_age(&mut self.ages, ends.saturating_sub(object.ends))
-    }
 }
 
 /// The words of their storage.
@@ -190,7 +185,7 @@ impl Ledger {
 }
 
 /// Counts one more of an age among pairs of an age and how many have it, ascending.
-fn count_age(ages: &mut Vec<(u64, u64)>, age: u64) -> Result<(), NoMemory> {
+pub(crate) fn count_age(ages: &mut Vec<(u64, u64)>, age: u64) -> Result<(), NoMemory> {
     for place in 0..ages.len() {
         let (found, count) = ages[place];
         if age == found {
