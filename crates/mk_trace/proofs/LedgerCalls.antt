@@ -1,7 +1,8 @@
 -- What the ledger keeps over a call, with the looks before it and behind it.
-use Rattle.std.proofs.Common.{◌≡◌, ◌⊎◌, ℕ, Bool, true, false, List, ◌++◌, refl, sym, ◌∙◌, ap, subst}
+use Rattle.std.proofs.Common.{◌≡◌, ◌⊎◌, ℕ, Bool, true, false, List, ◌++◌, refl, sym, ◌∙◌, ap, subst, arith, max}
 use Rattle.std.specs.Prelude.{Option, Some, option_map}
 use Rattle.mk_never.specs.declared.operations.Op.{Op}
+use Rattle.mk_never.specs.Admitted.{IsAdmitted}
 use Rattle.mk_never.specs.NeverHeap.{NeverState}
 use Rattle.mk_core.specs.declared.config.Config.{Config}
 use Rattle.mk_core.specs.declared.events.Answer.{Answer}
@@ -16,11 +17,12 @@ use Rattle.mk_never.specs.NeverHeap.{after_calls}
 use Rattle.mk_trace.specs.declared.ledger.Freed.{Freed}
 use Rattle.mk_trace.specs.declared.ledger.FreedObject.{FreedObject}
 use Rattle.mk_trace.specs.declared.ledger.Peak.{Peak}
-use Rattle.mk_trace.specs.Calls.{Calls, SameCalls}
+use Rattle.mk_trace.specs.Calls.{Calls, HoldsMostAtEnd, MayCome, held_behind, most_held}
 use Rattle.mk_trace.specs.Ends.{EndsNone, EndsOne, EndsTell, IsIdle}
 use Rattle.mk_trace.specs.Freeing.{FlagsBehindCall, QuarantinesMostWhereFreed, number_freed}
 use Rattle.mk_trace.specs.Ledgers.{AreObjectsOf, IsPeakOf, Keeps, Notes, Settles, object_of, objects_kept}
 use Rattle.mk_trace.specs.Looking.{OnlyLooks}
+use Rattle.mk_trace.proofs.HeldCalls.{calls_looked}
 use Rattle.mk_trace.proofs.KeptPeaks.{keeps_on}
 
 -- Looks leave what is kept.
@@ -90,3 +92,22 @@ module _ (c : Config) (es0 es1 es2 es3 es4 : List Event) (o : Op) (first second 
 
   pub idle_behind : IsIdle c es4
   idle_behind = idle_looked c es3 es4 more (idle_looked c es2 es3 looks told.0)
+
+-- What was held at most
+pub held_over : (c : Config) (es0 es1 es2 es3 es4 : List Event) (held now : ℕ) → OnlyLooks c es0 es1
+    → HoldsMostAtEnd c es1 es2 → OnlyLooks c es2 es3 → OnlyLooks c es3 es4 → held ≡ most_held c es0
+    → now ≡ held_behind c es2 → max held now ≡ most_held c es4
+held_over c es0 es1 es2 es3 es4 held now before most looks more is finds =
+    let one = before.most (held_words c) in
+    let two = looks.most (held_words c) in
+    let three = more.most (held_words c) in
+    omega (arith, one, two, three, most, is, finds)
+
+pub called_over : (c : Config) (es0 es1 es2 es3 es4 : List Event) (o : Op) (told : Answer) → OnlyLooks c es0 es1
+    → Calls c es1 o told es2 → OnlyLooks c es2 es3 → OnlyLooks c es3 es4 → Calls c es0 o told es4
+called_over c es0 es1 es2 es3 es4 o told before h looks more =
+    calls_looked c es0 o told es2 es4 (calls_looked_before c es0 es1 o told es2 before h) (more.calls ∙ looks.calls)
+
+pub may_come_looked : (c : Config) (es fs : List Event) (o : Op) → OnlyLooks c es fs → MayCome c es o → MayCome c fs o
+may_come_looked c es fs o looks comes =
+    subst (λ (n : NeverState). IsAdmitted c.globals n 0 o) (sym (never_looked c es fs looks)) comes

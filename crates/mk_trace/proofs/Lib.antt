@@ -48,6 +48,7 @@ pub mod PrintedLines
 pub mod ReadEvents
 pub mod ReadSlots
 pub mod SettledBits
+pub mod SettledLedgers
 pub mod SlotTypes
 pub mod ToldCycles
 pub mod ToldWords
