@@ -85,14 +85,16 @@ fn object_of_slot<R: Wait>(rt: &R, heap: &Heap, host: &mut Host, slot: u64) -> O
 {
     host.is_in_order();
     let address = look(rt, heap, host, Word::Global(slot));
-    let Some(cell) = cell_at(rt, heap, host, address) else {
-        return None;
-    };
-    let header = look(rt, heap, host, Word::Head(cell.page));
-    if is_quarantined(rt, heap, host, cell) {
-        None
-    } else {
-        Some(FreedObject::new(cell, words_under(header)))
+    match cell_at(rt, heap, host, address) {
+        Some(cell) => {
+            let header = look(rt, heap, host, Word::Head(cell.page));
+            if is_quarantined(rt, heap, host, cell) {
+                None
+            } else {
+                Some(FreedObject::new(cell, words_under(header)))
+            }
+        }
+        None => None,
     }
 }
 
