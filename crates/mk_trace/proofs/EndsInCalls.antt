@@ -18,9 +18,9 @@ use Rattle.mk_core.specs.declared.events.Step.TheVariants as step
 use Rattle.mk_core.specs.Accesses.{found}
 use Rattle.mk_core.specs.Calls.{is_under_turn}
 use Rattle.mk_core.specs.Counts.{decides_freed}
-use Rattle.mk_core.specs.Cycles.{At, is_begin}
+use Rattle.mk_core.specs.Cycles.{is_begin}
 use Rattle.mk_core.specs.Decided.{Decided, entry_of, flagged}
-use Rattle.mk_core.specs.Growing.{AreOfOthers, Finding, Grows, is_same_seat, own_from}
+use Rattle.mk_core.specs.Growing.{AreOfOthers, Grows, is_same_seat, own_from}
 use Rattle.mk_core.specs.History.{AreEnabledFrom, IsHistory, World, call_decided, calls, calls_from, left, left_from}
 use Rattle.mk_core.specs.History.{world_behind}
 use Rattle.mk_core.specs.Moments.{flight_of}
@@ -41,7 +41,7 @@ use Rattle.mk_alloc.specs.TurnCycles.{has_step}
 use Rattle.mk_alloc.specs.TurnCycles.{is_of_cycle, within_turn}
 use Rattle.mk_alloc.proofs.ListParts.{lacks_append}
 use Rattle.mk_alloc.proofs.OneCycles.{one_before, one_behind}
-use Rattle.mk_run.specs.Scripts.{Answers, StaysBeside, is_beside_turns, unflagged}
+use Rattle.mk_run.specs.Scripts.{Answers, is_beside_turns, unflagged}
 use Rattle.mk_trace.specs.Calls.{Calls}
 use Rattle.mk_trace.specs.Ends.{EndsTell, LeavesAllocations}
 use Rattle.mk_trace.proofs.EndsInLists.{changes, leaves_tell, leaves_then, next_of, tells_behind_none, tells_ends}

@@ -16,7 +16,7 @@ use Rattle.mk_core.specs.Moments.{flight_of}
 use Rattle.mk_core.specs.Words.{phase_of}
 use Rattle.mk_core.proofs.Histories.{enabled_parts, left_append}
 use Rattle.mk_core.proofs.HistoryParts.{left_in_parts}
-use Rattle.mk_readings.proofs.CyclePhases.{AsksPhase, begin_is, moves_phase, phase_behind}
+use Rattle.mk_readings.proofs.CyclePhases.{begin_is, moves_phase, phase_behind}
 use Rattle.mk_alloc.specs.TurnCycles.{RunsOneCycle, has_step}
 use Rattle.mk_alloc.proofs.ListParts.{lacks_first, lacks_second}
 use Rattle.mk_trace.specs.Ends.{EndsNone, EndsOne, EndsTell, FreesNone, IsIdle, LeavesAllocations, ReleasesNone}

@@ -1,6 +1,6 @@
 -- What one event does to the flags of allocations: only a `release` releases, and only what decides a Free frees.
-use Rattle.std.proofs.Common.{◌≡◌, ℕ, zero, suc, ◌<◌, ◌≤◌, Bool, true, false, List, [], ◌∷◌, ◌++◌, map, length, refl}
-use Rattle.std.proofs.Common.{sym, ◌∙◌, ap}
+use Rattle.std.proofs.Common.{◌≡◌, ℕ, zero, suc, Bool, true, false, List, [], ◌∷◌, ◌++◌, map, refl}
+use Rattle.std.proofs.Common.{◌∙◌, ap}
 use Rattle.std.proofs.Common.{arith}
 use Rattle.std.specs.Prelude.{◌&&◌, ◌||◌, not, Option, Some, None, is_some, if◌then◌else◌}
 use Rattle.std.specs.List.{list_any}
@@ -10,7 +10,6 @@ use Rattle.mk_never.specs.declared.operations.Op.TheVariants as op
 use Rattle.mk_geom.specs.declared.addresses.Cell.{Cell}
 use Rattle.mk_core.specs.declared.config.Config.{Config}
 use Rattle.mk_core.specs.declared.events.Answer.TheVariants as answer
-use Rattle.mk_core.specs.declared.events.Event.{Event}
 use Rattle.mk_core.specs.declared.events.Seat.{Seat}
 use Rattle.mk_core.specs.declared.events.Seat.TheVariants.{Caller, Host, Marker}
 use Rattle.mk_core.specs.declared.events.Step.{Step}
@@ -30,7 +29,7 @@ use Rattle.mk_core.specs.Moments.{Moment, flight_of, is_phase}
 use Rattle.mk_core.specs.NewPlaces.{is_free_at, is_undecided_free, target}
 use Rattle.mk_core.specs.TurnConditions.{cell_freed, frees}
 use Rattle.mk_core.specs.Words.{Words}
-use Rattle.mk_core.proofs.ChangedAllocations.{changed_at, earlier_at, freed_leaves, freed_released, none_freed}
+use Rattle.mk_core.proofs.ChangedAllocations.{earlier_at, freed_released, none_freed}
 use Rattle.mk_trace.specs.Ends.{FreesNone, ReleasesNone}
 
 -- lists

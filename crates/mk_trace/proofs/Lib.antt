@@ -3,7 +3,6 @@ pub mod Along
 pub mod CallFlags
 pub mod EndsAtHome
 pub mod EndsInCalls
-pub mod EndsInEvents
 pub mod EndsInLists
 pub mod EvaluatedPeaks
 pub mod EvaluatedPlays
