@@ -1,7 +1,7 @@
 -- What a call does to the flags of allocations: its operation frees one, or none.
-use Rattle.std.proofs.Common.{◌≡◌, ℕ, zero, suc, ◌+◌, ◌*◌, ◌<◌, ◌≤◌, Bool, true, false, List, [], ◌∷◌, ◌++◌, length, map}
+use Rattle.std.proofs.Common.{◌≡◌, ℕ, zero, suc, ◌+◌, ◌*◌, ◌<◌, Bool, true, false, List, [], ◌∷◌, ◌++◌, length, map}
 use Rattle.std.proofs.Common.{refl, sym, ◌∙◌, ap, subst, arith}
-use Rattle.std.specs.Prelude.{◌||◌, Option, Some, None, if◌then◌else◌}
+use Rattle.std.specs.Prelude.{◌||◌, Option, Some, None}
 use Rattle.std.specs.List.{list_any}
 use Rattle.std.proofs.lemmas.Bool.{or_parts, true≢false}
 use Rattle.std.proofs.lemmas.List.Folds.{list_any-append}
@@ -23,11 +23,11 @@ use Rattle.mk_core.specs.History.{IsHistory, World, call_decided, calls_from, le
 use Rattle.mk_core.specs.Moments.{Moment, flight_of}
 use Rattle.mk_core.specs.TurnConditions.{cell_freed}
 use Rattle.mk_core.specs.Words.{Words}
-use Rattle.mk_core.proofs.ChangedAllocations.{changed_at, fresh_leaves, none_freed, released_leaves}
+use Rattle.mk_core.proofs.ChangedAllocations.{changed_at, none_freed}
 use Rattle.mk_core.proofs.HistoryParts.{earlier_part_is_history, left_in_parts, never_in_parts}
 use Rattle.mk_images.proofs.Kept.{exists_placed}
 use Rattle.mk_invariant.proofs.Theorems.{reach_is_kept}
-use Rattle.mk_trace.specs.Freeing.{AreLater, FlagsBehind, number_freed, unfreed}
+use Rattle.mk_trace.specs.Freeing.{AreLater, FlagsBehind, number_freed}
 use Rattle.mk_trace.proofs.FreedFlags.{is_freed_behind, is_freed_there, others_kept, points_there, twins, was_unfreed}
 use Rattle.mk_trace.proofs.FreedSteps.{flagged_free, freeing_decides, is_free, is_free_call}
 use Rattle.mk_trace.proofs.LaterFlags.{later_left}

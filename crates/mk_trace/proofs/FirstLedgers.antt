@@ -1,13 +1,13 @@
 -- The ledger before any event, and what it comes to at the end.
-use Rattle.std.proofs.Common.{◌≡◌, ℕ, ◌<◌, List, [], refl, sym, ◌∙◌, ap, subst, arith}
+use Rattle.std.proofs.Common.{◌≡◌, ℕ, List, [], refl, sym, ◌∙◌, ap, subst}
 use Rattle.mk_core.specs.declared.config.Config.{Config}
 use Rattle.mk_core.specs.declared.events.Event.{Event}
 use Rattle.mk_core.specs.Allocations.{PlacedAllocation, unreleased_storage}
 use Rattle.mk_core.specs.Counts.{in_a_word}
-use Rattle.mk_core.specs.History.{left, left_from}
+use Rattle.mk_core.specs.History.{left_from}
 use Rattle.mk_trace.specs.declared.ledger.Freed.{Freed}
 use Rattle.mk_trace.specs.declared.ledger.Peak.{Peak}
-use Rattle.mk_trace.specs.Calls.{SameCalls, most_held}
+use Rattle.mk_trace.specs.Calls.{most_held}
 use Rattle.mk_trace.specs.Ends.{IsIdle}
 use Rattle.mk_trace.specs.Ledgers.{Keeps, objects_kept}
 use Rattle.mk_trace.specs.Peaks.{greatest, greatest_from}

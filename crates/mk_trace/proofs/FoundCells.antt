@@ -1,6 +1,6 @@
 -- What looks between calls tell of cells and of the objects in them.
-use Rattle.std.proofs.Common.{◌≡◌, ◌≢◌, ℕ, ◌+◌, ◌-◌, ◌*◌, ◌/◌, ◌%◌, ◌^◌, ◌<◌, ◌≤◌, Bool, true, false, List, length, refl, sym}
-use Rattle.std.proofs.Common.{◌∙◌, ap, subst, arith}
+use Rattle.std.proofs.Common.{◌≡◌, ◌≢◌, ℕ, ◌+◌, ◌-◌, ◌*◌, ◌/◌, ◌%◌, ◌<◌, ◌≤◌, Bool, true, false, List, refl, sym}
+use Rattle.std.proofs.Common.{◌∙◌, ap, arith}
 use Rattle.std.specs.Prelude.{not, nat_le, Option, Some, None, option_map, slice_index, if◌then◌else◌}
 use Rattle.std.proofs.lemmas.Bool.{and_parts, false_from_ne_true}
 use Rattle.std.proofs.lemmas.Bool.Decides.{nat_tests}
@@ -8,13 +8,12 @@ use Rattle.std.proofs.lemmas.List.{get_or_past}
 use Rattle.mk_never.specs.NeverHeap.{global_at}
 use Rattle.mk_geom.specs.declared.addresses.Cell.{Cell}
 use Rattle.mk_geom.specs.Addresses.{cell_at, is_heap_address}
-use Rattle.mk_geom.specs.Headers.{header_of}
 use Rattle.mk_core.specs.declared.config.Config.{Config}
 use Rattle.mk_core.specs.declared.events.Event.{Event}
 use Rattle.mk_core.specs.declared.events.Word.TheVariants as word
 use Rattle.mk_core.specs.Allocations.{PlacedAllocation, cell_of_allocation, placed_at, storage_words}
 use Rattle.mk_core.specs.Bits.{has_bit}
-use Rattle.mk_core.specs.Cells.{cell_words, is_freed, pointed_cell, words_under}
+use Rattle.mk_core.specs.Cells.{cell_words, is_freed, pointed_cell}
 use Rattle.mk_core.specs.History.{IsHistory, left, never_behind}
 use Rattle.mk_core.specs.Words.{Words, header_at, phase_of}
 use Rattle.mk_core.proofs.WordBits.{no_bit}
@@ -25,7 +24,6 @@ use Rattle.mk_trace.specs.Ends.{IsIdle}
 use Rattle.mk_trace.specs.Freeing.{large_words, unfreed}
 use Rattle.mk_trace.specs.Ledgers.{object_of}
 use Rattle.mk_trace.specs.Looking.{OnlyLooks, word_behind}
-use Rattle.mk_trace.specs.Peaks.{greatest}
 use Rattle.mk_trace.proofs.EndsInLists.{leaves_twice}
 use Rattle.mk_trace.proofs.FoundObjects.{PointsToCell, frees_nothing, points_to_cell}
 use Rattle.mk_trace.proofs.LookedTables.{leaves_then}

@@ -1,15 +1,14 @@
 -- What is quarantined over a call of the caller: the most is that before, or where a Free has freed its object.
-use Rattle.std.proofs.Common.{◌≡◌, ℕ, ◌+◌, max, Bool, true, false, List, [], ◌∷◌, ◌++◌, refl, sym, ◌∙◌, ap, subst}
-use Rattle.std.specs.Prelude.{Some, if◌then◌else◌}
+use Rattle.std.proofs.Common.{◌≡◌, ℕ, ◌+◌, max, Bool, true, List, [], ◌∷◌, ◌++◌, refl, sym, ◌∙◌, ap, subst}
+use Rattle.std.specs.Prelude.{Some}
 use Rattle.std.proofs.lemmas.List.{append_cancel_left}
 use Rattle.mk_never.specs.declared.operations.Op.{Op}
 use Rattle.mk_never.specs.declared.operations.Op.TheVariants as op
 use Rattle.mk_core.specs.declared.config.Config.{Config}
 use Rattle.mk_core.specs.declared.events.Answer.{Answer}
 use Rattle.mk_core.specs.declared.events.Event.{Event}
-use Rattle.mk_core.specs.declared.events.Seat.{Seat}
 use Rattle.mk_core.specs.declared.events.Seat.TheVariants.{Caller}
-use Rattle.mk_core.specs.Allocations.{PlacedAllocation, storage_words}
+use Rattle.mk_core.specs.Allocations.{PlacedAllocation}
 use Rattle.mk_core.specs.Calls.{is_under_turn}
 use Rattle.mk_core.specs.Decided.{entry_of}
 use Rattle.mk_core.specs.Growing.{Grows}
@@ -21,7 +20,7 @@ use Rattle.mk_heap.specs.Hosts.{HostState, pass_for}
 use Rattle.mk_alloc.specs.TurnCalls.{CalledInTurn}
 use Rattle.mk_run.specs.Scripts.{Answers, unflagged}
 use Rattle.mk_trace.specs.Calls.{Calls, IsHome}
-use Rattle.mk_trace.specs.Freeing.{FlagsBehindCall, IsMostWhereFreed, QuarantinesMostWhereFreed, freed_words, large_words}
+use Rattle.mk_trace.specs.Freeing.{FlagsBehindCall, IsMostWhereFreed, QuarantinesMostWhereFreed, freed_words}
 use Rattle.mk_trace.specs.Peaks.{greatest, greatest_from, quarantined_words, reserved_words}
 use Rattle.mk_trace.proofs.CallFlags.{flags_behind}
 use Rattle.mk_trace.proofs.EndsInCalls.{mine, seen_by, the_rest, whole}

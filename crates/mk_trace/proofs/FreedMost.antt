@@ -1,5 +1,5 @@
 -- The most words that were quarantined over a call: a Free alone makes them more, before it releases any.
-use Rattle.std.proofs.Common.{◌≡◌, ◌⊎◌, inl, inr, ℕ, ◌+◌, ◌*◌, ◌≤◌, max, Bool, true, false, List, [], ◌∷◌, ◌++◌, refl, sym}
+use Rattle.std.proofs.Common.{◌≡◌, ◌⊎◌, inl, inr, ℕ, ◌+◌, ◌*◌, max, Bool, true, false, List, [], ◌∷◌, ◌++◌, refl, sym}
 use Rattle.std.proofs.Common.{◌∙◌, ap, subst, arith, append_assoc, append-nil}
 use Rattle.std.specs.Prelude.{◌||◌, Option, Some, None, is_some}
 use Rattle.std.specs.List.{list_any}
@@ -8,7 +8,7 @@ use Rattle.std.proofs.lemmas.List.Folds.{list_any-append}
 use Rattle.mk_never.specs.declared.operations.Op.{Op}
 use Rattle.mk_never.specs.declared.operations.Op.TheVariants as op
 use Rattle.mk_never.specs.declared.values.Value.{Value}
-use Rattle.mk_never.specs.NeverHeap.{Call, NeverState, after_calls, after_free, register_at}
+use Rattle.mk_never.specs.NeverHeap.{NeverState, after_calls, after_free, register_at}
 use Rattle.mk_never.specs.Reach.{IsReached}
 use Rattle.mk_never.specs.Reach.IsReached.{by_register}
 use Rattle.mk_geom.specs.declared.addresses.Cell.{Cell}

@@ -1,6 +1,6 @@
 -- What events do to the words of the quarantined allocations: a free alone makes them more, and a release alone less.
-use Rattle.std.proofs.Common.{◌≡◌, ℕ, ◌+◌, ◌≤◌, Bool, true, false, List, [], ◌∷◌, ◌++◌, map, refl, sym, ◌∙◌, ap, arith}
-use Rattle.std.specs.Prelude.{◌&&◌, ◌||◌, not, sum_by, Option, Some, None, if◌then◌else◌}
+use Rattle.std.proofs.Common.{◌≡◌, ℕ, ◌≤◌, Bool, true, false, List, [], ◌∷◌, ◌++◌, map, refl, sym, ◌∙◌, ap, arith}
+use Rattle.std.specs.Prelude.{◌&&◌, ◌||◌, not, Option, Some, None, if◌then◌else◌}
 use Rattle.std.specs.List.{list_any}
 use Rattle.std.proofs.lemmas.Bool.{or_parts, true≢false}
 use Rattle.std.proofs.lemmas.List.Folds.{list_any-append}
@@ -23,7 +23,7 @@ use Rattle.mk_core.specs.Allocations.{PlacedAllocation, allocations_by, freed_wh
 use Rattle.mk_core.specs.Allocations.{no_longer_fresh, stands_in, with_released}
 use Rattle.mk_core.specs.Bounded.{is_some_and}
 use Rattle.mk_core.specs.Cells.{is_left_unmarked, pointed_cell}
-use Rattle.mk_core.specs.Cycles.{is_quarantined, is_release}
+use Rattle.mk_core.specs.Cycles.{is_release}
 use Rattle.mk_core.specs.Decided.{Decided, entry_of, flagged}
 use Rattle.mk_core.specs.Effects.{progress_freed}
 use Rattle.mk_core.specs.History.{World, call_decided, calls_from, left_from, world_behind}

@@ -1,5 +1,5 @@
 -- What a Free adds to the words of the quarantined allocations, where nothing is released meanwhile.
-use Rattle.std.proofs.Common.{◌≡◌, ℕ, ◌+◌, ◌<◌, ◌≤◌, Bool, true, false, List, ◌++◌, length, refl, sym, ◌∙◌, ap, subst}
+use Rattle.std.proofs.Common.{◌≡◌, ℕ, ◌+◌, ◌<◌, ◌≤◌, Bool, true, false, List, length, refl, sym, ◌∙◌, ap}
 use Rattle.std.proofs.Common.{arith, inl, inr}
 use Rattle.std.specs.Prelude.{◌&&◌, not, Option, Some, None, if◌then◌else◌}
 use Rattle.std.proofs.lemmas.Bool.{cases_lt}
@@ -14,7 +14,7 @@ use Rattle.mk_core.specs.History.{IsHistory, left, never_behind}
 use Rattle.mk_images.proofs.Kept.{exists_placed}
 use Rattle.mk_invariant.proofs.Theorems.{reach_is_kept}
 use Rattle.mk_trace.specs.Freeing.{unfreed, words_of_some}
-use Rattle.mk_trace.proofs.FreedFlags.{as_many_behind, is_freed_behind, is_freed_there, others_kept, points_there}
+use Rattle.mk_trace.proofs.FreedFlags.{as_many_behind, is_freed_behind, is_freed_there, others_kept}
 use Rattle.mk_trace.proofs.FreedFlags.{twins, was_unfreed}
 use Rattle.mk_trace.proofs.FreedWords.{part, same_sums, sums_but_one, weighed}
 use Rattle.mk_trace.specs.Freeing.{AreLater}

@@ -1,7 +1,7 @@
 -- The words of quarantined allocations, where a type says how many words one has.
-use Rattle.std.proofs.Common.{◌≡◌, ◌≢◌, ℕ, zero, suc, ◌+◌, ◌≤◌, Bool, true, false, List, [], ◌∷◌, ◌++◌, length, map}
+use Rattle.std.proofs.Common.{◌≡◌, ◌≢◌, ℕ, zero, suc, ◌+◌, ◌≤◌, Bool, true, false, List, [], ◌∷◌, length, map}
 use Rattle.std.proofs.Common.{refl, sym, ◌∙◌, ap, arith}
-use Rattle.std.specs.Prelude.{◌&&◌, ◌||◌, not, sum_by, filter, if◌then◌else◌}
+use Rattle.std.specs.Prelude.{◌&&◌, sum_by, filter, if◌then◌else◌}
 use Rattle.std.proofs.lemmas.List.Sums.{sum_by-cons}
 use Rattle.mk_never.specs.Types.{kinds_of, is_large}
 use Rattle.mk_core.specs.declared.config.Config.{Config}

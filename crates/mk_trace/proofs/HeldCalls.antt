@@ -10,7 +10,7 @@ use Rattle.mk_core.specs.declared.events.Seat.{Seat}
 use Rattle.mk_core.specs.declared.events.Seat.TheVariants.{Caller, Host}
 use Rattle.mk_core.specs.declared.events.Word.{Word}
 use Rattle.mk_core.specs.declared.events.Word.TheVariants as word
-use Rattle.mk_core.specs.Allocations.{held_words, unreleased_storage}
+use Rattle.mk_core.specs.Allocations.{held_words}
 use Rattle.mk_core.specs.Calls.{is_under_turn}
 use Rattle.mk_core.specs.Counts.{in_a_word}
 use Rattle.mk_core.specs.Growing.{AreOfOthers, Grows}
@@ -28,7 +28,7 @@ use Rattle.mk_alloc.proofs.ListParts.{none_at}
 use Rattle.mk_alloc.proofs.RetiredTurns.{same_rest}
 use Rattle.mk_run.specs.Scripts.{Answers, unflagged}
 use Rattle.mk_trace.specs.Calls.{Calls, HoldsMostAtEnd, HoldsNoMore, IsHome, SameCalls, held_behind, most_held}
-use Rattle.mk_trace.specs.Peaks.{greatest_from, peaks_of}
+use Rattle.mk_trace.specs.Peaks.{peaks_of}
 use Rattle.mk_trace.specs.Playing.{config_of}
 use Rattle.mk_trace.specs.Traces.{Contents}
 use Rattle.mk_trace.proofs.GrantedCalls.{is_new, others_grant_none}

@@ -3,16 +3,15 @@
 use Rattle.std.proofs.Common.{◌≡◌, ◌≢◌, inl, inr, ℕ, ◌+◌, ◌≤◌, ◌<◌, Bool, true, false, List, [], ◌∷◌, ◌++◌, length, map}
 use Rattle.std.proofs.Common.{refl, sym, ◌∙◌, ap, subst, arith, append-nil}
 use Rattle.std.specs.Prelude.{◌&&◌, ◌==◌, not, filter, Option, Some, None, option_map, if◌then◌else◌}
-use Rattle.std.proofs.lemmas.Bool.{and_parts, cases_Bool, cases_eq, cases_lt, false_from_ne_true, true≢false}
+use Rattle.std.proofs.lemmas.Bool.{and_parts, cases_eq, cases_lt, true≢false}
 use Rattle.std.proofs.lemmas.List.{get_or_past, map-append}
-use Rattle.mk_never.specs.declared.operations.Op.{Op}
 use Rattle.mk_core.specs.declared.config.Config.{Config}
 use Rattle.mk_core.specs.declared.events.Event.{Event}
 use Rattle.mk_core.specs.Allocations.{PlacedAllocation, cell_of_allocation, never_granted, placed_at}
 use Rattle.mk_core.specs.Allocations.{storage_words}
 use Rattle.mk_core.specs.Cells.{is_freed}
 use Rattle.mk_core.specs.Cycles.{is_quarantined}
-use Rattle.mk_core.specs.History.{IsHistory, left, never_behind}
+use Rattle.mk_core.specs.History.{IsHistory, left}
 use Rattle.mk_core.specs.Words.{Words, phase_of}
 use Rattle.mk_images.proofs.Kept.{exists_placed}
 use Rattle.mk_trace.specs.declared.ledger.FreedObject.{FreedObject}

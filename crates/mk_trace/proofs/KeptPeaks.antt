@@ -1,14 +1,14 @@
 -- All is kept of freed objects behind a call, once what it freed is noted, and what it released is let go.
-use Rattle.std.proofs.Common.{◌≡◌, ◌≢◌, ◌⊎◌, inl, inr, ℕ, ◌+◌, ◌≤◌, ◌<◌, max, Bool, true, false, List, [], ◌∷◌, ◌++◌, length, map}
+use Rattle.std.proofs.Common.{◌≡◌, ◌≢◌, ◌⊎◌, inl, inr, ℕ, ◌+◌, ◌<◌, Bool, true, false, List, [], ◌∷◌, ◌++◌, map}
 use Rattle.std.proofs.Common.{refl, sym, ◌∙◌, ap, subst, arith}
-use Rattle.std.specs.Prelude.{◌&&◌, ◌==◌, nat_lt, sum_by, Option, Some, None, option_map, if◌then◌else◌}
-use Rattle.std.proofs.lemmas.Bool.{and_parts, cases_Bool, eqb-true}
+use Rattle.std.specs.Prelude.{◌&&◌, ◌==◌, nat_lt, sum_by, Option, Some, None, option_map}
+use Rattle.std.proofs.lemmas.Bool.{and_parts, eqb-true}
 use Rattle.std.proofs.lemmas.Bool.Decides.{nat_tests}
 use Rattle.std.proofs.lemmas.List.Sums.{sum_by-append, sum_by-cons}
 use Rattle.mk_never.specs.declared.operations.Op.{Op}
 use Rattle.mk_core.specs.declared.config.Config.{Config}
 use Rattle.mk_core.specs.declared.events.Event.{Event}
-use Rattle.mk_core.specs.Allocations.{PlacedAllocation, placed_at, storage_words}
+use Rattle.mk_core.specs.Allocations.{PlacedAllocation, placed_at}
 use Rattle.mk_core.specs.Counts.{ends, in_a_word}
 use Rattle.mk_core.specs.Cycles.{is_quarantined}
 use Rattle.mk_core.specs.History.{IsHistory, left, never_behind}
@@ -17,7 +17,7 @@ use Rattle.mk_trace.specs.declared.ledger.Freed.{Freed}
 use Rattle.mk_trace.specs.declared.ledger.FreedObject.{FreedObject}
 use Rattle.mk_trace.specs.declared.ledger.Peak.{Peak}
 use Rattle.mk_trace.specs.Ends.{EndsNone, EndsOne, IsIdle}
-use Rattle.mk_trace.specs.Freeing.{FlagsBehindCall, IsMostWhereFreed, QuarantinesMostWhereFreed, freed_words, large_words}
+use Rattle.mk_trace.specs.Freeing.{FlagsBehindCall, IsMostWhereFreed, QuarantinesMostWhereFreed, freed_words}
 use Rattle.mk_trace.specs.Freeing.{number_freed, words_of_some}
 use Rattle.mk_trace.specs.Ledgers.{AreObjectsOf, IsPeakOf, Keeps, Notes, Settles, SettlesWhere, is_count_same, object_of}
 use Rattle.mk_trace.specs.Ledgers.{objects_kept, one_or_none, risen, some_words, still_kept, weighed_anew}
@@ -174,17 +174,17 @@ module _ (c : Config) (es fs : List Event) (o : Op) (before : IsHistory c es) (b
     | inr one ↦
         absurd (same_count (ends es) (ends fs) second.ends (notes.ends ∙ keeps.ends) same one.count)
     | inl none ↦ record {
-        quarantined =
-            peak_stays c (quarantined_words c) (λ (y : FreedObject). y.storage) (storage_weight c) (quarantined_is c)
-            (λ zs i. refl) es fs o first.quarantined second.quarantined third.quarantined x is keeps.quarantined
-            notes.quarantined most.quarantined (objects_kept first) keeps.objects (none_gone none) s.0;
-        reserved =
-            peak_stays c (reserved_words c) (λ (y : FreedObject). y.reserved) (large_weight c) (reserved_is c)
-            (λ zs i. refl) es fs o first.reserved second.reserved third.reserved x is keeps.reserved
-            notes.reserved most.reserved (objects_kept first) keeps.objects (none_gone none) s.1;
-        objects = subst (λ (l : List FreedObject). Kept l) (sym (s.2 ∙ notes.objects)) (none_gone none);
-        ends = settles.ends;
-      }
+      quarantined =
+          peak_stays c (quarantined_words c) (λ (y : FreedObject). y.storage) (storage_weight c) (quarantined_is c)
+          (λ zs i. refl) es fs o first.quarantined second.quarantined third.quarantined x is keeps.quarantined
+          notes.quarantined most.quarantined (objects_kept first) keeps.objects (none_gone none) s.0;
+      reserved =
+          peak_stays c (reserved_words c) (λ (y : FreedObject). y.reserved) (large_weight c) (reserved_is c)
+          (λ zs i. refl) es fs o first.reserved second.reserved third.reserved x is keeps.reserved
+          notes.reserved most.reserved (objects_kept first) keeps.objects (none_gone none) s.1;
+      objects = subst (λ (l : List FreedObject). Kept l) (sym (s.2 ∙ notes.objects)) (none_gone none);
+      ends = settles.ends;
+    }
   ]
   by_count false same s = record {
     quarantined =

@@ -1,5 +1,5 @@
 -- What the ledger keeps over a call, with the looks before it and behind it.
-use Rattle.std.proofs.Common.{◌≡◌, ◌⊎◌, ℕ, Bool, true, false, List, ◌++◌, refl, sym, ◌∙◌, ap, subst, arith, max}
+use Rattle.std.proofs.Common.{◌≡◌, ◌⊎◌, ℕ, List, ◌++◌, sym, ◌∙◌, ap, subst, arith, max}
 use Rattle.std.specs.Prelude.{Option, Some, option_map}
 use Rattle.mk_never.specs.declared.operations.Op.{Op}
 use Rattle.mk_never.specs.Admitted.{IsAdmitted}
@@ -11,7 +11,7 @@ use Rattle.mk_core.specs.Allocations.{PlacedAllocation, held_words, placed_at}
 use Rattle.mk_core.specs.Counts.{ends, in_a_word}
 use Rattle.mk_core.specs.Cycles.{is_quarantined}
 use Rattle.mk_core.specs.Decided.{Decided, asked, entry_of}
-use Rattle.mk_core.specs.History.{IsHistory, calls, left, never_behind, never_first}
+use Rattle.mk_core.specs.History.{IsHistory, left, never_behind, never_first}
 use Rattle.mk_core.specs.Words.{Words}
 use Rattle.mk_never.specs.NeverHeap.{after_calls}
 use Rattle.mk_trace.specs.declared.ledger.Freed.{Freed}

@@ -1,8 +1,8 @@
 -- Lists that have each number once that passes a test.
-use Rattle.std.proofs.Common.{◌≡◌, ◌≢◌, ℕ, suc, ◌+◌, ◌≤◌, ◌<◌, Bool, true, false, List, [], ◌∷◌, ◌++◌, length, map, refl, sym}
+use Rattle.std.proofs.Common.{◌≡◌, ℕ, suc, ◌+◌, ◌≤◌, ◌<◌, Bool, true, false, List, [], ◌∷◌, ◌++◌, length, refl, sym}
 use Rattle.std.proofs.Common.{◌∙◌, ap, subst, arith, inl, inr}
 use Rattle.std.specs.Prelude.{◌&&◌, ◌==◌, not, sum_by, filter, slice_set, if◌then◌else◌}
-use Rattle.std.proofs.lemmas.Bool.{cases_Bool, cases_eq, cases_lt, eq-eqb, eqb-true, false_from_ne_true, true≢false}
+use Rattle.std.proofs.lemmas.Bool.{cases_eq, cases_lt, eq-eqb, eqb-true, false_from_ne_true, true≢false}
 use Rattle.std.proofs.lemmas.List.{get_or-set_same, get_or-set_other, get_or_past, length-set}
 use Rattle.std.proofs.lemmas.List.Sums.{sum_by-cons}
 use Rattle.mk_core.specs.Allocations.{PlacedAllocation, never_granted, placed_at}
@@ -175,5 +175,10 @@ words_of_numbers weight (n ∷ numbers) xs those =
     let rest = words_of_numbers weight numbers zs (those_left weight xs n numbers those) in
     let same = numbers_alike (λ (i : ℕ). weight (placed_at zs i).ty) (λ (i : ℕ). weight (placed_at xs i).ty)
     (λ i. ap weight (types_left weight xs n numbers those i)) numbers in
-    omega (arith, sum_by-cons (λ (i : ℕ). weight (placed_at xs i).ty) n numbers, same, rest,
-    words_left weight xs n numbers those)
+    omega (
+      arith,
+      sum_by-cons (λ (i : ℕ). weight (placed_at xs i).ty) n numbers,
+      same,
+      rest,
+      words_left weight xs n numbers those,
+    )

@@ -1,15 +1,15 @@
 -- What is kept once what was released is let go.
 use Rattle.std.proofs.Common.{◌≡◌, ℕ, ◌+◌, ◌≤◌, ◌<◌, Bool, true, false, List, [], ◌∷◌, ◌++◌, length, get_or, take, refl, sym}
-use Rattle.std.proofs.Common.{◌∙◌, ap, subst, arith, map}
-use Rattle.std.specs.Prelude.{◌&&◌, ◌==◌, nat_lt, filter, if◌then◌else◌}
-use Rattle.std.proofs.lemmas.Bool.{and_from, eq-eqb, false_from_ne_true}
+use Rattle.std.proofs.Common.{◌∙◌, ap, subst, arith}
+use Rattle.std.specs.Prelude.{◌==◌, nat_lt, if◌then◌else◌}
+use Rattle.std.proofs.lemmas.Bool.{and_from, eq-eqb}
 use Rattle.std.proofs.lemmas.Bool.Decides.{nat_tests}
 use Rattle.std.proofs.lemmas.List.{map-append, take_all, take_more}
 use Rattle.std.proofs.lemmas.List.Elements.{filter-append}
 use Rattle.mk_trace.specs.declared.ledger.Freed.{Freed}
 use Rattle.mk_trace.specs.declared.ledger.FreedObject.{FreedObject}
 use Rattle.mk_trace.specs.declared.ledger.Quarantined.{Quarantined}
-use Rattle.mk_trace.specs.Ledgers.{Settles, SettlesWhere, is_count_same, is_freed_among, objects_in, objects_kept, still_kept}
+use Rattle.mk_trace.specs.Ledgers.{Settles, SettlesWhere, is_count_same, is_freed_among, objects_in, still_kept}
 
 pub kept_more : (freed : List ℕ) (found : List Quarantined) (i : ℕ) (d : Quarantined) (kept now : List FreedObject)
     (b : Bool) → i < length found → kept ≡ still_kept freed (objects_in (take i found))

@@ -1,7 +1,6 @@
 -- The host looks at a word between calls: it is told the word, and leaves all as it is.
-use Rattle.std.proofs.Common.{◌≡◌, ℕ, Bool, true, false, List, [], ◌∷◌, ◌++◌, refl, sym, ◌∙◌, ap, subst, append-nil}
+use Rattle.std.proofs.Common.{◌≡◌, ℕ, true, false, List, [], ◌++◌, refl, sym, ◌∙◌, ap, subst, append-nil}
 use Rattle.std.proofs.Common.{arith}
-use Rattle.std.specs.Prelude.{max}
 use Rattle.mk_core.specs.declared.config.Config.{Config}
 use Rattle.mk_core.specs.declared.events.Event.{Event}
 use Rattle.mk_core.specs.declared.events.Seat.{Seat}
@@ -12,7 +11,7 @@ use Rattle.mk_core.specs.declared.events.Word.{Word}
 use Rattle.mk_core.specs.Accesses.{found}
 use Rattle.mk_core.specs.Allocations.{PlacedAllocation}
 use Rattle.mk_core.specs.History.{IsHistory, World, first_world, left, left_from}
-use Rattle.mk_core.specs.Words.{Words, named_word}
+use Rattle.mk_core.specs.Words.{named_word}
 use Rattle.mk_core.proofs.HistoryParts.{left_in_parts}
 use Rattle.mk_words.specs.Seats.{Has, HasAll}
 use Rattle.mk_words.specs.States.{PassState, WordsState, event_of}
@@ -24,7 +23,7 @@ use Rattle.mk_alloc.proofs.ListParts.{lacks_append}
 use Rattle.mk_trace.specs.Calls.{IsHome, SameCalls}
 use Rattle.mk_trace.specs.Ends.{LeavesAllocations}
 use Rattle.mk_trace.specs.Looking.{LeavesTable, OnlyLooks, word_behind}
-use Rattle.mk_trace.specs.Peaks.{greatest, greatest_from}
+use Rattle.mk_trace.specs.Peaks.{greatest}
 use Rattle.mk_trace.proofs.GreatestParts.{from-append, last_below}
 use Rattle.mk_trace.proofs.HeldLooks.{IsApart, behind, behind_lacks, first, first_lacks, looks_alone, seen_is, taken_same}
 use Rattle.mk_trace.proofs.HeldLooks.{taken_seen}

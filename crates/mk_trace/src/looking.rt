@@ -81,7 +81,7 @@ fn object_of_slot<R: Wait>(rt: &R, heap: &Heap, host: &mut Host, slot: u64) -> O
     ensures finds { result ≡ option_map
         (object_of heap.now.config (left heap.now.config host.old.pass.seen).allocations)
         (unfreed (never_behind heap.now.config host.old.pass.seen)
-            (global_at (never_behind heap.now.config host.old.pass.seen) slot)) }
+        (global_at (never_behind heap.now.config host.old.pass.seen) slot)) }
 {
     host.is_in_order();
     let address = look(rt, heap, host, Word::Global(slot));

@@ -76,7 +76,15 @@ pub(crate) fn settle<R: Wait>(
         return Ok(());
     }
     let found = mem::replace(&mut freed.quarantine, Vec::new(alloc));
-    let kept = keep_quarantined(rt, alloc, heap, host, found.as_slice(), &mut freed.ages, count)?;
+    let kept = keep_quarantined(
+        rt,
+        alloc,
+        heap,
+        host,
+        found.as_slice(),
+        &mut freed.ages,
+        count,
+    )?;
     freed.keep(kept, count);
     Ok(())
 }

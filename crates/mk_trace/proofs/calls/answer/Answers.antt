@@ -1,7 +1,7 @@
 use Rattle.std.proofs.Common.{subst}
 use Rattle.mk_core.specs.History.{IsHistory}
 use Rattle.mk_words.specs.States.{WordsState}
-use Rattle.mk_trace.proofs.LedgerCalls.{called_over, held_over, idle_behind, keeps_behind, may_come_looked}
+use Rattle.mk_trace.proofs.LedgerCalls.{keeps_behind}
 use Rattle.mk_trace.proofs.calls.answer.Goals as goal
 
 pub returns-clause-keeps : goal.returns-clause-keeps

@@ -1,8 +1,7 @@
-use Rattle.std.proofs.Common.{◌≡◌, ◌<◌, ℕ, List, ◌∙◌, ap, arith, subst, sym}
-use Rattle.std.specs.Prelude.{not, nat_le, None, Some, if◌then◌else◌}
+use Rattle.std.proofs.Common.{ℕ, ◌∙◌, ap, arith, subst, sym}
+use Rattle.std.specs.Prelude.{not, nat_le, if◌then◌else◌}
 use Rattle.std.proofs.lemmas.Bool.Decides.{nat_tests}
 use Rattle.mk_geom.specs.Headers.{header_of}
-use Rattle.mk_core.specs.declared.events.Event.{Event}
 use Rattle.mk_core.specs.Cells.{pointed_cell, words_under}
 use Rattle.mk_core.specs.History.{IsHistory, left}
 use Rattle.mk_words.specs.States.{WordsState}

@@ -1,11 +1,10 @@
-use Rattle.std.proofs.Common.{◌<◌, refl, subst, arith, rules}
+use Rattle.std.proofs.Common.{refl, subst}
 use Rattle.mk_core.specs.History.{IsHistory}
 use Rattle.mk_words.specs.States.{WordsState}
 use Rattle.mk_heap.specs.Hosts.{HostState}
-use Rattle.mk_trace.specs.Traces.{slot_of}
 use Rattle.mk_trace.proofs.FreedSlots.{frees_its_slot}
 use Rattle.mk_trace.proofs.Playable.{is_playable}
-use Rattle.mk_trace.proofs.Played.{may_be_played, slot_is_global, slot_within}
+use Rattle.mk_trace.proofs.Played.{may_be_played, slot_is_global}
 use Rattle.mk_trace.proofs.playing.play_event.Goals as goal
 
 pub refuses-requires-clause-slot : goal.refuses-requires-clause-slot

@@ -1,7 +1,7 @@
 use Rattle.std.proofs.Common.{◌∙◌}
 use Rattle.mk_core.specs.History.{left}
 use Rattle.mk_trace.specs.Ledgers.{objects_in}
-use Rattle.mk_trace.proofs.FoundCells.{freed_looked, looks_none, looks_twice}
+use Rattle.mk_trace.proofs.FoundCells.{freed_looked, looks_twice}
 use Rattle.mk_trace.proofs.SettledLedgers.{kept_all, kept_more}
 use Rattle.mk_trace.proofs.settling.keep_quarantined.Goals as goal
 
