@@ -19,7 +19,8 @@ use Rattle.mk_core.specs.declared.events.Step.TheVariants as step
 use Rattle.mk_core.specs.Allocations.{PlacedAllocation, allocations_by, freed_where_it_stands, granted, placed_at}
 use Rattle.mk_core.specs.Allocations.{no_longer_fresh, with_released}
 use Rattle.mk_core.specs.Decided.{Decided, asked, entry_of}
-use Rattle.mk_core.specs.History.{IsHistory, World, call_decided, calls_from, left, left_from, never_behind, world_behind}
+use Rattle.mk_core.specs.History.{IsHistory, World, call_decided, calls_from, left, left_from, never_behind}
+use Rattle.mk_core.specs.History.{world_behind}
 use Rattle.mk_core.specs.Moments.{Moment, flight_of}
 use Rattle.mk_core.specs.TurnConditions.{cell_freed}
 use Rattle.mk_core.specs.Words.{Words}
@@ -99,7 +100,8 @@ module _ (c : Config) (es more : List Event) (whole : IsHistory c (es ++ more)) 
     kept = λ i out.
         ap (λ (w : World). (placed_at w.allocations i).freed) (left_in_parts c es more)
         ∙ events_free_none c (left c es) more
-        (ap (λ (l : List Decided). list_any is_free_call l) one ∙ ap (λ (b : Bool). b || false) (flagged_free o a ∙ other))
+        (ap (λ (l : List Decided). list_any is_free_call l) one
+            ∙ ap (λ (b : Bool). b || false) (flagged_free o a ∙ other))
         i;
     frees = λ i is. absurd (none_by (never_behind c es) o other i is);
   }

@@ -101,7 +101,8 @@ module _ (c : Config) (es : List Event) (history : IsHistory c es) where
   pub none_freed_there : (cell : Cell) → c.pages ≤ cell.page → is_freed w cell ≡ false
   none_freed_there cell past =
       let lengths = (known_world c es history.within_limits history.enabled).lengths in
-      no_bit (slice_index w.freed cell.page) cell.index (get_or_past w.freed cell.page 0 (omega (arith, past, lengths.freed)))
+      no_bit (slice_index w.freed cell.page) cell.index
+          (get_or_past w.freed cell.page 0 (omega (arith, past, lengths.freed)))
 
   -- The object of a slot
 
@@ -119,7 +120,8 @@ module _ (c : Config) (es : List Event) (history : IsHistory c es) where
     out four = omega (arith, four, idle)
 
     pub no_object : None ≡ pointed_cell c.pages w.pages address → None ≡ found
-    no_object none = ap (λ (x : Option ℕ). option_map (object_of c xs) x) (sym (frees_nothing c es history slot (sym none)))
+    no_object none = ap (λ (x : Option ℕ). option_map (object_of c xs) x)
+        (sym (frees_nothing c es history slot (sym none)))
 
     module _ (cell : Cell) (points : Some cell ≡ pointed_cell c.pages w.pages address) where
       it : PointsToCell c es history slot cell

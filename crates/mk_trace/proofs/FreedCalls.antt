@@ -78,7 +78,8 @@ module _ (h : HostState) (on : Bool) (o : Op) (told : Answer) (q : PassState)
       (seen_by h on o told q a fs own came all history _ (turn_seen on p (op.Free r) a.answer q turn))
       (the_rest h on o told q a fs own came all history) (mine h on o told q a fs own came all history)
 
-  most_by : (weight : ℕ → ℕ) (x : Op) (said : Answer) → (is_under_turn x ≡ true → CalledInTurn on p (unflagged x) a.answer q)
+  most_by : (weight : ℕ → ℕ) (x : Op) (said : Answer)
+      → (is_under_turn x ≡ true → CalledInTurn on p (unflagged x) a.answer q)
       → calls_from c (left c es) own.more ≡ entry_of 0 x (Some said)
       → MostWhereFreed weight c es x (es ++ own.more)
   most_by weight (op.Free r) said in_turn one =

@@ -23,7 +23,8 @@ use Rattle.mk_core.specs.Allocations.{PlacedAllocation}
 use Rattle.mk_core.specs.Counts.{decides_freed}
 use Rattle.mk_core.specs.Cycles.{is_release}
 use Rattle.mk_core.specs.Decided.{Decided, asked, entry_of}
-use Rattle.mk_core.specs.History.{IsHistory, World, call_decided, calls_from, first_world, left, left_from, never_behind}
+use Rattle.mk_core.specs.History.{IsHistory, World, call_decided, calls_from, first_world, left, left_from}
+use Rattle.mk_core.specs.History.{never_behind}
 use Rattle.mk_core.specs.History.{world_behind}
 use Rattle.mk_core.specs.Moments.{Moment, flight_of}
 use Rattle.mk_core.specs.TurnConditions.{cell_freed}
@@ -77,7 +78,8 @@ module _ (weight : ℕ → ℕ) (c : Config) (es more : List Event) (o : Op) (a 
       let parts = from-append c (weighed weight) (first_world c) es more in
       let last = last_below c (weighed weight) (first_world c) es in
       let falls = falls_without_free weight c (left c es) more
-      (ap (λ (l : List Decided). list_any is_free_call l) one ∙ ap (λ (b : Bool). b || false) (flagged_free o a ∙ other)) in
+      (ap (λ (l : List Decided). list_any is_free_call l) one
+          ∙ ap (λ (b : Bool). b || false) (flagged_free o a ∙ other)) in
       let none : freed_weight weight c es o ≡ 0 =
       ap (λ (x : Option ℕ). words_of_some (λ (y : PlacedAllocation). weight y.ty) (left c es).allocations x)
       (frees_nothing (never_behind c es) o other) in
@@ -186,7 +188,9 @@ module _ (weight : ℕ → ℕ) (c : Config) (es more : List Event) (r : ℕ) (a
   first_releases_none =
       list_any-append (λ (e : Event). is_release e.step) f.before (f.event ∷ [])
       ∙ or_from (has_step is_release f.before) (is_release f.event.step || false) f.none_before
-      (ap (λ (b : Bool). b || false) (no_release c (left c (es ++ f.before)).now (flight_of (left c (es ++ f.before)).now f.event.seat) f.event.step
+      (ap (λ (b : Bool). b || false)
+          (no_release c (left c (es ++ f.before)).now (flight_of (left c (es ++ f.before)).now f.event.seat)
+          f.event.step
       f.decides))
 
   in_parts : es ++ more ≡ (es ++ first) ++ f.behind

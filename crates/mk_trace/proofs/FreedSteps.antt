@@ -46,7 +46,8 @@ is_free_call x = is_free x.op
 
 -- A store that frees a cell decides a Free.
 
-if_some : (b : Bool) (x : Option Cell) (cell : Cell) → (if b then x else None) ≡ Some cell → (b ≡ true) × (x ≡ Some cell)
+if_some : (b : Bool) (x : Option Cell) (cell : Cell) → (if b then x else None) ≡ Some cell
+    → (b ≡ true) × (x ≡ Some cell)
 if_some true x cell is = (refl, is)
 if_some false x cell is = cc
 

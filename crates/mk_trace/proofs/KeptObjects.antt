@@ -210,7 +210,8 @@ module _ (c : Config) (es fs : List Event) (x : Option ℕ)
     left_alike : (i : ℕ) → (not (placed_at ys i).released && was_kept i) ≡ is_quarantined (placed_at ys i)
     left_alike i = elim (cases_lt i (length xs)) [
       | inl lt ↦
-          still_in (placed_at ys i).freed (placed_at xs i).released (placed_at ys i).released (flags.later.released i lt)
+          still_in (placed_at ys i).freed (placed_at xs i).released (placed_at ys i).released
+              (flags.later.released i lt)
       | inr le ↦
           ap (λ (b : Bool). not (placed_at ys i).released && (b && not (placed_at xs i).released)) (unfreed_past i le)
           ∙ none_left (not (placed_at ys i).released)
@@ -227,7 +228,8 @@ module _ (c : Config) (es fs : List Event) (x : Option ℕ)
     let_go objects kept =
         let unreleased : ℕ → Bool = λ i. not (placed_at ys i).released in
         let rest : List ℕ = filter unreleased kept.numbers in
-        let agree = filters_agree (λ (i : ℕ). is_freed w (cell_of_allocation c (placed_at xs i))) unreleased kept.numbers
+        let agree = filters_agree (λ (i : ℕ). is_freed w (cell_of_allocation c (placed_at xs i))) unreleased
+            kept.numbers
         (tells kept.numbers kept.those) in
         let those : AreThose (λ (i : ℕ). unreleased i && was_kept i) rest =
         those_filtered unreleased was_kept kept.numbers kept.those in

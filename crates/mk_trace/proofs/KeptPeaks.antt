@@ -19,7 +19,8 @@ use Rattle.mk_trace.specs.declared.ledger.Peak.{Peak}
 use Rattle.mk_trace.specs.Ends.{EndsNone, EndsOne, IsIdle}
 use Rattle.mk_trace.specs.Freeing.{FlagsBehindCall, IsMostWhereFreed, QuarantinesMostWhereFreed, freed_words}
 use Rattle.mk_trace.specs.Freeing.{number_freed, words_of_some}
-use Rattle.mk_trace.specs.Ledgers.{AreObjectsOf, IsPeakOf, Keeps, Notes, Settles, SettlesWhere, is_count_same, object_of}
+use Rattle.mk_trace.specs.Ledgers.{AreObjectsOf, IsPeakOf, Keeps, Notes, Settles, SettlesWhere, is_count_same}
+use Rattle.mk_trace.specs.Ledgers.{object_of}
 use Rattle.mk_trace.specs.Ledgers.{objects_kept, one_or_none, risen, some_words, still_kept, weighed_anew}
 use Rattle.mk_trace.specs.Peaks.{greatest, quarantined_words, reserved_words}
 use Rattle.mk_trace.proofs.FreedWords.{large_weight, quarantined_is, reserved_is, storage_weight, weighed}
@@ -45,7 +46,8 @@ sum_noted words objects (Some object) =
 
 -- counts
 
-same_count : (before count kept : ℕ) → kept ≡ in_a_word before → ((in_a_word count == kept) && nat_lt (in_a_word count) 18446744073709551615) ≡ true
+same_count : (before count kept : ℕ) → kept ≡ in_a_word before
+    → ((in_a_word count == kept) && nat_lt (in_a_word count) 18446744073709551615) ≡ true
     → count ≡ before + 1 → ⊥
 same_count before count kept is same more =
     let parts = and_parts (in_a_word count == kept) (nat_lt (in_a_word count) 18446744073709551615) same in
@@ -103,7 +105,8 @@ module _ (c : Config) (measure : List PlacedAllocation → ℕ) (words : FreedOb
 
     -- Nothing was released.
     pub peak_stays : (objects : List FreedObject)
-        → AreObjectsOf c (left c es).allocations (λ (i : ℕ). is_quarantined (placed_at (left c es).allocations i)) objects
+        → AreObjectsOf c (left c es).allocations (λ (i : ℕ). is_quarantined (placed_at (left c es).allocations i))
+        objects
         → AreObjectsOf c (left c fs).allocations (λ (i : ℕ). is_quarantined (placed_at (left c fs).allocations i))
         (objects ++ one_or_none x)
         → third ≡ second → IsPeakOf c measure fs third

@@ -100,7 +100,8 @@ changed_same change xs leaves keeps i lt =
 step_same : (c : Config) (m : Moment) (f : Flight) (s : Step) (xs : List PlacedAllocation) → is_release s ≡ false
     → SameReleased xs (allocations_by c m f s xs)
 step_same c m f step.Release xs none = absurd (true≢false none)
-step_same c m f step.Grant xs none = λ i lt. ap (λ (x : PlacedAllocation). x.released) (earlier_at xs (granted c m f) i lt)
+step_same c m f step.Grant xs none =
+    λ i lt. ap (λ (x : PlacedAllocation). x.released) (earlier_at xs (granted c m f) i lt)
 step_same c m f (step.Quar p v) xs none =
     let cell = cell_freed c.pages m.words f p v in
     changed_same (freed_where_it_stands m.words cell) xs (freed_leaves m.words cell) (freed_released m.words cell)

@@ -1,5 +1,6 @@
 -- What is kept once what was released is let go.
-use Rattle.std.proofs.Common.{◌≡◌, ℕ, ◌+◌, ◌≤◌, ◌<◌, Bool, true, false, List, [], ◌∷◌, ◌++◌, length, get_or, take, refl, sym}
+use Rattle.std.proofs.Common.{◌≡◌, ℕ, ◌+◌, ◌≤◌, ◌<◌, Bool, true, false, List, [], ◌∷◌, ◌++◌, length, get_or, take, refl}
+use Rattle.std.proofs.Common.{sym}
 use Rattle.std.proofs.Common.{◌∙◌, ap, subst, arith}
 use Rattle.std.specs.Prelude.{◌==◌, nat_lt, if◌then◌else◌}
 use Rattle.std.proofs.lemmas.Bool.{and_from, eq-eqb}
@@ -35,7 +36,8 @@ kept_all freed found i kept all is =
 pub same_count_is : (count : ℕ) (f : Freed) → count ≡ f.ends → count < 18446744073709551615
     → is_count_same count f ≡ true
 same_count_is count f same few =
-    and_from (count == f.ends) (nat_lt count 18446744073709551615) (eq-eqb count f.ends same) (grind (arith, nat_tests, few))
+    and_from (count == f.ends) (nat_lt count 18446744073709551615) (eq-eqb count f.ends same)
+        (grind (arith, nat_tests, few))
 
 pub settles_same : (freed : List ℕ) (count told : ℕ) (f : Freed) → count ≡ told → count ≡ f.ends
     → count < 18446744073709551615 → Settles freed told f f
@@ -43,7 +45,8 @@ settles_same freed count told f is same few =
     subst (λ (n : ℕ). Settles freed n f f) is
     (record {
       ends = sym same;
-      objects = subst (λ (b : Bool). SettlesWhere b freed f f) (sym (same_count_is count f same few)) (refl, refl, refl);
+      objects = subst (λ (b : Bool). SettlesWhere b freed f f) (sym (same_count_is count f same few))
+          (refl, refl, refl);
     })
 
 pub settles_anew : (freed : List ℕ) (count told : ℕ) (old new : Freed) → count ≡ told

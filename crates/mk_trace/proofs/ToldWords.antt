@@ -25,7 +25,8 @@ use Rattle.mk_trace.specs.Ends.{LeavesAllocations}
 use Rattle.mk_trace.specs.Looking.{LeavesTable, OnlyLooks, word_behind}
 use Rattle.mk_trace.specs.Peaks.{greatest}
 use Rattle.mk_trace.proofs.GreatestParts.{from-append, last_below}
-use Rattle.mk_trace.proofs.HeldLooks.{IsApart, behind, behind_lacks, first, first_lacks, looks_alone, seen_is, taken_same}
+use Rattle.mk_trace.proofs.HeldLooks.{IsApart, behind, behind_lacks, first, first_lacks, looks_alone, seen_is}
+use Rattle.mk_trace.proofs.HeldLooks.{taken_same}
 use Rattle.mk_trace.proofs.HeldLooks.{taken_seen}
 use Rattle.mk_trace.proofs.LookedTables.{is_no_look, looks_leave, looks_measure, word_left}
 

@@ -1,6 +1,7 @@
 -- What is kept of freed objects while a trace is played.
 -- Private functions alone cite these words.
-use Rattle.std.specs.Prelude.{◌≡◌, ℕ, ◌+◌, ◌-◌, ◌^◌, max, Bool, true, false, ◌&&◌, ◌==◌, nat_lt, List, [], ◌∷◌, ◌++◌, map}
+use Rattle.std.specs.Prelude.{◌≡◌, ℕ, ◌+◌, ◌-◌, ◌^◌, max, Bool, true, false, ◌&&◌, ◌==◌, nat_lt, List, [], ◌∷◌, ◌++◌}
+use Rattle.std.specs.Prelude.{map}
 use Rattle.std.specs.Prelude.{filter, sum_by, slice_index, Option, Some, None}
 use Rattle.mk_geom.specs.declared.addresses.Cell.{Cell}
 use Rattle.mk_core.specs.declared.config.Config.{Config}
@@ -93,7 +94,8 @@ abbrev pub SettlesWhere : Bool → List ℕ → Freed → Freed → Type 0
 SettlesWhere true freed old new =
     (new.quarantined ≡ old.quarantined) × (new.reserved ≡ old.reserved) × (objects_kept new ≡ objects_kept old)
 SettlesWhere false freed old new =
-    (new.quarantined ≡ weighed_anew (λ (x : FreedObject). x.storage) (still_kept freed (objects_kept old)) old.quarantined)
+    (new.quarantined ≡ weighed_anew (λ (x : FreedObject). x.storage) (still_kept freed (objects_kept old))
+        old.quarantined)
     × (new.reserved ≡ weighed_anew (λ (x : FreedObject). x.reserved) (still_kept freed (objects_kept old)) old.reserved)
     × (objects_kept new ≡ still_kept freed (objects_kept old))
 

@@ -16,8 +16,8 @@ pub record LeavesTable (w v : World) : Type 0 where
   pub allocations : v.allocations ≡ w.allocations
   pub words : v.now.words ≡ record w.now.words { turn = v.now.words.turn }
 
--- The host only looked: no call was made, no cycle began or ended, and the table and all measures of the allocations are
--- as they were.
+-- The host only looked: no call was made, no cycle began or ended, and the table and all measures of the allocations
+-- are as they were.
 pub record OnlyLooks (c : Config) (es fs : List Event) : Type 0 where
   pub calls : SameCalls c es fs
   pub leaves : LeavesAllocations c es fs

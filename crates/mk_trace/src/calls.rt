@@ -55,8 +55,8 @@ fn call<E: Engine, R: Threads + Wait + Sync>(
     answer
 }
 
-/// Carries out an operation of the caller, tells its answer, and writes down what is held and quarantined then. A Free's
-/// register points to what the slot points to.
+/// Carries out an operation of the caller, tells its answer, and writes down what is held and quarantined then. A
+/// Free's register points to what the slot points to.
 fn answer<E: Engine, R: Threads + Wait + Sync>(
     rt: &R,
     alloc: Global,
