@@ -101,7 +101,7 @@ module _ (c : Config) (es more : List Event) (whole : IsHistory c (es ++ more)) 
         ap (λ (w : World). (placed_at w.allocations i).freed) (left_in_parts c es more)
         ∙ events_free_none c (left c es) more
         (ap (λ (l : List Decided). list_any is_free_call l) one
-            ∙ ap (λ (b : Bool). b || false) (flagged_free o a ∙ other))
+        ∙ ap (λ (b : Bool). b || false) (flagged_free o a ∙ other))
         i;
     frees = λ i is. absurd (none_by (never_behind c es) o other i is);
   }

@@ -102,7 +102,7 @@ module _ (c : Config) (es : List Event) (history : IsHistory c es) where
   none_freed_there cell past =
       let lengths = (known_world c es history.within_limits history.enabled).lengths in
       no_bit (slice_index w.freed cell.page) cell.index
-          (get_or_past w.freed cell.page 0 (omega (arith, past, lengths.freed)))
+      (get_or_past w.freed cell.page 0 (omega (arith, past, lengths.freed)))
 
   -- The object of a slot
 

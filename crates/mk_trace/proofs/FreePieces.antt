@@ -79,7 +79,7 @@ module _ (on : Bool) (p : PassState) (r : ℕ) (a : Answer) (q : PassState) (h :
         none_before = lacks_append is_release before d.before before_lacks (releases_none d.before first.no_cycle);
         decides =
             subst (λ (l : List Event). decides_freed c (left c l).now (flight_of (left c l).now d.event.seat)
-                d.event.step
+            d.event.step
             ≡ true) (within_is on p (op.Free r) a q h d.before) d.due.decides;
       }
 
@@ -92,6 +92,6 @@ module _ (on : Bool) (p : PassState) (r : ℕ) (a : Answer) (q : PassState) (h :
         ∙ lacks_append is_release before (acts ++ last) before_lacks
         (lacks_append is_release acts last
         (releases_none acts (exact.undue
-            (λ (due : IsDueIn h.ends.turn). none_at is_begin acts none (exact.begins.1 due))))
+        (λ (due : IsDueIn h.ends.turn). none_at is_begin acts none (exact.begins.1 due))))
         refl))
   ]

@@ -79,7 +79,7 @@ module _ (weight : ℕ → ℕ) (c : Config) (es more : List Event) (o : Op) (a 
       let last = last_below c (weighed weight) (first_world c) es in
       let falls = falls_without_free weight c (left c es) more
       (ap (λ (l : List Decided). list_any is_free_call l) one
-          ∙ ap (λ (b : Bool). b || false) (flagged_free o a ∙ other)) in
+      ∙ ap (λ (b : Bool). b || false) (flagged_free o a ∙ other)) in
       let none : freed_weight weight c es o ≡ 0 =
       ap (λ (x : Option ℕ). words_of_some (λ (y : PlacedAllocation). weight y.ty) (left c es).allocations x)
       (frees_nothing (never_behind c es) o other) in
@@ -189,8 +189,8 @@ module _ (weight : ℕ → ℕ) (c : Config) (es more : List Event) (r : ℕ) (a
       list_any-append (λ (e : Event). is_release e.step) f.before (f.event ∷ [])
       ∙ or_from (has_step is_release f.before) (is_release f.event.step || false) f.none_before
       (ap (λ (b : Bool). b || false)
-          (no_release c (left c (es ++ f.before)).now (flight_of (left c (es ++ f.before)).now f.event.seat)
-          f.event.step
+      (no_release c (left c (es ++ f.before)).now (flight_of (left c (es ++ f.before)).now f.event.seat)
+      f.event.step
       f.decides))
 
   in_parts : es ++ more ≡ (es ++ first) ++ f.behind

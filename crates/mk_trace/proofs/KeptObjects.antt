@@ -211,7 +211,7 @@ module _ (c : Config) (es fs : List Event) (x : Option ℕ)
     left_alike i = elim (cases_lt i (length xs)) [
       | inl lt ↦
           still_in (placed_at ys i).freed (placed_at xs i).released (placed_at ys i).released
-              (flags.later.released i lt)
+          (flags.later.released i lt)
       | inr le ↦
           ap (λ (b : Bool). not (placed_at ys i).released && (b && not (placed_at xs i).released)) (unfreed_past i le)
           ∙ none_left (not (placed_at ys i).released)
@@ -229,7 +229,7 @@ module _ (c : Config) (es fs : List Event) (x : Option ℕ)
         let unreleased : ℕ → Bool = λ i. not (placed_at ys i).released in
         let rest : List ℕ = filter unreleased kept.numbers in
         let agree = filters_agree (λ (i : ℕ). is_freed w (cell_of_allocation c (placed_at xs i))) unreleased
-            kept.numbers
+        kept.numbers
         (tells kept.numbers kept.those) in
         let those : AreThose (λ (i : ℕ). unreleased i && was_kept i) rest =
         those_filtered unreleased was_kept kept.numbers kept.those in

@@ -136,11 +136,11 @@ module _ (weight : ℕ → ℕ) (xs : List PlacedAllocation) (n : ℕ) (numbers 
         ap (λ (k : ℕ). times k numbers) same ∙ at_n.1
         ∙ ap (λ (b : Bool). one_if b)
         (sym (ap (λ (k : ℕ). is_quarantined (placed_at ys k)) same
-            ∙ ap (λ (a : PlacedAllocation). is_quarantined a) set_is
+        ∙ ap (λ (a : PlacedAllocation). is_quarantined a) set_is
         ∙ without_more (placed_at xs n).freed))
     | inr ne ↦
         sym (none_more (n == i) (times i numbers) (unequal_is n i (λ e. ne (sym e)))) ∙ those i
-            ∙ ap (λ (a : PlacedAllocation). one_if (is_quarantined a)) (sym (other_is i ne))
+        ∙ ap (λ (a : PlacedAllocation). one_if (is_quarantined a)) (sym (other_is i ne))
   ]
 
   pub types_left : (i : ℕ) → (placed_at ys i).ty ≡ (placed_at xs i).ty

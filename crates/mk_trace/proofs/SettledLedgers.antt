@@ -37,7 +37,7 @@ pub same_count_is : (count : ℕ) (f : Freed) → count ≡ f.ends → count < 1
     → is_count_same count f ≡ true
 same_count_is count f same few =
     and_from (count == f.ends) (nat_lt count 18446744073709551615) (eq-eqb count f.ends same)
-        (grind (arith, nat_tests, few))
+    (grind (arith, nat_tests, few))
 
 pub settles_same : (freed : List ℕ) (count told : ℕ) (f : Freed) → count ≡ told → count ≡ f.ends
     → count < 18446744073709551615 → Settles freed told f f

@@ -95,7 +95,7 @@ SettlesWhere true freed old new =
     (new.quarantined ≡ old.quarantined) × (new.reserved ≡ old.reserved) × (objects_kept new ≡ objects_kept old)
 SettlesWhere false freed old new =
     (new.quarantined ≡ weighed_anew (λ (x : FreedObject). x.storage) (still_kept freed (objects_kept old))
-        old.quarantined)
+    old.quarantined)
     × (new.reserved ≡ weighed_anew (λ (x : FreedObject). x.reserved) (still_kept freed (objects_kept old)) old.reserved)
     × (objects_kept new ≡ still_kept freed (objects_kept old))
 

@@ -32,7 +32,7 @@ answer-requires-in-loop-op-clause-points g c κs within =
     let o : Op = get_or ops i (New 0 0 false) in
     let there = get_or_default ops i (New 0 0 false) o c.loop-op-test.true in
     subst (λ (s : ℕ). FreesSlot (never_behind c.args.heap.now.config c.loop-op.host.pass.seen) s o)
-        (sym c.slot-slot.ensures)
+    (sym c.slot-slot.ensures)
     (frees_now c.args.heap.now.config c.args.host.now.pass.seen c.args.event ops i c.loop-op.refused
     c.loop-op.host.pass.seen c.loop-op.invariant.calls o c.loop-op-test.true there c.requires.frees)
 

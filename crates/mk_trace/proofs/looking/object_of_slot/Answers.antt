@@ -24,7 +24,7 @@ look-header-requires-clause-word g c =
     let d = c.args.heap.now.config in
     let es = c.args.host.now.pass.seen in
     let within = cell_within d es
-        (subst (λ (x : WordsState). IsHistory x.config c.args.host.now.pass.seen) c.requires.home.table
+    (subst (λ (x : WordsState). IsHistory x.config c.args.host.now.pass.seen) c.requires.home.table
     c.is_in_order.ensures.history) c.args.slot c.requires.idle c.in-Some.cell
     (sym c.in-Some.is ∙ c.cell_at.ensures.finds
     ∙ pointed_looked d es c.look-address.new.host.pass.seen c.look-address.ensures.looks c.look-address.result

@@ -56,6 +56,6 @@ play_events-requires-clause-held g c κs within =
 pub play_events-requires-clause-keeps : goal.play_events-requires-clause-keeps
 play_events-requires-clause-keeps g c κs within =
     first_keeps c.in_ok-heap.heap.config c.in_ok-heap.host.pass.seen c.new-ledger.result.freed
-        c.in_ok-heap.ensures.empty
+    c.in_ok-heap.ensures.empty
     c.new-ledger.ensures.quarantined c.new-ledger.ensures.reserved c.new-ledger.ensures.objects
-        c.new-ledger.ensures.ends
+    c.new-ledger.ensures.ends
