@@ -54,7 +54,7 @@ use Rattle.mk_trace.proofs.TurnPieces.{before_turn, before_turn_lacks, giving, t
 
 -- Where all events are of the one caller.
 
-abbrev OneSeat : Config → List Seat → Type 0
+abbrev pub OneSeat : Config → List Seat → Type 0
 OneSeat c elsewhere = HasTheRest c elsewhere (Caller 0 ∷ [])
 
 seat_is : (c : Config) (elsewhere : List Seat) (e : Event) (es : List Event) → OneSeat c elsewhere
@@ -270,16 +270,16 @@ module _ (h : HostState) (on : Bool) (o : Op) (told : Answer) (q : PassState)
   abbrev elsewhere : List Seat
   elsewhere = without_seat (Caller 0) h.pass.seats
 
-  the_rest : OneSeat config elsewhere
+  pub the_rest : OneSeat config elsewhere
   the_rest = all_again config (Caller 0) h.pass.seats all
 
-  whole : IsHistory config (es ++ own.more)
+  pub whole : IsHistory config (es ++ own.more)
   whole = subst (λ (l : List Event). IsHistory config l) own.is history
 
   enabled : AreEnabledFrom config (left config es) own.more
   enabled = ((enabled_in_parts config es own.more).0 whole.enabled).1
 
-  mine : AreMine config elsewhere own.more
+  pub mine : AreMine config elsewhere own.more
   mine = are_mine config (left config es) elsewhere own.more enabled own.of_others
 
   -- All that came is what the call made.
@@ -294,7 +294,7 @@ module _ (h : HostState) (on : Bool) (o : Op) (told : Answer) (q : PassState)
       (subst (λ (l : List Seat). AreOfOthers l came.more) (ap (λ (x : PassState). x.seats) a.is) came.of_others) in
       rest ∙ ap (λ (l : List Event). xs ++ l) none ∙ append-nil xs
 
-  seen_by : (xs : List Event) → q.seen ≡ es ++ xs → q.seen ≡ es ++ own.more
+  pub seen_by : (xs : List Event) → q.seen ≡ es ++ xs → q.seen ≡ es ++ own.more
   seen_by xs seen = seen ∙ ap (λ (l : List Event). es ++ l) (sym (only xs seen))
 
   pub beside_leaves : is_under_turn o ≡ false → LeavesAllocations config es fs

@@ -10,7 +10,7 @@ use Rattle.mk_core.specs.declared.events.Seat.{Seat}
 use Rattle.mk_core.specs.declared.events.Seat.TheVariants.{Caller, Host}
 use Rattle.mk_core.specs.declared.events.Word.{Word}
 use Rattle.mk_core.specs.declared.events.Word.TheVariants as word
-use Rattle.mk_core.specs.Allocations.{held_words, unreleased_storage}
+use Rattle.mk_core.specs.Allocations.{held_words}
 use Rattle.mk_core.specs.Calls.{is_under_turn}
 use Rattle.mk_core.specs.Counts.{in_a_word}
 use Rattle.mk_core.specs.Growing.{AreOfOthers, Grows}
@@ -28,7 +28,7 @@ use Rattle.mk_alloc.proofs.ListParts.{none_at}
 use Rattle.mk_alloc.proofs.RetiredTurns.{same_rest}
 use Rattle.mk_run.specs.Scripts.{Answers, unflagged}
 use Rattle.mk_trace.specs.Calls.{Calls, HoldsMostAtEnd, HoldsNoMore, IsHome, SameCalls, held_behind, most_held}
-use Rattle.mk_trace.specs.Peaks.{greatest_from, peaks_of}
+use Rattle.mk_trace.specs.Peaks.{peaks_of}
 use Rattle.mk_trace.specs.Playing.{config_of}
 use Rattle.mk_trace.specs.Traces.{Contents}
 use Rattle.mk_trace.proofs.GrantedCalls.{is_new, others_grant_none}
@@ -136,33 +136,29 @@ calls_looked c es o told fs gs made same = record {
   entry = same ∙ made.entry;
 }
 
--- A heap that nobody has used holds nothing.
-pub holds_nothing : (c : Config) (es : List Event) → Grows (without_seat (Caller 0) (all_seats c)) [] es
-    → Grows (Caller 0 ∷ []) [] es → IsHistory c es → most_held c es ≡ 0
-unfolding greatest_from unreleased_storage
-holds_nothing c es own came history =
+-- Of a heap that nobody has used there are no events.
+nothing_seen : (c : Config) (es : List Event) → Grows (without_seat (Caller 0) (all_seats c)) [] es
+    → Grows (Caller 0 ∷ []) [] es → IsHistory c es → es ≡ []
+nothing_seen c es own came history =
     let elsewhere : List Seat = without_seat (Caller 0) (all_seats c) in
     let mine : AreMine c elsewhere es =
     are_mine c (first_world c) elsewhere es history.enabled
     (subst (λ (l : List Event). AreOfOthers elsewhere l) (sym own.is) own.of_others) in
-    let none : es ≡ [] =
     none_of_others c elsewhere (Caller 0 ∷ []) es (all_again c (Caller 0) (all_seats c) (has_all c)) mine
-    (subst (λ (l : List Event). AreOfOthers (Caller 0 ∷ []) l) (sym came.is) came.of_others) in
-    ap (λ (l : List Event). most_held c l) none
+    (subst (λ (l : List Event). AreOfOthers (Caller 0 ∷ []) l) (sym came.is) came.of_others)
 
-pub opened_holds : (w : WordsState) (h made : HostState) (q : PassState) (k : HostState) (c : Config) → h ≡ first_host w
+pub opened_empty : (w : WordsState) (h made : HostState) (q : PassState) (k : HostState) (c : Config) → h ≡ first_host w
     → made ≡ with_caller_made h → Grows made.pass.seats made.pass.seen k.pass.seen → Grows q.seats q.seen k.pass.seen
     → q ≡ pass_for h (Caller h.callers) → w.config ≡ c → k.pass.table ≡ w
-    → IsHistory k.pass.table.config k.pass.seen → most_held c k.pass.seen ≡ 0
-opened_holds w h made q k c first is own came pass config table history =
+    → IsHistory k.pass.table.config k.pass.seen → k.pass.seen ≡ []
+opened_empty w h made q k c first is own came pass config table history =
     let es : List Event = k.pass.seen in
     let from : made ≡ with_caller_made (first_host w) = is ∙ ap (λ (x : HostState). with_caller_made x) first in
     let pass_is : q ≡ pass_for (first_host w) (Caller 0) =
     pass ∙ ap (λ (x : HostState). pass_for x (Caller x.callers)) first in
-    subst (λ (d : Config). most_held d es ≡ 0) config
-    (holds_nothing w.config es (subst (λ (x : HostState). Grows x.pass.seats x.pass.seen es) from own)
+    nothing_seen w.config es (subst (λ (x : HostState). Grows x.pass.seats x.pass.seen es) from own)
     (subst (λ (x : PassState). Grows x.seats x.seen es) pass_is came)
-    (subst (λ (x : WordsState). IsHistory x.config es) table history))
+    (subst (λ (x : WordsState). IsHistory x.config es) table history)
 
 -- The most that was held, where a word holds it.
 

@@ -12,6 +12,7 @@ use Rattle.mk_core.proofs.HistoryParts.{left_in_parts}
 use Rattle.mk_alloc.specs.TurnCycles.{has_step, is_grant, lets_go}
 use Rattle.mk_alloc.proofs.GrantParts.{LastIn}
 use Rattle.mk_trace.specs.Peaks.{greatest, greatest_from}
+use Rattle.mk_trace.proofs.GreatestParts.{first_below, from-append, last_below}
 
 grant_keeps : (s : Step) → is_grant s ≡ true → lets_go s ≡ false
 grant_keeps step.Grant h = refl
@@ -40,22 +41,6 @@ module _ (c : Config) (measure : List PlacedAllocation → ℕ) where
   abbrev most : World → List Event → ℕ
   most w es = greatest_from c w measure es
 
-  first_below : (w : World) (es : List Event) → has w ≤ most w es
-  unfolding greatest_from
-  first_below w [] = omega arith
-  first_below w (e ∷ es) = omega arith
-
-  last_below : (w : World) (es : List Event) → has (left_from c w es) ≤ most w es
-  unfolding greatest_from left_from
-  last_below w [] = omega arith
-  last_below w (e ∷ es) = omega (arith, last_below (world_behind c w e) es)
-
-  from-append : (w : World) (xs ys : List Event)
-      → most w (xs ++ ys) ≡ max (most w xs) (most (left_from c w xs) ys)
-  unfolding greatest_from left_from
-  from-append w [] ys = omega (arith, first_below w ys)
-  from-append w (e ∷ xs) ys = omega (arith, from-append (world_behind c w e) xs ys)
-
   module _ (falls_at : (w : World) (e : Event) → is_grant e.step ≡ false → has (world_behind c w e) ≤ has w)
       (rises_at : (w : World) (e : Event) → lets_go e.step ≡ false → has w ≤ has (world_behind c w e)) where
     falls : (w : World) (es : List Event) → has_step is_grant es ≡ false → most w es ≡ has w
@@ -74,7 +59,7 @@ module _ (c : Config) (measure : List PlacedAllocation → ℕ) where
         let parts = or_parts (lets_go e.step) (has_step lets_go es) none in
         let one = rises_at w e parts.0 in
         let rest = rises (world_behind c w e) es parts.1 in
-        let below = first_below (world_behind c w e) es in
+        let below = first_below c measure (world_behind c w e) es in
         omega arith
 
     -- Where neither is, the measure stays.
@@ -91,7 +76,7 @@ module _ (c : Config) (measure : List PlacedAllocation → ℕ) where
         (λ (is : is_grant e.step ≡ true).
         (let one = rises_at w e (grant_keeps e.step is) in
         let later = rises (world_behind c w e) es (last_first e es last is) in
-        let below = first_below (world_behind c w e) es in
+        let below = first_below c measure (world_behind c w e) es in
         omega arith))
         (λ (none : is_grant e.step ≡ false). (let one = falls_at w e none in omega arith))
         (cases_Bool (is_grant e.step))
@@ -106,9 +91,9 @@ module _ (c : Config) (measure : List PlacedAllocation → ℕ) where
     pub most_then : (es more : List Event) → LastIn more
         → greatest c measure (es ++ more) ≡ max (greatest c measure es) (has (left c (es ++ more)))
     most_then es more last =
-        let parts = from-append (first_world c) es more in
+        let parts = from-append c measure (first_world c) es more in
         let ends = at_ends (left c es) more last in
-        let below = last_below (first_world c) es in
+        let below = last_below c measure (first_world c) es in
         let same : has (left c (es ++ more)) ≡ has (left_from c (left c es) more) =
         ap (λ (w : World). has w) (left_in_parts c es more) in
         omega arith
@@ -117,7 +102,7 @@ module _ (c : Config) (measure : List PlacedAllocation → ℕ) where
     pub no_more : (es more : List Event) → has_step is_grant more ≡ false
         → greatest c measure (es ++ more) ≡ greatest c measure es
     no_more es more none =
-        let parts = from-append (first_world c) es more in
+        let parts = from-append c measure (first_world c) es more in
         let fall = falls (left c es) more none in
-        let below = last_below (first_world c) es in
+        let below = last_below c measure (first_world c) es in
         omega arith

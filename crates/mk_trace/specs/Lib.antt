@@ -1,8 +1,12 @@
 pub mod Calls
 pub mod Ends
+pub mod Freeing
 pub mod Grammar
 pub mod Laws
+pub mod Ledgers
 pub mod Lines
+pub mod Looking
+pub mod Numbers
 pub mod Peaks
 pub mod Playing
 pub mod Printed

@@ -116,6 +116,13 @@ pub record AreCounted (trace : Contents) (es : List Event) (peaks : Peaks) : Typ
 abbrev pub IsMostHeld : Contents → List Event → Peaks → Type 0
 IsMostHeld trace es peaks = peaks.held ≡ (peaks_of (config_of trace) es).held
 
+-- The most that was quarantined, and of that reserved.
+abbrev pub IsMostQuarantined : Contents → List Event → Peaks → Type 0
+IsMostQuarantined trace es peaks = peaks.quarantined ≡ (peaks_of (config_of trace) es).quarantined
+
+abbrev pub IsMostReserved : Contents → List Event → Peaks → Type 0
+IsMostReserved trace es peaks = peaks.reserved ≡ (peaks_of (config_of trace) es).reserved
+
 -- The peaks of a trace whose playing made this history.
 pub record ArePeaks (trace : Contents) (es : List Event) (peaks : Peaks) : Type 0 where
   pub events : peaks.events ≡ length trace.events

@@ -1,16 +1,17 @@
 //! The calls of the one caller of a heap. Between them the host has its seat, and so has seen all.
-ghost use Rattle.std.specs.Prelude.{◌≡◌, ◌<◌, length, IfOk, true, false};
-ghost use Rattle.mk_core.specs.Ranges.{is_word};
-ghost use Rattle.mk_heap.specs.Turns.{is_register};
-ghost use Rattle.mk_trace.specs.Traces.{slot_of};
-ghost use Rattle.mk_core.specs.declared.events.Word.TheVariants as table_word;
-ghost use Rattle.mk_trace.specs.Calls.{IsHome, MayCome, MayBePlayed, SameCalls, Calls, PlaysEvent};
+ghost use Rattle.std.specs.Prelude.{◌≡◌, ◌<◌, length, IfOk, false};
 ghost use Rattle.mk_core.specs.Calls.{is_under_turn};
-ghost use Rattle.mk_core.specs.Counts.{ends, in_a_word};
-ghost use Rattle.mk_trace.specs.Ends.{EndsTell, LeavesAllocations};
-ghost use Rattle.mk_trace.specs.Calls.{held_behind, most_held, HoldsNoMore, HoldsMostAtEnd};
+ghost use Rattle.mk_core.specs.History.{never_behind};
+ghost use Rattle.mk_trace.specs.Calls.{IsHome, MayCome, MayBePlayed, Calls, PlaysEvent, most_held, HoldsMostAtEnd};
+ghost use Rattle.mk_trace.specs.Ends.{EndsTell, IsIdle, LeavesAllocations};
+ghost use Rattle.mk_trace.specs.Freeing.{FlagsBehindCall, FreesItsSlot, FreesSlot, QuarantinesMostWhereFreed};
+ghost use Rattle.mk_trace.specs.Ledgers.{Keeps};
+ghost use Rattle.mk_trace.specs.Traces.{slot_of};
 
+use crate::ledger::Ledger;
+use crate::looking::{look, object_to_free};
 use crate::operations::{first_op, is_full, later_ops};
+use crate::settling::settle;
 use crate::trace::TraceEvent;
 use mk_check::is_refusal;
 use mk_core::{Answer, Word};
@@ -40,6 +41,8 @@ fn call<E: Engine, R: Threads + Wait + Sync>(
     ensures calls { Calls heap.now.config host.old.pass.seen op result host.new.pass.seen }
     ensures held { HoldsMostAtEnd heap.now.config host.old.pass.seen host.new.pass.seen }
     ensures ends { E.on ≡ false → EndsTell heap.now.config host.old.pass.seen host.new.pass.seen }
+    ensures quarantines { QuarantinesMostWhereFreed heap.now.config host.old.pass.seen op host.new.pass.seen }
+    ensures flags { FlagsBehindCall heap.now.config host.old.pass.seen op host.new.pass.seen }
     ensures beside { is_under_turn op ≡ false →
         LeavesAllocations heap.now.config host.old.pass.seen host.new.pass.seen }
 {
@@ -52,52 +55,45 @@ fn call<E: Engine, R: Threads + Wait + Sync>(
     answer
 }
 
-/// What a word is. It is no call.
-pub(crate) fn look<R: Wait>(rt: &R, heap: &Heap, host: &mut Host, word: Word) -> u64
-    requires home { IsHome heap.now host.old }
-    requires word { is_word heap.now.config word ≡ true }
-    requires no_register { is_register word ≡ false }
-    ensures home { IsHome heap.now host.new }
-    ensures same { SameCalls heap.now.config host.old.pass.seen host.new.pass.seen }
-    ensures held { HoldsNoMore heap.now.config host.old.pass.seen host.new.pass.seen }
-    ensures leaves { LeavesAllocations heap.now.config host.old.pass.seen host.new.pass.seen }
-    ensures tells { word ≡ table_word.Held → result ≡ held_behind heap.now.config host.old.pass.seen }
-    ensures counts { word ≡ table_word.Cycles → result ≡ in_a_word (ends host.old.pass.seen) }
-{
-    host.is_in_order();
-    let found = host.tell(rt, heap, word);
-    host.is_in_order();
-    found
-}
-
-/// Carries out an operation of the caller, tells its answer, and writes down how much is held then, if it is more than
-/// before.
+/// Carries out an operation of the caller, tells its answer, and writes down what is held and quarantined then. A
+/// Free's register points to what the slot points to.
 fn answer<E: Engine, R: Threads + Wait + Sync>(
     rt: &R,
+    alloc: Global,
     heap: &Heap,
     host: &mut Host,
     bench: &mut Bench<E>,
-    held: &mut u64,
+    ledger: &mut Ledger,
+    slot: u64,
     op: Op,
-) -> Answer
+) -> Result<Answer, NoMemory>
+    requires slot { slot < 64 }
+    requires points { FreesSlot (never_behind heap.now.config host.old.pass.seen) slot op }
+    requires off { E.on ≡ false }
     requires home { IsHome heap.now host.old }
+    requires idle { IsIdle heap.now.config host.old.pass.seen }
     requires admitted { MayCome heap.now.config host.old.pass.seen op }
     requires made_for { E.made_for bench.old.engine ≡ heap.now.config.pages }
     requires book { length bench.old.book ≡ heap.now.config.pages }
-    requires held { held.old ≡ most_held heap.now.config host.old.pass.seen }
+    requires held { ledger.old.held ≡ most_held heap.now.config host.old.pass.seen }
+    requires keeps { Keeps heap.now.config host.old.pass.seen ledger.old.freed }
     ensures home { IsHome heap.now host.new }
+    ensures idle { IsIdle heap.now.config host.new.pass.seen }
     ensures made_for { E.made_for bench.new.engine ≡ E.made_for bench.old.engine }
     ensures book { length bench.new.book ≡ length bench.old.book }
-    ensures calls { Calls heap.now.config host.old.pass.seen op result host.new.pass.seen }
-    ensures held { held.new ≡ most_held heap.now.config host.new.pass.seen }
-    ensures ends { E.on ≡ false → EndsTell heap.now.config host.old.pass.seen host.new.pass.seen }
-    ensures beside { is_under_turn op ≡ false →
-        LeavesAllocations heap.now.config host.old.pass.seen host.new.pass.seen }
+    ensures calls { IfOk result (λ told. Calls heap.now.config host.old.pass.seen op told host.new.pass.seen) }
+    ensures held { IfOk result (λ told. ledger.new.held ≡ most_held heap.now.config host.new.pass.seen) }
+    ensures keeps { IfOk result (λ told. Keeps heap.now.config host.new.pass.seen ledger.new.freed) }
 {
+    let freed = object_to_free(rt, heap, host, slot, op);
+    host.is_in_order();
     let told = call(rt, heap, host, bench, op);
+    host.is_in_order();
     let now = look(rt, heap, host, Word::Held);
-    *held = (*held).max(now);
-    told
+    ledger.held = ledger.held.max(now);
+    ledger.freed.note(freed)?;
+    settle(rt, alloc, heap, host, &mut ledger.freed)?;
+    Ok(told)
 }
 
 /// Carries out the operations of an event, and tells whether one of them is refused.
@@ -107,29 +103,34 @@ pub(crate) fn refuses<E: Engine, R: Threads + Wait + Sync>(
     heap: &Heap,
     host: &mut Host,
     bench: &mut Bench<E>,
-    held: &mut u64,
+    ledger: &mut Ledger,
     event: TraceEvent,
 ) -> Result<bool, NoMemory>
     requires slot { slot_of event < 64 }
+    requires off { E.on ≡ false }
     requires home { IsHome heap.now host.old }
+    requires idle { IsIdle heap.now.config host.old.pass.seen }
     requires admitted { MayBePlayed heap.now.config host.old.pass.seen event }
+    requires frees { FreesItsSlot (never_behind heap.now.config host.old.pass.seen) event }
     requires made_for { E.made_for bench.old.engine ≡ heap.now.config.pages }
     requires book { length bench.old.book ≡ heap.now.config.pages }
-    requires held { held.old ≡ most_held heap.now.config host.old.pass.seen }
+    requires held { ledger.old.held ≡ most_held heap.now.config host.old.pass.seen }
+    requires keeps { Keeps heap.now.config host.old.pass.seen ledger.old.freed }
     ensures home { IsHome heap.now host.new }
+    ensures idle { IsIdle heap.now.config host.new.pass.seen }
     ensures made_for { E.made_for bench.new.engine ≡ E.made_for bench.old.engine }
     ensures book { length bench.new.book ≡ length bench.old.book }
     ensures plays { IfOk result (λ refused.
         PlaysEvent heap.now.config host.old.pass.seen event refused host.new.pass.seen) }
-    ensures held { IfOk result (λ refused. held.new ≡ most_held heap.now.config host.new.pass.seen) }
-    ensures ends { IfOk result (λ refused.
-        E.on ≡ false → EndsTell heap.now.config host.old.pass.seen host.new.pass.seen) }
+    ensures held { IfOk result (λ refused. ledger.new.held ≡ most_held heap.now.config host.new.pass.seen) }
+    ensures keeps { IfOk result (λ refused. Keeps heap.now.config host.new.pass.seen ledger.new.freed) }
 {
-    let first = answer(rt, heap, host, bench, held, first_op(event));
+    let slot = event.slot();
+    let first = answer(rt, alloc, heap, host, bench, ledger, slot, first_op(event))?;
     let mut refused = is_refusal(first);
     let ops = later_ops(alloc, is_full(first), event)?;
     for op in ops.iter() {
-        let later = answer(rt, heap, host, bench, held, *op);
+        let later = answer(rt, alloc, heap, host, bench, ledger, slot, *op)?;
         let also = is_refusal(later);
         refused |= also;
     }

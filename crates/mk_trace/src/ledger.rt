@@ -1,56 +1,72 @@
 //! What is kept of a heap while a trace is played on it: what is held and quarantined, the most that it ever was, and
 //! the ages of what was released.
 
-ghost use Rattle.std.specs.Prelude.{◌≡◌, ◌<◌};
+ghost use Rattle.std.specs.Prelude.{◌≡◌, ◌<◌, [], nat_le, not, sum_by, if◌then◌else◌, OnOk};
+ghost use Rattle.mk_core.specs.Counts.{in_a_word};
+ghost use Rattle.mk_trace.specs.Ledgers.{Notes, objects_kept, risen, weighed_anew, objects_in};
 
-use mk_geom::{Cell, class_of, class_words, run_pages};
+use mk_geom::Cell;
 use mk_never::NoMemory;
 use std::alloc::Global;
 
-/// Words of storage, and the most that they ever were.
+/// Words of storage, and the most that they ever were. A number above 2^64 - 1 stands as 2^64 - 1.
 #[derive(Clone, Copy)]
 pub(crate) struct Peak {
-    now: u64,
+    pub(crate) now: u64,
     pub(crate) most: u64,
 }
 
 impl Peak {
-    fn zero() -> Peak {
+    fn zero() -> Peak
+        ensures now { result.now ≡ 0 }
+        ensures most { result.most ≡ 0 }
+    {
         Peak { now: 0, most: 0 }
     }
 
-    fn add(&mut self, words: u64) {
+    fn rise(&mut self, words: u64)
+        ensures { self.new ≡ risen self.old words }
+    {
         self.now = self.now.saturating_add(words);
         self.most = self.most.max(self.now);
     }
+}
 
-    fn remove(&mut self, words: u64) {
-        self.now = self.now.saturating_sub(words);
+/// A freed object: its cell, the words of its storage, and those of a large object's, whose addresses stay reserved.
+#[derive(Clone, Copy)]
+pub(crate) struct FreedObject {
+    pub(crate) cell: Cell,
+    pub(crate) storage: u64,
+    pub(crate) reserved: u64,
+}
+
+impl FreedObject {
+    pub(crate) fn new(cell: Cell, storage: u64) -> FreedObject
+        ensures cell { result.cell ≡ cell }
+        ensures storage { result.storage ≡ storage }
+        ensures reserved { result.reserved ≡ (if not (nat_le storage 32) then storage else 0) }
+    {
+        let reserved = if storage > 32 { storage } else { 0 };
+        FreedObject {
+            cell,
+            storage,
+            reserved,
+        }
     }
 }
 
 /// A freed object that isn't released yet.
 #[derive(Clone, Copy)]
 pub(crate) struct Quarantined {
-    pub(crate) cell: Cell,
-    /// How many words it has.
-    words: u64,
+    pub(crate) object: FreedObject,
     /// How many cycles had ended when it was freed.
     ends: u64,
 }
 
 impl Quarantined {
-    /// The words of its storage.
-    fn storage(&self) -> u64 {
-        match class_of(self.words) {
-            Some(class) => class_words(class),
-            None => run_pages(self.words).saturating_mul(64),
-        }
-    }
-
-    /// That of a large object, whose addresses stay reserved.
-    fn reserved(&self) -> u64 {
-        if self.words > 32 { self.storage() } else { 0 }
+    /// Its age, where so many have ended now.
+    pub(crate) fn age(&self, ends: u64) -> u64 {
+        ends.saturating_sub(self.ends)
     }
 }
 
@@ -67,7 +83,12 @@ pub(crate) struct Freed {
 }
 
 impl Freed {
-    fn new(alloc: Global) -> Freed {
+    fn new(alloc: Global) -> Freed
+        ensures quarantined { result.quarantined ≡ record { now = 0; most = 0 } }
+        ensures reserved { result.reserved ≡ record { now = 0; most = 0 } }
+        ensures objects { objects_kept result ≡ [] }
+        ensures ends { result.ends ≡ 0 }
+    {
         Freed {
             quarantined: Peak::zero(),
             reserved: Peak::zero(),
@@ -77,31 +98,61 @@ impl Freed {
         }
     }
 
-    /// An object of so many words was freed, if there is one.
-    pub(crate) fn note(&mut self, cell: Option<Cell>, words: u64) -> Result<(), NoMemory> {
-        match cell {
-            Some(cell) => self.free(cell, words),
-            None => Ok(()),
+    /// An object was freed, if there is one.
+    pub(crate) fn note(&mut self, object: Option<FreedObject>) -> Result<(), NoMemory>
+        ensures { OnOk result (Notes self.old object self.new) }
+    {
+        match object {
+            Some(object) => {
+                self.quarantined.rise(object.storage);
+                self.reserved.rise(object.reserved);
+                let ends = self.ends;
+                Ok(self.quarantine.push(Quarantined { object, ends })?)
+            }
+            None => {
+                self.quarantined.rise(0);
+                self.reserved.rise(0);
+                Ok(())
+            }
         }
     }
 
-    fn free(&mut self, cell: Cell, words: u64) -> Result<(), NoMemory> {
-        let object = Quarantined {
-            cell,
-            words,
-            ends: self.ends,
-        };
-        self.quarantined.add(object.storage());
-        self.reserved.add(object.reserved());
-        Ok(self.quarantine.push(object)?)
+    /// These are left, where so many cycles have ended.
+    pub(crate) fn keep(&mut self, kept: Vec<Quarantined>, ends: u64)
+        ensures quarantined { self.new.quarantined
+            ≡ weighed_anew (λ object. object.storage) (objects_in kept.items) self.old.quarantined }
+        ensures reserved { self.new.reserved
+            ≡ weighed_anew (λ object. object.reserved) (objects_in kept.items) self.old.reserved }
+        ensures objects { objects_kept self.new ≡ objects_in kept.items }
+        ensures ends { self.new.ends ≡ ends }
+    {
+        self.quarantined.now = storage_of(kept.as_slice());
+        self.reserved.now = reserved_of(kept.as_slice());
+        self.quarantine = kept;
+        self.ends = ends;
     }
+}
 
-    /// An object is released, behind so many ends.
-    pub(crate) fn release(&mut self, object: Quarantined, ends: u64) -> Result<(), NoMemory> {
-        self.quarantined.remove(object.storage());
-        self.reserved.remove(object.reserved());
-        count_age(&mut self.ages, ends.saturating_sub(object.ends))
+/// The words of their storage.
+fn storage_of(kept: &[Quarantined]) -> u64
+    ensures { result ≡ in_a_word (sum_by (λ object. object.storage) (objects_in kept.now)) }
+{
+    let mut words: u64 = 0;
+    for quarantined in kept {
+        words = words.saturating_add(quarantined.object.storage);
     }
+    words
+}
+
+/// Those of the large ones.
+fn reserved_of(kept: &[Quarantined]) -> u64
+    ensures { result ≡ in_a_word (sum_by (λ object. object.reserved) (objects_in kept.now)) }
+{
+    let mut words: u64 = 0;
+    for quarantined in kept {
+        words = words.saturating_add(quarantined.object.reserved);
+    }
+    words
 }
 
 #[derive(Drop)]
@@ -114,6 +165,10 @@ pub(crate) struct Ledger {
 impl Ledger {
     pub(crate) fn new(alloc: Global) -> Ledger
         ensures held { result.held ≡ 0 }
+        ensures quarantined { result.freed.quarantined ≡ record { now = 0; most = 0 } }
+        ensures reserved { result.freed.reserved ≡ record { now = 0; most = 0 } }
+        ensures objects { objects_kept result.freed ≡ [] }
+        ensures ends { result.freed.ends ≡ 0 }
     {
         Ledger {
             held: 0,
@@ -130,7 +185,7 @@ impl Ledger {
 }
 
 /// Counts one more of an age among pairs of an age and how many have it, ascending.
-fn count_age(ages: &mut Vec<(u64, u64)>, age: u64) -> Result<(), NoMemory> {
+pub(crate) fn count_age(ages: &mut Vec<(u64, u64)>, age: u64) -> Result<(), NoMemory> {
     for place in 0..ages.len() {
         let (found, count) = ages[place];
         if age == found {

@@ -8,11 +8,13 @@ mod faults;
 pub mod laws;
 mod ledger;
 mod lines;
+mod looking;
 mod operations;
 mod parsing;
 mod peaks;
 mod playing;
 mod resolving;
+mod settling;
 mod trace;
 
 pub use faults::TraceStop;

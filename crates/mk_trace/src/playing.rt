@@ -1,106 +1,28 @@
 //! Playing traces.
-ghost use Rattle.std.specs.Prelude.{◌≡◌, ◌+◌, ◌<◌, [], length, if◌then◌else◌, IfOk};
+ghost use Rattle.std.specs.Prelude.{◌≡◌, ◌+◌, ◌<◌, [], false, length, if◌then◌else◌, IfOk};
 ghost use Rattle.mk_core.specs.Config.{IsWithinLimits};
 ghost use Rattle.mk_core.specs.History.{never_behind};
-ghost use Rattle.mk_trace.specs.Calls.{IsHome, AreNull, SameCalls, PlaysEvent, HasPlayed, most_held, HoldsNoMore};
+ghost use Rattle.mk_trace.specs.Calls.{IsHome, AreNull, SameCalls, PlaysEvent, HasPlayed, most_held};
+ghost use Rattle.mk_trace.specs.Ends.{IsIdle};
 ghost use Rattle.mk_trace.specs.Laws.{IsEventOf};
+ghost use Rattle.mk_trace.specs.Ledgers.{Keeps};
 ghost use Rattle.mk_trace.specs.Playing as spec;
-ghost use Rattle.mk_trace.specs.Traces.{slot_of};
-ghost use Rattle.mk_trace.specs.Playing.{history_of, IsPlayed, AreCounted, IsMostHeld};
+ghost use Rattle.mk_trace.specs.Playing.{history_of, IsPlayed, AreCounted};
+ghost use Rattle.mk_trace.specs.Playing.{IsMostHeld, IsMostQuarantined, IsMostReserved};
 
-use crate::calls::{look, refuses};
+use crate::calls::refuses;
 use crate::configs::config_of;
-use crate::ledger::{Freed, Ledger};
+use crate::ledger::Ledger;
 use crate::peaks::Peaks;
 use crate::trace::{Trace, TraceEvent};
-use mk_core::{Config, Word};
+use mk_core::Config;
 use mk_cycle::{Bench, Engine};
 use mk_engines::StopEngine;
-use mk_geom::{Cell, lookup};
 use mk_heap::{Heap, Host};
 use mk_never::NoMemory;
-use mk_tracing::has_bit;
 use std::alloc::Global;
-use std::mem;
 use std::sync::Wait;
 use std::thread::Threads;
-
-/// The cell of the object that an event is to free, if its slot isn't null.
-fn cell_to_free<R: Wait>(rt: &R, heap: &Heap, host: &mut Host, event: TraceEvent) -> Option<Cell>
-    requires slot { slot_of event < 64 }
-    requires home { IsHome heap.now host.old }
-    ensures home { IsHome heap.now host.new }
-    ensures same { SameCalls heap.now.config host.old.pass.seen host.new.pass.seen }
-    ensures held { HoldsNoMore heap.now.config host.old.pass.seen host.new.pass.seen }
-{
-    match event {
-        TraceEvent::F(slot) => {
-            let address = look(rt, heap, host, Word::Global(slot));
-            cell_at(rt, heap, host, address)
-        }
-        _ => None,
-    }
-}
-
-/// The cell that an address points into.
-fn cell_at<R: Wait>(rt: &R, heap: &Heap, host: &mut Host, address: u64) -> Option<Cell>
-    requires home { IsHome heap.now host.old }
-    ensures home { IsHome heap.now host.new }
-    ensures same { SameCalls heap.now.config host.old.pass.seen host.new.pass.seen }
-    ensures held { HoldsNoMore heap.now.config host.old.pass.seen host.new.pass.seen }
-{
-    let page = address.saturating_sub(65536) / 512;
-    if page < heap.words().pages() {
-        let header = look(rt, heap, host, Word::Head(page));
-        lookup(heap.words().pages(), header, address)
-    } else {
-        None
-    }
-}
-
-/// Whether the cell's object is freed and not released.
-fn is_quarantined<R: Wait>(rt: &R, heap: &Heap, host: &mut Host, cell: Cell) -> bool
-    requires home { IsHome heap.now host.old }
-    ensures home { IsHome heap.now host.new }
-    ensures same { SameCalls heap.now.config host.old.pass.seen host.new.pass.seen }
-    ensures held { HoldsNoMore heap.now.config host.old.pass.seen host.new.pass.seen }
-{
-    if cell.page < heap.words().pages() {
-        let freed = look(rt, heap, host, Word::Quar(cell.page));
-        has_bit(freed, cell.index)
-    } else {
-        false
-    }
-}
-
-/// Takes what was released out of the quarantine, where a cycle has ended.
-fn settle<R: Wait>(
-    rt: &R,
-    alloc: Global,
-    heap: &Heap,
-    host: &mut Host,
-    freed: &mut Freed,
-) -> Result<(), NoMemory>
-    requires home { IsHome heap.now host.old }
-    ensures home { IsHome heap.now host.new }
-    ensures same { SameCalls heap.now.config host.old.pass.seen host.new.pass.seen }
-    ensures held { HoldsNoMore heap.now.config host.old.pass.seen host.new.pass.seen }
-{
-    let ends = look(rt, heap, host, Word::Cycles);
-    if ends == freed.ends {
-        return Ok(());
-    }
-    freed.ends = ends;
-    let found = mem::replace(&mut freed.quarantine, Vec::new(alloc));
-    for object in found.iter() {
-        if is_quarantined(rt, heap, host, object.cell) {
-            freed.quarantine.push(*object)?;
-        } else {
-            freed.release(*object, ends)?;
-        }
-    }
-    Ok(())
-}
 
 /// Plays an event, and tells whether it is refused.
 fn play_event<E: Engine, R: Threads + Wait + Sync>(
@@ -114,28 +36,27 @@ fn play_event<E: Engine, R: Threads + Wait + Sync>(
     event: TraceEvent,
 ) -> Result<bool, NoMemory>
     requires config { heap.now.config ≡ spec.config_of trace.now }
+    requires off { E.on ≡ false }
     requires home { IsHome heap.now host.old }
+    requires idle { IsIdle heap.now.config host.old.pass.seen }
     requires null { AreNull (never_behind heap.now.config host.old.pass.seen) }
     requires event { IsEventOf trace.now.slots event }
     requires made_for { E.made_for bench.old.engine ≡ heap.now.config.pages }
     requires book { length bench.old.book ≡ heap.now.config.pages }
     requires held { ledger.old.held ≡ most_held heap.now.config host.old.pass.seen }
+    requires keeps { Keeps heap.now.config host.old.pass.seen ledger.old.freed }
     ensures home { IsHome heap.now host.new }
+    ensures idle { IsIdle heap.now.config host.new.pass.seen }
     ensures made_for { E.made_for bench.new.engine ≡ E.made_for bench.old.engine }
     ensures book { length bench.new.book ≡ length bench.old.book }
     ensures plays { IfOk result (λ refused.
         PlaysEvent heap.now.config host.old.pass.seen event refused host.new.pass.seen) }
     ensures held { IfOk result (λ refused. ledger.new.held ≡ most_held heap.now.config host.new.pass.seen) }
+    ensures keeps { IfOk result (λ refused. Keeps heap.now.config host.new.pass.seen ledger.new.freed) }
 {
     host.is_in_order();
-    let words = trace.words_of(event.slot());
-    let freed = cell_to_free(rt, heap, host, event);
-    let refused = refuses(rt, alloc, heap, host, bench, &mut ledger.held, event)?;
-    if !refused {
-        ledger.freed.note(freed, words)?;
-    }
-    settle(rt, alloc, heap, host, &mut ledger.freed)?;
-    Ok(refused)
+    trace.events();
+    refuses(rt, alloc, heap, host, bench, ledger, event)
 }
 
 /// A heap of one caller, which was made and joined.
@@ -145,7 +66,7 @@ fn opened(alloc: Global, config: &Config) -> Result<(Heap, Host), NoMemory>
     ensures config { IfOk result (λ made. made.0.config ≡ config.now) }
     ensures home { IfOk result (λ made. IsHome made.0 made.1) }
     ensures no_call { IfOk result (λ made. SameCalls config.now [] made.1.pass.seen) }
-    ensures held { IfOk result (λ made. most_held config.now made.1.pass.seen ≡ 0) }
+    ensures empty { IfOk result (λ made. made.1.pass.seen ≡ []) }
 {
     let (heap, mut host) = Heap::new(alloc, config)?;
     let caller = host.caller(&heap).finish();
@@ -173,13 +94,17 @@ fn play_events<E: Engine, R: Threads + Wait + Sync>(
     ledger: &mut Ledger,
 ) -> Result<u64, NoMemory>
     requires config { heap.now.config ≡ spec.config_of trace.now }
+    requires off { E.on ≡ false }
     requires home { IsHome heap.now host.old }
+    requires idle { IsIdle heap.now.config host.old.pass.seen }
     requires no_call { SameCalls heap.now.config [] host.old.pass.seen }
     requires made_for { E.made_for bench.old.engine ≡ heap.now.config.pages }
     requires book { length bench.old.book ≡ heap.now.config.pages }
     requires held { ledger.old.held ≡ most_held heap.now.config host.old.pass.seen }
+    requires keeps { Keeps heap.now.config host.old.pass.seen ledger.old.freed }
     ensures home { IsHome heap.now host.new }
     ensures held { IfOk result (λ refused. ledger.new.held ≡ most_held heap.now.config host.new.pass.seen) }
+    ensures keeps { IfOk result (λ refused. Keeps heap.now.config host.new.pass.seen ledger.new.freed) }
     ensures played { IfOk result (λ refused. HasPlayed trace.now trace.now.events refused host.new.pass.seen) }
 {
     let events = trace.events();
@@ -198,9 +123,12 @@ fn play_by<E: Engine, R: Threads + Wait + Sync>(
     alloc: Global,
     trace: &Trace,
 ) -> Result<Peaks, NoMemory>
+    requires off { E.on ≡ false }
     ensures played { IfOk result (λ peaks. IsPlayed trace.now (history_of peaks)) }
     ensures counted { IfOk result (λ peaks. AreCounted trace.now (history_of peaks) peaks) }
     ensures held { IfOk result (λ peaks. IsMostHeld trace.now (history_of peaks) peaks) }
+    ensures quarantined { IfOk result (λ peaks. IsMostQuarantined trace.now (history_of peaks) peaks) }
+    ensures reserved { IfOk result (λ peaks. IsMostReserved trace.now (history_of peaks) peaks) }
 {
     let config = config_of(alloc, trace)?;
     let mut bench: Bench<E> = Bench::new(alloc, config.pages)?;
@@ -231,6 +159,8 @@ pub fn play<R: Threads + Wait + Sync>(
     ensures played { IfOk result (λ peaks. IsPlayed trace.now (history_of peaks)) }
     ensures counted { IfOk result (λ peaks. AreCounted trace.now (history_of peaks) peaks) }
     ensures held { IfOk result (λ peaks. IsMostHeld trace.now (history_of peaks) peaks) }
+    ensures quarantined { IfOk result (λ peaks. IsMostQuarantined trace.now (history_of peaks) peaks) }
+    ensures reserved { IfOk result (λ peaks. IsMostReserved trace.now (history_of peaks) peaks) }
 {
     play_by::<StopEngine, R>(rt, alloc, trace)
 }

@@ -1,18 +1,19 @@
-use Rattle.mk_trace.proofs.EndsInLists.{leaves_twice, tells_before}
-use Rattle.mk_trace.proofs.HeldCalls.{calls_looked}
+use Rattle.std.proofs.Common.{subst}
+use Rattle.mk_core.specs.History.{IsHistory}
+use Rattle.mk_words.specs.States.{WordsState}
+use Rattle.mk_trace.proofs.LedgerCalls.{keeps_behind}
 use Rattle.mk_trace.proofs.calls.answer.Goals as goal
 
-pub returns-clause-calls : goal.returns-clause-calls
-returns-clause-calls g c =
-    calls_looked c.args.heap.now.config c.args.host.now.pass.seen c.args.op c.call-told.result
-    c.call-told.new.host.pass.seen c.look-now.new.host.pass.seen c.call-told.ensures.calls c.look-now.ensures.same
-
-pub returns-clause-ends : goal.returns-clause-ends
-returns-clause-ends g c = λ off.
-    tells_before c.args.heap.now.config c.args.host.now.pass.seen c.call-told.new.host.pass.seen
-    c.look-now.new.host.pass.seen (c.call-told.ensures.ends off) c.look-now.ensures.leaves
-
-pub returns-clause-beside : goal.returns-clause-beside
-returns-clause-beside g c = λ out.
-    leaves_twice c.args.heap.now.config c.args.host.now.pass.seen c.call-told.new.host.pass.seen
-    c.look-now.new.host.pass.seen (c.call-told.ensures.beside out) c.look-now.ensures.leaves
+pub returns-clause-keeps : goal.returns-clause-keeps
+returns-clause-keeps g c =
+    keeps_behind c.args.heap.now.config c.args.host.now.pass.seen c.object_to_free-freed.new.host.pass.seen
+    c.call-told.new.host.pass.seen c.look-now.new.host.pass.seen c.settle.new.host.pass.seen c.args.op
+    c.args.ledger.now.freed c.note.new.self c.settle.new.freed c.object_to_free-freed.result
+    c.object_to_free-freed.ensures.looks
+    (subst (λ (x : WordsState). IsHistory x.config c.object_to_free-freed.new.host.pass.seen)
+    c.object_to_free-freed.ensures.home.table c.is_in_order.ensures.history)
+    (subst (λ (x : WordsState). IsHistory x.config c.call-told.new.host.pass.seen) c.call-told.ensures.home.table
+    c.is_in_order-2.ensures.history)
+    c.requires.idle (c.call-told.ensures.ends c.requires.off) c.call-told.ensures.quarantines c.call-told.ensures.flags
+    c.look-now.ensures.looks c.settle.ensures.looks c.object_to_free-freed.ensures.finds c.requires.keeps
+    c.in_ok-note.ensures c.in_ok-settle.ensures.settles

@@ -5,6 +5,7 @@ use Rattle.mk_words.specs.States.{WordsState, PassState}
 use Rattle.mk_caller.specs.States.{CallerState}
 use Rattle.mk_heap.specs.Hosts.{HostState}
 use Rattle.mk_trace.proofs.EndsAtHome.{call_leaves, call_tells_ends}
+use Rattle.mk_trace.proofs.FreedCalls.{call_flags, call_quarantines}
 use Rattle.mk_trace.proofs.HeldCalls.{call_holds}
 use Rattle.mk_trace.proofs.OneCaller.{joined_home, made_seats, made_alone, made_exists, made_admits, made_calls}
 use Rattle.mk_trace.proofs.calls.call.Goals as goal
@@ -103,3 +104,37 @@ returns-clause-beside g c = λ out.
     c.join_caller.ensures.own)
     (subst (λ (r : PassState). Grows r.seats r.seen k.pass.seen) c.finish.ensures.pass c.join_caller.ensures.came)
     (subst (λ (x : WordsState). IsHistory x.config k.pass.seen) table c.is_in_order.ensures.history) out
+
+pub returns-clause-quarantines : goal.returns-clause-quarantines
+returns-clause-quarantines g c =
+    let w : WordsState = c.args.heap.now in
+    let h : HostState = c.args.host.now in
+    let q : PassState = c.answer_to-answer.new.caller.pass in
+    let k : HostState = c.join_caller.new.self in
+    let table =
+    ap (λ (x : HostState). x.pass.table) c.join_caller.ensures.host
+    ∙ ap (λ (x : HostState). x.pass.table) c.caller_again-caller.ensures.host ∙ c.requires.home.table in
+    call_quarantines w h c.caller_again-caller.result.pass g.E.Engine.on c.args.op c.answer_to-answer.result q
+    k.pass.seen c.requires.home (ap (λ (x : CallerState). x.pass) c.caller_again-caller.ensures.caller)
+    c.answer_to-answer.ensures.answers
+    (subst (λ (x : HostState). Grows x.pass.seats x.pass.seen k.pass.seen) c.caller_again-caller.ensures.host
+    c.join_caller.ensures.own)
+    (subst (λ (r : PassState). Grows r.seats r.seen k.pass.seen) c.finish.ensures.pass c.join_caller.ensures.came)
+    (subst (λ (x : WordsState). IsHistory x.config k.pass.seen) table c.is_in_order.ensures.history) (called g c)
+
+pub returns-clause-flags : goal.returns-clause-flags
+returns-clause-flags g c =
+    let w : WordsState = c.args.heap.now in
+    let h : HostState = c.args.host.now in
+    let q : PassState = c.answer_to-answer.new.caller.pass in
+    let k : HostState = c.join_caller.new.self in
+    let table =
+    ap (λ (x : HostState). x.pass.table) c.join_caller.ensures.host
+    ∙ ap (λ (x : HostState). x.pass.table) c.caller_again-caller.ensures.host ∙ c.requires.home.table in
+    call_flags w h c.caller_again-caller.result.pass g.E.Engine.on c.args.op c.answer_to-answer.result q
+    k.pass.seen c.requires.home (ap (λ (x : CallerState). x.pass) c.caller_again-caller.ensures.caller)
+    c.answer_to-answer.ensures.answers
+    (subst (λ (x : HostState). Grows x.pass.seats x.pass.seen k.pass.seen) c.caller_again-caller.ensures.host
+    c.join_caller.ensures.own)
+    (subst (λ (r : PassState). Grows r.seats r.seen k.pass.seen) c.finish.ensures.pass c.join_caller.ensures.came)
+    (subst (λ (x : WordsState). IsHistory x.config k.pass.seen) table c.is_in_order.ensures.history) (called g c)

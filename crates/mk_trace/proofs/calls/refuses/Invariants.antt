@@ -1,6 +1,7 @@
 use Rattle.std.proofs.Common.{◌≡◌, length}
 use Rattle.mk_trace.specs.Calls.{IsHome, most_held}
-use Rattle.mk_trace.proofs.EndsInEvents.{EndsSoFar}
+use Rattle.mk_trace.specs.Ends.{IsIdle}
+use Rattle.mk_trace.specs.Ledgers.{Keeps}
 use Rattle.mk_trace.proofs.LaterOps.{AreCalled}
 use Rattle.mk_trace.proofs.calls.refuses.Given as goal
 
@@ -8,9 +9,10 @@ use Rattle.mk_trace.proofs.calls.refuses.Given as goal
 abbrev pub invariant-loop-op : goal.invariant-loop-op
 invariant-loop-op g l = record {
   home : IsHome l.heap l.host;
+  idle : IsIdle l.heap.config l.host.pass.seen;
   made_for : g.E.Engine.made_for l.bench.engine ≡ g.E.Engine.made_for l.fn.bench.engine;
   book : length l.bench.book ≡ length l.fn.bench.book;
-  held : l.held ≡ most_held l.heap.config l.host.pass.seen;
-  ends : EndsSoFar g.E.Engine.on l.heap.config l.fn.host.pass.seen l.op-items l.op-index l.host.pass.seen;
+  held : l.ledger.held ≡ most_held l.heap.config l.host.pass.seen;
+  keeps : Keeps l.heap.config l.host.pass.seen l.ledger.freed;
   calls : AreCalled l.heap.config l.fn.host.pass.seen l.fn.event l.op-items l.op-index l.refused l.host.pass.seen;
 }

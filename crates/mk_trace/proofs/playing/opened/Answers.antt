@@ -4,7 +4,7 @@ use Rattle.mk_words.specs.States.{WordsState}
 use Rattle.mk_heap.specs.Hosts.{HostState}
 use Rattle.mk_trace.specs.Calls.{IsHome}
 use Rattle.mk_caller.specs.States.{CallerState}
-use Rattle.mk_trace.proofs.HeldCalls.{opened_holds}
+use Rattle.mk_trace.proofs.HeldCalls.{opened_empty}
 use Rattle.mk_trace.proofs.OneCaller.{first_home}
 use Rattle.mk_trace.proofs.Played.{first_seats, joined_first}
 use Rattle.mk_trace.proofs.playing.opened.Goals as goal
@@ -27,8 +27,8 @@ returns c =
           joined_first w h c.caller.result c.finish-caller.result k c.args.config.now c.in_ok-heap.ensures.host
           c.caller.ensures.caller c.finish-caller.ensures.pass c.join_caller.ensures.came c.in_ok-heap.ensures.config
           c.requires.one home.table c.is_in_order.ensures.history;
-      held =
-          opened_holds w h c.caller.new.self c.finish-caller.result k c.args.config.now c.in_ok-heap.ensures.host
+      empty =
+          opened_empty w h c.caller.new.self c.finish-caller.result k c.args.config.now c.in_ok-heap.ensures.host
           c.caller.ensures.host c.join_caller.ensures.own c.join_caller.ensures.came
           (c.finish-caller.ensures.pass ∙ ap (λ (x : CallerState). x.pass) c.caller.ensures.caller)
           c.in_ok-heap.ensures.config home.table c.is_in_order.ensures.history;

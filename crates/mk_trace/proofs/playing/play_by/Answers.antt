@@ -1,4 +1,6 @@
-use Rattle.std.proofs.Common.{◌∙◌, rules}
+use Rattle.std.proofs.Common.{◌∙◌, rules, sym}
+use Rattle.mk_trace.specs.Peaks.{quarantined_words, reserved_words}
+use Rattle.mk_trace.proofs.FirstLedgers.{first_held, first_idle, first_keeps, most_of}
 use Rattle.mk_trace.proofs.HeldCalls.{most_told}
 use Rattle.mk_trace.proofs.OneCaller.{home_joined}
 use Rattle.mk_trace.proofs.Played.{closed, refused_at}
@@ -29,3 +31,31 @@ returns-clause-held g c =
     c.held_at_most-held.result c.close-report.ensures.history
     (c.in_ok-heap.ensures.config ∙ c.in_ok-config.ensures.config)
     (c.held_at_most-held.ensures.same ∙ c.in_ok-refused.ensures.held) c.held_at_most-held.ensures.fits
+
+pub returns-clause-quarantined : goal.returns-clause-quarantined
+returns-clause-quarantined g c =
+    most_of c.args.trace.now c.in_ok-heap.heap.config quarantined_words c.play_events.new.host.pass.seen _ _
+    c.close-report.ensures.history (c.in_ok-heap.ensures.config ∙ c.in_ok-config.ensures.config)
+    c.in_ok-refused.ensures.keeps.quarantined.most
+
+pub returns-clause-reserved : goal.returns-clause-reserved
+returns-clause-reserved g c =
+    most_of c.args.trace.now c.in_ok-heap.heap.config reserved_words c.play_events.new.host.pass.seen _ _
+    c.close-report.ensures.history (c.in_ok-heap.ensures.config ∙ c.in_ok-config.ensures.config)
+    c.in_ok-refused.ensures.keeps.reserved.most
+
+pub play_events-requires-clause-idle : goal.play_events-requires-clause-idle
+play_events-requires-clause-idle g c κs within =
+    first_idle c.in_ok-heap.heap.config c.in_ok-heap.host.pass.seen c.in_ok-heap.ensures.empty
+
+pub play_events-requires-clause-held : goal.play_events-requires-clause-held
+play_events-requires-clause-held g c κs within =
+    c.new-ledger.ensures.held
+    ∙ sym (first_held c.in_ok-heap.heap.config c.in_ok-heap.host.pass.seen c.in_ok-heap.ensures.empty)
+
+pub play_events-requires-clause-keeps : goal.play_events-requires-clause-keeps
+play_events-requires-clause-keeps g c κs within =
+    first_keeps c.in_ok-heap.heap.config c.in_ok-heap.host.pass.seen c.new-ledger.result.freed
+    c.in_ok-heap.ensures.empty
+    c.new-ledger.ensures.quarantined c.new-ledger.ensures.reserved c.new-ledger.ensures.objects
+    c.new-ledger.ensures.ends

@@ -16,6 +16,8 @@ loop-event-init g c = record {
   home = c.requires.home;
   made_for = c.requires.made_for;
   book = c.requires.book;
+  idle = c.requires.idle;
+  keeps = c.requires.keeps;
   held = c.requires.held;
   played =
       played_first c.args.trace.now c.args.heap.now.config c.events-events.result.now c.args.host.now.pass.seen
@@ -50,6 +52,8 @@ loop-event-preserved g c =
       home = c.play_event.ensures.home;
       made_for = c.play_event.ensures.made_for ∙ c.loop-event.invariant.made_for;
       book = c.play_event.ensures.book ∙ c.loop-event.invariant.book;
+      idle = c.play_event.ensures.idle;
+      keeps = c.in_ok-is_refused.ensures.keeps;
       held = c.in_ok-is_refused.ensures.held;
       played =
           next_played trace w.config c.events-events.result.now c.loop-event.event-index c.loop-event.refused

@@ -1,6 +1,8 @@
 use Rattle.std.proofs.Common.{◌≡◌, ◌≤◌, length}
 use Rattle.std.specs.Prelude.{take}
 use Rattle.mk_trace.specs.Calls.{IsHome, HasPlayed, most_held}
+use Rattle.mk_trace.specs.Ends.{IsIdle}
+use Rattle.mk_trace.specs.Ledgers.{Keeps}
 use Rattle.mk_trace.proofs.playing.play_events.Given as goal
 
 -- so many events were played
@@ -9,6 +11,8 @@ invariant-loop-event g l = record {
   home : IsHome l.heap l.host;
   made_for : g.E.Engine.made_for l.bench.engine ≡ l.heap.config.pages;
   book : length l.bench.book ≡ l.heap.config.pages;
+  idle : IsIdle l.heap.config l.host.pass.seen;
+  keeps : Keeps l.heap.config l.host.pass.seen l.ledger.freed;
   held : l.ledger.held ≡ most_held l.heap.config l.host.pass.seen;
   played : HasPlayed l.trace (take l.event-index l.events) l.refused l.host.pass.seen;
   few : l.refused ≤ l.event-index;

@@ -1,0 +1,161 @@
+-- What looks between calls tell of cells and of the objects in them.
+use Rattle.std.proofs.Common.{◌≡◌, ◌≢◌, ℕ, ◌+◌, ◌-◌, ◌*◌, ◌/◌, ◌%◌, ◌<◌, ◌≤◌, Bool, true, false, List, refl, sym}
+use Rattle.std.proofs.Common.{◌∙◌, ap, arith}
+use Rattle.std.specs.Prelude.{not, nat_le, Option, Some, None, option_map, slice_index, if◌then◌else◌}
+use Rattle.std.proofs.lemmas.Bool.{and_parts, false_from_ne_true}
+use Rattle.std.proofs.lemmas.Bool.Decides.{nat_tests}
+use Rattle.std.proofs.lemmas.List.{get_or_past}
+use Rattle.mk_never.specs.NeverHeap.{global_at}
+use Rattle.mk_geom.specs.declared.addresses.Cell.{Cell}
+use Rattle.mk_geom.specs.Addresses.{cell_at, is_heap_address}
+use Rattle.mk_core.specs.declared.config.Config.{Config}
+use Rattle.mk_core.specs.declared.events.Event.{Event}
+use Rattle.mk_core.specs.declared.events.Word.TheVariants as word
+use Rattle.mk_core.specs.Allocations.{PlacedAllocation, cell_of_allocation, placed_at, storage_words}
+use Rattle.mk_core.specs.Bits.{has_bit}
+use Rattle.mk_core.specs.Cells.{cell_words, is_freed, pointed_cell}
+use Rattle.mk_core.specs.History.{IsHistory, left, never_behind}
+use Rattle.mk_core.specs.Words.{Words, header_at, phase_of}
+use Rattle.mk_core.proofs.WordBits.{no_bit}
+use Rattle.mk_images.proofs.KnownWorlds.{known_world}
+use Rattle.mk_invariant.proofs.Histories.{histories_keep_the_invariant}
+use Rattle.mk_trace.specs.declared.ledger.FreedObject.{FreedObject}
+use Rattle.mk_trace.specs.Ends.{IsIdle}
+use Rattle.mk_trace.specs.Freeing.{large_words, unfreed}
+use Rattle.mk_trace.specs.Ledgers.{object_of}
+use Rattle.mk_trace.specs.Looking.{OnlyLooks, word_behind}
+use Rattle.mk_trace.proofs.EndsInLists.{leaves_twice}
+use Rattle.mk_trace.proofs.FoundObjects.{PointsToCell, frees_nothing, points_to_cell}
+use Rattle.mk_trace.proofs.LookedTables.{leaves_then}
+
+-- looks, one behind the other
+
+pub looks_none : (c : Config) (es : List Event) → OnlyLooks c es es
+looks_none c es = record {
+  calls = refl;
+  leaves = record { phase = refl; found = refl; count = refl; allocations = refl };
+  table = record { allocations = refl; words = refl };
+  most = λ measure. refl;
+}
+
+pub looks_twice : (c : Config) (es fs gs : List Event) → OnlyLooks c es fs → OnlyLooks c fs gs → OnlyLooks c es gs
+looks_twice c es fs gs one two = record {
+  calls = two.calls ∙ one.calls;
+  leaves = leaves_twice c es fs gs one.leaves two.leaves;
+  table = leaves_then (left c es) (left c fs) (left c gs) one.table two.table;
+  most = λ measure. two.most measure ∙ one.most measure;
+}
+
+pub freed_looked : (c : Config) (es fs : List Event) → OnlyLooks c es fs → (cell : Cell)
+    → is_freed (left c fs).now.words cell ≡ is_freed (left c es).now.words cell
+freed_looked c es fs looks cell = ap (λ (w : Words). is_freed w cell) looks.table.words
+
+pub pointed_looked : (c : Config) (es fs : List Event) → OnlyLooks c es fs → (u : ℕ)
+    → pointed_cell c.pages (left c fs).now.words.pages u ≡ pointed_cell c.pages (left c es).now.words.pages u
+pointed_looked c es fs looks u = ap (λ (w : Words). pointed_cell c.pages w.pages u) looks.table.words
+
+pub header_looked : (c : Config) (es fs : List Event) → OnlyLooks c es fs → (p : ℕ)
+    → header_at (left c fs).now.words p ≡ header_at (left c es).now.words p
+header_looked c es fs looks p = ap (λ (w : Words). header_at w p) looks.table.words
+
+-- what an address points into
+
+pub cell_found : (pages : ℕ) (w : Words) (u header : ℕ) (found : Option Cell) → header ≡ header_at w ((u - 65536) / 512)
+    → found ≡ cell_at pages header u → found ≡ pointed_cell pages w.pages u
+unfolding pointed_cell
+cell_found pages w u header found is same = same ∙ ap (λ (h : ℕ). cell_at pages h u) is
+
+outside : (pages u : ℕ) → pages ≤ (u - 65536) / 512 → is_heap_address pages u ≡ false
+outside pages u past =
+    false_from_ne_true (is_heap_address pages u) (λ is.
+    (let parts = and_parts (nat_le 65536 u) _ is in
+    let least : 65536 ≤ u = grind (arith, nat_tests, parts.0) in
+    let below : u < 65536 + 512 * pages = grind (arith, nat_tests, parts.1) in
+    omega (arith, least, below, past)))
+
+none_if : (b : Bool) (x : Option Cell) → b ≡ false → None ≡ (if b then x else None)
+none_if true x is = absurd cc
+none_if false x is = refl
+
+pub nothing_found : (pages : ℕ) (w : Words) (u : ℕ) → pages ≤ (u - 65536) / 512 → None ≡ pointed_cell pages w.pages u
+unfolding pointed_cell
+nothing_found pages w u past =
+    none_if (is_heap_address pages u) _ (outside pages u past)
+
+-- whether a cell is freed
+
+low_half : (f s q : ℕ) → f < 4294967296 → q ≡ f + 4294967296 * s → q % 4294967296 ≡ f
+low_half f s q few is = omega (arith, few, is)
+
+module _ (c : Config) (es : List Event) (history : IsHistory c es) where
+  abbrev w : Words
+  w = (left c es).now.words
+
+  pub quarantine_tells : (cell : Cell) (q : ℕ) → q ≡ word_behind c es (word.Quar cell.page)
+      → has_bit (q % 4294967296) cell.index ≡ is_freed w cell
+  quarantine_tells cell q is =
+      ap (λ (n : ℕ). has_bit n cell.index)
+      (low_half (slice_index w.freed cell.page) (slice_index w.snapshot cell.page) q
+      ((histories_keep_the_invariant c es history).order.quarantined.small cell.page).0 is)
+
+  pub none_freed_there : (cell : Cell) → c.pages ≤ cell.page → is_freed w cell ≡ false
+  none_freed_there cell past =
+      let lengths = (known_world c es history.within_limits history.enabled).lengths in
+      no_bit (slice_index w.freed cell.page) cell.index
+      (get_or_past w.freed cell.page 0 (omega (arith, past, lengths.freed)))
+
+  -- The object of a slot
+
+  module _ (slot : ℕ) (idle : IsIdle c es) where
+    abbrev address : ℕ
+    address = slice_index w.globals slot
+
+    abbrev xs : List PlacedAllocation
+    xs = (left c es).allocations
+
+    abbrev found : Option FreedObject
+    found = option_map (object_of c xs) (unfreed (never_behind c es) (global_at (never_behind c es) slot))
+
+    out : phase_of w ≢ 4
+    out four = omega (arith, four, idle)
+
+    pub no_object : None ≡ pointed_cell c.pages w.pages address → None ≡ found
+    no_object none = ap (λ (x : Option ℕ). option_map (object_of c xs) x)
+        (sym (frees_nothing c es history slot (sym none)))
+
+    module _ (cell : Cell) (points : Some cell ≡ pointed_cell c.pages w.pages address) where
+      it : PointsToCell c es history slot cell
+      it = points_to_cell c es history slot cell (sym points)
+
+      pub cell_within : cell.page < c.pages
+      cell_within = it.within
+
+      by_bit : (freed : Bool) → freed ≡ is_freed w cell
+          → unfreed (never_behind c es) (global_at (never_behind c es) slot) ≡ (if freed then None else Some it.number)
+      by_bit freed is = it.frees out ∙ ap (λ (b : Bool). if b then None else Some it.number) (sym is)
+
+      pub freed_object : true ≡ is_freed w cell → None ≡ found
+      freed_object is = ap (λ (x : Option ℕ). option_map (object_of c xs) x) (sym (by_bit true is))
+
+      abbrev a : PlacedAllocation
+      a = placed_at xs it.number
+
+      same_object : (object : FreedObject) → object.cell ≡ cell → object.storage ≡ cell_words w cell
+          → object.reserved ≡ (if not (nat_le object.storage 32) then object.storage else 0)
+          → object ≡ object_of c xs it.number
+      same_object object at words large =
+          let storage : object.storage ≡ storage_words c a = words ∙ it.words in
+          let reserved : object.reserved ≡ large_words c a =
+          large ∙ ap (λ (n : ℕ). if not (nat_le n 32) then n else 0) storage
+          ∙ ap (λ (b : Bool). if b then storage_words c a else 0) (sym it.large) in
+          ap (λ (x : Cell). record { cell = x; storage = object.storage; reserved = object.reserved }) (at ∙ it.is_cell)
+          ∙ ap (λ (n : ℕ). record { cell = cell_of_allocation c a; storage = n; reserved = object.reserved }) storage
+          ∙ ap (λ (n : ℕ). record { cell = cell_of_allocation c a; storage = storage_words c a; reserved = n }) reserved
+
+      pub unfreed_object : (object : FreedObject) → false ≡ is_freed w cell → object.cell ≡ cell
+          → object.storage ≡ cell_words w cell
+          → object.reserved ≡ (if not (nat_le object.storage 32) then object.storage else 0)
+          → Some object ≡ found
+      unfreed_object object is at words large =
+          ap (λ (x : FreedObject). Some x) (same_object object at words large)
+          ∙ ap (λ (x : Option ℕ). option_map (object_of c xs) x) (sym (by_bit false is))

@@ -1,0 +1,176 @@
+-- What a global shows between calls: the cell of the allocation that it points to, its words, and whether it is freed.
+use Rattle.std.proofs.Common.{◌≡◌, ◌≢◌, inl, inr, ℕ, ◌+◌, ◌<◌, Bool, false, List, length, refl, sym, ◌∙◌}
+use Rattle.std.proofs.Common.{ap, subst, arith}
+use Rattle.std.specs.Prelude.{not, nat_le, Some, None, slice_index, if◌then◌else◌}
+use Rattle.std.proofs.Math.ListN.{get_or-map as get_or-map-default}
+use Rattle.mk_never.specs.declared.types.Kind.{Kind}
+use Rattle.mk_never.specs.declared.values.Value.{Value}
+use Rattle.mk_never.specs.declared.values.Value.TheVariants.{Null, Num, Ptr}
+use Rattle.mk_never.specs.NeverHeap.{NeverState, allocation_at, global_at}
+use Rattle.mk_never.specs.Reach.{LeadsTo}
+use Rattle.mk_never.specs.Reach.IsReached.{by_global}
+use Rattle.mk_never.specs.Typed.{IsPlaceIn, IsSound}
+use Rattle.mk_never.specs.Types.{kinds_of, is_large}
+use Rattle.mk_geom.specs.declared.addresses.Cell.{Cell}
+use Rattle.mk_geom.specs.Addresses.{address_of}
+use Rattle.mk_geom.specs.StorageWords.{IsWordOf}
+use Rattle.mk_core.specs.declared.config.Config.{Config}
+use Rattle.mk_core.specs.declared.events.Event.{Event}
+use Rattle.mk_core.specs.Allocations.{PlacedAllocation, cell_of_allocation, never_granted, placed_at, storage_of}
+use Rattle.mk_core.specs.Allocations.{storage_words}
+use Rattle.mk_core.specs.StandingAllocations.{object_placed}
+use Rattle.mk_core.specs.Cells.{cell_words, is_freed, pointed_cell}
+use Rattle.mk_core.specs.History.{IsHistory, bases_of, left, never_behind}
+use Rattle.mk_core.specs.Image.{image_of}
+use Rattle.mk_core.specs.Words.{Words, phase_of}
+use Rattle.mk_core.proofs.PointedAllocations.{word_points}
+use Rattle.mk_core.proofs.StandingAllocations.{cells_begin, storage_holds, typed_size}
+use Rattle.mk_core.proofs.Sizes.{large_is_not_small, words_are_small}
+use Rattle.mk_layout.specs.SettledPages.{StandsUsed}
+use Rattle.mk_images.specs.Mirrors.{Mirrors}
+use Rattle.mk_images.proofs.Kept.{exists_placed}
+use Rattle.mk_invariant.proofs.Histories.{histories_keep_the_invariant}
+use Rattle.mk_invariant.proofs.Theorems.{allocations_stand, reach_is_kept}
+use Rattle.mk_trace.specs.Freeing.{unfreed}
+use Rattle.mk_trace.proofs.SettledBits.{bit_tells_freed}
+
+module _ (c : Config) (es : List Event) (history : IsHistory c es) (slot : ℕ) where
+  abbrev n : NeverState
+  n = never_behind c es
+
+  abbrev xs : List PlacedAllocation
+  xs = (left c es).allocations
+
+  abbrev w : Words
+  w = (left c es).now.words
+
+  mirrors : Mirrors c (left c es) n
+  mirrors = (histories_keep_the_invariant c es history).mirrors
+
+  pub shows_image : slice_index w.globals slot ≡ image_of (bases_of xs) (global_at n slot)
+  shows_image = mirrors.images.globals slot
+
+  pub sound : IsSound n (global_at n slot)
+  sound = mirrors.typed.globals slot
+
+  -- It points to an allocation.
+  module _ (number ty offset : ℕ) (points : global_at n slot ≡ Ptr number ty offset) where
+    sound_pointer : IsSound n (Ptr number ty offset)
+    sound_pointer = subst (λ (v : Value). IsSound n v) points sound
+
+    abbrev a : PlacedAllocation
+    a = placed_at xs number
+
+    unreleased : a.released ≡ false
+    unreleased =
+        reach_is_kept c es history number
+        (by_global slot number (subst (λ (v : Value). LeadsTo v number) (sym points) refl))
+
+    stands : StandsUsed c (left c es) a
+    stands = allocations_stand c es history number unreleased
+
+    type_is : ty ≡ a.ty
+    type_is = sound_pointer.1 ∙ sym (mirrors.twins.ty number (exists_placed xs number unreleased))
+
+    as_many : length (kinds_of n.types ty) ≡ length (kinds_of c.types a.ty)
+    as_many =
+        ap (λ (l : List (List Kind)). length (kinds_of l ty)) mirrors.types
+        ∙ ap (λ (t : ℕ). length (kinds_of c.types t)) type_is
+
+    within : IsPlaceIn (kinds_of n.types ty) offset → offset < storage_words c a
+    within (inl first) =
+        let holds = storage_holds c a history.within_limits stands.stands.typed in
+        let some = holds.1.0 in
+        omega arith
+    within (inr inside) =
+        let holds = storage_holds c a history.within_limits stands.stands.typed in
+        let least = holds.0 in
+        omega (arith, as_many)
+
+    is_word : IsWordOf (storage_of c a) (a.base + offset)
+    is_word = let lt = within sound_pointer.2 in (omega arith, omega arith)
+
+    image_is : slice_index w.globals slot ≡ address_of (a.base + offset)
+    image_is =
+        shows_image ∙ ap (λ (v : Value). image_of (bases_of xs) v) points
+        ∙ ap (λ (base : ℕ). address_of (base + offset))
+        (get_or-map-default (λ (x : PlacedAllocation). x.base) xs number never_granted)
+
+    pub points_into : pointed_cell c.pages w.pages (slice_index w.globals slot) ≡ Some (cell_of_allocation c a)
+    points_into =
+        ap (λ (u : ℕ). pointed_cell c.pages w.pages u) image_is
+        ∙ word_points c w a history.within_limits stands.stands stands.headers (a.base + offset) is_word
+
+    pub words_shown : cell_words w (cell_of_allocation c a) ≡ storage_words c a
+    words_shown = (cells_begin c w a history.within_limits stands.stands stands.headers).1
+
+    pub page_within : (cell_of_allocation c a).page < c.pages
+    page_within =
+        let holds = storage_holds c a history.within_limits stands.stands.typed in
+        let some = holds.1.0 in
+        let ends = stands.stands.within in
+        omega arith
+
+    pub freed_shown : phase_of w ≢ 4 → is_freed w (cell_of_allocation c a) ≡ (allocation_at n number).freed
+    freed_shown out =
+        bit_tells_freed c es history out number unreleased
+        ∙ mirrors.twins.freed number (exists_placed xs number unreleased)
+
+    pub large_shown : is_large (kinds_of c.types a.ty) ≡ not (nat_le (storage_words c a) 32)
+    large_shown =
+        large_is_not_small (kinds_of c.types a.ty)
+        ∙ ap (λ (b : Bool). not b)
+        (sym (words_are_small (object_placed c a) (typed_size c a history.within_limits stands.stands.typed)))
+
+  -- What a global points to, where it points into a cell; it frees that, or nothing.
+
+  pub record PointsToCell (cell : Cell) : Type 0 where
+    pub number : ℕ
+    pub is_cell : cell ≡ cell_of_allocation c (placed_at xs number)
+    pub within : cell.page < c.pages
+    pub words : cell_words w cell ≡ storage_words c (placed_at xs number)
+    pub large : is_large (kinds_of c.types (placed_at xs number).ty)
+        ≡ not (nat_le (storage_words c (placed_at xs number)) 32)
+    pub frees : phase_of w ≢ 4 → unfreed n (global_at n slot) ≡ (if is_freed w cell then None else Some number)
+
+  null_nowhere : slice_index w.globals slot ≡ 0 → pointed_cell c.pages w.pages (slice_index w.globals slot) ≡ None
+  unfolding pointed_cell
+  null_nowhere null = ap (λ (u : ℕ). pointed_cell c.pages w.pages u) null
+
+  by_value : (v : Value) → global_at n slot ≡ v → (cell : Cell)
+      → pointed_cell c.pages w.pages (slice_index w.globals slot) ≡ Some cell → PointsToCell cell
+  by_value Null is cell found =
+      let none = null_nowhere (shows_image ∙ ap (λ (v : Value). image_of (bases_of xs) v) is) in
+      let both : None ≡ Some cell = sym none ∙ found in absurd cc
+  by_value (Num m) is cell found = absurd (subst (λ (v : Value). IsSound n v) is sound)
+  by_value (Ptr number ty offset) is cell found =
+      let both : Some (cell_of_allocation c (placed_at xs number)) ≡ Some cell =
+      sym (points_into number ty offset is) ∙ found in
+      let same : cell_of_allocation c (placed_at xs number) ≡ cell = cc in
+      record {
+        number = number;
+        is_cell = sym same;
+        within = subst (λ (x : Cell). x.page < c.pages) same (page_within number ty offset is);
+        words = ap (λ (x : Cell). cell_words w x) (sym same) ∙ words_shown number ty offset is;
+        large = large_shown number ty offset is;
+        frees = λ out.
+            ap (λ (v : Value). unfreed n v) is
+            ∙ ap (λ (b : Bool). if b then None else Some number)
+            (sym (freed_shown number ty offset is out) ∙ ap (λ (x : Cell). is_freed w x) same);
+      }
+
+  pub points_to_cell : (cell : Cell) → pointed_cell c.pages w.pages (slice_index w.globals slot) ≡ Some cell
+      → PointsToCell cell
+  points_to_cell cell found = by_value (global_at n slot) refl cell found
+
+  nowhere_by : (v : Value) → global_at n slot ≡ v
+      → pointed_cell c.pages w.pages (slice_index w.globals slot) ≡ None → unfreed n (global_at n slot) ≡ None
+  nowhere_by Null is none = ap (λ (v : Value). unfreed n v) is
+  nowhere_by (Num m) is none = ap (λ (v : Value). unfreed n v) is
+  nowhere_by (Ptr number ty offset) is none =
+      let both : None ≡ Some (cell_of_allocation c (placed_at xs number)) =
+      sym none ∙ points_into number ty offset is in absurd cc
+
+  pub frees_nothing : pointed_cell c.pages w.pages (slice_index w.globals slot) ≡ None
+      → unfreed n (global_at n slot) ≡ None
+  frees_nothing none = nowhere_by (global_at n slot) refl none

@@ -1,0 +1,249 @@
+-- The kept objects are those of the quarantined allocations: over a call that frees one, or none, and behind it, where
+-- those are let go that were released.
+use Rattle.std.proofs.Common.{◌≡◌, ◌≢◌, inl, inr, ℕ, ◌+◌, ◌≤◌, ◌<◌, Bool, true, false, List, [], ◌∷◌, ◌++◌, length, map}
+use Rattle.std.proofs.Common.{refl, sym, ◌∙◌, ap, subst, arith, append-nil}
+use Rattle.std.specs.Prelude.{◌&&◌, ◌==◌, not, filter, Option, Some, None, option_map, if◌then◌else◌}
+use Rattle.std.proofs.lemmas.Bool.{and_parts, cases_eq, cases_lt, true≢false}
+use Rattle.std.proofs.lemmas.List.{get_or_past, map-append}
+use Rattle.mk_core.specs.declared.config.Config.{Config}
+use Rattle.mk_core.specs.declared.events.Event.{Event}
+use Rattle.mk_core.specs.Allocations.{PlacedAllocation, cell_of_allocation, never_granted, placed_at}
+use Rattle.mk_core.specs.Allocations.{storage_words}
+use Rattle.mk_core.specs.Cells.{is_freed}
+use Rattle.mk_core.specs.Cycles.{is_quarantined}
+use Rattle.mk_core.specs.History.{IsHistory, left}
+use Rattle.mk_core.specs.Words.{Words, phase_of}
+use Rattle.mk_images.proofs.Kept.{exists_placed}
+use Rattle.mk_trace.specs.declared.ledger.FreedObject.{FreedObject}
+use Rattle.mk_trace.specs.Freeing.{FlagsBehind, FreesFlag, large_words}
+use Rattle.mk_trace.specs.Ledgers.{AreObjectsOf, object_of, one_or_none}
+use Rattle.mk_trace.specs.Numbers.{AreThose, one_if, times}
+use Rattle.mk_trace.proofs.NumberLists.{equal_is, filters_agree, stands_passes, those_filtered, times_more, unequal_is}
+use Rattle.mk_trace.proofs.SettledBits.{bit_tells_released, cell_by}
+
+-- lists
+
+maps_agree : (f g : ℕ → FreedObject) (numbers : List ℕ) → ((i : ℕ) → 1 ≤ times i numbers → f i ≡ g i)
+    → map f numbers ≡ map g numbers
+maps_agree f g [] agree = refl
+maps_agree f g (x ∷ numbers) agree =
+    let first : 1 ≤ one_if (x == x) + times x numbers =
+    subst (λ (b : Bool). 1 ≤ one_if b + times x numbers) (sym (equal_is x)) (omega arith) in
+    ap (λ (y : FreedObject). y ∷ map f numbers) (agree x first)
+    ∙ ap (λ (l : List FreedObject). g x ∷ l)
+    (maps_agree f g numbers (λ i some. agree i (omega (arith, some))))
+
+filter_head : (f : ℕ → FreedObject) (x : ℕ) (xs : List FreedObject) (numbers : List ℕ) (b : Bool)
+    → xs ≡ map f numbers → (if b then f x ∷ xs else xs) ≡ map f (if b then x ∷ numbers else numbers)
+filter_head f x xs numbers true same = ap (λ (l : List FreedObject). f x ∷ l) same
+filter_head f x xs numbers false same = same
+
+filter_mapped : (p : FreedObject → Bool) (f : ℕ → FreedObject) (numbers : List ℕ)
+    → filter p (map f numbers) ≡ map f (filter (λ (i : ℕ). p (f i)) numbers)
+filter_mapped p f [] = refl
+filter_mapped p f (x ∷ numbers) =
+    filter_head f x (filter p (map f numbers)) (filter (λ (i : ℕ). p (f i)) numbers) (p (f x))
+    (filter_mapped p f numbers)
+
+those_alike : (p q : ℕ → Bool) (numbers : List ℕ) → ((i : ℕ) → p i ≡ q i) → AreThose p numbers → AreThose q numbers
+those_alike p q numbers same those i = those i ∙ ap (λ (b : Bool). one_if b) (same i)
+
+object_by : (c : Config) (xs ys : List PlacedAllocation) (i : ℕ) → (placed_at ys i).base ≡ (placed_at xs i).base
+    → (placed_at ys i).ty ≡ (placed_at xs i).ty → object_of c xs i ≡ object_of c ys i
+object_by c xs ys i base ty =
+    ap (λ (x : _). record (object_of c xs i) { cell = x })
+    (cell_by c (placed_at xs i) (placed_at ys i) (sym base) (sym ty))
+    ∙ ap (λ (n : ℕ). record {
+      cell = cell_of_allocation c (placed_at ys i);
+      storage = storage_words c (record (placed_at xs i) { ty = n });
+      reserved = large_words c (record (placed_at xs i) { ty = n });
+    }) (sym ty)
+
+-- flags
+
+not_out : (b : Bool) → not b ≡ true → b ≡ false
+not_out true h = cc
+not_out false h = refl
+
+still_in : (freed was now : Bool) → (was ≡ true → now ≡ true) → (not now && (freed && not was)) ≡ (freed && not now)
+still_in true true true later = refl
+still_in true true false later = absurd (true≢false (sym (later refl)))
+still_in true false true later = refl
+still_in true false false later = refl
+still_in false was true later = refl
+still_in false was false later = refl
+
+gone_both : (freed : Bool) → (freed && not true) ≡ false
+gone_both true = refl
+gone_both false = refl
+
+module _ (c : Config) (es fs : List Event) (x : Option ℕ)
+    (flags : FlagsBehind (left c es).allocations (left c fs).allocations x) where
+  abbrev xs : List PlacedAllocation
+  xs = (left c es).allocations
+
+  abbrev ys : List PlacedAllocation
+  ys = (left c fs).allocations
+
+  -- those that the call found quarantined, and the one that it freed
+  abbrev pub was_kept : ℕ → Bool
+  was_kept i = (placed_at ys i).freed && not (placed_at xs i).released
+
+  unfreed_past : (i : ℕ) → length xs ≤ i → (placed_at ys i).freed ≡ false
+  unfreed_past i le =
+      flags.kept i (λ is. (let lt = (flags.frees i is).exists in omega (arith, lt, le)))
+      ∙ ap (λ (a : PlacedAllocation). a.freed) (get_or_past xs i never_granted le)
+
+  pub freed_before : (i : ℕ) → (placed_at ys i).freed ≡ true → i < length xs
+  freed_before i freed = elim (cases_lt i (length xs)) [
+    | inl lt ↦ lt
+    | inr le ↦ absurd (true≢false (sym freed ∙ unfreed_past i le))
+  ]
+
+  -- The call
+
+  none_noted : (objects : List FreedObject) → x ≡ None
+      → AreObjectsOf c xs (λ (i : ℕ). is_quarantined (placed_at xs i)) objects → AreObjectsOf c xs was_kept objects
+  none_noted objects none kept = record {
+    numbers = kept.numbers;
+    are = kept.are;
+    those = those_alike (λ (i : ℕ). is_quarantined (placed_at xs i)) was_kept kept.numbers
+        (λ i. ap (λ (b : Bool). b && not (placed_at xs i).released)
+        (sym (flags.kept i (λ is. (let both : None ≡ Some i = sym none ∙ is in absurd cc))))) kept.those;
+  }
+
+  one_noted : (objects : List FreedObject) (k : ℕ) → x ≡ Some k
+      → AreObjectsOf c xs (λ (i : ℕ). is_quarantined (placed_at xs i)) objects
+      → AreObjectsOf c xs was_kept (objects ++ object_of c xs k ∷ [])
+  one_noted objects k is kept = record {
+    numbers = kept.numbers ++ k ∷ [];
+    are = ap (λ (l : List FreedObject). l ++ object_of c xs k ∷ []) kept.are
+        ∙ sym (map-append (object_of c xs) kept.numbers (k ∷ []));
+    those = those;
+  }
+    where
+      freed : FreesFlag xs ys k
+      freed = flags.frees k is
+
+      at_k : times k kept.numbers ≡ 0
+      at_k =
+          kept.those k
+          ∙ ap (λ (b : Bool). one_if (b && not (placed_at xs k).released)) freed.before
+
+      was : was_kept k ≡ true
+      was =
+          ap (λ (b : Bool). b && not (placed_at xs k).released) freed.behind
+          ∙ ap (λ (b : Bool). not b) freed.unreleased
+
+      those : AreThose was_kept (kept.numbers ++ k ∷ [])
+      those i = elim (cases_eq k i) [
+        | inl same ↦
+            subst (λ (j : ℕ). times j (kept.numbers ++ k ∷ []) ≡ one_if (was_kept j)) same
+            (times_more k kept.numbers k ∙ ap (λ (n : ℕ). n + one_if (k == k)) at_k
+            ∙ ap (λ (b : Bool). 0 + one_if b) (equal_is k) ∙ ap (λ (b : Bool). one_if b) (sym was))
+        | inr ne ↦
+            times_more i kept.numbers k
+            ∙ ap (λ (b : Bool). times i kept.numbers + one_if b) (unequal_is k i ne)
+            ∙ (let rest : times i kept.numbers ≡ one_if (was_kept i) =
+            kept.those i ∙ ap (λ (b : Bool). one_if (b && not (placed_at xs i).released))
+            (sym (flags.kept i (λ some. (let both : Some k ≡ Some i = sym is ∙ some in
+            let equal : k ≡ i = cc in ne equal)))) in omega (arith, rest))
+      ]
+
+  noted_by : (objects : List FreedObject) (y : Option ℕ) → x ≡ y
+      → AreObjectsOf c xs (λ (i : ℕ). is_quarantined (placed_at xs i)) objects
+      → AreObjectsOf c xs was_kept (objects ++ one_or_none (option_map (object_of c xs) y))
+  noted_by objects None is kept =
+      subst (λ (l : List FreedObject). AreObjectsOf c xs was_kept l) (sym (append-nil objects))
+      (none_noted objects is kept)
+  noted_by objects (Some k) is kept = one_noted objects k is kept
+
+  pub noted : (objects : List FreedObject)
+      → AreObjectsOf c xs (λ (i : ℕ). is_quarantined (placed_at xs i)) objects
+      → AreObjectsOf c xs was_kept (objects ++ one_or_none (option_map (object_of c xs) x))
+  noted objects kept = noted_by objects x refl kept
+
+  -- and behind it.
+
+  exists : (numbers : List ℕ) → AreThose was_kept numbers → (i : ℕ) → 1 ≤ times i numbers
+      → ((placed_at ys i).freed ≡ true) × ((placed_at xs i).released ≡ false) × (i < length xs)
+  exists numbers those i some =
+      let parts = and_parts (placed_at ys i).freed (not (placed_at xs i).released)
+      (stands_passes was_kept numbers those i some) in
+      let unreleased = not_out (placed_at xs i).released parts.1 in
+      (parts.0, unreleased, exists_placed xs i unreleased)
+
+  same_objects : (numbers : List ℕ) → AreThose was_kept numbers → map (object_of c xs) numbers
+      ≡ map (object_of c ys) numbers
+  same_objects numbers those =
+      maps_agree (object_of c xs) (object_of c ys) numbers (λ i some.
+      (let lt = (exists numbers those i some).2 in
+      object_by c xs ys i (flags.later.base i lt) (flags.later.ty i lt)))
+
+  pub none_released : ((i : ℕ) → i < length xs → (placed_at ys i).released ≡ (placed_at xs i).released)
+      → (objects : List FreedObject) → AreObjectsOf c xs was_kept objects
+      → AreObjectsOf c ys (λ (i : ℕ). is_quarantined (placed_at ys i)) objects
+  none_released same objects kept = record {
+    numbers = kept.numbers;
+    are = kept.are ∙ same_objects kept.numbers kept.those;
+    those = those_alike was_kept (λ (i : ℕ). is_quarantined (placed_at ys i)) kept.numbers alike kept.those;
+  }
+    where
+      alike : (i : ℕ) → was_kept i ≡ is_quarantined (placed_at ys i)
+      alike i = elim (cases_lt i (length xs)) [
+        | inl lt ↦ ap (λ (b : Bool). (placed_at ys i).freed && not b) (sym (same i lt))
+        | inr le ↦
+            ap (λ (b : Bool). b && not (placed_at xs i).released) (unfreed_past i le)
+            ∙ ap (λ (b : Bool). b && not (placed_at ys i).released) (sym (unfreed_past i le))
+      ]
+
+  module _ (before : IsHistory c es) (behind : IsHistory c fs) (out : phase_of (left c fs).now.words ≢ 4) where
+    abbrev w : Words
+    w = (left c fs).now.words
+
+    tells : (numbers : List ℕ) → AreThose was_kept numbers → (i : ℕ) → 1 ≤ times i numbers
+        → is_freed w (cell_of_allocation c (placed_at xs i)) ≡ not (placed_at ys i).released
+    tells numbers those i some =
+        let it = exists numbers those i some in
+        bit_tells_released c es fs before behind flags.later freed_before out i it.1 it.0
+
+    left_alike : (i : ℕ) → (not (placed_at ys i).released && was_kept i) ≡ is_quarantined (placed_at ys i)
+    left_alike i = elim (cases_lt i (length xs)) [
+      | inl lt ↦
+          still_in (placed_at ys i).freed (placed_at xs i).released (placed_at ys i).released
+          (flags.later.released i lt)
+      | inr le ↦
+          ap (λ (b : Bool). not (placed_at ys i).released && (b && not (placed_at xs i).released)) (unfreed_past i le)
+          ∙ none_left (not (placed_at ys i).released)
+          ∙ ap (λ (b : Bool). b && not (placed_at ys i).released) (sym (unfreed_past i le))
+    ]
+      where
+        none_left : (b : Bool) → (b && false) ≡ false
+        none_left true = refl
+        none_left false = refl
+
+    pub let_go : (objects : List FreedObject) → AreObjectsOf c xs was_kept objects
+        → AreObjectsOf c ys (λ (i : ℕ). is_quarantined (placed_at ys i))
+        (filter (λ (y : FreedObject). is_freed w y.cell) objects)
+    let_go objects kept =
+        let unreleased : ℕ → Bool = λ i. not (placed_at ys i).released in
+        let rest : List ℕ = filter unreleased kept.numbers in
+        let agree = filters_agree (λ (i : ℕ). is_freed w (cell_of_allocation c (placed_at xs i))) unreleased
+        kept.numbers
+        (tells kept.numbers kept.those) in
+        let those : AreThose (λ (i : ℕ). unreleased i && was_kept i) rest =
+        those_filtered unreleased was_kept kept.numbers kept.those in
+        record {
+          numbers = rest;
+          are =
+              ap (λ (l : List FreedObject). filter (λ (y : FreedObject). is_freed w y.cell) l) kept.are
+              ∙ filter_mapped (λ (y : FreedObject). is_freed w y.cell) (object_of c xs) kept.numbers
+              ∙ ap (λ (l : List ℕ). map (object_of c xs) l) agree
+              ∙ maps_agree (object_of c xs) (object_of c ys) rest (λ i some.
+              (let both = and_parts (unreleased i) (was_kept i)
+              (stands_passes (λ (j : ℕ). unreleased j && was_kept j) rest those i some) in
+              let lt : i < length xs = freed_before i (and_parts (placed_at ys i).freed _ both.1).0 in
+              object_by c xs ys i (flags.later.base i lt) (flags.later.ty i lt)));
+          those = those_alike (λ (i : ℕ). unreleased i && was_kept i) (λ (i : ℕ). is_quarantined (placed_at ys i)) rest
+              left_alike those;
+        }

@@ -1,0 +1,113 @@
+-- What the ledger keeps over a call, with the looks before it and behind it.
+use Rattle.std.proofs.Common.{◌≡◌, ◌⊎◌, ℕ, List, ◌++◌, sym, ◌∙◌, ap, subst, arith, max}
+use Rattle.std.specs.Prelude.{Option, Some, option_map}
+use Rattle.mk_never.specs.declared.operations.Op.{Op}
+use Rattle.mk_never.specs.Admitted.{IsAdmitted}
+use Rattle.mk_never.specs.NeverHeap.{NeverState}
+use Rattle.mk_core.specs.declared.config.Config.{Config}
+use Rattle.mk_core.specs.declared.events.Answer.{Answer}
+use Rattle.mk_core.specs.declared.events.Event.{Event}
+use Rattle.mk_core.specs.Allocations.{PlacedAllocation, held_words, placed_at}
+use Rattle.mk_core.specs.Counts.{ends, in_a_word}
+use Rattle.mk_core.specs.Cycles.{is_quarantined}
+use Rattle.mk_core.specs.Decided.{Decided, asked, entry_of}
+use Rattle.mk_core.specs.History.{IsHistory, left, never_behind, never_first}
+use Rattle.mk_core.specs.Words.{Words}
+use Rattle.mk_never.specs.NeverHeap.{after_calls}
+use Rattle.mk_trace.specs.declared.ledger.Freed.{Freed}
+use Rattle.mk_trace.specs.declared.ledger.FreedObject.{FreedObject}
+use Rattle.mk_trace.specs.declared.ledger.Peak.{Peak}
+use Rattle.mk_trace.specs.Calls.{Calls, HoldsMostAtEnd, MayCome, held_behind, most_held}
+use Rattle.mk_trace.specs.Ends.{EndsNone, EndsOne, EndsTell, IsIdle}
+use Rattle.mk_trace.specs.Freeing.{FlagsBehindCall, QuarantinesMostWhereFreed, number_freed}
+use Rattle.mk_trace.specs.Ledgers.{AreObjectsOf, IsPeakOf, Keeps, Notes, Settles, object_of, objects_kept}
+use Rattle.mk_trace.specs.Looking.{OnlyLooks}
+use Rattle.mk_trace.proofs.HeldCalls.{calls_looked}
+use Rattle.mk_trace.proofs.KeptPeaks.{keeps_on}
+
+-- Looks leave what is kept.
+
+peak_looked : (c : Config) (measure : List PlacedAllocation → ℕ) (es fs : List Event) (peak : Peak)
+    → OnlyLooks c es fs → IsPeakOf c measure es peak → IsPeakOf c measure fs peak
+peak_looked c measure es fs peak looks h = record {
+  now = h.now ∙ ap (λ (l : List PlacedAllocation). in_a_word (measure l)) (sym looks.table.allocations);
+  most = h.most ∙ ap in_a_word (sym (looks.most measure));
+}
+
+pub keeps_looked : (c : Config) (es fs : List Event) (f : Freed) → OnlyLooks c es fs → Keeps c es f → Keeps c fs f
+keeps_looked c es fs f looks h = record {
+  quarantined = peak_looked c _ es fs f.quarantined looks h.quarantined;
+  reserved = peak_looked c _ es fs f.reserved looks h.reserved;
+  objects =
+      subst (λ (xs : List PlacedAllocation). AreObjectsOf c xs (λ (i : ℕ). is_quarantined (placed_at xs i))
+      (objects_kept f)) (sym looks.table.allocations) h.objects;
+  ends = h.ends ∙ ap in_a_word (sym looks.leaves.count);
+}
+
+pub idle_looked : (c : Config) (es fs : List Event) → OnlyLooks c es fs → IsIdle c es → IsIdle c fs
+idle_looked c es fs looks idle = looks.leaves.phase ∙ idle
+
+pub never_looked : (c : Config) (es fs : List Event) → OnlyLooks c es fs → never_behind c fs ≡ never_behind c es
+never_looked c es fs looks = ap (λ (l : List Decided). after_calls (never_first c) (asked l)) looks.calls
+
+pub calls_looked_before : (c : Config) (es fs : List Event) (o : Op) (told : Answer) (gs : List Event)
+    → OnlyLooks c es fs → Calls c fs o told gs → Calls c es o told gs
+calls_looked_before c es fs o told gs looks h = record {
+  answer = h.answer;
+  is_told = h.is_told;
+  entry = h.entry ∙ ap (λ (l : List Decided). l ++ entry_of 0 o (Some h.answer)) looks.calls;
+}
+
+-- One call
+module _ (c : Config) (es0 es1 es2 es3 es4 : List Event) (o : Op) (first second third : Freed)
+    (x : Option FreedObject) (before : OnlyLooks c es0 es1) (at_first : IsHistory c es1) (at_last : IsHistory c es2)
+    (idle : IsIdle c es0) (tells : EndsTell c es1 es2) (most : QuarantinesMostWhereFreed c es1 o es2)
+    (flags : FlagsBehindCall c es1 o es2) (looks : OnlyLooks c es2 es3) (more : OnlyLooks c es3 es4)
+    (is : x ≡ option_map (object_of c (left c es0).allocations) (number_freed (never_behind c es0) o))
+    (keeps : Keeps c es0 first) (notes : Notes first x second)
+    (settles : Settles (left c es3).now.words.freed (in_a_word (ends es3)) second third) where
+  told : IsIdle c es2 × (EndsNone c es1 es2 ⊎ EndsOne c es1 es2)
+  told = tells (idle_looked c es0 es1 before idle)
+
+  is_now : x ≡ option_map (object_of c (left c es1).allocations) (number_freed (never_behind c es1) o)
+  is_now =
+      is
+      ∙ ap (λ (xs : List PlacedAllocation). option_map (object_of c xs) (number_freed (never_behind c es0) o))
+      (sym before.table.allocations)
+      ∙ ap (λ (n : NeverState). option_map (object_of c (left c es1).allocations) (number_freed n o))
+      (sym (never_looked c es0 es1 before))
+
+  settles_now : Settles (left c es2).now.words.freed (in_a_word (ends es2)) second third
+  settles_now =
+      subst (λ (count : ℕ). Settles (left c es2).now.words.freed (in_a_word count) second third) looks.leaves.count
+      (subst (λ (freed : List ℕ). Settles freed (in_a_word (ends es3)) second third)
+      (ap (λ (w : Words). w.freed) looks.table.words) settles)
+
+  pub keeps_behind : Keeps c es4 third
+  keeps_behind =
+      keeps_looked c es3 es4 third more
+      (keeps_looked c es2 es3 third looks
+      (keeps_on c es1 es2 o at_first at_last told.0 told.1 flags most first second third x is_now
+      (keeps_looked c es0 es1 first before keeps) notes settles_now))
+
+  pub idle_behind : IsIdle c es4
+  idle_behind = idle_looked c es3 es4 more (idle_looked c es2 es3 looks told.0)
+
+-- What was held at most
+pub held_over : (c : Config) (es0 es1 es2 es3 es4 : List Event) (held now : ℕ) → OnlyLooks c es0 es1
+    → HoldsMostAtEnd c es1 es2 → OnlyLooks c es2 es3 → OnlyLooks c es3 es4 → held ≡ most_held c es0
+    → now ≡ held_behind c es2 → max held now ≡ most_held c es4
+held_over c es0 es1 es2 es3 es4 held now before most looks more is finds =
+    let one = before.most (held_words c) in
+    let two = looks.most (held_words c) in
+    let three = more.most (held_words c) in
+    omega (arith, one, two, three, most, is, finds)
+
+pub called_over : (c : Config) (es0 es1 es2 es3 es4 : List Event) (o : Op) (told : Answer) → OnlyLooks c es0 es1
+    → Calls c es1 o told es2 → OnlyLooks c es2 es3 → OnlyLooks c es3 es4 → Calls c es0 o told es4
+called_over c es0 es1 es2 es3 es4 o told before h looks more =
+    calls_looked c es0 o told es2 es4 (calls_looked_before c es0 es1 o told es2 before h) (more.calls ∙ looks.calls)
+
+pub may_come_looked : (c : Config) (es fs : List Event) (o : Op) → OnlyLooks c es fs → MayCome c es o → MayCome c fs o
+may_come_looked c es fs o looks comes =
+    subst (λ (n : NeverState). IsAdmitted c.globals n 0 o) (sym (never_looked c es fs looks)) comes

@@ -1,0 +1,79 @@
+-- Looks of the turn's holder leave the table as it is, but for the turn word, and the allocations.
+use Rattle.std.proofs.Common.{◌≡◌, ℕ, Bool, true, false, List, [], ◌∷◌, refl, ◌∙◌, ap, arith}
+use Rattle.std.proofs.lemmas.Bool.{or_parts}
+use Rattle.mk_core.specs.declared.config.Config.{Config}
+use Rattle.mk_core.specs.declared.events.Event.{Event}
+use Rattle.mk_core.specs.declared.events.Seat.{Seat}
+use Rattle.mk_core.specs.declared.events.Step.{Step}
+use Rattle.mk_core.specs.declared.events.Step.TheVariants as step
+use Rattle.mk_core.specs.declared.events.Word.{Word}
+use Rattle.mk_core.specs.declared.events.Word.TheVariants as word
+use Rattle.mk_core.specs.Allocations.{PlacedAllocation}
+use Rattle.mk_core.specs.History.{World, left_from, world_behind}
+use Rattle.mk_core.specs.Words.{Words, named_word}
+use Rattle.mk_alloc.specs.TurnCycles.{has_step}
+use Rattle.mk_trace.specs.Looking.{LeavesTable}
+use Rattle.mk_trace.specs.Peaks.{greatest_from}
+
+-- no step of one who looks at words
+abbrev pub is_no_look : Step → Bool
+is_no_look (step.Take o) = false
+is_no_look (step.Look x) = false
+is_no_look step.Give = false
+is_no_look _ = true
+
+pub named_same : (w : Words) (turn : ℕ) (x : Word) → named_word (record w { turn = turn }) x ≡ named_word w x
+named_same w turn word.Phase = refl
+named_same w turn (word.Gate caller) = refl
+named_same w turn (word.Reg caller r) = refl
+named_same w turn (word.Global g) = refl
+named_same w turn (word.Head p) = refl
+named_same w turn (word.Used p) = refl
+named_same w turn (word.Quar p) = refl
+named_same w turn (word.Mark p) = refl
+named_same w turn (word.Black p) = refl
+named_same w turn (word.Dirty p) = refl
+named_same w turn (word.Heap n) = refl
+named_same w turn word.Held = refl
+named_same w turn word.Fresh = refl
+named_same w turn word.Cycles = refl
+named_same w turn word.Released = refl
+named_same w turn word.Full = refl
+
+pub word_left : (w v : World) → LeavesTable w v → (x : Word) → named_word v.now.words x ≡ named_word w.now.words x
+word_left w v leaves x =
+    ap (λ (y : Words). named_word y x) leaves.words ∙ named_same w.now.words v.now.words.turn x
+
+pub leaves_then : (u v w : World) → LeavesTable u v → LeavesTable v w → LeavesTable u w
+leaves_then u v w one two = record {
+  allocations = two.allocations ∙ one.allocations;
+  words = two.words ∙ ap (λ (x : Words). record x { turn = w.now.words.turn }) one.words;
+}
+
+step_leaves : (c : Config) (w : World) (seat : Seat) (s : Step) → is_no_look s ≡ false
+    → LeavesTable w (world_behind c w (record { seat = seat; step = s }))
+step_leaves c w seat (step.Take o) looks = record { allocations = refl; words = refl }
+step_leaves c w seat (step.Look x) looks = record { allocations = refl; words = refl }
+step_leaves c w seat step.Give looks = record { allocations = refl; words = refl }
+step_leaves c w seat _ looks = cc
+
+pub looks_leave : (c : Config) (w : World) (es : List Event) → has_step is_no_look es ≡ false
+    → LeavesTable w (left_from c w es)
+unfolding left_from
+looks_leave c w [] looks = record { allocations = refl; words = refl }
+looks_leave c w (e ∷ es) looks =
+    let parts = or_parts (is_no_look e.step) (has_step is_no_look es) looks in
+    leaves_then w (world_behind c w e) (left_from c (world_behind c w e) es)
+    (step_leaves c w e.seat e.step parts.0) (looks_leave c (world_behind c w e) es parts.1)
+
+-- So no measure of the allocations changes.
+pub looks_measure : (c : Config) (w : World) (measure : List PlacedAllocation → ℕ) (es : List Event)
+    → has_step is_no_look es ≡ false → greatest_from c w measure es ≡ measure w.allocations
+unfolding greatest_from
+looks_measure c w measure [] looks = refl
+looks_measure c w measure (e ∷ es) looks =
+    let parts = or_parts (is_no_look e.step) (has_step is_no_look es) looks in
+    let rest = looks_measure c (world_behind c w e) measure es parts.1 in
+    let same : measure (world_behind c w e).allocations ≡ measure w.allocations =
+    ap measure (step_leaves c w e.seat e.step parts.0).allocations in
+    omega arith

@@ -1,0 +1,28 @@
+use Rattle.std.proofs.Common.{◌∙◌}
+use Rattle.mk_core.specs.History.{left}
+use Rattle.mk_trace.specs.Ledgers.{objects_in}
+use Rattle.mk_trace.proofs.FoundCells.{freed_looked, looks_twice}
+use Rattle.mk_trace.proofs.SettledLedgers.{kept_all, kept_more}
+use Rattle.mk_trace.proofs.settling.keep_quarantined.Goals as goal
+
+pub loop-object-preserved : goal.loop-object-preserved
+loop-object-preserved g c =
+    let d = c.args.heap.now.config in
+    let es = c.args.host.now.pass.seen in
+    record {
+      home = c.is_quarantined-is_kept.ensures.home;
+      looks = looks_twice d es c.loop-object.host.pass.seen c.is_quarantined-is_kept.new.host.pass.seen
+          c.loop-object.invariant.looks c.is_quarantined-is_kept.ensures.looks;
+      kept = kept_more (left d es).now.words.freed c.args.found.now c.loop-object.object-index _
+          (objects_in c.loop-object.kept.items) (objects_in c.keep_or_count.new.kept.items)
+          c.is_quarantined-is_kept.result c.loop-object-test.true c.loop-object.invariant.kept
+          (c.is_quarantined-is_kept.ensures.finds
+          ∙ freed_looked d es c.loop-object.host.pass.seen c.loop-object.invariant.looks _)
+          c.in_ok-keep_or_count.ensures;
+    }
+
+pub returns-clause-kept : goal.returns-clause-kept
+returns-clause-kept g c =
+    kept_all (left c.args.heap.now.config c.args.host.now.pass.seen).now.words.freed c.args.found.now
+    c.loop-object.object-index (objects_in c.loop-object.kept.items) c.loop-object-test.false
+    c.loop-object.invariant.kept

@@ -1,0 +1,29 @@
+-- What the host's looks leave as it is.
+-- Private functions alone cite these words.
+use Rattle.std.specs.Prelude.{◌≡◌, ℕ, List}
+use Rattle.mk_core.specs.declared.config.Config.{Config}
+use Rattle.mk_core.specs.declared.events.Event.{Event}
+use Rattle.mk_core.specs.declared.events.Word.{Word}
+use Rattle.mk_core.specs.Allocations.{PlacedAllocation}
+use Rattle.mk_core.specs.History.{World, left}
+use Rattle.mk_core.specs.Words.{named_word}
+use Rattle.mk_trace.specs.Calls.{SameCalls}
+use Rattle.mk_trace.specs.Ends.{LeavesAllocations}
+use Rattle.mk_trace.specs.Peaks.{greatest}
+
+-- All words but the turn word, and the allocations
+pub record LeavesTable (w v : World) : Type 0 where
+  pub allocations : v.allocations ≡ w.allocations
+  pub words : v.now.words ≡ record w.now.words { turn = v.now.words.turn }
+
+-- The host only looked: no call was made, no cycle began or ended, and the table and all measures of the allocations
+-- are as they were.
+pub record OnlyLooks (c : Config) (es fs : List Event) : Type 0 where
+  pub calls : SameCalls c es fs
+  pub leaves : LeavesAllocations c es fs
+  pub table : LeavesTable (left c es) (left c fs)
+  pub most : (measure : List PlacedAllocation → ℕ) → greatest c measure fs ≡ greatest c measure es
+
+-- the word, behind these events
+abbrev pub word_behind : Config → List Event → Word → ℕ
+word_behind c es x = named_word (left c es).now.words x

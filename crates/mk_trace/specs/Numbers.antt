@@ -1,0 +1,20 @@
+-- Lists of allocations' numbers.
+use Rattle.std.specs.Prelude.{◌≡◌, ℕ, ◌+◌, Bool, ◌==◌, List, [], ◌∷◌, if◌then◌else◌}
+use Rattle.mk_core.specs.Allocations.{PlacedAllocation, placed_at}
+use Rattle.mk_core.specs.Cycles.{is_quarantined}
+
+abbrev pub one_if : Bool → ℕ
+one_if b = if b then 1 else 0
+
+-- how often the number stands there
+abbrev pub times : ℕ → List ℕ → ℕ
+times i [] = 0
+times i (number ∷ numbers) = one_if (number == i) + times i numbers
+
+-- The numbers that pass stand there once, and no others.
+abbrev pub AreThose : (ℕ → Bool) → List ℕ → Type 0
+AreThose test numbers = (i : ℕ) → times i numbers ≡ one_if (test i)
+
+-- They are those of the quarantined allocations.
+abbrev pub AreOfQuarantined : List PlacedAllocation → List ℕ → Type 0
+AreOfQuarantined xs numbers = AreThose (λ (i : ℕ). is_quarantined (placed_at xs i)) numbers

@@ -1,0 +1,123 @@
+//! What the host finds in the words of a heap between calls.
+ghost use Rattle.std.specs.Prelude.{◌≡◌, ◌<◌, true, false, option_map};
+ghost use Rattle.mk_never.specs.NeverHeap.{global_at};
+ghost use Rattle.mk_core.specs.Cells.{is_freed, pointed_cell};
+ghost use Rattle.mk_core.specs.Counts.{ends, in_a_word};
+ghost use Rattle.mk_core.specs.History.{left, never_behind};
+ghost use Rattle.mk_core.specs.Ranges.{is_word};
+ghost use Rattle.mk_core.specs.declared.events.Word.TheVariants as table_word;
+ghost use Rattle.mk_heap.specs.Turns.{is_register};
+ghost use Rattle.mk_trace.specs.Calls.{IsHome, held_behind};
+ghost use Rattle.mk_trace.specs.Ends.{IsIdle};
+ghost use Rattle.mk_trace.specs.Freeing.{number_freed, unfreed, FreesSlot};
+ghost use Rattle.mk_trace.specs.Ledgers.{object_of};
+ghost use Rattle.mk_trace.specs.Looking.{OnlyLooks, word_behind};
+
+use crate::ledger::FreedObject;
+use mk_core::Word;
+use mk_geom::{Cell, lookup};
+use mk_heap::{Heap, Host};
+use mk_never::Op;
+use mk_tracing::{has_bit, words_under};
+use std::sync::Wait;
+
+/// What a word is. It is no call.
+pub(crate) fn look<R: Wait>(rt: &R, heap: &Heap, host: &mut Host, word: Word) -> u64
+    requires home { IsHome heap.now host.old }
+    requires word { is_word heap.now.config word ≡ true }
+    requires no_register { is_register word ≡ false }
+    ensures home { IsHome heap.now host.new }
+    ensures looks { OnlyLooks heap.now.config host.old.pass.seen host.new.pass.seen }
+    ensures tells { result ≡ word_behind heap.now.config host.old.pass.seen word }
+    ensures holds { word ≡ table_word.Held → result ≡ held_behind heap.now.config host.old.pass.seen }
+    ensures counts { word ≡ table_word.Cycles → result ≡ in_a_word (ends host.old.pass.seen) }
+{
+    host.is_in_order();
+    let found = host.tell(rt, heap, word);
+    host.is_in_order();
+    found
+}
+
+/// The cell that an address points into.
+fn cell_at<R: Wait>(rt: &R, heap: &Heap, host: &mut Host, address: u64) -> Option<Cell>
+    requires home { IsHome heap.now host.old }
+    ensures home { IsHome heap.now host.new }
+    ensures looks { OnlyLooks heap.now.config host.old.pass.seen host.new.pass.seen }
+    ensures finds { result
+        ≡ pointed_cell heap.now.config.pages (left heap.now.config host.old.pass.seen).now.words.pages address }
+{
+    let page = address.saturating_sub(65536) / 512;
+    if page < heap.words().pages() {
+        let header = look(rt, heap, host, Word::Head(page));
+        lookup(heap.words().pages(), header, address)
+    } else {
+        None
+    }
+}
+
+/// Whether the cell's object is freed and not released.
+pub(crate) fn is_quarantined<R: Wait>(rt: &R, heap: &Heap, host: &mut Host, cell: Cell) -> bool
+    requires home { IsHome heap.now host.old }
+    ensures home { IsHome heap.now host.new }
+    ensures looks { OnlyLooks heap.now.config host.old.pass.seen host.new.pass.seen }
+    ensures finds { result ≡ is_freed (left heap.now.config host.old.pass.seen).now.words cell }
+{
+    host.is_in_order();
+    if cell.page < heap.words().pages() {
+        let freed = look(rt, heap, host, Word::Quar(cell.page));
+        has_bit(freed % 4294967296, cell.index)
+    } else {
+        false
+    }
+}
+
+/// The object that a slot points to, if it isn't freed yet.
+fn object_of_slot<R: Wait>(rt: &R, heap: &Heap, host: &mut Host, slot: u64) -> Option<FreedObject>
+    requires slot { slot < 64 }
+    requires home { IsHome heap.now host.old }
+    requires idle { IsIdle heap.now.config host.old.pass.seen }
+    ensures home { IsHome heap.now host.new }
+    ensures looks { OnlyLooks heap.now.config host.old.pass.seen host.new.pass.seen }
+    ensures finds { result ≡ option_map
+        (object_of heap.now.config (left heap.now.config host.old.pass.seen).allocations)
+        (unfreed (never_behind heap.now.config host.old.pass.seen)
+        (global_at (never_behind heap.now.config host.old.pass.seen) slot)) }
+{
+    host.is_in_order();
+    let address = look(rt, heap, host, Word::Global(slot));
+    match cell_at(rt, heap, host, address) {
+        Some(cell) => {
+            let header = look(rt, heap, host, Word::Head(cell.page));
+            if is_quarantined(rt, heap, host, cell) {
+                None
+            } else {
+                Some(FreedObject::new(cell, words_under(header)))
+            }
+        }
+        None => None,
+    }
+}
+
+/// The object that an operation is to free, if it frees one. A Free's register points to what the slot points to.
+pub(crate) fn object_to_free<R: Wait>(
+    rt: &R,
+    heap: &Heap,
+    host: &mut Host,
+    slot: u64,
+    op: Op,
+) -> Option<FreedObject>
+    requires slot { slot < 64 }
+    requires points { FreesSlot (never_behind heap.now.config host.old.pass.seen) slot op }
+    requires home { IsHome heap.now host.old }
+    requires idle { IsIdle heap.now.config host.old.pass.seen }
+    ensures home { IsHome heap.now host.new }
+    ensures looks { OnlyLooks heap.now.config host.old.pass.seen host.new.pass.seen }
+    ensures finds { result ≡ option_map
+        (object_of heap.now.config (left heap.now.config host.old.pass.seen).allocations)
+        (number_freed (never_behind heap.now.config host.old.pass.seen) op) }
+{
+    match op {
+        Op::Free { .. } => object_of_slot(rt, heap, host, slot),
+        _ => None,
+    }
+}
