@@ -12,6 +12,8 @@ returns g c =
       peaks = c.in_ok-peaks.peaks;
       are_counted = c.in_ok-peaks.ensures.counted;
       most_held = c.in_ok-peaks.ensures.held;
+      most_quarantined = c.in_ok-peaks.ensures.quarantined;
+      most_reserved = c.in_ok-peaks.ensures.reserved;
       output_is = are;
     })
     c.print_peaks.ensures
