@@ -166,28 +166,24 @@ mod tests {
     use mk_core::{Config, GlobalTable};
     use mk_engines::MostlyEngine;
     use mk_marker::Work;
-    use mk_never::{Kind, NoMemory, TypeTable};
-    use std::alloc::Global;
+    use mk_never::{Kind, TypeTable};
     use std::test::Fail;
 
-    /// A heap of one caller and one marker, whose objects have a pointer and a number.
-    fn config_of(alloc: Global) -> Result<Config, NoMemory> {
-        let mut types = TypeTable::new(alloc);
-        types.add([Kind::To { ty: 0, offset: 0 }, Kind::Num].to_vec(alloc)?)?;
-        Ok(Config {
+    /// At the `begin` the engine marks the object that the register points to, and that one alone is scanned.
+    #[test]
+    fn a_marker_comes_to_a_cycle_and_is_told_to_go(rt: HostRuntime) -> Result<(), Fail> {
+        let mut types = TypeTable::new(rt.alloc());
+        types
+            .add([Kind::To { ty: 0, offset: 0 }, Kind::Num].to_vec(rt.alloc())?)
+            .expect(&rt, "memory");
+        let config = Config {
             pages: 1,
             resident: 1,
             callers: 1,
             markers: 1,
             types,
-            globals: GlobalTable::new(alloc),
-        })
-    }
-
-    /// At the `begin` the engine marks the object that the register points to, and that one alone is scanned.
-    #[test]
-    fn a_marker_comes_to_a_cycle_and_is_told_to_go(rt: HostRuntime) -> Result<(), Fail> {
-        let config = config_of(rt.alloc()).expect(&rt, "memory");
+            globals: GlobalTable::new(rt.alloc()),
+        };
         let told = come_to_a_cycle::<MostlyEngine, HostRuntime>(&rt, rt.alloc(), &config).expect(
             &rt, "memory",
         );
@@ -197,7 +193,14 @@ mod tests {
 
     #[test]
     fn a_marker_that_comes_when_all_is_over_finds_that(rt: HostRuntime) -> Result<(), Fail> {
-        let config = config_of(rt.alloc()).expect(&rt, "memory");
+        let config = Config {
+            pages: 1,
+            resident: 1,
+            callers: 1,
+            markers: 1,
+            types: TypeTable::new(rt.alloc()),
+            globals: GlobalTable::new(rt.alloc()),
+        };
         let report = come_when_over::<MostlyEngine, HostRuntime>(&rt, rt.alloc(), &config).expect(
             &rt, "memory",
         );
