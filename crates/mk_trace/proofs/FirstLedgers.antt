@@ -10,7 +10,7 @@ use Rattle.mk_trace.specs.declared.ledger.Peak.{Peak}
 use Rattle.mk_trace.specs.Calls.{most_held}
 use Rattle.mk_trace.specs.Ends.{IsIdle}
 use Rattle.mk_trace.specs.Ledgers.{Keeps, objects_kept}
-use Rattle.mk_trace.specs.Peaks.{greatest, greatest_from}
+use Rattle.mk_trace.specs.Peaks.{found_by_ends_from, greatest, greatest_from}
 use Rattle.mk_trace.specs.Playing.{config_of}
 use Rattle.mk_trace.specs.Traces.{Contents}
 
@@ -24,9 +24,9 @@ first_idle c es empty = subst (λ (l : List Event). IsIdle c l) (sym empty) refl
 
 pub first_keeps : (c : Config) (es : List Event) (f : Freed) → es ≡ []
     → f.quarantined ≡ record { now = 0; most = 0 } → f.reserved ≡ record { now = 0; most = 0 }
-    → objects_kept f ≡ [] → f.ends ≡ 0 → Keeps c es f
-unfolding greatest_from left_from
-first_keeps c es f empty quarantined reserved objects ends =
+    → objects_kept f ≡ [] → f.ages.items ≡ [] → f.ends ≡ 0 → Keeps c es f
+unfolding greatest_from left_from found_by_ends_from
+first_keeps c es f empty quarantined reserved objects ages ends =
     subst (λ (l : List Event). Keeps c l f) (sym empty)
     (record {
       quarantined = record {
@@ -35,6 +35,8 @@ first_keeps c es f empty quarantined reserved objects ends =
       };
       reserved = record { now = ap (λ (p : Peak). p.now) reserved; most = ap (λ (p : Peak). p.most) reserved };
       objects = record { numbers = []; are = objects; those = λ i. refl };
+      ages = record { numbers = []; are = ages; those = λ i. refl };
+      found = record { gone = λ i. refl; unfreed = λ i unfreed. refl };
       ends = ends;
     })
 

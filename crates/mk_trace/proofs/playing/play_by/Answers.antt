@@ -1,5 +1,6 @@
 use Rattle.std.proofs.Common.{◌∙◌, rules, sym}
 use Rattle.mk_trace.specs.Peaks.{quarantined_words, reserved_words}
+use Rattle.mk_trace.proofs.FewEvents.{none_ended}
 use Rattle.mk_trace.proofs.FirstLedgers.{first_held, first_idle, first_keeps, most_of}
 use Rattle.mk_trace.proofs.HeldCalls.{most_told}
 use Rattle.mk_trace.proofs.OneCaller.{home_joined}
@@ -58,4 +59,7 @@ play_events-requires-clause-keeps g c κs within =
     first_keeps c.in_ok-heap.heap.config c.in_ok-heap.host.pass.seen c.new-ledger.result.freed
     c.in_ok-heap.ensures.empty
     c.new-ledger.ensures.quarantined c.new-ledger.ensures.reserved c.new-ledger.ensures.objects
-    c.new-ledger.ensures.ends
+    c.new-ledger.ensures.ages c.new-ledger.ensures.ends
+
+pub play_events-requires-clause-none_ended : goal.play_events-requires-clause-none_ended
+play_events-requires-clause-none_ended g c κs within = none_ended c.in_ok-heap.host.pass.seen c.in_ok-heap.ensures.empty
