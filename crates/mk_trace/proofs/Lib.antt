@@ -50,6 +50,7 @@ pub mod PlayedEvents
 pub mod PrintedLines
 pub mod ReadEvents
 pub mod ReadSlots
+pub mod ReleasedAreFreed
 pub mod SettledBits
 pub mod SettledLedgers
 pub mod SlotTypes

@@ -3,11 +3,15 @@ use Rattle.std.proofs.Common.{◌≡◌, ℕ, ◌+◌, ◌≤◌, ◌<◌, Bool,
 use Rattle.std.proofs.Common.{sym}
 use Rattle.std.proofs.Common.{◌∙◌, ap, subst, arith}
 use Rattle.std.specs.Prelude.{filter, fold, map, not, if◌then◌else◌}
+use Rattle.std.proofs.lemmas.Bool.{eq-eqb}
 use Rattle.std.proofs.lemmas.List.{map-append, take_all, take_more}
 use Rattle.std.proofs.lemmas.List.Elements.{filter-append}
 use Rattle.std.proofs.lemmas.List.Sums.{fold-append}
+use Rattle.mk_trace.specs.declared.ledger.Freed.{Freed}
 use Rattle.mk_trace.specs.declared.ledger.FreedObject.{FreedObject}
-use Rattle.mk_trace.specs.Ledgers.{aged, ages_let_go, is_freed_among, still_kept, with_one}
+use Rattle.mk_trace.specs.Ledgers.{Settles, SettlesWhere, aged, ages_let_go, is_freed_among, objects_kept}
+use Rattle.mk_trace.specs.Ledgers.{still_kept, weighed_anew, with_one}
+use Rattle.mk_trace.proofs.NumberLists.{unequal_is}
 
 all_aged : (found : List FreedObject) (i : ℕ) (d : FreedObject) → i < length found
     → map aged (take (i + 1) found) ≡ map aged (take i found) ++ aged (get_or found i d) ∷ []
@@ -72,3 +76,41 @@ pub ages_all : (freed : List ℕ) (found : List FreedObject) (i : ℕ) (first ag
     → ages ≡ fold with_one first (ages_let_go freed (map aged found))
 ages_all freed found i first ages all is =
     is ∙ ap (λ (l : List FreedObject). fold with_one first (ages_let_go freed (map aged l))) (take_all i found all)
+
+-- All of it
+
+pub settles_same : (freed : List ℕ) (count told : ℕ) (f : Freed) → count ≡ told → count ≡ f.ends
+    → Settles freed told f f
+settles_same freed count told f is same =
+    subst (λ (n : ℕ). Settles freed n f f) is
+    (record {
+      ends = sym same;
+      objects = subst (λ (b : Bool). SettlesWhere b freed f f) (sym (eq-eqb count f.ends same)) (refl, refl, refl, refl);
+    })
+
+pub settles_anew : (freed shown : List ℕ) (count told : ℕ) (old new : Freed) (found kept : List FreedObject)
+    → shown ≡ freed → count ≡ told → (count ≡ old.ends → ⊥) → found ≡ objects_kept old
+    → kept ≡ still_kept shown (map aged found)
+    → new.quarantined ≡ weighed_anew (λ (x : FreedObject). x.storage) kept old.quarantined
+    → new.reserved ≡ weighed_anew (λ (x : FreedObject). x.reserved) kept old.reserved
+    → objects_kept new ≡ kept
+    → new.ages.items ≡ fold with_one old.ages.items (ages_let_go shown (map aged found))
+    → new.ends ≡ count → Settles freed told old new
+settles_anew freed shown count told old new found kept at is other all still quarantined reserved objects ages ends =
+    let kept_is : kept ≡ still_kept freed (map aged (objects_kept old)) =
+    still ∙ ap (λ (l : List ℕ). still_kept l (map aged found)) at
+    ∙ ap (λ (l : List FreedObject). still_kept freed (map aged l)) all in
+    subst (λ (n : ℕ). Settles freed n old new) is
+    (record {
+      ends = ends;
+      objects = subst (λ (b : Bool). SettlesWhere b freed old new) (sym (unequal_is count old.ends other))
+          (
+            quarantined
+            ∙ ap (λ (l : List FreedObject). weighed_anew (λ (x : FreedObject). x.storage) l old.quarantined) kept_is,
+            reserved
+            ∙ ap (λ (l : List FreedObject). weighed_anew (λ (x : FreedObject). x.reserved) l old.reserved) kept_is,
+            objects ∙ kept_is,
+            ages ∙ ap (λ (l : List ℕ). fold with_one old.ages.items (ages_let_go l (map aged found))) at
+            ∙ ap (λ (l : List FreedObject). fold with_one old.ages.items (ages_let_go freed (map aged l))) all,
+          );
+    })
