@@ -61,7 +61,7 @@ other_count before count kept is other same =
 module _ (c : Config) (measure : List PlacedAllocation → ℕ) (words : FreedObject → ℕ) (weight : ℕ → ℕ)
     (measure_is : (ys : List PlacedAllocation) → measure ys ≡ weighed weight ys)
     (words_is : (ys : List PlacedAllocation) (i age : ℕ)
-        → words (record (object_of c ys i) { age = age }) ≡ weight (placed_at ys i).ty) where
+    → words (record (object_of c ys i) { age = age }) ≡ weight (placed_at ys i).ty) where
   total : (found : List (List PlacedAllocation)) (ys : List PlacedAllocation) (objects : List FreedObject)
       → AreObjectsOf c found ys (λ (i : ℕ). is_quarantined (placed_at ys i)) objects
       → sum_by words objects ≡ measure ys

@@ -103,14 +103,13 @@ settles_anew freed shown count told old new found kept at is other all still qua
     subst (λ (n : ℕ). Settles freed n old new) is
     (record {
       ends = ends;
-      objects = subst (λ (b : Bool). SettlesWhere b freed old new) (sym (unequal_is count old.ends other))
-          (
-            quarantined
+      objects = subst (λ (b : Bool). SettlesWhere b freed old new) (sym (unequal_is count old.ends other)) (
+        quarantined
             ∙ ap (λ (l : List FreedObject). weighed_anew (λ (x : FreedObject). x.storage) l old.quarantined) kept_is,
-            reserved
+        reserved
             ∙ ap (λ (l : List FreedObject). weighed_anew (λ (x : FreedObject). x.reserved) l old.reserved) kept_is,
-            objects ∙ kept_is,
-            ages ∙ ap (λ (l : List ℕ). fold with_one old.ages.items (ages_let_go l (map aged found))) at
+        objects ∙ kept_is,
+        ages ∙ ap (λ (l : List ℕ). fold with_one old.ages.items (ages_let_go l (map aged found))) at
             ∙ ap (λ (l : List FreedObject). fold with_one old.ages.items (ages_let_go freed (map aged l))) all,
-          );
+      );
     })
