@@ -150,7 +150,11 @@ module _ (c : Config) (es : List Event) (history : IsHistory c es) where
           ∙ ap (λ (b : Bool). if b then storage_words c a else 0) (sym it.large) in
           ap (λ (x : Cell). record object { cell = x }) (at ∙ it.is_cell)
           ∙ ap (λ (n : ℕ). record object { cell = cell_of_allocation c a; storage = n }) storage
-          ∙ ap (λ (n : ℕ). record object { cell = cell_of_allocation c a; storage = storage_words c a; reserved = n }) reserved
+          ∙ ap (λ (n : ℕ). record object {
+            cell = cell_of_allocation c a;
+            storage = storage_words c a;
+            reserved = n;
+          }) reserved
           ∙ ap (λ (n : ℕ). record (object_of c xs it.number) { age = n }) young
 
       pub unfreed_object : (object : FreedObject) → false ≡ is_freed w cell → object.cell ≡ cell

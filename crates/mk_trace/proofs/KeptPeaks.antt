@@ -136,7 +136,8 @@ module _ (c : Config) (measure : List PlacedAllocation → ℕ) (words : FreedOb
 
 -- All of them.
 module _ (c : Config) (es fs : List Event) (o : Op) (before : IsHistory c es) (behind : IsHistory c fs)
-    (few : ends es < 18446744073709551615) (idle : IsIdle c fs) (tells : EndsNone c es fs ⊎ EndsOne c es fs) (flags : FlagsBehindCall c es o fs)
+    (few : ends es < 18446744073709551615) (idle : IsIdle c fs) (tells : EndsNone c es fs ⊎ EndsOne c es fs)
+    (flags : FlagsBehindCall c es o fs)
     (most : QuarantinesMostWhereFreed c es o fs) (first second third : Freed) (x : Option FreedObject)
     (is : x ≡ option_map (object_of c (left c es).allocations) (number_freed (never_behind c es) o))
     (keeps : Keeps c es first) (notes : Notes first x second)

@@ -73,7 +73,8 @@ calls_looked_before c es fs o told gs looks h = record {
 -- One call
 module _ (c : Config) (es0 es1 es2 es3 es4 : List Event) (o : Op) (first second third : Freed)
     (x : Option FreedObject) (before : OnlyLooks c es0 es1) (at_first : IsHistory c es1) (at_last : IsHistory c es2)
-    (few : ends es0 < 18446744073709551615) (idle : IsIdle c es0) (tells : EndsTell c es1 es2) (most : QuarantinesMostWhereFreed c es1 o es2)
+    (few : ends es0 < 18446744073709551615) (idle : IsIdle c es0) (tells : EndsTell c es1 es2)
+    (most : QuarantinesMostWhereFreed c es1 o es2)
     (flags : FlagsBehindCall c es1 o es2) (looks : OnlyLooks c es2 es3) (more : OnlyLooks c es3 es4)
     (is : x ≡ option_map (object_of c (left c es0).allocations) (number_freed (never_behind c es0) o))
     (keeps : Keeps c es0 first) (notes : Notes first x second)
@@ -99,7 +100,8 @@ module _ (c : Config) (es0 es1 es2 es3 es4 : List Event) (o : Op) (first second 
   keeps_behind =
       keeps_looked c es3 es4 third more
       (keeps_looked c es2 es3 third looks
-      (keeps_on c es1 es2 o at_first at_last (omega (arith, few, before.leaves.count)) told.0 told.1 flags most first second third x is_now
+      (keeps_on c es1 es2 o at_first at_last (omega (arith, few, before.leaves.count)) told.0 told.1 flags
+      most first second third x is_now
       (keeps_looked c es0 es1 first before keeps) notes settles_now))
 
   pub idle_behind : IsIdle c es4

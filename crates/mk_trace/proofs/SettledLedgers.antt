@@ -85,7 +85,8 @@ settles_same freed count told f is same =
     subst (λ (n : ℕ). Settles freed n f f) is
     (record {
       ends = sym same;
-      objects = subst (λ (b : Bool). SettlesWhere b freed f f) (sym (eq-eqb count f.ends same)) (refl, refl, refl, refl);
+      objects = subst (λ (b : Bool). SettlesWhere b freed f f) (sym (eq-eqb count f.ends same))
+          (refl, refl, refl, refl);
     })
 
 pub settles_anew : (freed shown : List ℕ) (count told : ℕ) (old new : Freed) (found kept : List FreedObject)

@@ -14,7 +14,8 @@ returns-clause-keeps g c =
     c.object_to_free-freed.ensures.home.table c.is_in_order.ensures.history)
     (subst (λ (x : WordsState). IsHistory x.config c.call-told.new.host.pass.seen) c.call-told.ensures.home.table
     c.is_in_order-2.ensures.history)
-    c.requires.few c.requires.idle (c.call-told.ensures.ends c.requires.off) c.call-told.ensures.quarantines c.call-told.ensures.flags
+    c.requires.few c.requires.idle (c.call-told.ensures.ends c.requires.off) c.call-told.ensures.quarantines
+    c.call-told.ensures.flags
     c.look-now.ensures.looks c.settle.ensures.looks c.object_to_free-freed.ensures.finds c.requires.keeps
     c.in_ok-note.ensures c.in_ok-settle.ensures.settles
 
