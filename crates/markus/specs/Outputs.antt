@@ -33,7 +33,7 @@ use Rattle.mk_trace.specs.declared.faults.TraceStop.{TraceStop}
 use Rattle.mk_trace.specs.declared.faults.TraceStop.TheVariants as trace
 use Rattle.mk_trace.specs.declared.peaks.Peaks.{Peaks}
 use Rattle.mk_trace.specs.Traces.{Contents, trace_of}
-use Rattle.mk_trace.specs.Playing.{IsPlayed, AreCounted, IsMostHeld, IsMostQuarantined, IsMostReserved}
+use Rattle.mk_trace.specs.Playing.{IsPlayed, ArePeaks}
 use Rattle.mk_trace.specs.Printed.{peaks_text}
 use Rattle.mk_commands.specs.declared.commands.Command.{Command}
 use Rattle.mk_commands.specs.declared.commands.Command.TheVariants as asked
@@ -153,16 +153,12 @@ pub record IsOutputOnSchedule (input output : List ℕ) : Type 0 where
   pub promises : KeepsAllPromises (config_of program 8) (history_of program schedule)
   pub output_is : output ≡ output_behind program (config_of program 8) (history_of program schedule)
 
--- What is written of a trace that was played: the lines of peaks. Of the history that its playing made they have the
--- events, the refused ones, the cycles and the most that was held, quarantined and reserved.
+-- What is written of a trace that was played: the lines of the peaks of the history that its playing made.
 pub record TellsOfPlay (contents : Contents) (output : List ℕ) : Type 0 where
   pub history : List Event
   pub played : IsPlayed contents history
   pub peaks : Peaks
-  pub are_counted : AreCounted contents history peaks
-  pub most_held : IsMostHeld contents history peaks
-  pub most_quarantined : IsMostQuarantined contents history peaks
-  pub most_reserved : IsMostReserved contents history peaks
+  pub are_peaks : ArePeaks contents history peaks
   pub output_is : output ≡ peaks_text peaks
 
 -- what `trace` writes on a text that is a trace without fault

@@ -37,8 +37,8 @@ pub fn markus<S: Source, K: Sink, P: Pace + Sync, R: Threads + Wait + Sync>(
     // What the command writes was written: on the text that was read to its end, which it accepts, or, with `gen`, of
     // the program that it generates. With `run` and `gen` the replies of the program's scripts stand in one history of
     // a heap that never reuses storage, each script's operations there once and in order. With `run --why` the entries
-    // are those of the cycle with which that history ends, and with `trace` the counts and the most that was held,
-    // quarantined and reserved are those of the history that playing makes.
+    // are those of the cycle with which that history ends, and with `trace` the peaks are those of the history that
+    // playing makes.
     ensures ok { result ≡ Status.Ok →
         HasAnswered (map (λ word. string_bytes word) words.now) (S.left source.old) (S.left source.new)
         (Appends (K.taken sink.old) (K.taken sink.new)) }

@@ -141,21 +141,26 @@ module _ (c : Config) (es : List Event) (history : IsHistory c es) where
       a = placed_at xs it.number
 
       same_object : (object : FreedObject) → object.cell ≡ cell → object.storage ≡ cell_words w cell
-          → object.reserved ≡ (if not (nat_le object.storage 32) then object.storage else 0)
+          → object.reserved ≡ (if not (nat_le object.storage 32) then object.storage else 0) → object.age ≡ 0
           → object ≡ object_of c xs it.number
-      same_object object at words large =
+      same_object object at words large young =
           let storage : object.storage ≡ storage_words c a = words ∙ it.words in
           let reserved : object.reserved ≡ large_words c a =
           large ∙ ap (λ (n : ℕ). if not (nat_le n 32) then n else 0) storage
           ∙ ap (λ (b : Bool). if b then storage_words c a else 0) (sym it.large) in
-          ap (λ (x : Cell). record { cell = x; storage = object.storage; reserved = object.reserved }) (at ∙ it.is_cell)
-          ∙ ap (λ (n : ℕ). record { cell = cell_of_allocation c a; storage = n; reserved = object.reserved }) storage
-          ∙ ap (λ (n : ℕ). record { cell = cell_of_allocation c a; storage = storage_words c a; reserved = n }) reserved
+          ap (λ (x : Cell). record object { cell = x }) (at ∙ it.is_cell)
+          ∙ ap (λ (n : ℕ). record object { cell = cell_of_allocation c a; storage = n }) storage
+          ∙ ap (λ (n : ℕ). record object {
+            cell = cell_of_allocation c a;
+            storage = storage_words c a;
+            reserved = n;
+          }) reserved
+          ∙ ap (λ (n : ℕ). record (object_of c xs it.number) { age = n }) young
 
       pub unfreed_object : (object : FreedObject) → false ≡ is_freed w cell → object.cell ≡ cell
           → object.storage ≡ cell_words w cell
-          → object.reserved ≡ (if not (nat_le object.storage 32) then object.storage else 0)
+          → object.reserved ≡ (if not (nat_le object.storage 32) then object.storage else 0) → object.age ≡ 0
           → Some object ≡ found
-      unfreed_object object is at words large =
-          ap (λ (x : FreedObject). Some x) (same_object object at words large)
+      unfreed_object object is at words large young =
+          ap (λ (x : FreedObject). Some x) (same_object object at words large young)
           ∙ ap (λ (x : Option ℕ). option_map (object_of c xs) x) (sym (by_bit false is))

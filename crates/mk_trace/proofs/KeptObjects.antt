@@ -15,22 +15,24 @@ use Rattle.mk_core.specs.History.{IsHistory, left}
 use Rattle.mk_core.specs.Words.{Words, phase_of}
 use Rattle.mk_images.proofs.Kept.{exists_placed}
 use Rattle.mk_trace.specs.declared.ledger.FreedObject.{FreedObject}
+use Rattle.mk_core.specs.Counts.{in_a_word}
 use Rattle.mk_trace.specs.Freeing.{FlagsBehind, FreesFlag, large_words}
-use Rattle.mk_trace.specs.Ledgers.{AreObjectsOf, object_of, one_or_none}
+use Rattle.mk_trace.specs.Ledgers.{AreFound, AreObjectsOf, age_in_a_word, aged, aged_object, object_of, one_or_none}
+use Rattle.mk_trace.specs.Peaks.{age_of}
 use Rattle.mk_trace.specs.Numbers.{AreThose, one_if, times}
 use Rattle.mk_trace.proofs.NumberLists.{equal_is, filters_agree, stands_passes, those_filtered, times_more, unequal_is}
 use Rattle.mk_trace.proofs.SettledBits.{bit_tells_released, cell_by}
 
 -- lists
 
-maps_agree : (f g : ℕ → FreedObject) (numbers : List ℕ) → ((i : ℕ) → 1 ≤ times i numbers → f i ≡ g i)
+pub maps_agree : {X : Type 0} (f g : ℕ → X) (numbers : List ℕ) → ((i : ℕ) → 1 ≤ times i numbers → f i ≡ g i)
     → map f numbers ≡ map g numbers
 maps_agree f g [] agree = refl
-maps_agree f g (x ∷ numbers) agree =
+maps_agree {X} f g (x ∷ numbers) agree =
     let first : 1 ≤ one_if (x == x) + times x numbers =
     subst (λ (b : Bool). 1 ≤ one_if b + times x numbers) (sym (equal_is x)) (omega arith) in
-    ap (λ (y : FreedObject). y ∷ map f numbers) (agree x first)
-    ∙ ap (λ (l : List FreedObject). g x ∷ l)
+    ap (λ (y : X). y ∷ map f numbers) (agree x first)
+    ∙ ap (λ (l : List X). g x ∷ l)
     (maps_agree f g numbers (λ i some. agree i (omega (arith, some))))
 
 filter_head : (f : ℕ → FreedObject) (x : ℕ) (xs : List FreedObject) (numbers : List ℕ) (b : Bool)
@@ -45,25 +47,43 @@ filter_mapped p f (x ∷ numbers) =
     filter_head f x (filter p (map f numbers)) (filter (λ (i : ℕ). p (f i)) numbers) (p (f x))
     (filter_mapped p f numbers)
 
+mapped_twice : {X Y : Type 0} (g : X → Y) (f : ℕ → X) (numbers : List ℕ)
+    → map g (map f numbers) ≡ map (λ (i : ℕ). g (f i)) numbers
+mapped_twice g f [] = refl
+mapped_twice {X} {Y} g f (x ∷ numbers) = ap (λ (l : List Y). g (f x) ∷ l) (mapped_twice g f numbers)
+
 those_alike : (p q : ℕ → Bool) (numbers : List ℕ) → ((i : ℕ) → p i ≡ q i) → AreThose p numbers → AreThose q numbers
 those_alike p q numbers same those i = those i ∙ ap (λ (b : Bool). one_if b) (same i)
 
-object_by : (c : Config) (xs ys : List PlacedAllocation) (i : ℕ) → (placed_at ys i).base ≡ (placed_at xs i).base
-    → (placed_at ys i).ty ≡ (placed_at xs i).ty → object_of c xs i ≡ object_of c ys i
-object_by c xs ys i base ty =
-    ap (λ (x : _). record (object_of c xs i) { cell = x })
+object_by : (c : Config) (found : List (List PlacedAllocation)) (xs ys : List PlacedAllocation) (i : ℕ)
+    → (placed_at ys i).base ≡ (placed_at xs i).base → (placed_at ys i).ty ≡ (placed_at xs i).ty
+    → aged_object c found xs i ≡ aged_object c found ys i
+object_by c found xs ys i base ty =
+    ap (λ (x : _). record (aged_object c found xs i) { cell = x })
     (cell_by c (placed_at xs i) (placed_at ys i) (sym base) (sym ty))
     ∙ ap (λ (n : ℕ). record {
       cell = cell_of_allocation c (placed_at ys i);
       storage = storage_words c (record (placed_at xs i) { ty = n });
       reserved = large_words c (record (placed_at xs i) { ty = n });
+      age = age_in_a_word found i;
     }) (sym ty)
+
+-- behind one end more
+aged_by : (c : Config) (found later : List (List PlacedAllocation)) (xs : List PlacedAllocation) (i : ℕ)
+    → age_of i later ≡ age_of i found + 1 → aged (aged_object c found xs i) ≡ aged_object c later xs i
+aged_by c found later xs i one =
+    let same : in_a_word (age_in_a_word found i + 1) ≡ age_in_a_word later i = omega (arith, one) in
+    ap (λ (n : ℕ). record (aged_object c found xs i) { age = n }) same
 
 -- flags
 
-not_out : (b : Bool) → not b ≡ true → b ≡ false
+pub not_out : (b : Bool) → not b ≡ true → b ≡ false
 not_out true h = cc
 not_out false h = refl
+
+not_twice : (b : Bool) → not (not b) ≡ b
+not_twice true = refl
+not_twice false = refl
 
 still_in : (freed was now : Bool) → (was ≡ true → now ≡ true) → (not now && (freed && not was)) ≡ (freed && not now)
 still_in true true true later = refl
@@ -89,7 +109,7 @@ module _ (c : Config) (es fs : List Event) (x : Option ℕ)
   abbrev pub was_kept : ℕ → Bool
   was_kept i = (placed_at ys i).freed && not (placed_at xs i).released
 
-  unfreed_past : (i : ℕ) → length xs ≤ i → (placed_at ys i).freed ≡ false
+  pub unfreed_past : (i : ℕ) → length xs ≤ i → (placed_at ys i).freed ≡ false
   unfreed_past i le =
       flags.kept i (λ is. (let lt = (flags.frees i is).exists in omega (arith, lt, le)))
       ∙ ap (λ (a : PlacedAllocation). a.freed) (get_or_past xs i never_granted le)
@@ -102,9 +122,10 @@ module _ (c : Config) (es fs : List Event) (x : Option ℕ)
 
   -- The call
 
-  none_noted : (objects : List FreedObject) → x ≡ None
-      → AreObjectsOf c xs (λ (i : ℕ). is_quarantined (placed_at xs i)) objects → AreObjectsOf c xs was_kept objects
-  none_noted objects none kept = record {
+  none_noted : (found : List (List PlacedAllocation)) (objects : List FreedObject) → x ≡ None
+      → AreObjectsOf c found xs (λ (i : ℕ). is_quarantined (placed_at xs i)) objects
+      → AreObjectsOf c found xs was_kept objects
+  none_noted found objects none kept = record {
     numbers = kept.numbers;
     are = kept.are;
     those = those_alike (λ (i : ℕ). is_quarantined (placed_at xs i)) was_kept kept.numbers
@@ -112,18 +133,23 @@ module _ (c : Config) (es fs : List Event) (x : Option ℕ)
         (sym (flags.kept i (λ is. (let both : None ≡ Some i = sym none ∙ is in absurd cc))))) kept.those;
   }
 
-  one_noted : (objects : List FreedObject) (k : ℕ) → x ≡ Some k
-      → AreObjectsOf c xs (λ (i : ℕ). is_quarantined (placed_at xs i)) objects
-      → AreObjectsOf c xs was_kept (objects ++ object_of c xs k ∷ [])
-  one_noted objects k is kept = record {
+  one_noted : (found : List (List PlacedAllocation)) (objects : List FreedObject) (k : ℕ) → x ≡ Some k
+      → AreFound found xs → AreObjectsOf c found xs (λ (i : ℕ). is_quarantined (placed_at xs i)) objects
+      → AreObjectsOf c found xs was_kept (objects ++ object_of c xs k ∷ [])
+  one_noted found objects k is ends kept = record {
     numbers = kept.numbers ++ k ∷ [];
     are = ap (λ (l : List FreedObject). l ++ object_of c xs k ∷ []) kept.are
-        ∙ sym (map-append (object_of c xs) kept.numbers (k ∷ []));
+        ∙ ap (λ (n : ℕ). map (aged_object c found xs) kept.numbers ++ record (object_of c xs k) { age = n } ∷ [])
+        (sym young)
+        ∙ sym (map-append (aged_object c found xs) kept.numbers (k ∷ []));
     those = those;
   }
     where
       freed : FreesFlag xs ys k
       freed = flags.frees k is
+
+      young : age_in_a_word found k ≡ 0
+      young = let none = ends.unfreed k freed.before in omega (arith, none)
 
       at_k : times k kept.numbers ≡ 0
       at_k =
@@ -150,18 +176,18 @@ module _ (c : Config) (es fs : List Event) (x : Option ℕ)
             let equal : k ≡ i = cc in ne equal)))) in omega (arith, rest))
       ]
 
-  noted_by : (objects : List FreedObject) (y : Option ℕ) → x ≡ y
-      → AreObjectsOf c xs (λ (i : ℕ). is_quarantined (placed_at xs i)) objects
-      → AreObjectsOf c xs was_kept (objects ++ one_or_none (option_map (object_of c xs) y))
-  noted_by objects None is kept =
-      subst (λ (l : List FreedObject). AreObjectsOf c xs was_kept l) (sym (append-nil objects))
-      (none_noted objects is kept)
-  noted_by objects (Some k) is kept = one_noted objects k is kept
+  noted_by : (found : List (List PlacedAllocation)) (objects : List FreedObject) (y : Option ℕ) → x ≡ y
+      → AreFound found xs → AreObjectsOf c found xs (λ (i : ℕ). is_quarantined (placed_at xs i)) objects
+      → AreObjectsOf c found xs was_kept (objects ++ one_or_none (option_map (object_of c xs) y))
+  noted_by found objects None is ends kept =
+      subst (λ (l : List FreedObject). AreObjectsOf c found xs was_kept l) (sym (append-nil objects))
+      (none_noted found objects is kept)
+  noted_by found objects (Some k) is ends kept = one_noted found objects k is ends kept
 
-  pub noted : (objects : List FreedObject)
-      → AreObjectsOf c xs (λ (i : ℕ). is_quarantined (placed_at xs i)) objects
-      → AreObjectsOf c xs was_kept (objects ++ one_or_none (option_map (object_of c xs) x))
-  noted objects kept = noted_by objects x refl kept
+  pub noted : (found : List (List PlacedAllocation)) (objects : List FreedObject) → AreFound found xs
+      → AreObjectsOf c found xs (λ (i : ℕ). is_quarantined (placed_at xs i)) objects
+      → AreObjectsOf c found xs was_kept (objects ++ one_or_none (option_map (object_of c xs) x))
+  noted found objects ends kept = noted_by found objects x refl ends kept
 
   -- and behind it.
 
@@ -173,19 +199,20 @@ module _ (c : Config) (es fs : List Event) (x : Option ℕ)
       let unreleased = not_out (placed_at xs i).released parts.1 in
       (parts.0, unreleased, exists_placed xs i unreleased)
 
-  same_objects : (numbers : List ℕ) → AreThose was_kept numbers → map (object_of c xs) numbers
-      ≡ map (object_of c ys) numbers
-  same_objects numbers those =
-      maps_agree (object_of c xs) (object_of c ys) numbers (λ i some.
+  same_objects : (found : List (List PlacedAllocation)) (numbers : List ℕ) → AreThose was_kept numbers
+      → map (aged_object c found xs) numbers ≡ map (aged_object c found ys) numbers
+  same_objects found numbers those =
+      maps_agree (aged_object c found xs) (aged_object c found ys) numbers (λ i some.
       (let lt = (exists numbers those i some).2 in
-      object_by c xs ys i (flags.later.base i lt) (flags.later.ty i lt)))
+      object_by c found xs ys i (flags.later.base i lt) (flags.later.ty i lt)))
 
   pub none_released : ((i : ℕ) → i < length xs → (placed_at ys i).released ≡ (placed_at xs i).released)
-      → (objects : List FreedObject) → AreObjectsOf c xs was_kept objects
-      → AreObjectsOf c ys (λ (i : ℕ). is_quarantined (placed_at ys i)) objects
-  none_released same objects kept = record {
+      → (found : List (List PlacedAllocation)) (objects : List FreedObject)
+      → AreObjectsOf c found xs was_kept objects
+      → AreObjectsOf c found ys (λ (i : ℕ). is_quarantined (placed_at ys i)) objects
+  none_released same found objects kept = record {
     numbers = kept.numbers;
-    are = kept.are ∙ same_objects kept.numbers kept.those;
+    are = kept.are ∙ same_objects found kept.numbers kept.those;
     those = those_alike was_kept (λ (i : ℕ). is_quarantined (placed_at ys i)) kept.numbers alike kept.those;
   }
     where
@@ -222,10 +249,48 @@ module _ (c : Config) (es fs : List Event) (x : Option ℕ)
         none_left true = refl
         none_left false = refl
 
-    pub let_go : (objects : List FreedObject) → AreObjectsOf c xs was_kept objects
-        → AreObjectsOf c ys (λ (i : ℕ). is_quarantined (placed_at ys i))
-        (filter (λ (y : FreedObject). is_freed w y.cell) objects)
-    let_go objects kept =
+    -- One end was behind what had been found.
+    module _ (found later : List (List PlacedAllocation))
+        (one : (i : ℕ) → was_kept i ≡ true → age_of i later ≡ age_of i found + 1)
+        (objects : List FreedObject) (kept : AreObjectsOf c found xs was_kept objects) where
+      abbrev aged_at : ℕ → FreedObject
+      aged_at i = aged (aged_object c found xs i)
+
+      all_aged : map aged objects ≡ map aged_at kept.numbers
+      all_aged =
+          ap (λ (l : List FreedObject). map aged l) kept.are ∙ mapped_twice aged (aged_object c found xs) kept.numbers
+
+      kept_passes : (test : ℕ → Bool) (i : ℕ) → 1 ≤ times i (filter test kept.numbers) → was_kept i ≡ true
+      kept_passes test i some =
+          (and_parts (test i) (was_kept i)
+          (stands_passes (λ (j : ℕ). test j && was_kept j) (filter test kept.numbers)
+          (those_filtered test was_kept kept.numbers kept.those) i some)).1
+
+      pub ages_gone : map (λ (y : FreedObject). y.age)
+          (filter (λ (y : FreedObject). not (is_freed w y.cell)) (map aged objects))
+          ≡ map (age_in_a_word later) (filter (λ (i : ℕ). (placed_at ys i).released) kept.numbers)
+      ages_gone =
+          let gone : ℕ → Bool = λ i. (placed_at ys i).released in
+          let agree = filters_agree (λ (i : ℕ). not (is_freed w (cell_of_allocation c (placed_at xs i)))) gone
+          kept.numbers
+          (λ i some. ap (λ (b : Bool). not b) (tells kept.numbers kept.those i some) ∙ not_twice (gone i)) in
+          ap (λ (l : List FreedObject). map (λ (y : FreedObject). y.age)
+          (filter (λ (y : FreedObject). not (is_freed w y.cell)) l)) all_aged
+          ∙ ap (λ (l : List FreedObject). map (λ (y : FreedObject). y.age) l)
+          (filter_mapped (λ (y : FreedObject). not (is_freed w y.cell)) aged_at kept.numbers
+          ∙ ap (λ (l : List ℕ). map aged_at l) agree)
+          ∙ mapped_twice (λ (y : FreedObject). y.age) aged_at (filter gone kept.numbers)
+          ∙ maps_agree (λ (i : ℕ). (aged_at i).age) (age_in_a_word later) (filter gone kept.numbers)
+          (λ i some.
+          ap (λ (y : FreedObject). y.age) (aged_by c found later xs i (one i (kept_passes gone i some))))
+
+    pub let_go : (found later : List (List PlacedAllocation))
+        → ((i : ℕ) → was_kept i ≡ true → age_of i later ≡ age_of i found + 1)
+        → (objects : List FreedObject) → AreObjectsOf c found xs was_kept objects
+        → AreObjectsOf c later ys (λ (i : ℕ). is_quarantined (placed_at ys i))
+        (filter (λ (y : FreedObject). is_freed w y.cell) (map aged objects))
+    let_go found later one objects kept =
+        let aged_at : ℕ → FreedObject = λ i. aged (aged_object c found xs i) in
         let unreleased : ℕ → Bool = λ i. not (placed_at ys i).released in
         let rest : List ℕ = filter unreleased kept.numbers in
         let agree = filters_agree (λ (i : ℕ). is_freed w (cell_of_allocation c (placed_at xs i))) unreleased
@@ -236,14 +301,16 @@ module _ (c : Config) (es fs : List Event) (x : Option ℕ)
         record {
           numbers = rest;
           are =
-              ap (λ (l : List FreedObject). filter (λ (y : FreedObject). is_freed w y.cell) l) kept.are
-              ∙ filter_mapped (λ (y : FreedObject). is_freed w y.cell) (object_of c xs) kept.numbers
-              ∙ ap (λ (l : List ℕ). map (object_of c xs) l) agree
-              ∙ maps_agree (object_of c xs) (object_of c ys) rest (λ i some.
+              ap (λ (l : List FreedObject). filter (λ (y : FreedObject). is_freed w y.cell) l)
+              (all_aged found later one objects kept)
+              ∙ filter_mapped (λ (y : FreedObject). is_freed w y.cell) aged_at kept.numbers
+              ∙ ap (λ (l : List ℕ). map aged_at l) agree
+              ∙ maps_agree aged_at (aged_object c later ys) rest (λ i some.
               (let both = and_parts (unreleased i) (was_kept i)
               (stands_passes (λ (j : ℕ). unreleased j && was_kept j) rest those i some) in
               let lt : i < length xs = freed_before i (and_parts (placed_at ys i).freed _ both.1).0 in
-              object_by c xs ys i (flags.later.base i lt) (flags.later.ty i lt)));
+              aged_by c found later xs i (one i both.1)
+              ∙ object_by c later xs ys i (flags.later.base i lt) (flags.later.ty i lt)));
           those = those_alike (λ (i : ℕ). unreleased i && was_kept i) (λ (i : ℕ). is_quarantined (placed_at ys i)) rest
               left_alike those;
         }

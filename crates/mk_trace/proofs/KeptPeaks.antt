@@ -1,9 +1,8 @@
 -- All is kept of freed objects behind a call, once what it freed is noted, and what it released is let go.
 use Rattle.std.proofs.Common.{◌≡◌, ◌≢◌, ◌⊎◌, inl, inr, ℕ, ◌+◌, ◌<◌, Bool, true, false, List, [], ◌∷◌, ◌++◌, map}
 use Rattle.std.proofs.Common.{refl, sym, ◌∙◌, ap, subst, arith}
-use Rattle.std.specs.Prelude.{◌&&◌, ◌==◌, nat_lt, sum_by, Option, Some, None, option_map}
-use Rattle.std.proofs.lemmas.Bool.{and_parts, eqb-true}
-use Rattle.std.proofs.lemmas.Bool.Decides.{nat_tests}
+use Rattle.std.specs.Prelude.{◌==◌, fold, sum_by, Option, Some, None, option_map}
+use Rattle.std.proofs.lemmas.Bool.{eq-eqb, eqb-true, true≢false}
 use Rattle.std.proofs.lemmas.List.Sums.{sum_by-append, sum_by-cons}
 use Rattle.mk_never.specs.declared.operations.Op.{Op}
 use Rattle.mk_core.specs.declared.config.Config.{Config}
@@ -19,12 +18,13 @@ use Rattle.mk_trace.specs.declared.ledger.Peak.{Peak}
 use Rattle.mk_trace.specs.Ends.{EndsNone, EndsOne, IsIdle}
 use Rattle.mk_trace.specs.Freeing.{FlagsBehindCall, IsMostWhereFreed, QuarantinesMostWhereFreed, freed_words}
 use Rattle.mk_trace.specs.Freeing.{number_freed, words_of_some}
-use Rattle.mk_trace.specs.Ledgers.{AreObjectsOf, IsPeakOf, Keeps, Notes, Settles, SettlesWhere, is_count_same}
-use Rattle.mk_trace.specs.Ledgers.{object_of}
-use Rattle.mk_trace.specs.Ledgers.{objects_kept, one_or_none, risen, some_words, still_kept, weighed_anew}
-use Rattle.mk_trace.specs.Peaks.{greatest, quarantined_words, reserved_words}
+use Rattle.mk_trace.specs.Ledgers.{AreAgesOf, AreFound, AreObjectsOf, IsPeakOf, Keeps, Notes, Settles, SettlesWhere}
+use Rattle.mk_trace.specs.Ledgers.{aged, age_in_a_word, aged_object, is_count_same, object_of}
+use Rattle.mk_trace.specs.Ledgers.{objects_kept, one_or_none, risen, some_words, still_kept, weighed_anew, with_one}
+use Rattle.mk_trace.specs.Peaks.{age_of, found_by_ends, greatest, quarantined_words, reserved_words}
+use Rattle.mk_trace.proofs.FoundAges.{kept_age, none_ages, none_found, one_ages, one_found}
 use Rattle.mk_trace.proofs.FreedWords.{large_weight, quarantined_is, reserved_is, storage_weight, weighed}
-use Rattle.mk_trace.proofs.KeptObjects.{let_go, none_released, noted, was_kept}
+use Rattle.mk_trace.proofs.KeptObjects.{ages_gone, let_go, none_released, noted, was_kept}
 use Rattle.mk_trace.proofs.NumberLists.{words_of_numbers}
 
 -- sums
@@ -47,32 +47,37 @@ sum_noted words objects (Some object) =
 -- counts
 
 same_count : (before count kept : ℕ) → kept ≡ in_a_word before
-    → ((in_a_word count == kept) && nat_lt (in_a_word count) 18446744073709551615) ≡ true
-    → count ≡ before + 1 → ⊥
-same_count before count kept is same more =
-    let parts = and_parts (in_a_word count == kept) (nat_lt (in_a_word count) 18446744073709551615) same in
-    let equal : in_a_word count ≡ kept = eqb-true (in_a_word count) kept parts.0 in
-    let few : in_a_word count < 18446744073709551615 = grind (arith, nat_tests, parts.1) in
+    → (in_a_word count == kept) ≡ true → before < 18446744073709551615 → count ≡ before + 1 → ⊥
+same_count before count kept is same few more =
+    let equal : in_a_word count ≡ kept = eqb-true (in_a_word count) kept same in
     omega (arith, equal, few, is, more)
+
+other_count : (before count kept : ℕ) → kept ≡ in_a_word before → (in_a_word count == kept) ≡ false
+    → count ≡ before → ⊥
+other_count before count kept is other same =
+    true≢false (sym (eq-eqb (in_a_word count) kept (ap in_a_word same ∙ sym is)) ∙ other)
 
 -- One measure: that of these words of an object.
 module _ (c : Config) (measure : List PlacedAllocation → ℕ) (words : FreedObject → ℕ) (weight : ℕ → ℕ)
     (measure_is : (ys : List PlacedAllocation) → measure ys ≡ weighed weight ys)
-    (words_is : (ys : List PlacedAllocation) (i : ℕ) → words (object_of c ys i) ≡ weight (placed_at ys i).ty) where
-  total : (ys : List PlacedAllocation) (objects : List FreedObject)
-      → AreObjectsOf c ys (λ (i : ℕ). is_quarantined (placed_at ys i)) objects → sum_by words objects ≡ measure ys
-  total ys objects kept =
+    (words_is : (ys : List PlacedAllocation) (i age : ℕ)
+    → words (record (object_of c ys i) { age = age }) ≡ weight (placed_at ys i).ty) where
+  total : (found : List (List PlacedAllocation)) (ys : List PlacedAllocation) (objects : List FreedObject)
+      → AreObjectsOf c found ys (λ (i : ℕ). is_quarantined (placed_at ys i)) objects
+      → sum_by words objects ≡ measure ys
+  total found ys objects kept =
       ap (λ (l : List FreedObject). sum_by words l) kept.are
-      ∙ sum_mapped words (object_of c ys) kept.numbers
+      ∙ sum_mapped words (aged_object c found ys) kept.numbers
       ∙ alike kept.numbers
       ∙ words_of_numbers weight kept.numbers ys kept.those ∙ sym (measure_is ys)
     where
-      alike : (numbers : List ℕ) → sum_by (λ (i : ℕ). words (object_of c ys i)) numbers
+      alike : (numbers : List ℕ) → sum_by (λ (i : ℕ). words (aged_object c found ys i)) numbers
           ≡ sum_by (λ (i : ℕ). weight (placed_at ys i).ty) numbers
       alike [] = refl
       alike (n ∷ numbers) =
-          sum_by-cons (λ (i : ℕ). words (object_of c ys i)) n numbers
-          ∙ ap (λ (k : ℕ). k + sum_by (λ (i : ℕ). words (object_of c ys i)) numbers) (words_is ys n)
+          sum_by-cons (λ (i : ℕ). words (aged_object c found ys i)) n numbers
+          ∙ ap (λ (k : ℕ). k + sum_by (λ (i : ℕ). words (aged_object c found ys i)) numbers)
+          (words_is ys n (age_in_a_word found n))
           ∙ ap (λ (k : ℕ). weight (placed_at ys n).ty + k) (alike numbers)
           ∙ sym (sum_by-cons (λ (i : ℕ). weight (placed_at ys i).ty) n numbers)
 
@@ -80,7 +85,7 @@ module _ (c : Config) (measure : List PlacedAllocation → ℕ) (words : FreedOb
       → some_words words (option_map (object_of c ys) x)
       ≡ words_of_some (λ (a : PlacedAllocation). weight a.ty) ys x
   some_is ys None = refl
-  some_is ys (Some i) = words_is ys i
+  some_is ys (Some i) = words_is ys i 0
 
   module _ (es fs : List Event) (o : Op) (first second third : Peak) (x : Option FreedObject)
       (is : x ≡ option_map (object_of c (left c es).allocations) (number_freed (never_behind c es) o))
@@ -104,15 +109,15 @@ module _ (c : Config) (measure : List PlacedAllocation → ℕ) (words : FreedOb
         ap (λ (p : Peak). p.most) rises ∙ (omega (arith, at_first, before, more, all))
 
     -- Nothing was released.
-    pub peak_stays : (objects : List FreedObject)
-        → AreObjectsOf c (left c es).allocations (λ (i : ℕ). is_quarantined (placed_at (left c es).allocations i))
+    pub peak_stays : (found : List (List PlacedAllocation)) (objects : List FreedObject)
+        → AreObjectsOf c found (left c es).allocations (λ (i : ℕ). is_quarantined (placed_at (left c es).allocations i))
         objects
-        → AreObjectsOf c (left c fs).allocations (λ (i : ℕ). is_quarantined (placed_at (left c fs).allocations i))
+        → AreObjectsOf c found (left c fs).allocations (λ (i : ℕ). is_quarantined (placed_at (left c fs).allocations i))
         (objects ++ one_or_none x)
         → third ≡ second → IsPeakOf c measure fs third
-    peak_stays objects was kept same =
-        let before = total (left c es).allocations objects was in
-        let behind = total (left c fs).allocations (objects ++ one_or_none x) kept in
+    peak_stays found objects was kept same =
+        let before = total found (left c es).allocations objects was in
+        let behind = total found (left c fs).allocations (objects ++ one_or_none x) kept in
         let sums = sum_noted words objects x in
         record {
           now = ap (λ (p : Peak). p.now) same ∙ now_is ∙ (omega (arith, before, behind, sums));
@@ -120,17 +125,19 @@ module _ (c : Config) (measure : List PlacedAllocation → ℕ) (words : FreedOb
         }
 
     -- What was released was let go.
-    pub peak_anew : (rest : List FreedObject)
-        → AreObjectsOf c (left c fs).allocations (λ (i : ℕ). is_quarantined (placed_at (left c fs).allocations i)) rest
+    pub peak_anew : (found : List (List PlacedAllocation)) (rest : List FreedObject)
+        → AreObjectsOf c found (left c fs).allocations (λ (i : ℕ). is_quarantined (placed_at (left c fs).allocations i))
+        rest
         → third ≡ weighed_anew words rest second → IsPeakOf c measure fs third
-    peak_anew rest kept anew = record {
-      now = ap (λ (p : Peak). p.now) anew ∙ ap in_a_word (total (left c fs).allocations rest kept);
+    peak_anew found rest kept anew = record {
+      now = ap (λ (p : Peak). p.now) anew ∙ ap in_a_word (total found (left c fs).allocations rest kept);
       most = ap (λ (p : Peak). p.most) anew ∙ most_is;
     }
 
 -- All of them.
 module _ (c : Config) (es fs : List Event) (o : Op) (before : IsHistory c es) (behind : IsHistory c fs)
-    (idle : IsIdle c fs) (tells : EndsNone c es fs ⊎ EndsOne c es fs) (flags : FlagsBehindCall c es o fs)
+    (few : ends es < 18446744073709551615) (idle : IsIdle c fs) (tells : EndsNone c es fs ⊎ EndsOne c es fs)
+    (flags : FlagsBehindCall c es o fs)
     (most : QuarantinesMostWhereFreed c es o fs) (first second third : Freed) (x : Option FreedObject)
     (is : x ≡ option_map (object_of c (left c es).allocations) (number_freed (never_behind c es) o))
     (keeps : Keeps c es first) (notes : Notes first x second)
@@ -144,63 +151,111 @@ module _ (c : Config) (es fs : List Event) (o : Op) (before : IsHistory c es) (b
   abbrev w : Words
   w = (left c fs).now.words
 
-  abbrev Kept : List FreedObject → Type 0
-  Kept objects = AreObjectsOf c ys (λ (i : ℕ). is_quarantined (placed_at ys i)) objects
+  abbrev found : List (List PlacedAllocation)
+  found = found_by_ends c es
+
+  abbrev x_number : Option ℕ
+  x_number = number_freed (never_behind c es) o
+
+  abbrev Kept : List (List PlacedAllocation) → List FreedObject → Type 0
+  Kept ends objects = AreObjectsOf c ends ys (λ (i : ℕ). is_quarantined (placed_at ys i)) objects
 
   out : phase_of w ≢ 4
   out four = omega (arith, four, idle)
 
-  with_freed : AreObjectsOf c xs (was_kept c es fs (number_freed (never_behind c es) o) flags)
-      (objects_kept first ++ one_or_none x)
+  with_freed : AreObjectsOf c found xs (was_kept c es fs x_number flags) (objects_kept first ++ one_or_none x)
   with_freed =
-      subst (λ (y : Option FreedObject). AreObjectsOf c xs (was_kept c es fs (number_freed (never_behind c es) o) flags)
+      subst (λ (y : Option FreedObject). AreObjectsOf c found xs (was_kept c es fs x_number flags)
       (objects_kept first ++ one_or_none y)) (sym is)
-      (noted c es fs (number_freed (never_behind c es) o) flags (objects_kept first) keeps.objects)
+      (noted c es fs x_number flags found (objects_kept first) keeps.found keeps.objects)
 
-  noted_objects : AreObjectsOf c xs (was_kept c es fs (number_freed (never_behind c es) o) flags) (objects_kept second)
+  noted_objects : AreObjectsOf c found xs (was_kept c es fs x_number flags) (objects_kept second)
   noted_objects =
-      subst (λ (l : List FreedObject). AreObjectsOf c xs
-      (was_kept c es fs (number_freed (never_behind c es) o) flags) l) (sym notes.objects) with_freed
+      subst (λ (l : List FreedObject). AreObjectsOf c found xs (was_kept c es fs x_number flags) l)
+      (sym notes.objects) with_freed
 
-  none_gone : EndsNone c es fs → Kept (objects_kept first ++ one_or_none x)
-  none_gone none =
-      none_released c es fs (number_freed (never_behind c es) o) flags none.released.released
-      (objects_kept first ++ one_or_none x) with_freed
+  -- No cycle ended.
+  module _ (none : EndsNone c es fs) where
+    none_gone : Kept found (objects_kept first ++ one_or_none x)
+    none_gone =
+        none_released c es fs x_number flags none.released.released found (objects_kept first ++ one_or_none x)
+        with_freed
 
-  rest_kept : Kept (still_kept w.freed (objects_kept second))
-  rest_kept =
-      let_go c es fs (number_freed (never_behind c es) o) flags before behind out (objects_kept second) noted_objects
+    keeps_none : SettlesWhere true w.freed second third → Keeps c fs third
+    keeps_none s = record {
+      quarantined =
+          peak_stays c (quarantined_words c) (λ (y : FreedObject). y.storage) (storage_weight c) (quarantined_is c)
+          (λ zs i age. refl) es fs o first.quarantined second.quarantined third.quarantined x is keeps.quarantined
+          notes.quarantined most.quarantined found (objects_kept first) keeps.objects none_gone s.0;
+      reserved =
+          peak_stays c (reserved_words c) (λ (y : FreedObject). y.reserved) (large_weight c) (reserved_is c)
+          (λ zs i age. refl) es fs o first.reserved second.reserved third.reserved x is keeps.reserved
+          notes.reserved most.reserved found (objects_kept first) keeps.objects none_gone s.1;
+      objects =
+          subst (λ (l : List FreedObject). Kept (found_by_ends c fs) l) (sym (s.2 ∙ notes.objects))
+          (subst (λ (f : List (List PlacedAllocation)). Kept f (objects_kept first ++ one_or_none x)) (sym none.found)
+          none_gone);
+      ages =
+          subst (λ (f : List (List PlacedAllocation)). AreAgesOf f ys third.ages.items) (sym none.found)
+          (none_ages c es fs x_number flags none.released.released found third.ages.items
+          (subst (λ (l : List (ℕ × ℕ)). AreAgesOf found xs l) (sym (s.3 ∙ notes.ages)) keeps.ages));
+      found =
+          subst (λ (f : List (List PlacedAllocation)). AreFound f ys) (sym none.found)
+          (none_found c es fs x_number flags none.released.released found keeps.found);
+      ends = settles.ends;
+    }
+
+  -- One ended.
+  module _ (one : EndsOne c es fs) where
+    abbrev later : List (List PlacedAllocation)
+    later = found ++ one.finds ∷ []
+
+    older : (i : ℕ) → was_kept c es fs x_number flags i ≡ true → age_of i later ≡ age_of i found + 1
+    older = kept_age c es fs x_number flags found one.finds one.freed one.released keeps.found
+
+    rest_kept : Kept later (still_kept w.freed (map aged (objects_kept second)))
+    rest_kept =
+        let_go c es fs x_number flags before behind out found later older (objects_kept second) noted_objects
+
+    keeps_one : SettlesWhere false w.freed second third → Keeps c fs third
+    keeps_one s = record {
+      quarantined =
+          peak_anew c (quarantined_words c) (λ (y : FreedObject). y.storage) (storage_weight c) (quarantined_is c)
+          (λ zs i age. refl) es fs o first.quarantined second.quarantined third.quarantined x is keeps.quarantined
+          notes.quarantined most.quarantined later (still_kept w.freed (map aged (objects_kept second))) rest_kept s.0;
+      reserved =
+          peak_anew c (reserved_words c) (λ (y : FreedObject). y.reserved) (large_weight c) (reserved_is c)
+          (λ zs i age. refl) es fs o first.reserved second.reserved third.reserved x is keeps.reserved
+          notes.reserved most.reserved later (still_kept w.freed (map aged (objects_kept second))) rest_kept s.1;
+      objects =
+          subst (λ (l : List FreedObject). Kept (found_by_ends c fs) l) (sym s.2)
+          (subst (λ (f : List (List PlacedAllocation)). Kept f (still_kept w.freed (map aged (objects_kept second))))
+          (sym one.found) rest_kept);
+      ages =
+          subst (λ (f : List (List PlacedAllocation)). AreAgesOf f ys third.ages.items) (sym one.found)
+          (one_ages c es fs x_number flags found one.finds one.freed one.released keeps.found second.ages.items
+          third.ages.items noted_objects.numbers
+          (subst (λ (l : List (ℕ × ℕ)). AreAgesOf found xs l) (sym notes.ages) keeps.ages) noted_objects.those
+          (s.3 ∙ ap (λ (l : List ℕ). fold with_one second.ages.items l)
+          (ages_gone c es fs x_number flags before behind out found later older (objects_kept second) noted_objects)));
+      found =
+          subst (λ (f : List (List PlacedAllocation)). AreFound f ys) (sym one.found)
+          (one_found c es fs x_number flags found one.finds one.freed one.released keeps.found);
+      ends = settles.ends;
+    }
 
   by_count : (b : Bool) → is_count_same (in_a_word (ends fs)) second ≡ b → SettlesWhere b w.freed second third
       → Keeps c fs third
   by_count true same s = elim tells [
     | inr one ↦
-        absurd (same_count (ends es) (ends fs) second.ends (notes.ends ∙ keeps.ends) same one.count)
-    | inl none ↦ record {
-      quarantined =
-          peak_stays c (quarantined_words c) (λ (y : FreedObject). y.storage) (storage_weight c) (quarantined_is c)
-          (λ zs i. refl) es fs o first.quarantined second.quarantined third.quarantined x is keeps.quarantined
-          notes.quarantined most.quarantined (objects_kept first) keeps.objects (none_gone none) s.0;
-      reserved =
-          peak_stays c (reserved_words c) (λ (y : FreedObject). y.reserved) (large_weight c) (reserved_is c)
-          (λ zs i. refl) es fs o first.reserved second.reserved third.reserved x is keeps.reserved
-          notes.reserved most.reserved (objects_kept first) keeps.objects (none_gone none) s.1;
-      objects = subst (λ (l : List FreedObject). Kept l) (sym (s.2 ∙ notes.objects)) (none_gone none);
-      ends = settles.ends;
-    }
+        absurd (same_count (ends es) (ends fs) second.ends (notes.ends ∙ keeps.ends) same few one.count)
+    | inl none ↦ keeps_none none s
   ]
-  by_count false same s = record {
-    quarantined =
-        peak_anew c (quarantined_words c) (λ (y : FreedObject). y.storage) (storage_weight c) (quarantined_is c)
-        (λ zs i. refl) es fs o first.quarantined second.quarantined third.quarantined x is keeps.quarantined
-        notes.quarantined most.quarantined (still_kept w.freed (objects_kept second)) rest_kept s.0;
-    reserved =
-        peak_anew c (reserved_words c) (λ (y : FreedObject). y.reserved) (large_weight c) (reserved_is c)
-        (λ zs i. refl) es fs o first.reserved second.reserved third.reserved x is keeps.reserved
-        notes.reserved most.reserved (still_kept w.freed (objects_kept second)) rest_kept s.1;
-    objects = subst (λ (l : List FreedObject). Kept l) (sym s.2) rest_kept;
-    ends = settles.ends;
-  }
+  by_count false other s = elim tells [
+    | inr one ↦ keeps_one one s
+    | inl none ↦
+        absurd (other_count (ends es) (ends fs) second.ends (notes.ends ∙ keeps.ends) other none.count)
+  ]
 
   pub keeps_on : Keeps c fs third
   keeps_on = by_count (is_count_same (in_a_word (ends fs)) second) refl settles.objects

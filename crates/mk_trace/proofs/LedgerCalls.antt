@@ -1,5 +1,5 @@
 -- What the ledger keeps over a call, with the looks before it and behind it.
-use Rattle.std.proofs.Common.{◌≡◌, ◌⊎◌, ℕ, List, ◌++◌, sym, ◌∙◌, ap, subst, arith, max}
+use Rattle.std.proofs.Common.{◌≡◌, ◌⊎◌, inl, inr, ℕ, ◌+◌, ◌≤◌, ◌<◌, List, ◌++◌, sym, ◌∙◌, ap, subst, arith, max}
 use Rattle.std.specs.Prelude.{Option, Some, option_map}
 use Rattle.mk_never.specs.declared.operations.Op.{Op}
 use Rattle.mk_never.specs.Admitted.{IsAdmitted}
@@ -20,8 +20,10 @@ use Rattle.mk_trace.specs.declared.ledger.Peak.{Peak}
 use Rattle.mk_trace.specs.Calls.{Calls, HoldsMostAtEnd, MayCome, held_behind, most_held}
 use Rattle.mk_trace.specs.Ends.{EndsNone, EndsOne, EndsTell, IsIdle}
 use Rattle.mk_trace.specs.Freeing.{FlagsBehindCall, QuarantinesMostWhereFreed, number_freed}
-use Rattle.mk_trace.specs.Ledgers.{AreObjectsOf, IsPeakOf, Keeps, Notes, Settles, object_of, objects_kept}
+use Rattle.mk_trace.specs.Ledgers.{AreAgesOf, AreFound, AreObjectsOf, IsPeakOf, Keeps, Notes, Settles}
+use Rattle.mk_trace.specs.Ledgers.{object_of, objects_kept}
 use Rattle.mk_trace.specs.Looking.{OnlyLooks}
+use Rattle.mk_trace.specs.Peaks.{found_by_ends}
 use Rattle.mk_trace.proofs.HeldCalls.{calls_looked}
 use Rattle.mk_trace.proofs.KeptPeaks.{keeps_on}
 
@@ -39,8 +41,18 @@ keeps_looked c es fs f looks h = record {
   quarantined = peak_looked c _ es fs f.quarantined looks h.quarantined;
   reserved = peak_looked c _ es fs f.reserved looks h.reserved;
   objects =
-      subst (λ (xs : List PlacedAllocation). AreObjectsOf c xs (λ (i : ℕ). is_quarantined (placed_at xs i))
-      (objects_kept f)) (sym looks.table.allocations) h.objects;
+      subst (λ (found : List (List PlacedAllocation)). AreObjectsOf c found (left c fs).allocations
+      (λ (i : ℕ). is_quarantined (placed_at (left c fs).allocations i)) (objects_kept f)) (sym looks.leaves.found)
+      (subst (λ (xs : List PlacedAllocation). AreObjectsOf c (found_by_ends c es) xs
+      (λ (i : ℕ). is_quarantined (placed_at xs i)) (objects_kept f)) (sym looks.table.allocations) h.objects);
+  ages =
+      subst (λ (found : List (List PlacedAllocation)). AreAgesOf found (left c fs).allocations f.ages.items)
+      (sym looks.leaves.found)
+      (subst (λ (xs : List PlacedAllocation). AreAgesOf (found_by_ends c es) xs f.ages.items)
+      (sym looks.table.allocations) h.ages);
+  found =
+      subst (λ (found : List (List PlacedAllocation)). AreFound found (left c fs).allocations) (sym looks.leaves.found)
+      (subst (λ (xs : List PlacedAllocation). AreFound (found_by_ends c es) xs) (sym looks.table.allocations) h.found);
   ends = h.ends ∙ ap in_a_word (sym looks.leaves.count);
 }
 
@@ -61,7 +73,8 @@ calls_looked_before c es fs o told gs looks h = record {
 -- One call
 module _ (c : Config) (es0 es1 es2 es3 es4 : List Event) (o : Op) (first second third : Freed)
     (x : Option FreedObject) (before : OnlyLooks c es0 es1) (at_first : IsHistory c es1) (at_last : IsHistory c es2)
-    (idle : IsIdle c es0) (tells : EndsTell c es1 es2) (most : QuarantinesMostWhereFreed c es1 o es2)
+    (few : ends es0 < 18446744073709551615) (idle : IsIdle c es0) (tells : EndsTell c es1 es2)
+    (most : QuarantinesMostWhereFreed c es1 o es2)
     (flags : FlagsBehindCall c es1 o es2) (looks : OnlyLooks c es2 es3) (more : OnlyLooks c es3 es4)
     (is : x ≡ option_map (object_of c (left c es0).allocations) (number_freed (never_behind c es0) o))
     (keeps : Keeps c es0 first) (notes : Notes first x second)
@@ -87,11 +100,24 @@ module _ (c : Config) (es0 es1 es2 es3 es4 : List Event) (o : Op) (first second 
   keeps_behind =
       keeps_looked c es3 es4 third more
       (keeps_looked c es2 es3 third looks
-      (keeps_on c es1 es2 o at_first at_last told.0 told.1 flags most first second third x is_now
+      (keeps_on c es1 es2 o at_first at_last (omega (arith, few, before.leaves.count)) told.0 told.1 flags
+      most first second third x is_now
       (keeps_looked c es0 es1 first before keeps) notes settles_now))
 
   pub idle_behind : IsIdle c es4
   idle_behind = idle_looked c es3 es4 more (idle_looked c es2 es3 looks told.0)
+
+-- At most one cycle ends.
+pub ends_over : (c : Config) (es0 es1 es2 es3 es4 : List Event) → OnlyLooks c es0 es1 → IsIdle c es0
+    → EndsTell c es1 es2 → OnlyLooks c es2 es3 → OnlyLooks c es3 es4 → ends es4 ≤ ends es0 + 1
+ends_over c es0 es1 es2 es3 es4 before idle tells looks more =
+    let first = before.leaves.count in
+    let third = looks.leaves.count in
+    let last = more.leaves.count in
+    elim ((tells (idle_looked c es0 es1 before idle)).1) [
+      | inl none ↦ (let second = none.count in omega (arith, first, second, third, last))
+      | inr one ↦ (let second = one.count in omega (arith, first, second, third, last))
+    ]
 
 -- What was held at most
 pub held_over : (c : Config) (es0 es1 es2 es3 es4 : List Event) (held now : ℕ) → OnlyLooks c es0 es1

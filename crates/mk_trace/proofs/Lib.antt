@@ -1,14 +1,18 @@
 pub mod AdmittedEvents
+pub mod AgePlaces
 pub mod Along
 pub mod CallFlags
+pub mod CountedAges
 pub mod EndsAtHome
 pub mod EndsInCalls
 pub mod EndsInLists
 pub mod EvaluatedPeaks
 pub mod EvaluatedPlays
 pub mod EvaluatedTraces
+pub mod FewEvents
 pub mod FirstLedgers
 pub mod FlagSteps
+pub mod FoundAges
 pub mod FoundByEnds
 pub mod FoundCells
 pub mod FoundObjects
@@ -46,6 +50,7 @@ pub mod PlayedEvents
 pub mod PrintedLines
 pub mod ReadEvents
 pub mod ReadSlots
+pub mod ReleasedAreFreed
 pub mod SettledBits
 pub mod SettledLedgers
 pub mod SlotTypes

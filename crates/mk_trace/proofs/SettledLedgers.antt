@@ -2,59 +2,115 @@
 use Rattle.std.proofs.Common.{◌≡◌, ℕ, ◌+◌, ◌≤◌, ◌<◌, Bool, true, false, List, [], ◌∷◌, ◌++◌, length, get_or, take, refl}
 use Rattle.std.proofs.Common.{sym}
 use Rattle.std.proofs.Common.{◌∙◌, ap, subst, arith}
-use Rattle.std.specs.Prelude.{◌==◌, nat_lt, if◌then◌else◌}
-use Rattle.std.proofs.lemmas.Bool.{and_from, eq-eqb}
-use Rattle.std.proofs.lemmas.Bool.Decides.{nat_tests}
+use Rattle.std.specs.Prelude.{filter, fold, map, not, if◌then◌else◌}
+use Rattle.std.proofs.lemmas.Bool.{eq-eqb}
 use Rattle.std.proofs.lemmas.List.{map-append, take_all, take_more}
 use Rattle.std.proofs.lemmas.List.Elements.{filter-append}
+use Rattle.std.proofs.lemmas.List.Sums.{fold-append}
 use Rattle.mk_trace.specs.declared.ledger.Freed.{Freed}
 use Rattle.mk_trace.specs.declared.ledger.FreedObject.{FreedObject}
-use Rattle.mk_trace.specs.declared.ledger.Quarantined.{Quarantined}
-use Rattle.mk_trace.specs.Ledgers.{Settles, SettlesWhere, is_count_same, is_freed_among, objects_in, still_kept}
+use Rattle.mk_trace.specs.Ledgers.{Settles, SettlesWhere, aged, ages_let_go, is_freed_among, objects_kept}
+use Rattle.mk_trace.specs.Ledgers.{still_kept, weighed_anew, with_one}
+use Rattle.mk_trace.proofs.NumberLists.{unequal_is}
 
-pub kept_more : (freed : List ℕ) (found : List Quarantined) (i : ℕ) (d : Quarantined) (kept now : List FreedObject)
-    (b : Bool) → i < length found → kept ≡ still_kept freed (objects_in (take i found))
-    → b ≡ is_freed_among freed (get_or found i d).object.cell
-    → now ≡ kept ++ (if b then (get_or found i d).object ∷ [] else [])
-    → now ≡ still_kept freed (objects_in (take (i + 1) found))
-kept_more freed found i d kept now b lt so_far is more =
-    let x : FreedObject = (get_or found i d).object in
+all_aged : (found : List FreedObject) (i : ℕ) (d : FreedObject) → i < length found
+    → map aged (take (i + 1) found) ≡ map aged (take i found) ++ aged (get_or found i d) ∷ []
+all_aged found i d lt =
+    ap (λ (l : List FreedObject). map aged l) (take_more found i d lt)
+    ∙ map-append aged (take i found) (get_or found i d ∷ [])
+
+pub kept_more : (freed : List ℕ) (found : List FreedObject) (i : ℕ) (d x : FreedObject) (kept now : List FreedObject)
+    (b : Bool) → i < length found → kept ≡ still_kept freed (map aged (take i found)) → x ≡ aged (get_or found i d)
+    → b ≡ is_freed_among freed (get_or found i d).cell → now ≡ kept ++ (if b then x ∷ [] else [])
+    → now ≡ still_kept freed (map aged (take (i + 1) found))
+kept_more freed found i d x kept now b lt so_far same is more =
+    let y : FreedObject = aged (get_or found i d) in
     more ∙ ap (λ (l : List FreedObject). l ++ (if b then x ∷ [] else [])) so_far
-    ∙ ap (λ (y : Bool). still_kept freed (objects_in (take i found)) ++ (if y then x ∷ [] else [])) is
-    ∙ sym (filter-append (λ (y : FreedObject). is_freed_among freed y.cell) (objects_in (take i found)) (x ∷ []))
-    ∙ ap (λ (l : List FreedObject). still_kept freed l)
-    (sym (map-append (λ (y : Quarantined). y.object) (take i found) (get_or found i d ∷ [])))
-    ∙ ap (λ (l : List Quarantined). still_kept freed (objects_in l)) (sym (take_more found i d lt))
+    ∙ ap (λ (z : FreedObject). still_kept freed (map aged (take i found)) ++ (if b then z ∷ [] else [])) same
+    ∙ ap (λ (z : Bool). still_kept freed (map aged (take i found)) ++ (if z then y ∷ [] else [])) is
+    ∙ sym (filter-append (λ (z : FreedObject). is_freed_among freed z.cell) (map aged (take i found)) (y ∷ []))
+    ∙ ap (λ (l : List FreedObject). still_kept freed l) (sym (all_aged found i d lt))
 
-pub kept_all : (freed : List ℕ) (found : List Quarantined) (i : ℕ) (kept : List FreedObject) → length found ≤ i
-    → kept ≡ still_kept freed (objects_in (take i found)) → kept ≡ still_kept freed (objects_in found)
+pub kept_all : (freed : List ℕ) (found : List FreedObject) (i : ℕ) (kept : List FreedObject) → length found ≤ i
+    → kept ≡ still_kept freed (map aged (take i found)) → kept ≡ still_kept freed (map aged found)
 kept_all freed found i kept all is =
-    is ∙ ap (λ (l : List Quarantined). still_kept freed (objects_in l)) (take_all i found all)
+    is ∙ ap (λ (l : List FreedObject). still_kept freed (map aged l)) (take_all i found all)
 
--- whether no cycle ended that can be counted
+-- and the ages of the others
 
-pub same_count_is : (count : ℕ) (f : Freed) → count ≡ f.ends → count < 18446744073709551615
-    → is_count_same count f ≡ true
-same_count_is count f same few =
-    and_from (count == f.ends) (nat_lt count 18446744073709551615) (eq-eqb count f.ends same)
-    (grind (arith, nat_tests, few))
+let_go_one : (freed : List ℕ) (objects : List FreedObject) (x : FreedObject)
+    → ages_let_go freed (objects ++ x ∷ [])
+    ≡ ages_let_go freed objects ++ ages_let_go freed (x ∷ [])
+let_go_one freed objects x =
+    ap (λ (l : List FreedObject). map (λ (y : FreedObject). y.age) l)
+    (filter-append (λ (y : FreedObject). not (is_freed_among freed y.cell)) objects (x ∷ []))
+    ∙ map-append (λ (y : FreedObject). y.age)
+    (filter (λ (y : FreedObject). not (is_freed_among freed y.cell)) objects)
+    (filter (λ (y : FreedObject). not (is_freed_among freed y.cell)) (x ∷ []))
+
+one_by : (pairs : List (ℕ × ℕ)) (x : FreedObject) (b : Bool)
+    → (if b then pairs else with_one pairs x.age)
+    ≡ fold with_one pairs (map (λ (y : FreedObject). y.age) (if not b then x ∷ [] else []))
+one_by pairs x true = refl
+one_by pairs x false = refl
+
+pub ages_more : (freed : List ℕ) (found : List FreedObject) (i : ℕ) (d x : FreedObject)
+    (first ages now : List (ℕ × ℕ)) (b : Bool) → i < length found
+    → ages ≡ fold with_one first (ages_let_go freed (map aged (take i found))) → x ≡ aged (get_or found i d)
+    → b ≡ is_freed_among freed (get_or found i d).cell → now ≡ (if b then ages else with_one ages x.age)
+    → now ≡ fold with_one first (ages_let_go freed (map aged (take (i + 1) found)))
+ages_more freed found i d x first ages now b lt so_far same is more =
+    let y : FreedObject = aged (get_or found i d) in
+    let before : List ℕ = ages_let_go freed (map aged (take i found)) in
+    more ∙ ap (λ (l : List (ℕ × ℕ)). if b then l else with_one l x.age) so_far
+    ∙ ap (λ (z : FreedObject). if b then fold with_one first before else with_one (fold with_one first before) z.age)
+    same
+    ∙ ap (λ (z : Bool). if z then fold with_one first before else with_one (fold with_one first before) y.age) is
+    ∙ one_by (fold with_one first before) y (is_freed_among freed y.cell)
+    ∙ sym (fold-append with_one first before (ages_let_go freed (y ∷ [])))
+    ∙ ap (λ (l : List ℕ). fold with_one first l) (sym (let_go_one freed (map aged (take i found)) y))
+    ∙ ap (λ (l : List FreedObject). fold with_one first (ages_let_go freed l)) (sym (all_aged found i d lt))
+
+pub ages_all : (freed : List ℕ) (found : List FreedObject) (i : ℕ) (first ages : List (ℕ × ℕ)) → length found ≤ i
+    → ages ≡ fold with_one first (ages_let_go freed (map aged (take i found)))
+    → ages ≡ fold with_one first (ages_let_go freed (map aged found))
+ages_all freed found i first ages all is =
+    is ∙ ap (λ (l : List FreedObject). fold with_one first (ages_let_go freed (map aged l))) (take_all i found all)
+
+-- All of it
 
 pub settles_same : (freed : List ℕ) (count told : ℕ) (f : Freed) → count ≡ told → count ≡ f.ends
-    → count < 18446744073709551615 → Settles freed told f f
-settles_same freed count told f is same few =
+    → Settles freed told f f
+settles_same freed count told f is same =
     subst (λ (n : ℕ). Settles freed n f f) is
     (record {
       ends = sym same;
-      objects = subst (λ (b : Bool). SettlesWhere b freed f f) (sym (same_count_is count f same few))
-          (refl, refl, refl);
+      objects = subst (λ (b : Bool). SettlesWhere b freed f f) (sym (eq-eqb count f.ends same))
+          (refl, refl, refl, refl);
     })
 
-pub settles_anew : (freed : List ℕ) (count told : ℕ) (old new : Freed) → count ≡ told
-    → is_count_same count old ≡ false → SettlesWhere false freed old new → new.ends ≡ count
-    → Settles freed told old new
-settles_anew freed count told old new is other objects ends =
+pub settles_anew : (freed shown : List ℕ) (count told : ℕ) (old new : Freed) (found kept : List FreedObject)
+    → shown ≡ freed → count ≡ told → (count ≡ old.ends → ⊥) → found ≡ objects_kept old
+    → kept ≡ still_kept shown (map aged found)
+    → new.quarantined ≡ weighed_anew (λ (x : FreedObject). x.storage) kept old.quarantined
+    → new.reserved ≡ weighed_anew (λ (x : FreedObject). x.reserved) kept old.reserved
+    → objects_kept new ≡ kept
+    → new.ages.items ≡ fold with_one old.ages.items (ages_let_go shown (map aged found))
+    → new.ends ≡ count → Settles freed told old new
+settles_anew freed shown count told old new found kept at is other all still quarantined reserved objects ages ends =
+    let kept_is : kept ≡ still_kept freed (map aged (objects_kept old)) =
+    still ∙ ap (λ (l : List ℕ). still_kept l (map aged found)) at
+    ∙ ap (λ (l : List FreedObject). still_kept freed (map aged l)) all in
     subst (λ (n : ℕ). Settles freed n old new) is
     (record {
       ends = ends;
-      objects = subst (λ (b : Bool). SettlesWhere b freed old new) (sym other) objects;
+      objects = subst (λ (b : Bool). SettlesWhere b freed old new) (sym (unequal_is count old.ends other)) (
+        quarantined
+            ∙ ap (λ (l : List FreedObject). weighed_anew (λ (x : FreedObject). x.storage) l old.quarantined) kept_is,
+        reserved
+            ∙ ap (λ (l : List FreedObject). weighed_anew (λ (x : FreedObject). x.reserved) l old.reserved) kept_is,
+        objects ∙ kept_is,
+        ages ∙ ap (λ (l : List ℕ). fold with_one old.ages.items (ages_let_go l (map aged found))) at
+            ∙ ap (λ (l : List FreedObject). fold with_one old.ages.items (ages_let_go freed (map aged l))) all,
+      );
     })

@@ -1,6 +1,7 @@
 //! The calls of the one caller of a heap. Between them the host has its seat, and so has seen all.
-ghost use Rattle.std.specs.Prelude.{◌≡◌, ◌<◌, length, IfOk, false};
+ghost use Rattle.std.specs.Prelude.{◌≡◌, ◌+◌, ◌<◌, ◌≤◌, length, IfOk, false};
 ghost use Rattle.mk_core.specs.Calls.{is_under_turn};
+ghost use Rattle.mk_core.specs.Counts.{ends};
 ghost use Rattle.mk_core.specs.History.{never_behind};
 ghost use Rattle.mk_trace.specs.Calls.{IsHome, MayCome, MayBePlayed, Calls, PlaysEvent, most_held, HoldsMostAtEnd};
 ghost use Rattle.mk_trace.specs.Ends.{EndsTell, IsIdle, LeavesAllocations};
@@ -72,6 +73,7 @@ fn answer<E: Engine, R: Threads + Wait + Sync>(
     requires off { E.on ≡ false }
     requires home { IsHome heap.now host.old }
     requires idle { IsIdle heap.now.config host.old.pass.seen }
+    requires few { ends host.old.pass.seen < 18446744073709551615 }
     requires admitted { MayCome heap.now.config host.old.pass.seen op }
     requires made_for { E.made_for bench.old.engine ≡ heap.now.config.pages }
     requires book { length bench.old.book ≡ heap.now.config.pages }
@@ -83,6 +85,7 @@ fn answer<E: Engine, R: Threads + Wait + Sync>(
     ensures book { length bench.new.book ≡ length bench.old.book }
     ensures calls { IfOk result (λ told. Calls heap.now.config host.old.pass.seen op told host.new.pass.seen) }
     ensures held { IfOk result (λ told. ledger.new.held ≡ most_held heap.now.config host.new.pass.seen) }
+    ensures ends { IfOk result (λ told. ends host.new.pass.seen ≤ ends host.old.pass.seen + 1) }
     ensures keeps { IfOk result (λ told. Keeps heap.now.config host.new.pass.seen ledger.new.freed) }
 {
     let freed = object_to_free(rt, heap, host, slot, op);
@@ -110,6 +113,7 @@ pub(crate) fn refuses<E: Engine, R: Threads + Wait + Sync>(
     requires off { E.on ≡ false }
     requires home { IsHome heap.now host.old }
     requires idle { IsIdle heap.now.config host.old.pass.seen }
+    requires few { ends host.old.pass.seen + 6 < 18446744073709551615 }
     requires admitted { MayBePlayed heap.now.config host.old.pass.seen event }
     requires frees { FreesItsSlot (never_behind heap.now.config host.old.pass.seen) event }
     requires made_for { E.made_for bench.old.engine ≡ heap.now.config.pages }
@@ -123,6 +127,7 @@ pub(crate) fn refuses<E: Engine, R: Threads + Wait + Sync>(
     ensures plays { IfOk result (λ refused.
         PlaysEvent heap.now.config host.old.pass.seen event refused host.new.pass.seen) }
     ensures held { IfOk result (λ refused. ledger.new.held ≡ most_held heap.now.config host.new.pass.seen) }
+    ensures ends { IfOk result (λ refused. ends host.new.pass.seen ≤ ends host.old.pass.seen + 6) }
     ensures keeps { IfOk result (λ refused. Keeps heap.now.config host.new.pass.seen ledger.new.freed) }
 {
     let slot = event.slot();

@@ -3,7 +3,7 @@
 
 ghost use Rattle.std.specs.Prelude.{◌≡◌, ◌<◌, [], nat_le, not, sum_by, if◌then◌else◌, OnOk};
 ghost use Rattle.mk_core.specs.Counts.{in_a_word};
-ghost use Rattle.mk_trace.specs.Ledgers.{Notes, objects_kept, risen, weighed_anew, objects_in};
+ghost use Rattle.mk_trace.specs.Ledgers.{Notes, aged, objects_kept, risen, weighed_anew, with_one};
 
 use mk_geom::Cell;
 use mk_never::NoMemory;
@@ -32,12 +32,14 @@ impl Peak {
     }
 }
 
-/// A freed object: its cell, the words of its storage, and those of a large object's, whose addresses stay reserved.
+/// A freed object: its cell, the words of its storage, those of a large object's, whose addresses stay
+/// reserved, and how many cycles have ended since it was freed.
 #[derive(Clone, Copy)]
 pub(crate) struct FreedObject {
     pub(crate) cell: Cell,
     pub(crate) storage: u64,
     pub(crate) reserved: u64,
+    pub(crate) age: u64,
 }
 
 impl FreedObject {
@@ -45,28 +47,27 @@ impl FreedObject {
         ensures cell { result.cell ≡ cell }
         ensures storage { result.storage ≡ storage }
         ensures reserved { result.reserved ≡ (if not (nat_le storage 32) then storage else 0) }
+        ensures age { result.age ≡ 0 }
     {
         let reserved = if storage > 32 { storage } else { 0 };
         FreedObject {
             cell,
             storage,
             reserved,
+            age: 0,
         }
     }
-}
 
-/// A freed object that isn't released yet.
-#[derive(Clone, Copy)]
-pub(crate) struct Quarantined {
-    pub(crate) object: FreedObject,
-    /// How many cycles had ended when it was freed.
-    ends: u64,
-}
-
-impl Quarantined {
-    /// Its age, where so many have ended now.
-    pub(crate) fn age(&self, ends: u64) -> u64 {
-        ends.saturating_sub(self.ends)
+    /// It, where one more cycle has ended.
+    pub(crate) fn aged(self) -> FreedObject
+        ensures { result ≡ aged self }
+    {
+        FreedObject {
+            cell: self.cell,
+            storage: self.storage,
+            reserved: self.reserved,
+            age: self.age.saturating_add(1),
+        }
     }
 }
 
@@ -75,7 +76,8 @@ impl Quarantined {
 pub(crate) struct Freed {
     pub(crate) quarantined: Peak,
     pub(crate) reserved: Peak,
-    pub(crate) quarantine: Vec<Quarantined>,
+    /// Those that aren't released yet.
+    pub(crate) quarantine: Vec<FreedObject>,
     /// How many cycles have ended.
     pub(crate) ends: u64,
     /// Ages, ascending, and how many objects were released at each.
@@ -87,6 +89,7 @@ impl Freed {
         ensures quarantined { result.quarantined ≡ record { now = 0; most = 0 } }
         ensures reserved { result.reserved ≡ record { now = 0; most = 0 } }
         ensures objects { objects_kept result ≡ [] }
+        ensures ages { result.ages.items ≡ [] }
         ensures ends { result.ends ≡ 0 }
     {
         Freed {
@@ -106,8 +109,7 @@ impl Freed {
             Some(object) => {
                 self.quarantined.rise(object.storage);
                 self.reserved.rise(object.reserved);
-                let ends = self.ends;
-                Ok(self.quarantine.push(Quarantined { object, ends })?)
+                Ok(self.quarantine.push(object)?)
             }
             None => {
                 self.quarantined.rise(0);
@@ -118,12 +120,13 @@ impl Freed {
     }
 
     /// These are left, where so many cycles have ended.
-    pub(crate) fn keep(&mut self, kept: Vec<Quarantined>, ends: u64)
+    pub(crate) fn keep(&mut self, kept: Vec<FreedObject>, ends: u64)
         ensures quarantined { self.new.quarantined
-            ≡ weighed_anew (λ object. object.storage) (objects_in kept.items) self.old.quarantined }
+            ≡ weighed_anew (λ object. object.storage) kept.items self.old.quarantined }
         ensures reserved { self.new.reserved
-            ≡ weighed_anew (λ object. object.reserved) (objects_in kept.items) self.old.reserved }
-        ensures objects { objects_kept self.new ≡ objects_in kept.items }
+            ≡ weighed_anew (λ object. object.reserved) kept.items self.old.reserved }
+        ensures objects { objects_kept self.new ≡ kept.items }
+        ensures ages { self.new.ages.items ≡ self.old.ages.items }
         ensures ends { self.new.ends ≡ ends }
     {
         self.quarantined.now = storage_of(kept.as_slice());
@@ -134,23 +137,23 @@ impl Freed {
 }
 
 /// The words of their storage.
-fn storage_of(kept: &[Quarantined]) -> u64
-    ensures { result ≡ in_a_word (sum_by (λ object. object.storage) (objects_in kept.now)) }
+fn storage_of(kept: &[FreedObject]) -> u64
+    ensures { result ≡ in_a_word (sum_by (λ object. object.storage) kept.now) }
 {
     let mut words: u64 = 0;
-    for quarantined in kept {
-        words = words.saturating_add(quarantined.object.storage);
+    for object in kept {
+        words = words.saturating_add(object.storage);
     }
     words
 }
 
 /// Those of the large ones.
-fn reserved_of(kept: &[Quarantined]) -> u64
-    ensures { result ≡ in_a_word (sum_by (λ object. object.reserved) (objects_in kept.now)) }
+fn reserved_of(kept: &[FreedObject]) -> u64
+    ensures { result ≡ in_a_word (sum_by (λ object. object.reserved) kept.now) }
 {
     let mut words: u64 = 0;
-    for quarantined in kept {
-        words = words.saturating_add(quarantined.object.reserved);
+    for object in kept {
+        words = words.saturating_add(object.reserved);
     }
     words
 }
@@ -168,6 +171,7 @@ impl Ledger {
         ensures quarantined { result.freed.quarantined ≡ record { now = 0; most = 0 } }
         ensures reserved { result.freed.reserved ≡ record { now = 0; most = 0 } }
         ensures objects { objects_kept result.freed ≡ [] }
+        ensures ages { result.freed.ages.items ≡ [] }
         ensures ends { result.freed.ends ≡ 0 }
     {
         Ledger {
@@ -185,7 +189,9 @@ impl Ledger {
 }
 
 /// Counts one more of an age among pairs of an age and how many have it, ascending.
-pub(crate) fn count_age(ages: &mut Vec<(u64, u64)>, age: u64) -> Result<(), NoMemory> {
+pub(crate) fn count_age(ages: &mut Vec<(u64, u64)>, age: u64) -> Result<(), NoMemory>
+    ensures { OnOk result (ages.new.items ≡ with_one ages.old.items age) }
+{
     for place in 0..ages.len() {
         let (found, count) = ages[place];
         if age == found {

@@ -1,13 +1,14 @@
 //! Playing traces.
-ghost use Rattle.std.specs.Prelude.{◌≡◌, ◌+◌, ◌<◌, [], false, length, if◌then◌else◌, IfOk};
+ghost use Rattle.std.specs.Prelude.{◌≡◌, ◌+◌, ◌<◌, ◌≤◌, [], false, length, if◌then◌else◌, IfOk};
 ghost use Rattle.mk_core.specs.Config.{IsWithinLimits};
+ghost use Rattle.mk_core.specs.Counts.{ends};
 ghost use Rattle.mk_core.specs.History.{never_behind};
 ghost use Rattle.mk_trace.specs.Calls.{IsHome, AreNull, SameCalls, PlaysEvent, HasPlayed, most_held};
 ghost use Rattle.mk_trace.specs.Ends.{IsIdle};
 ghost use Rattle.mk_trace.specs.Laws.{IsEventOf};
 ghost use Rattle.mk_trace.specs.Ledgers.{Keeps};
 ghost use Rattle.mk_trace.specs.Playing as spec;
-ghost use Rattle.mk_trace.specs.Playing.{history_of, IsPlayed, AreCounted};
+ghost use Rattle.mk_trace.specs.Playing.{history_of, IsPlayed, AreCounted, ArePeaks};
 ghost use Rattle.mk_trace.specs.Playing.{IsMostHeld, IsMostQuarantined, IsMostReserved};
 
 use crate::calls::refuses;
@@ -39,6 +40,7 @@ fn play_event<E: Engine, R: Threads + Wait + Sync>(
     requires off { E.on ≡ false }
     requires home { IsHome heap.now host.old }
     requires idle { IsIdle heap.now.config host.old.pass.seen }
+    requires few { ends host.old.pass.seen + 6 < 18446744073709551615 }
     requires null { AreNull (never_behind heap.now.config host.old.pass.seen) }
     requires event { IsEventOf trace.now.slots event }
     requires made_for { E.made_for bench.old.engine ≡ heap.now.config.pages }
@@ -52,6 +54,7 @@ fn play_event<E: Engine, R: Threads + Wait + Sync>(
     ensures plays { IfOk result (λ refused.
         PlaysEvent heap.now.config host.old.pass.seen event refused host.new.pass.seen) }
     ensures held { IfOk result (λ refused. ledger.new.held ≡ most_held heap.now.config host.new.pass.seen) }
+    ensures ends { IfOk result (λ refused. ends host.new.pass.seen ≤ ends host.old.pass.seen + 6) }
     ensures keeps { IfOk result (λ refused. Keeps heap.now.config host.new.pass.seen ledger.new.freed) }
 {
     host.is_in_order();
@@ -97,6 +100,7 @@ fn play_events<E: Engine, R: Threads + Wait + Sync>(
     requires off { E.on ≡ false }
     requires home { IsHome heap.now host.old }
     requires idle { IsIdle heap.now.config host.old.pass.seen }
+    requires none_ended { ends host.old.pass.seen ≡ 0 }
     requires no_call { SameCalls heap.now.config [] host.old.pass.seen }
     requires made_for { E.made_for bench.old.engine ≡ heap.now.config.pages }
     requires book { length bench.old.book ≡ heap.now.config.pages }
@@ -129,6 +133,7 @@ fn play_by<E: Engine, R: Threads + Wait + Sync>(
     ensures held { IfOk result (λ peaks. IsMostHeld trace.now (history_of peaks) peaks) }
     ensures quarantined { IfOk result (λ peaks. IsMostQuarantined trace.now (history_of peaks) peaks) }
     ensures reserved { IfOk result (λ peaks. IsMostReserved trace.now (history_of peaks) peaks) }
+    ensures peaks { IfOk result (λ peaks. ArePeaks trace.now (history_of peaks) peaks) }
 {
     let config = config_of(alloc, trace)?;
     let mut bench: Bench<E> = Bench::new(alloc, config.pages)?;
@@ -161,6 +166,7 @@ pub fn play<R: Threads + Wait + Sync>(
     ensures held { IfOk result (λ peaks. IsMostHeld trace.now (history_of peaks) peaks) }
     ensures quarantined { IfOk result (λ peaks. IsMostQuarantined trace.now (history_of peaks) peaks) }
     ensures reserved { IfOk result (λ peaks. IsMostReserved trace.now (history_of peaks) peaks) }
+    ensures peaks { IfOk result (λ peaks. ArePeaks trace.now (history_of peaks) peaks) }
 {
     play_by::<StopEngine, R>(rt, alloc, trace)
 }

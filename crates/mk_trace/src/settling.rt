@@ -1,12 +1,12 @@
 //! What a call has freed and released is noted.
-ghost use Rattle.std.specs.Prelude.{◌≡◌, ◌∷◌, ◌++◌, [], if◌then◌else◌, IfOk, OnOk};
+ghost use Rattle.std.specs.Prelude.{◌≡◌, ◌∷◌, ◌++◌, [], fold, map, if◌then◌else◌, IfOk, OnOk};
 ghost use Rattle.mk_core.specs.Counts.{ends, in_a_word};
 ghost use Rattle.mk_core.specs.History.{left};
 ghost use Rattle.mk_trace.specs.Calls.{IsHome};
-ghost use Rattle.mk_trace.specs.Ledgers.{Settles, objects_in, still_kept};
+ghost use Rattle.mk_trace.specs.Ledgers.{Settles, aged, ages_let_go, still_kept, with_one};
 ghost use Rattle.mk_trace.specs.Looking.{OnlyLooks};
 
-use crate::ledger::{Freed, Quarantined, count_age};
+use crate::ledger::{Freed, FreedObject, count_age};
 use crate::looking::{is_quarantined, look};
 use mk_core::Word;
 use mk_heap::{Heap, Host};
@@ -17,42 +17,43 @@ use std::sync::Wait;
 
 /// Keeps an object that is quarantined yet, and counts the age of another.
 fn keep_or_count(
-    kept: &mut Vec<Quarantined>,
+    kept: &mut Vec<FreedObject>,
     ages: &mut Vec<(u64, u64)>,
-    object: Quarantined,
+    object: FreedObject,
     is_kept: bool,
-    count: u64,
 ) -> Result<(), NoMemory>
-    ensures { OnOk result (objects_in kept.new.items
-        ≡ objects_in kept.old.items ++ (if is_kept then object.object ∷ [] else [])) }
+    ensures kept { OnOk result (kept.new.items ≡ kept.old.items ++ (if is_kept then object ∷ [] else [])) }
+    ensures ages { OnOk result (ages.new.items
+        ≡ (if is_kept then ages.old.items else with_one ages.old.items object.age)) }
 {
     if is_kept {
         Ok(kept.push(object)?)
     } else {
-        count_age(ages, object.age(count))
+        count_age(ages, object.age)
     }
 }
 
-/// Those of the objects that are quarantined yet, behind so many ends. The others' ages are counted.
+/// Those of the objects that are quarantined yet, behind one more end. The others' ages are counted.
 fn keep_quarantined<R: Wait>(
     rt: &R,
     alloc: Global,
     heap: &Heap,
     host: &mut Host,
-    found: &[Quarantined],
+    found: &[FreedObject],
     ages: &mut Vec<(u64, u64)>,
-    count: u64,
-) -> Result<Vec<Quarantined>, NoMemory>
+) -> Result<Vec<FreedObject>, NoMemory>
     requires home { IsHome heap.now host.old }
     ensures home { IsHome heap.now host.new }
     ensures looks { OnlyLooks heap.now.config host.old.pass.seen host.new.pass.seen }
-    ensures kept { IfOk result (λ kept. objects_in kept.items
-        ≡ still_kept (left heap.now.config host.old.pass.seen).now.words.freed (objects_in found.now)) }
+    ensures kept { IfOk result (λ kept. kept.items
+        ≡ still_kept (left heap.now.config host.old.pass.seen).now.words.freed (map aged found.now)) }
+    ensures ages { IfOk result (λ kept. ages.new.items ≡ fold with_one ages.old.items
+        (ages_let_go (left heap.now.config host.old.pass.seen).now.words.freed (map aged found.now))) }
 {
     let mut kept = Vec::new(alloc);
     for object in found {
-        let is_kept = is_quarantined(rt, heap, host, object.object.cell);
-        keep_or_count(&mut kept, ages, *object, is_kept, count)?;
+        let is_kept = is_quarantined(rt, heap, host, object.cell);
+        keep_or_count(&mut kept, ages, object.aged(), is_kept)?;
     }
     Ok(kept)
 }
@@ -72,19 +73,11 @@ pub(crate) fn settle<R: Wait>(
         (in_a_word (ends host.old.pass.seen)) freed.old freed.new) }
 {
     let count = look(rt, heap, host, Word::Cycles);
-    if count == freed.ends && count < u64::MAX {
+    if count == freed.ends {
         return Ok(());
     }
     let found = mem::replace(&mut freed.quarantine, Vec::new(alloc));
-    let kept = keep_quarantined(
-        rt,
-        alloc,
-        heap,
-        host,
-        found.as_slice(),
-        &mut freed.ages,
-        count,
-    )?;
+    let kept = keep_quarantined(rt, alloc, heap, host, found.as_slice(), &mut freed.ages)?;
     freed.keep(kept, count);
     Ok(())
 }

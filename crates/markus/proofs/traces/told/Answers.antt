@@ -10,10 +10,7 @@ returns g c =
       history = history_of c.in_ok-peaks.peaks;
       played = c.in_ok-peaks.ensures.played;
       peaks = c.in_ok-peaks.peaks;
-      are_counted = c.in_ok-peaks.ensures.counted;
-      most_held = c.in_ok-peaks.ensures.held;
-      most_quarantined = c.in_ok-peaks.ensures.quarantined;
-      most_reserved = c.in_ok-peaks.ensures.reserved;
+      are_peaks = c.in_ok-peaks.ensures.peaks;
       output_is = are;
     })
     c.print_peaks.ensures

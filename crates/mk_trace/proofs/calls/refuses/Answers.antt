@@ -7,6 +7,7 @@ use Rattle.mk_core.specs.History.{never_behind}
 use Rattle.mk_trace.specs.Freeing.{FreesSlot}
 use Rattle.mk_trace.proofs.FreedSlots.{frees_now}
 use Rattle.mk_trace.proofs.LaterOps.{called_all, called_first, called_one_more, may_come_now}
+use Rattle.mk_trace.proofs.FewEvents.{few_later}
 use Rattle.mk_trace.proofs.calls.refuses.Goals as goal
 
 pub loop-op-init : goal.loop-op-init
@@ -16,6 +17,7 @@ loop-op-init g c = record {
   made_for = c.answer.ensures.made_for;
   book = c.answer.ensures.book;
   held = c.in_ok-first.ensures.held;
+  ends = (let first = c.in_ok-first.ensures.ends in omega (arith, first));
   keeps = c.in_ok-first.ensures.keeps;
   calls =
       called_first c.args.heap.now.config c.args.host.now.pass.seen c.args.event c.first_op.result c.in_ok-first.first
@@ -45,6 +47,22 @@ answer-requires-in-loop-op-clause-admitted g c κs within =
     may_come_now c.args.heap.now.config c.args.host.now.pass.seen c.args.event ops i c.loop-op.refused
     c.loop-op.host.pass.seen c.loop-op.invariant.calls o c.loop-op-test.true there c.requires.admitted
 
+pub answer-requires-in-loop-op-clause-few : goal.answer-requires-in-loop-op-clause-few
+answer-requires-in-loop-op-clause-few g c κs within =
+    let so_far = c.loop-op.invariant.ends in
+    let count = few_later c.is_full.result c.args.event c.deref-op-items.result.now
+    (c.deref-op-items.ensures.value ∙ c.in_ok-ops.ensures) in
+    let inside = c.loop-op-test.true in
+    let few = c.requires.few in
+    omega (arith, so_far, count, inside, few)
+
+pub returns-clause-ends : goal.returns-clause-ends
+returns-clause-ends g c =
+    let so_far = c.loop-op.invariant.ends in
+    let count = few_later c.is_full.result c.args.event c.deref-op-items.result.now
+    (c.deref-op-items.ensures.value ∙ c.in_ok-ops.ensures) in
+    omega (arith, so_far, count)
+
 pub loop-op-preserved : goal.loop-op-preserved
 loop-op-preserved g c =
     let ops : List Op = c.deref-op-items.result.now in
@@ -57,6 +75,9 @@ loop-op-preserved g c =
       made_for = c.answer-in-loop-op.ensures.made_for ∙ c.loop-op.invariant.made_for;
       book = c.answer-in-loop-op.ensures.book ∙ c.loop-op.invariant.book;
       held = c.in_ok-later.ensures.held;
+      ends =
+          (let so_far = c.loop-op.invariant.ends in
+          let one = c.in_ok-later.ensures.ends in omega (arith, so_far, one));
       keeps = c.in_ok-later.ensures.keeps;
       calls =
           called_one_more c.args.heap.now.config c.args.host.now.pass.seen c.args.event ops i c.loop-op.refused

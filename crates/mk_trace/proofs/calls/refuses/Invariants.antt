@@ -1,5 +1,6 @@
-use Rattle.std.proofs.Common.{◌≡◌, length}
+use Rattle.std.proofs.Common.{◌≡◌, ◌+◌, ◌≤◌, length}
 use Rattle.mk_trace.specs.Calls.{IsHome, most_held}
+use Rattle.mk_core.specs.Counts.{ends}
 use Rattle.mk_trace.specs.Ends.{IsIdle}
 use Rattle.mk_trace.specs.Ledgers.{Keeps}
 use Rattle.mk_trace.proofs.LaterOps.{AreCalled}
@@ -13,6 +14,7 @@ invariant-loop-op g l = record {
   made_for : g.E.Engine.made_for l.bench.engine ≡ g.E.Engine.made_for l.fn.bench.engine;
   book : length l.bench.book ≡ length l.fn.bench.book;
   held : l.ledger.held ≡ most_held l.heap.config l.host.pass.seen;
+  ends : ends l.host.pass.seen ≤ ends l.fn.host.pass.seen + 1 + l.op-index;
   keeps : Keeps l.heap.config l.host.pass.seen l.ledger.freed;
   calls : AreCalled l.heap.config l.fn.host.pass.seen l.fn.event l.op-items l.op-index l.refused l.host.pass.seen;
 }

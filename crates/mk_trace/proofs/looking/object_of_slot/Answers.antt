@@ -69,3 +69,4 @@ returns-else-is_quarantined-clause-finds g c =
     (c.look-header.ensures.tells ∙ header_looked d es c.cell_at.new.host.pass.seen two c.in-Some.cell.page))
     (c.new.ensures.reserved
     ∙ ap (λ (n : ℕ). if not (nat_le n 32) then n else 0) (sym c.new.ensures.storage))
+    c.new.ensures.age

@@ -1,13 +1,15 @@
-use Rattle.std.proofs.Common.{◌∙◌, subst, arith}
+use Rattle.std.proofs.Common.{◌∙◌, List, ap, length, subst, arith}
 use Rattle.std.specs.Prelude.{take}
 use Rattle.mk_core.specs.History.{IsHistory}
 use Rattle.mk_words.specs.States.{WordsState}
 use Rattle.mk_heap.specs.Hosts.{HostState}
+use Rattle.mk_trace.proofs.FewEvents.{few_events}
 use Rattle.mk_trace.proofs.Playable.{is_playable}
 use Rattle.mk_trace.proofs.Played.{event_at, next_played, null_between, one_counted, still_few, played_all}
 use Rattle.mk_trace.proofs.Played.{played_first}
 use Rattle.std.proofs.Common.{get_or}
 use Rattle.std.proofs.lemmas.List.{get_or_default}
+use Rattle.mk_trace.specs.declared.trace.TraceEvent.{TraceEvent}
 use Rattle.mk_trace.specs.declared.trace.TraceEvent.TheVariants.{A}
 use Rattle.mk_trace.proofs.playing.play_events.Goals as goal
 
@@ -22,6 +24,7 @@ loop-event-init g c = record {
   played =
       played_first c.args.trace.now c.args.heap.now.config c.events-events.result.now c.args.host.now.pass.seen
       c.requires.config c.requires.no_call;
+  ends = (let none = c.requires.none_ended in omega (arith, none));
   few = omega arith;
 }
 
@@ -29,6 +32,14 @@ pub play_event-requires-clause-null : goal.play_event-requires-clause-null
 play_event-requires-clause-null g c κs within =
     null_between c.args.trace.now c.args.heap.now.config (take c.loop-event.event-index c.events-events.result.now)
     c.loop-event.refused c.loop-event.host.pass.seen c.requires.config c.loop-event.invariant.played
+
+pub play_event-requires-clause-few : goal.play_event-requires-clause-few
+play_event-requires-clause-few g c κs within =
+    let so_far = c.loop-event.invariant.ends in
+    let count = few_events c.args.trace.now c.events-events.ensures.of_some_text in
+    let same = ap (λ (l : List TraceEvent). length l) c.events-events.ensures.events in
+    let inside = c.loop-event-test.true in
+    omega (arith, so_far, count, same, inside)
 
 pub play_event-requires-clause-event : goal.play_event-requires-clause-event
 play_event-requires-clause-event g c κs within =
@@ -66,6 +77,9 @@ loop-event-preserved g c =
           c.events-events.ensures.events c.loop-event-test.true there)
           c.loop-event.invariant.played c.in_ok-is_refused.ensures.plays
           (one_counted is_refused c.loop-event.refused c.with_refusal-refused.result c.with_refusal-refused.ensures);
+      ends =
+          (let so_far = c.loop-event.invariant.ends in
+          let one = c.in_ok-is_refused.ensures.ends in omega (arith, so_far, one));
       few =
           still_few is_refused c.loop-event.refused c.with_refusal-refused.result c.loop-event.event-index
           c.with_refusal-refused.ensures c.loop-event.invariant.few;

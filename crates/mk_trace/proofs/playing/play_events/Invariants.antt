@@ -1,5 +1,6 @@
-use Rattle.std.proofs.Common.{◌≡◌, ◌≤◌, length}
+use Rattle.std.proofs.Common.{◌≡◌, ◌*◌, ◌≤◌, length}
 use Rattle.std.specs.Prelude.{take}
+use Rattle.mk_core.specs.Counts.{ends}
 use Rattle.mk_trace.specs.Calls.{IsHome, HasPlayed, most_held}
 use Rattle.mk_trace.specs.Ends.{IsIdle}
 use Rattle.mk_trace.specs.Ledgers.{Keeps}
@@ -15,5 +16,6 @@ invariant-loop-event g l = record {
   keeps : Keeps l.heap.config l.host.pass.seen l.ledger.freed;
   held : l.ledger.held ≡ most_held l.heap.config l.host.pass.seen;
   played : HasPlayed l.trace (take l.event-index l.events) l.refused l.host.pass.seen;
+  ends : ends l.host.pass.seen ≤ 6 * l.event-index;
   few : l.refused ≤ l.event-index;
 }

@@ -1,0 +1,115 @@
+-- A trace has few events, each has few operations, and so few cycles end.
+use Rattle.std.proofs.Common.{◌≡◌, ℕ, ◌+◌, ◌≤◌, ◌==◌, nat_le, Bool, true, false, List, [], ◌∷◌, ◌++◌}
+use Rattle.std.proofs.Common.{length, Ok, Result}
+use Rattle.std.proofs.Common.{refl, sym, ◌∙◌, ap, subst, arith}
+use Rattle.std.specs.Prelude.{drop, if◌then◌else◌}
+use Rattle.std.specs.List.{count_by, slice_split}
+use Rattle.std.proofs.lemmas.Bool.Decides.{nat_tests}
+use Rattle.std.proofs.lemmas.List.{length-append}
+use Rattle.std.proofs.lemmas.List.Splits.{length-slice_split}
+use Rattle.std.proofs.lemmas.List.Sums.{count_by-le-length}
+use Rattle.mk_never.specs.declared.operations.Op.{Op}
+use Rattle.mk_core.specs.declared.events.Event.{Event}
+use Rattle.mk_core.specs.Counts.{ends}
+use Rattle.mk_script.specs.Words.{lines_of, without_empty_last, words_of}
+use Rattle.mk_trace.specs.declared.faults.TraceStop.{TraceStop}
+use Rattle.mk_trace.specs.declared.lines.HeapPages.{HeapPages}
+use Rattle.mk_trace.specs.declared.lines.Line.{Line}
+use Rattle.mk_trace.specs.declared.lines.Line.TheVariants as line
+use Rattle.mk_trace.specs.declared.trace.TraceEvent.{TraceEvent}
+use Rattle.mk_trace.specs.declared.trace.TraceEvent.TheVariants.{A, K, F, C, W}
+use Rattle.mk_trace.specs.Grammar.{along, events_from, go_on, read_behind, text_fault_at, type_fault_at, with_event}
+use Rattle.mk_trace.specs.Grammar.{written_from}
+use Rattle.mk_trace.specs.Lines.{Written, header_of, nothing_written, with_line}
+use Rattle.mk_trace.specs.Playing.{ops_of}
+use Rattle.mk_trace.specs.Traces.{Contents, IsOfSomeText, contents_from, contents_of, trace_of_lines, words_of_slots}
+use Rattle.mk_trace.specs.Typing.{typed_event}
+use Rattle.mk_trace.proofs.Kept.{gone_on, passed_else, passed_then, then_next}
+
+-- before any event
+pub none_ended : (es : List Event) → es ≡ [] → ends es ≡ 0
+none_ended es empty = ap (λ (l : List Event). ends l) empty
+
+-- operations
+
+few_by : (full : Bool) (event : TraceEvent) → length (drop 1 (ops_of full event)) ≤ 5
+few_by true (A slot) = omega arith
+few_by false (A slot) = omega arith
+few_by true (K slot) = omega arith
+few_by false (K slot) = omega arith
+few_by full (F slot) = omega arith
+few_by full (C slot) = omega arith
+few_by full (W slot index value) = omega arith
+
+pub few_later : (full : Bool) (event : TraceEvent) (ops : List Op) → ops ≡ drop 1 (ops_of full event) → length ops ≤ 5
+few_later full event ops is = subst (λ (l : List Op). length l ≤ 5) (sym is) (few_by full event)
+
+-- What each line adds at most one to, all add to.
+along_grows : {Line Given Whole Fault : Type 0} (told : ℕ → Fault → TraceStop)
+    (read : Whole → Line → Result Given Fault) (add : Whole → Given → Whole) (measure : Whole → ℕ)
+    → ((whole : Whole) (given : Given) → measure (add whole given) ≤ measure whole + 1)
+    → (number : ℕ) (lines : List Line) (before after : Whole)
+    → along told read add number lines before ≡ Ok after → measure after ≤ measure before + length lines
+unfolding along
+along_grows {Line} {Given} {Whole} told read add measure grows number [] before after h =
+    let same : before ≡ after = cc in
+    subst (λ (whole : Whole). measure whole ≤ measure before + 0) same (omega arith)
+along_grows told read add measure grows number (line ∷ lines) before after h =
+    let parts = gone_on (told number) (read before line) _ after h in
+    let rest = along_grows told read add measure grows (number + 1) lines (add before parts.value) after parts.behind in
+    let one = grows before parts.value in
+    omega (arith, rest, one)
+
+line_adds : (before : Written) (given : Line) → length (with_line before given).events ≤ length before.events + 1
+line_adds before (line.Slot slot) = omega arith
+line_adds before (line.Event event) = let count = length-append before.events (event ∷ []) in omega (arith, count)
+
+event_adds : (before : List TraceEvent) (event : TraceEvent) → length (with_event before event) ≤ length before + 1
+event_adds before event = let count = length-append before (event ∷ []) in omega (arith, count)
+
+read : (heap : HeapPages) (written : Written) (trace : Contents) → contents_of heap written ≡ Ok trace
+    → length trace.events ≤ length written.events
+read heap written trace h =
+    let some = passed_else (length written.slots == 0) _ _ trace h in
+    let found = then_next (events_from written.slots (length written.slots + 2) written.events []) _ trace some.1 in
+    let count = along_grows type_fault_at (λ events line. typed_event written.slots line) with_event
+    (λ (l : List TraceEvent). length l) event_adds (length written.slots + 2) written.events [] found.value found.is in
+    let made = contents_from heap.pages heap.resident (words_of_slots written.slots) found.value in
+    let is : made ≡ trace = cc in
+    let few : length found.value ≤ length written.events = omega (arith, count) in
+    subst (λ (t : Contents). length t.events ≤ length written.events) is few
+
+of_lines : (lines : List (List ℕ)) (trace : Contents) → trace_of_lines lines ≡ Ok trace
+    → length trace.events ≤ length lines
+of_lines [] trace h = absurd cc
+of_lines (first ∷ lines) trace h =
+    let header = gone_on (text_fault_at 1) (header_of (words_of first)) _ trace h in
+    let written = then_next (written_from 2 lines nothing_written) _ trace header.behind in
+    let events = along_grows text_fault_at read_behind with_line (λ (w : Written). length w.events) line_adds 2 lines
+    nothing_written written.value written.is in
+    let count = read header.value written.value trace written.behind in
+    omega (arith, events, count)
+
+last_by : (b : Bool) (x : List ℕ) → length (if b then [] else x ∷ []) ≤ 1
+last_by true x = omega arith
+last_by false x = omega arith
+
+no_more : (lines : List (List ℕ)) → length (without_empty_last lines) ≤ length lines
+no_more [] = omega arith
+no_more (x ∷ []) = last_by (length x == 0) x
+no_more (x ∷ y ∷ lines) = let rest = no_more (y ∷ lines) in omega (arith, rest)
+
+few_lines : (text : List ℕ) → length (lines_of text) ≤ length text + 1
+few_lines text =
+    let parts = no_more (slice_split (λ byte. byte == 10) text) in
+    let count = length-slice_split (λ byte. byte == 10) text in
+    let newlines = count_by-le-length (λ byte. byte == 10) text in
+    omega (arith, parts, count, newlines)
+
+pub few_events : (trace : Contents) → IsOfSomeText trace → length trace.events ≤ 1048577
+few_events trace (text, h) =
+    let parts = passed_then (nat_le (length text) 1048576) _ _ trace h in
+    let short : length text ≤ 1048576 = grind (arith, nat_tests, parts.0) in
+    let lines = few_lines text in
+    let events = of_lines (lines_of text) trace parts.1 in
+    omega (arith, short, lines, events)

@@ -1,0 +1,252 @@
+-- The ages of allocations over a call: they are as they were, or one end has found them.
+use Rattle.std.proofs.Common.{◌≡◌, inl, inr, ℕ, ◌+◌, ◌≤◌, ◌<◌, Bool, true, false, List, [], ◌∷◌, ◌++◌, length, map}
+use Rattle.std.proofs.Common.{refl, sym, ◌∙◌, ap, subst, arith}
+use Rattle.std.specs.Prelude.{◌&&◌, ◌||◌, ◌==◌, not, filter, fold, Option, Some, if◌then◌else◌}
+use Rattle.std.proofs.lemmas.Bool.{and_from, and_parts, cases_Bool, cases_lt, false_from_ne_true, or_parts, true≢false}
+use Rattle.std.proofs.lemmas.List.{get_or_past, map-append}
+use Rattle.std.proofs.lemmas.List.Folds.{list_any-append}
+use Rattle.mk_core.specs.declared.config.Config.{Config}
+use Rattle.mk_core.specs.declared.events.Event.{Event}
+use Rattle.mk_core.specs.Allocations.{PlacedAllocation, never_granted, placed_at}
+use Rattle.mk_core.specs.Counts.{in_a_word}
+use Rattle.mk_core.specs.History.{left}
+use Rattle.mk_trace.specs.Ends.{FreesNone, ReleasesNone}
+use Rattle.mk_trace.specs.Freeing.{FlagsBehind}
+use Rattle.mk_trace.specs.Ledgers.{AreAgesOf, AreFound, age_in_a_word, is_found_gone, is_gone, with_one}
+use Rattle.mk_trace.specs.Numbers.{AreThose, one_if, times}
+use Rattle.mk_trace.specs.Peaks.{age_of, counted}
+use Rattle.mk_trace.proofs.CountedAges.{counted_more}
+use Rattle.mk_trace.proofs.KeptObjects.{freed_before, maps_agree, not_out, unfreed_past, was_kept}
+use Rattle.mk_trace.proofs.NumberLists.{stands_passes, those_filtered}
+
+-- One end more
+
+on_by : (freed released : Bool) (k n : ℕ) → k ≡ n
+    → (if freed then (if released then 1 else 1 + k) else k) ≡ (if freed then (if released then 1 else 1 + n) else n)
+on_by freed released k n same = ap (λ (m : ℕ). if freed then (if released then 1 else 1 + m) else m) same
+
+age_where_unfreed : (number : ℕ) (found : List (List PlacedAllocation)) (finds : List PlacedAllocation)
+    → (placed_at finds number).freed ≡ false → age_of number (found ++ finds ∷ []) ≡ age_of number found
+age_where_unfreed number [] finds unfreed =
+    ap (λ (b : Bool). if b then (if (placed_at finds number).released then 1 else 1 + 0) else 0) unfreed
+age_where_unfreed number (first ∷ found) finds unfreed =
+    on_by (placed_at first number).freed (placed_at first number).released _ _
+    (age_where_unfreed number found finds unfreed)
+
+gone_by : (freed released later : Bool) (k n : ℕ) → ((freed && released) || later) ≡ true → (later ≡ true → k ≡ n)
+    → (if freed then (if released then 1 else 1 + k) else k) ≡ (if freed then (if released then 1 else 1 + n) else n)
+gone_by true true later k n gone same = refl
+gone_by true false later k n gone same = ap (λ (m : ℕ). 1 + m) (same gone)
+gone_by false released later k n gone same = same gone
+
+age_where_gone : (number : ℕ) (found : List (List PlacedAllocation)) (finds : List PlacedAllocation)
+    → is_found_gone found number ≡ true → age_of number (found ++ finds ∷ []) ≡ age_of number found
+age_where_gone number [] finds gone = absurd (true≢false (sym gone))
+age_where_gone number (first ∷ found) finds gone =
+    gone_by (placed_at first number).freed (placed_at first number).released (is_found_gone found number) _ _ gone
+    (age_where_gone number found finds)
+
+first_age : (freed released : Bool) → freed ≡ true → (if freed then (if released then 1 else 1 + 0) else 0) ≡ 0 + 1
+first_age true true is = refl
+first_age true false is = refl
+first_age false released is = absurd (true≢false (sym is))
+
+kept_by : (freed released : Bool) (k n : ℕ) → (freed && released) ≡ false → k ≡ n + 1
+    → (if freed then (if released then 1 else 1 + k) else k)
+    ≡ (if freed then (if released then 1 else 1 + n) else n) + 1
+kept_by true true k n kept same = absurd (true≢false kept)
+kept_by true false k n kept same = omega (arith, same)
+kept_by false released k n kept same = same
+
+age_where_kept : (number : ℕ) (found : List (List PlacedAllocation)) (finds : List PlacedAllocation)
+    → is_found_gone found number ≡ false → (placed_at finds number).freed ≡ true
+    → age_of number (found ++ finds ∷ []) ≡ age_of number found + 1
+age_where_kept number [] finds kept freed =
+    first_age (placed_at finds number).freed (placed_at finds number).released freed
+age_where_kept number (first ∷ found) finds kept freed =
+    let parts = or_parts (is_gone (placed_at first number)) (is_found_gone found number) kept in
+    kept_by (placed_at first number).freed (placed_at first number).released _ _ parts.0
+    (age_where_kept number found finds parts.1 freed)
+
+-- Flags
+
+none_both : (b : Bool) → (b && false) ≡ false
+none_both true = refl
+none_both false = refl
+
+absorbs : (a b : Bool) → (a ≡ true → b ≡ true) → (a || (b || false)) ≡ b
+absorbs true b is = sym (is refl)
+absorbs false true is = refl
+absorbs false false is = refl
+
+sums : (freed released now gone : Bool) → (released ≡ true → (now ≡ freed) × (gone ≡ true))
+    → one_if (freed && released) + one_if (gone && (now && not released)) ≡ one_if (now && gone)
+sums true true true true is = refl
+sums true true true false is = absurd (true≢false (sym (is refl).1))
+sums true true false gone is = absurd (true≢false (sym (is refl).0))
+sums false true true gone is = absurd (true≢false (is refl).0)
+sums false true false true is = refl
+sums false true false false is = refl
+sums true false true true is = refl
+sums true false true false is = refl
+sums true false false true is = refl
+sums true false false false is = refl
+sums false false true true is = refl
+sums false false true false is = refl
+sums false false false true is = refl
+sums false false false false is = refl
+
+sums_past : (released gone : Bool)
+    → one_if (false && released) + one_if (gone && (false && not released)) ≡ one_if (false && gone)
+sums_past released true = refl
+sums_past released false = refl
+
+times_append : (i : ℕ) (numbers more : List ℕ) → times i (numbers ++ more) ≡ times i numbers + times i more
+times_append i [] more = omega arith
+times_append i (n ∷ numbers) more = omega (arith, times_append i numbers more)
+
+module _ (c : Config) (es fs : List Event) (x : Option ℕ)
+    (flags : FlagsBehind (left c es).allocations (left c fs).allocations x) where
+  abbrev xs : List PlacedAllocation
+  xs = (left c es).allocations
+
+  abbrev ys : List PlacedAllocation
+  ys = (left c fs).allocations
+
+  stays_freed : (i : ℕ) → (placed_at xs i).freed ≡ true → (placed_at ys i).freed ≡ true
+  stays_freed i freed =
+      flags.kept i (λ is. true≢false (sym freed ∙ (flags.frees i is).before)) ∙ freed
+
+  was_unfreed : (i : ℕ) → (placed_at ys i).freed ≡ false → (placed_at xs i).freed ≡ false
+  was_unfreed i unfreed =
+      false_from_ne_true (placed_at xs i).freed (λ is. true≢false (sym (stays_freed i is) ∙ unfreed))
+
+  -- What was released is as it was.
+  same_freed : (i : ℕ) → (placed_at xs i).released ≡ true → (placed_at ys i).freed ≡ (placed_at xs i).freed
+  same_freed i gone = flags.kept i (λ is. true≢false (sym gone ∙ (flags.frees i is).unreleased))
+
+  -- It was no allocation before.
+  past : (i : ℕ) → length xs ≤ i → (placed_at xs i).freed ≡ false
+  past i le = ap (λ (a : PlacedAllocation). a.freed) (get_or_past xs i never_granted le)
+
+  -- Nothing was released.
+  module _ (same : (i : ℕ) → i < length xs → (placed_at ys i).released ≡ (placed_at xs i).released) where
+    same_gone : (i : ℕ) → is_gone (placed_at xs i) ≡ is_gone (placed_at ys i)
+    same_gone i = elim (cases_lt i (length xs)) [
+      | inl lt ↦ elim (cases_Bool (placed_at xs i).released) [
+        | inl gone ↦
+            ap (λ (b : Bool). b && (placed_at xs i).released) (sym (same_freed i gone))
+            ∙ ap (λ (b : Bool). (placed_at ys i).freed && b) (sym (same i lt))
+        | inr still ↦
+            ap (λ (b : Bool). (placed_at xs i).freed && b) still ∙ none_both (placed_at xs i).freed
+            ∙ sym (ap (λ (b : Bool). (placed_at ys i).freed && b) (same i lt ∙ still)
+            ∙ none_both (placed_at ys i).freed)
+      ]
+      | inr le ↦
+          ap (λ (b : Bool). b && (placed_at xs i).released) (past i le)
+          ∙ sym (ap (λ (b : Bool). b && (placed_at ys i).released) (unfreed_past c es fs x flags i le))
+    ]
+
+    pub none_found : (found : List (List PlacedAllocation)) → AreFound found xs → AreFound found ys
+    none_found found h = record {
+      gone = λ i. h.gone i ∙ same_gone i;
+      unfreed = λ i unfreed. h.unfreed i (was_unfreed i unfreed);
+    }
+
+    pub none_ages : (found : List (List PlacedAllocation)) (pairs : List (ℕ × ℕ)) → AreAgesOf found xs pairs
+        → AreAgesOf found ys pairs
+    none_ages found pairs h = record {
+      numbers = h.numbers;
+      are = h.are;
+      those = λ i. h.those i ∙ ap (λ (b : Bool). one_if b) (same_gone i);
+    }
+
+  -- One end found these.
+  module _ (found : List (List PlacedAllocation)) (finds : List PlacedAllocation) (same : FreesNone finds ys)
+      (none : ReleasesNone finds ys) (h : AreFound found xs) where
+    abbrev later : List (List PlacedAllocation)
+    later = found ++ finds ∷ []
+
+    finds_gone : (i : ℕ) → is_gone (placed_at finds i) ≡ is_gone (placed_at ys i)
+    finds_gone i = elim (cases_lt i (length finds)) [
+      | inl lt ↦
+          ap (λ (b : Bool). b && (placed_at finds i).released) (sym (same i))
+          ∙ ap (λ (b : Bool). (placed_at ys i).freed && b) (sym (none.released i lt))
+      | inr le ↦
+          let unfreed : (placed_at finds i).freed ≡ false =
+          ap (λ (a : PlacedAllocation). a.freed) (get_or_past finds i never_granted le) in
+          ap (λ (b : Bool). b && (placed_at finds i).released) unfreed
+          ∙ sym (ap (λ (b : Bool). b && (placed_at ys i).released) (same i ∙ unfreed))
+    ]
+
+    gone_stays : (i : ℕ) → is_gone (placed_at xs i) ≡ true → is_gone (placed_at ys i) ≡ true
+    gone_stays i gone =
+        let parts = and_parts (placed_at xs i).freed (placed_at xs i).released gone in
+        let freed = stays_freed i parts.0 in
+        and_from (placed_at ys i).freed (placed_at ys i).released freed
+        (flags.later.released i (freed_before c es fs x flags i freed) parts.1)
+
+    pub one_found : AreFound later ys
+    one_found = record {
+      gone = λ i.
+          list_any-append (λ (l : List PlacedAllocation). is_gone (placed_at l i)) found (finds ∷ [])
+          ∙ ap (λ (b : Bool). b || (is_gone (placed_at finds i) || false)) (h.gone i)
+          ∙ ap (λ (b : Bool). is_gone (placed_at xs i) || (b || false)) (finds_gone i)
+          ∙ absorbs (is_gone (placed_at xs i)) (is_gone (placed_at ys i)) (gone_stays i);
+      unfreed = λ i unfreed.
+          age_where_unfreed i found finds (sym (same i) ∙ unfreed) ∙ h.unfreed i (was_unfreed i unfreed);
+    }
+
+    pub kept_age : (i : ℕ) → was_kept c es fs x flags i ≡ true → age_of i later ≡ age_of i found + 1
+    kept_age i kept =
+        let parts = and_parts (placed_at ys i).freed (not (placed_at xs i).released) kept in
+        age_where_kept i found finds
+        (h.gone i ∙ ap (λ (b : Bool). (placed_at xs i).freed && b) (not_out (placed_at xs i).released parts.1)
+        ∙ none_both (placed_at xs i).freed)
+        (sym (same i) ∙ parts.0)
+
+    one_those : (i : ℕ) → one_if (is_gone (placed_at xs i))
+        + one_if ((placed_at ys i).released && was_kept c es fs x flags i)
+        ≡ one_if (is_gone (placed_at ys i))
+    one_those i = elim (cases_lt i (length xs)) [
+      | inl lt ↦
+          sums (placed_at xs i).freed (placed_at xs i).released (placed_at ys i).freed (placed_at ys i).released
+          (λ gone. (same_freed i gone, flags.later.released i lt gone))
+      | inr le ↦
+          ap (λ (b : Bool). one_if (b && (placed_at xs i).released)
+          + one_if ((placed_at ys i).released && ((placed_at ys i).freed && not (placed_at xs i).released)))
+          (past i le)
+          ∙ ap (λ (b : Bool). one_if (false && (placed_at xs i).released)
+          + one_if ((placed_at ys i).released && (b && not (placed_at xs i).released)))
+          (unfreed_past c es fs x flags i le)
+          ∙ sums_past (placed_at xs i).released (placed_at ys i).released
+          ∙ ap (λ (b : Bool). one_if (b && (placed_at ys i).released)) (sym (unfreed_past c es fs x flags i le))
+    ]
+
+    -- The ages of those that it released are counted.
+    pub one_ages : (pairs now : List (ℕ × ℕ)) (numbers : List ℕ) → AreAgesOf found xs pairs
+        → AreThose (was_kept c es fs x flags) numbers
+        → now ≡ fold with_one pairs (map (age_in_a_word later)
+        (filter (λ (i : ℕ). (placed_at ys i).released) numbers))
+        → AreAgesOf later ys now
+    one_ages pairs now numbers ages those is =
+        let gone : ℕ → Bool = λ i. (placed_at ys i).released in
+        let rest : List ℕ = filter gone numbers in
+        let as_before : map (age_in_a_word found) ages.numbers ≡ map (age_in_a_word later) ages.numbers =
+        maps_agree (age_in_a_word found) (age_in_a_word later) ages.numbers
+        (λ i some. ap in_a_word (sym (age_where_gone i found finds
+        (h.gone i ∙ stands_passes (λ (j : ℕ). is_gone (placed_at xs j)) ages.numbers ages.those i some)))) in
+        record {
+          numbers = ages.numbers ++ rest;
+          are =
+              is ∙ ap (λ (l : List (ℕ × ℕ)). fold with_one l (map (age_in_a_word later) rest)) ages.are
+              ∙ ap (λ (l : List ℕ). fold with_one (counted l) (map (age_in_a_word later) rest)) as_before
+              ∙ counted_more (map (age_in_a_word later) ages.numbers) (map (age_in_a_word later) rest)
+              ∙ ap counted (sym (map-append (age_in_a_word later) ages.numbers rest));
+          those = λ i.
+              times_append i ages.numbers rest
+              ∙ ap (λ (n : ℕ). n + times i rest) (ages.those i)
+              ∙ ap (λ (n : ℕ). one_if (is_gone (placed_at xs i)) + n)
+              (those_filtered gone (was_kept c es fs x flags) numbers those i)
+              ∙ one_those i;
+        }
