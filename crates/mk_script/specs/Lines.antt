@@ -82,9 +82,11 @@ abbrev pub within : ℕ → ℕ → ℕ → Which → Option LineFault
 within least found greatest which =
     if nat_le least found && nat_le found greatest then None else Some (Limit which found)
 
+abbrev pub heap_limit : ℕ → ℕ → Option LineFault
+heap_limit pages resident = option_or (within 1 pages 4096 which.Pages) (within 1 resident pages which.Resident)
+
 abbrev pub limit_fault : List Item → Item → Option LineFault
-limit_fault before (Heap pages resident) =
-    option_or (within 1 pages 4096 which.Pages) (within 1 resident pages which.Resident)
+limit_fault before (Heap pages resident) = heap_limit pages resident
 limit_fault before (TypeLine name words) =
     option_or (at_most (length (type_names before) + 1) 64 which.Types) (at_most (length words) 4096 which.Words)
 limit_fault before (Global name ty) = at_most (length (global_names before) + 1) 64 which.Globals

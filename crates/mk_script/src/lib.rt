@@ -7,6 +7,7 @@ mod forms;
 mod items;
 mod keywords;
 pub mod laws;
+mod limits;
 mod line;
 mod name_set;
 mod names;
@@ -20,6 +21,7 @@ mod splitting;
 
 pub use faults::{LineFault, TEXT_LIMIT, TOO_LONG, TextKind, TextStop, Which};
 pub use items::{At, Item, TypeWord, TypeWords};
+pub use limits::{at_most, heap_limit, within};
 pub use names::Name;
 pub use numbers::parse_number;
 pub use parsing::parse;

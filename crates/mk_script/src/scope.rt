@@ -9,6 +9,7 @@ ghost use Rattle.mk_script.specs.ScopeOf.{IsScopeOf, BeginsScript, has_lines};
 use crate::faults::{LineFault, TextKind, Which};
 use crate::items::Item;
 use crate::keywords::Keyword;
+use crate::limits::{at_most, heap_limit};
 use crate::name_set::NameSet;
 use crate::names::Name;
 use std::alloc::{AllocError, Global};
@@ -132,7 +133,7 @@ impl Scope {
         ensures { (before : List Item) → IsScopeOf self.now before → result ≡ spec.limit_fault before item.now }
     {
         match item {
-            Item::Heap { pages, resident } => heap_limits(*pages, *resident),
+            Item::Heap { pages, resident } => heap_limit(*pages, *resident),
             Item::TypeLine { words, .. } => self.type_limit_fault(words.as_slice().len() as u64),
             Item::Global { .. } => at_most(one_more(self.globals.len()), 64, Which::Globals),
             Item::Script { .. } => at_most(one_more(self.scripts.len()), 16, Which::Scripts),
@@ -236,32 +237,6 @@ fn one_more(count: usize) -> u64
     ensures { result ≡ count + 1 }
 {
     count as u64 + 1
-}
-
-fn at_most(found: u64, greatest: u64, which: Which) -> Option<LineFault>
-    ensures { result ≡ spec.at_most found greatest which }
-{
-    if found <= greatest {
-        None
-    } else {
-        Some(LineFault::Limit { which, found })
-    }
-}
-
-fn within(least: u64, found: u64, greatest: u64, which: Which) -> Option<LineFault>
-    ensures { result ≡ spec.within least found greatest which }
-{
-    if least <= found && found <= greatest {
-        None
-    } else {
-        Some(LineFault::Limit { which, found })
-    }
-}
-
-fn heap_limits(pages: u64, resident: u64) -> Option<LineFault>
-    ensures { result ≡ option_or (spec.within 1 pages 4096 Which.Pages) (spec.within 1 resident pages Which.Resident) }
-{
-    within(1, pages, 4096, Which::Pages).or(within(1, resident, pages, Which::Resident))
 }
 
 fn type_limits(types: u64, words: u64) -> Option<LineFault>

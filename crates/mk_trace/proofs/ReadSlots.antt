@@ -7,14 +7,14 @@ use Rattle.std.proofs.lemmas.List.{length-append}
 use Rattle.std.proofs.lemmas.List.Elements.{All-nil, All-cons, All-append}
 use Rattle.mk_core.specs.Config.{IsBetween}
 use Rattle.mk_script.specs.declared.faults.Which.TheVariants as which
-use Rattle.mk_script.specs.Lines.{at_most, within}
+use Rattle.mk_script.specs.Lines.{at_most, heap_limit, within}
 use Rattle.mk_script.specs.Operands.{name, number}
 use Rattle.mk_check.proofs.GrammarLemmas.{at_most-None, option_or-None}
 use Rattle.mk_trace.specs.declared.lines.HeapPages.{HeapPages}
 use Rattle.mk_trace.specs.declared.lines.Slot.{Slot}
 use Rattle.mk_trace.specs.declared.lines.Line.{Line}
 use Rattle.mk_trace.specs.declared.lines.Line.TheVariants as line
-use Rattle.mk_trace.specs.Lines.{Written, with_line, heap_limit, heap_pages, header_of, slot_number, slot_limit}
+use Rattle.mk_trace.specs.Lines.{Written, with_line, heap_pages, header_of, slot_number, slot_limit}
 use Rattle.mk_trace.specs.Lines.{checked_slot, slot_from, slot_line, event_of, event_line, line_of}
 use Rattle.mk_trace.proofs.Kept.{bound, unless_none, passed_else, passed_then, within_none}
 

@@ -11,7 +11,7 @@ use Rattle.mk_script.specs.declared.faults.LineFault.{LineFault}
 use Rattle.mk_script.specs.declared.faults.LineFault.TheVariants.{Text}
 use Rattle.mk_script.specs.declared.faults.TextKind.TheVariants as kind
 use Rattle.mk_script.specs.declared.faults.Which.TheVariants as which
-use Rattle.mk_script.specs.Lines.{at_most, within}
+use Rattle.mk_script.specs.Lines.{at_most, heap_limit, within}
 use Rattle.mk_script.specs.Operands.{◌>>=◌, name, number}
 use Rattle.mk_trace.specs.declared.lines.HeapPages.{HeapPages}
 use Rattle.mk_trace.specs.declared.lines.Slot.{Slot}
@@ -38,9 +38,6 @@ ok_unless None x = Ok x
 ok_unless (Some fault) x = Err fault
 
 -- line 1: `trace PAGES RESIDENT`
-
-abbrev pub heap_limit : ℕ → ℕ → Option LineFault
-heap_limit pages resident = option_or (within 1 pages 4096 which.Pages) (within 1 resident pages which.Resident)
 
 abbrev pub heap_pages : List ℕ → List ℕ → Result HeapPages LineFault
 heap_pages pages resident =

@@ -1,11 +1,10 @@
 //! The lines of a trace's text, by their words.
 ghost use Rattle.std.specs.Prelude.{◌≡◌, ◌∷◌};
-ghost use Rattle.mk_script.specs.Lines as limits;
 ghost use Rattle.mk_script.specs.Operands as operands;
 ghost use Rattle.mk_script.specs.Words.{texts_of};
 ghost use Rattle.mk_trace.specs.Lines as spec;
 
-use mk_script::{LineFault, Name, TextKind, Which, parse_number};
+use mk_script::{LineFault, Name, TextKind, Which, at_most, heap_limit, parse_number, within};
 
 /// `trace PAGES RESIDENT`
 #[derive(Clone, Copy)]
@@ -142,32 +141,6 @@ fn write_event(word: &[u8], slot: &[u8], index: &[u8], value: &[u8]) -> Result<E
         slot,
         action: Action::Write { index, value },
     })
-}
-
-fn within(least: u64, found: u64, greatest: u64, which: Which) -> Option<LineFault>
-    ensures { result ≡ limits.within least found greatest which }
-{
-    if least <= found && found <= greatest {
-        None
-    } else {
-        Some(LineFault::Limit { which, found })
-    }
-}
-
-fn at_most(found: u64, greatest: u64, which: Which) -> Option<LineFault>
-    ensures { result ≡ limits.at_most found greatest which }
-{
-    if found <= greatest {
-        None
-    } else {
-        Some(LineFault::Limit { which, found })
-    }
-}
-
-fn heap_limit(pages: u64, resident: u64) -> Option<LineFault>
-    ensures { result ≡ spec.heap_limit pages resident }
-{
-    within(1, pages, 4096, Which::Pages).or(within(1, resident, pages, Which::Resident))
 }
 
 /// The limit that is passed by a slot of so many words, as the one of this number, counted from 1.

@@ -9,6 +9,7 @@ pub mod Owed
 pub mod Made
 pub mod CallSteps
 pub mod TurnSteps
+pub mod TakenCells
 pub mod Closing
 pub mod Markers
 pub mod Opening

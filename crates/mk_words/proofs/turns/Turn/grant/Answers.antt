@@ -6,7 +6,7 @@ use Rattle.mk_core.specs.Accesses.{access}
 use Rattle.mk_core.specs.Calls.{has_type}
 use Rattle.mk_words.specs.States.{WordsState, TurnState, now_of, event_of}
 use Rattle.mk_words.specs.Steps.{IsEnabledTo}
-use Rattle.mk_words.proofs.TurnSteps.{turn_has_type, grant_access}
+use Rattle.mk_words.proofs.TakenCells.{turn_has_type, grant_access}
 use Rattle.mk_words.proofs.turns.Turn.grant.Goals as goal
 
 pub cell_base-requires : goal.cell_base-requires

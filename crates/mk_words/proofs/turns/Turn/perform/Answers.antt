@@ -1,7 +1,8 @@
 use Rattle.std.proofs.Common.{subst}
 use Rattle.mk_words.specs.States.{TurnState}
 use Rattle.mk_words.specs.TurnSteps.{Acts}
-use Rattle.mk_words.proofs.TurnSteps.{still_turn, acts, knows_still}
+use Rattle.mk_words.proofs.TurnSteps.{still_turn, acts}
+use Rattle.mk_words.proofs.TakenCells.{knows_still}
 use Rattle.mk_words.proofs.turns.Turn.perform.Goals as goal
 
 pub invariant_of-self : goal.invariant_of-self

@@ -3,7 +3,8 @@ use Rattle.mk_geom.specs.declared.addresses.Cell.{Cell}
 use Rattle.mk_core.specs.declared.events.Step.TheVariants as step
 use Rattle.mk_words.specs.States.{TurnState}
 use Rattle.mk_words.specs.TurnSteps.{Acts, KnowsCell}
-use Rattle.mk_words.proofs.TurnSteps.{acts, still_turn, used_turn}
+use Rattle.mk_words.proofs.TurnSteps.{acts, still_turn}
+use Rattle.mk_words.proofs.TakenCells.{used_turn}
 use Rattle.mk_words.proofs.turns.Turn.used.Goals as goal
 
 pub invariant_of-self : goal.invariant_of-self
