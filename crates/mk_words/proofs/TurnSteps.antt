@@ -168,7 +168,7 @@ module _ (p : PassState) (s : Step) (q : PassState) (m : Makes p s q) (own : Has
       subst (λ (r : PassState). Protocol p.table.config (world_of r).now) (sym m.is)
       (lists_keep_the_protocol p.table.config _ d.whole.within_limits d.whole.enabled)
 
-  pub acts : Holds p.table.config (now_of p) p.seat → Acts p s q
+  unfoldable pub acts : Holds p.table.config (now_of p) p.seat → Acts p s q
   acts h =
       let turn = d.frame.turn h in
       record {
