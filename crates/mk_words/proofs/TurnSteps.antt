@@ -160,7 +160,7 @@ op_behind c m Host s p exists h = refl
 -- the step of whoever holds the turn
 module _ (p : PassState) (s : Step) (q : PassState) (m : Makes p s q) (own : Has p.seats p.seat)
     (history : IsHistory q.table.config q.seen) where
-  d : Made p s q m
+  abbrev d : Made p s q m
   d = made p s q m own history
 
   pub protocol_now : Protocol p.table.config (world_of q).now
