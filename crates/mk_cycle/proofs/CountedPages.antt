@@ -16,7 +16,7 @@ use Rattle.mk_cycle.proofs.CleaningSteps.{halves}
 use Rattle.mk_cycle.proofs.GivingSteps.{none_then}
 use Rattle.mk_cycle.proofs.PageSteps.{same_header}
 
-same_released : (a b : Released) → a.count ≡ b.count → a.words ≡ b.words → a.kept ≡ b.kept → a ≡ b
+pub same_released : (a b : Released) → a.count ≡ b.count → a.words ≡ b.words → a.kept ≡ b.kept → a ≡ b
 same_released a b count words kept =
     ap (λ (n : ℕ). record a { count = n }) count
     ∙ ap (λ (n : ℕ). record { count = b.count; words = n; kept = a.kept }) words

@@ -27,3 +27,4 @@ pub mod HeldPages
 pub mod FinishedCycles
 pub mod Sweepless
 pub mod Told
+pub mod PageByPage

@@ -5,7 +5,7 @@ ghost use Rattle.mk_cycle.specs.Cleaning.{Cleans, IsUnmarked, IsUnscanned, HasSn
 ghost use Rattle.mk_cycle.specs.EngineLaw.{IsFreeForCycle, IsAtPhase};
 
 use crate::bits::FREED_END;
-use crate::turn_steps::{clear, look, take_snapshot, unblack, undirty};
+use crate::turn_steps::{clear, look, look_among, take_snapshot, unblack, undirty};
 use mk_core::Word;
 use mk_words::{Turn, Words};
 
@@ -70,6 +70,27 @@ fn copy_freed(turn: &mut Turn, words: &Words, page: u64)
     }
 }
 
+/// Whether a page is as a `begin` wants it, and not dirty. Each of its words is looked at.
+#[inline(always)]
+fn is_ready(turn: &mut Turn, words: &Words, pages: u64, page: u64) -> bool
+    requires one_table { turn.old.pass.table ≡ words.now }
+    requires pages { pages ≡ words.now.config.pages }
+    requires free { IsFreeForCycle turn.old.pass }
+    requires phase { IsAtPhase turn.old.pass 0 }
+    requires within { page < words.now.config.pages }
+    ensures op { turn.new.op ≡ turn.old.op }
+    ensures cleans { Cleans turn.old.pass turn.new.pass }
+    ensures clean { result ≡ true → IsClean turn.new.pass page }
+{
+    let marks = look_among(turn, words, pages, Word::Mark(page));
+    let blacks = look_among(turn, words, pages, Word::Black(page));
+    let dirty = look_among(turn, words, pages, Word::Dirty(page));
+    let quarantine = look_among(turn, words, pages, Word::Quar(page));
+    let is_snapshot = quarantine / FREED_END == quarantine % FREED_END;
+    marks == 0 && blacks == 0 && dirty == 0 && is_snapshot
+}
+
+/// Makes a page ready, word by word.
 fn clean_page(turn: &mut Turn, words: &Words, page: u64)
     requires one_table { turn.old.pass.table ≡ words.now }
     requires free { IsFreeForCycle turn.old.pass }
@@ -85,7 +106,7 @@ fn clean_page(turn: &mut Turn, words: &Words, page: u64)
     copy_freed(turn, words, page);
 }
 
-/// Makes all pages ready for a `begin`.
+/// Makes all pages ready for a `begin`. Most of them are.
 pub(crate) fn clean_pages(turn: &mut Turn, words: &Words)
     requires one_table { turn.old.pass.table ≡ words.now }
     requires free { IsFreeForCycle turn.old.pass }
@@ -94,7 +115,10 @@ pub(crate) fn clean_pages(turn: &mut Turn, words: &Words)
     ensures cleans { Cleans turn.old.pass turn.new.pass }
     ensures clean { (page : ℕ) → page < words.now.config.pages → IsClean turn.new.pass page }
 {
-    for page in 0..words.pages() {
-        clean_page(turn, words, page);
+    let pages = words.pages();
+    for page in 0..pages {
+        if !is_ready(turn, words, pages, page) {
+            clean_page(turn, words, page);
+        }
     }
 }

@@ -35,6 +35,24 @@ fn released_cells(snapshot: u64, marks: u64, header: u64) -> Released
     }
 }
 
+/// Looks at a word that is no register, in a table of so many pages, while nothing is given
+/// back.
+#[inline(always)]
+pub(crate) fn look_among(turn: &mut Turn, words: &Words, pages: u64, x: Word) -> u64
+    requires one_table { turn.old.pass.table ≡ words.now }
+    requires pages { pages ≡ words.now.config.pages }
+    requires free { IsFreeForCycle turn.old.pass }
+    requires phase { IsAtPhase turn.old.pass 4 }
+    requires in_range { is_word words.now.config x ≡ true }
+    requires no_register { is_register x ≡ false }
+    ensures op { turn.new.op ≡ turn.old.op }
+    ensures frees { FreesNone turn.old.pass turn.new.pass }
+    ensures is { InTurn turn.new.pass }
+    ensures reads { result ≡ named_word (now_of turn.new.pass).words x }
+{
+    turn_steps::look_among(turn, words, pages, x)
+}
+
 /// Looks at a word that is no register, while nothing is given back.
 pub(crate) fn look(turn: &mut Turn, words: &Words, x: Word) -> u64
     requires one_table { turn.old.pass.table ≡ words.now }
@@ -47,7 +65,7 @@ pub(crate) fn look(turn: &mut Turn, words: &Words, x: Word) -> u64
     ensures is { InTurn turn.new.pass }
     ensures reads { result ≡ named_word (now_of turn.new.pass).words x }
 {
-    turn_steps::look(turn, words, x)
+    look_among(turn, words, words.pages(), x)
 }
 
 /// What was released on a page with this snapshot.

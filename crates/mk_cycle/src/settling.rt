@@ -11,7 +11,7 @@ ghost use Rattle.mk_cycle.specs.HeldPages.{held_at};
 ghost use Rattle.mk_cycle.specs.ReleasedPages.{IsOfOnePage, released_below, released_on};
 
 use crate::bits::head_of;
-use crate::counting::{held_on, look, released_on};
+use crate::counting::{held_on, look_among, released_on};
 use crate::finishing::Released;
 use crate::freeing::release_cells;
 use crate::turn_steps::{self, free_head};
@@ -68,38 +68,8 @@ fn settle_taken(turn: &mut Turn, words: &Words, page: u64, header: u64) -> Settl
     Settled { released, held }
 }
 
-/// Gives back the released cells of a page, and frees it if nothing is left on it. Of a free page no more than its
-/// header is looked at.
-fn settle_page(turn: &mut Turn, words: &Words, page: u64) -> Settled
-    requires one_table { turn.old.pass.table ≡ words.now }
-    requires free { IsFreeForCycle turn.old.pass }
-    requires phase { IsAtPhase turn.old.pass 4 }
-    requires within { page < words.now.config.pages }
-    requires cells { HasFreeCells turn.old.pass page }
-    requires settled { (r : ℕ) → r < page → IsSettledPage turn.old.pass r }
-    ensures op { turn.new.op ≡ turn.old.op }
-    ensures frees { FreesPage page turn.old.pass turn.new.pass }
-    ensures settled { IsSettledPage turn.new.pass page }
-    ensures released { result.released ≡ released_on (now_of turn.old.pass).words page }
-    ensures one { IsOfOnePage result.released }
-    ensures held { result.held ≡ held_at turn.new.pass page }
-    ensures few { result.held ≤ 64 }
-{
-    let header = look(turn, words, Word::Head(page));
-    if header == 0 {
-        return Settled {
-            released: Released {
-                count: 0,
-                words: 0,
-                kept: 0,
-            },
-            held: 0,
-        };
-    }
-    settle_taken(turn, words, page, header)
-}
-
-/// Gives back all that was released, and counts it, and what the pages hold then.
+/// Gives back all that was released, and counts it, and what the pages hold then. Of a free page no more than its header
+/// is looked at.
 pub(crate) fn settle_pages(turn: &mut Turn, words: &Words) -> Settled
     requires one_table { turn.old.pass.table ≡ words.now }
     requires free { IsFreeForCycle turn.old.pass }
@@ -118,8 +88,13 @@ pub(crate) fn settle_pages(turn: &mut Turn, words: &Words) -> Settled
         kept: 0,
     };
     let mut held: u64 = 0;
-    for page in 0..words.pages() {
-        let here = settle_page(turn, words, page);
+    let pages = words.pages();
+    for page in 0..pages {
+        let header = look_among(turn, words, pages, Word::Head(page));
+        if header == 0 {
+            continue;
+        }
+        let here = settle_taken(turn, words, page, header);
         all.count += here.released.count;
         all.words += here.released.words;
         all.kept += here.released.kept;

@@ -18,6 +18,26 @@ ghost use Rattle.mk_cycle.specs.TurnKeeps.{InTurn};
 use mk_core::{Tally, Word};
 use mk_words::{Turn, Words};
 
+/// Looks at a word that is no register, in a table of so many pages.
+#[inline(always)]
+pub(crate) fn look_among(turn: &mut Turn, words: &Words, pages: u64, x: Word) -> u64
+    requires one_table { turn.old.pass.table ≡ words.now }
+    requires pages { pages ≡ words.now.config.pages }
+    requires free { IsFreeForCycle turn.old.pass }
+    requires in_range { is_word words.now.config x ≡ true }
+    requires no_register { is_register x ≡ false }
+    ensures op { turn.new.op ≡ turn.old.op }
+    ensures was { InTurn turn.old.pass }
+    ensures acts { Acts turn.old.pass (step.Look x) turn.new.pass }
+    ensures is { InTurn turn.new.pass }
+    ensures reads { result ≡ named_word (now_of turn.new.pass).words x }
+{
+    turn.is_in_order();
+    let found = turn.look_among(words, pages, x);
+    turn.is_in_order();
+    found
+}
+
 /// Looks at a word that is no register.
 pub(crate) fn look(turn: &mut Turn, words: &Words, x: Word) -> u64
     requires one_table { turn.old.pass.table ≡ words.now }
@@ -30,10 +50,7 @@ pub(crate) fn look(turn: &mut Turn, words: &Words, x: Word) -> u64
     ensures is { InTurn turn.new.pass }
     ensures reads { result ≡ named_word (now_of turn.new.pass).words x }
 {
-    turn.is_in_order();
-    let found = turn.look(words, x);
-    turn.is_in_order();
-    found
+    look_among(turn, words, words.pages(), x)
 }
 
 /// Clears a page's marks.

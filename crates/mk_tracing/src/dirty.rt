@@ -5,7 +5,7 @@ ghost use Rattle.mk_tracing.specs.Grays.{BlacksFewer, HasDirtyPart, IsCleaner, I
 ghost use Rattle.mk_tracing.specs.Stops.{IsWanted, still_words};
 
 use crate::cells::head_page;
-use crate::stepping::{clear_black, look_at, undirty_page};
+use crate::stepping::{clear_black, look_among, look_at, undirty_page};
 use mk_core::Word;
 use mk_words::{Stopped, Words};
 
@@ -24,8 +24,9 @@ fn unblack_page(words: &Words, stop: &mut Stopped, page: u64)
 }
 
 /// Clears the black word of a page that is dirty, and that of the head of its run. Says whether it is dirty.
-fn unblack_if_dirty(words: &Words, stop: &mut Stopped, page: u64) -> bool
+fn unblack_if_dirty(words: &Words, stop: &mut Stopped, pages: u64, page: u64) -> bool
     requires one_table { stop.old.pass.table ≡ words.now }
+    requires pages { pages ≡ words.now.config.pages }
     requires wanted { IsWanted stop.old.pass }
     requires page { page < words.now.config.pages }
     ensures on { MarksOn stop.old stop.new }
@@ -34,7 +35,7 @@ fn unblack_if_dirty(words: &Words, stop: &mut Stopped, page: u64) -> bool
     ensures dirty { result ≡ true → slice_index (still_words stop.old.pass).dirty page ≢ 0 }
     ensures clean { result ≡ false → slice_index (still_words stop.old.pass).dirty page ≡ 0 }
 {
-    if look_at(words, stop, Word::Dirty(page)) == 0 {
+    if look_among(words, stop, pages, Word::Dirty(page)) == 0 {
         return false;
     }
     let header = look_at(words, stop, Word::Head(page));
@@ -48,15 +49,16 @@ fn unblack_if_dirty(words: &Words, stop: &mut Stopped, page: u64) -> bool
 }
 
 /// Clears a page's dirty word, if it is dirty. Its cells, and the run of which it is a part, are scanned again.
-fn clean_if_dirty(words: &Words, stop: &mut Stopped, page: u64)
+fn clean_if_dirty(words: &Words, stop: &mut Stopped, pages: u64, page: u64)
     requires one_table { stop.old.pass.table ≡ words.now }
+    requires pages { pages ≡ words.now.config.pages }
     requires wanted { IsWanted stop.old.pass }
     requires page { page < words.now.config.pages }
     ensures on { MarksOn stop.old stop.new }
     ensures fewer { IsCleaner (still_words stop.old.pass) (still_words stop.new.pass) }
     ensures clean { slice_index (still_words stop.new.pass).dirty page ≡ 0 }
 {
-    if unblack_if_dirty(words, stop, page) {
+    if unblack_if_dirty(words, stop, pages, page) {
         undirty_page(words, stop, page);
     }
 }
@@ -68,7 +70,8 @@ pub(crate) fn clean_dirty(words: &Words, stop: &mut Stopped)
     ensures on { MarksOn stop.old stop.new }
     ensures clean { (p : ℕ) → p < words.now.config.pages → slice_index (still_words stop.new.pass).dirty p ≡ 0 }
 {
-    for page in 0..words.pages() {
-        clean_if_dirty(words, stop, page);
+    let pages = words.pages();
+    for page in 0..pages {
+        clean_if_dirty(words, stop, pages, page);
     }
 }

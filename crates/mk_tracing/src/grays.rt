@@ -7,7 +7,7 @@ ghost use Rattle.mk_tracing.specs.Grays.{HasNoGray, IsGray, MarksOn};
 ghost use Rattle.mk_tracing.specs.Stops.{IsWanted, still_words};
 
 use crate::cells::{cells_under, has_bit};
-use crate::stepping::look_at;
+use crate::stepping::{look_among, look_at};
 use crate::worklist::Worklist;
 use mk_core::Word;
 use mk_geom::Cell;
@@ -49,8 +49,9 @@ fn gray_among(words: &Words, stop: &mut Stopped, page: u64, marks: u64) -> Optio
 }
 
 /// The first gray cell of a page.
-fn gray_on_page(words: &Words, stop: &mut Stopped, page: u64) -> Option<Cell>
+fn gray_on_page(words: &Words, stop: &mut Stopped, pages: u64, page: u64) -> Option<Cell>
     requires one_table { stop.old.pass.table ≡ words.now }
+    requires pages { pages ≡ words.now.config.pages }
     requires wanted { IsWanted stop.old.pass }
     requires page { page < words.now.config.pages }
     ensures on { MarksOn stop.old stop.new }
@@ -58,7 +59,7 @@ fn gray_on_page(words: &Words, stop: &mut Stopped, page: u64) -> Option<Cell>
     ensures gray { IfSome result (λ cell. IsGray words.now.config.pages (still_words stop.old.pass) cell) }
     ensures none { IfNone result (HasNoGray (still_words stop.old.pass) page) }
 {
-    let marks = look_at(words, stop, Word::Mark(page));
+    let marks = look_among(words, stop, pages, Word::Mark(page));
     if marks == 0 {
         return None;
     }
@@ -75,8 +76,9 @@ fn gray_between(words: &Words, stop: &mut Stopped, from: u64, to: u64) -> Option
     ensures gray { IfSome result (λ cell. IsGray words.now.config.pages (still_words stop.old.pass) cell) }
     ensures none { IfNone result ((p : ℕ) → from ≤ p → p < to → HasNoGray (still_words stop.old.pass) p) }
 {
+    let pages = words.pages();
     for page in from..to {
-        let found = gray_on_page(words, stop, page);
+        let found = gray_on_page(words, stop, pages, page);
         if let Some(cell) = found {
             return Some(cell);
         }

@@ -13,6 +13,23 @@ use mk_core::Word;
 use mk_geom::Cell;
 use mk_words::{Stopped, Words};
 
+/// Looks at a word that gives no hand, in a table of so many pages.
+#[inline(always)]
+pub(crate) fn look_among(words: &Words, stop: &mut Stopped, pages: u64, x: Word) -> u64
+    requires one_table { stop.old.pass.table ≡ words.now }
+    requires pages { pages ≡ words.now.config.pages }
+    requires wanted { IsWanted stop.old.pass }
+    requires word { is_word words.now.config x ≡ true }
+    requires plain { is_plain x ≡ true }
+    ensures on { MarksOn stop.old stop.new }
+    ensures words { still_words stop.new.pass ≡ still_words stop.old.pass }
+    ensures hand { hand_of stop.new.pass ≡ hand_of stop.old.pass }
+    ensures found { result ≡ named_word (still_words stop.old.pass) x }
+{
+    stop.is_in_order();
+    stop.look_among(words, pages, x)
+}
+
 /// Looks at a word that gives no hand.
 pub(crate) fn look_at(words: &Words, stop: &mut Stopped, x: Word) -> u64
     requires one_table { stop.old.pass.table ≡ words.now }
@@ -24,8 +41,7 @@ pub(crate) fn look_at(words: &Words, stop: &mut Stopped, x: Word) -> u64
     ensures hand { hand_of stop.new.pass ≡ hand_of stop.old.pass }
     ensures found { result ≡ named_word (still_words stop.old.pass) x }
 {
-    stop.is_in_order();
-    stop.look(words, x)
+    look_among(words, stop, words.pages(), x)
 }
 
 /// Looks at a register or a global, whose value is then the hand.

@@ -23,7 +23,7 @@ use Rattle.mk_core.specs.declared.seats.Placing.TheVariants.{Unplaced, Chosen, U
 use Rattle.mk_geom.specs.declared.pages.Place.{Place}
 use Rattle.mk_core.specs.Words.{used_at}
 use Rattle.mk_core.specs.Calls.{has_type, q_of, p_of, r_of, d_of, g_of}
-use Rattle.mk_core.specs.Accesses.{access, found, granted_base}
+use Rattle.mk_core.specs.Accesses.{access, granted_base}
 use Rattle.mk_core.specs.Moments.{Moment, flight_of}
 use Rattle.mk_core.specs.Moments.{is_phase}
 use Rattle.mk_core.specs.Effects.{chosen, taken, holding_behind}

@@ -1,7 +1,7 @@
 -- What the steps of the turn's holder leave.
 use Rattle.std.proofs.Common.{◌≡◌, ◌≢◌, ℕ, zero, suc, ◌+◌, ◌<◌, ◌≤◌, Bool, true, false}
 use Rattle.std.proofs.Common.{List, [], ◌∷◌, ◌++◌, length, Option, refl, sym, ◌∙◌, ap, subst, arith}
-use Rattle.std.specs.Prelude.{slice_index, slice_set, nat_lt, ◌-◌, ◌||◌, ◌==◌, Some, None}
+use Rattle.std.specs.Prelude.{slice_index, slice_set, nat_lt, ◌||◌, ◌==◌, Some, None}
 use Rattle.std.specs.Prelude.{if◌then◌else◌, not, ◌&&◌}
 use Rattle.std.proofs.lemmas.Bool.{and_from, and_parts, ltb-true, eq-eqb, ne_eqb}
 use Rattle.std.proofs.lemmas.Bool.{eqb-false, not-true}

@@ -55,6 +55,7 @@ impl Model for Pass {
 #[inline(always)]
 pub(crate) fn perform_as<J: Making>(
     words: &Words,
+    pages: u64,
     token: &mut Token<(), View>,
     seat: Seat,
     step: Step,
@@ -64,6 +65,7 @@ pub(crate) fn perform_as<J: Making>(
     requires picked { J.event ≡ record { seat = seat; step = step } }
     requires order { IsInOrder token.old.me seat }
     requires one_table { (state_of token.old.table_id token.old.me seat).table ≡ words.now }
+    requires pages { pages ≡ words.now.config.pages }
     requires may { May (state_of token.old.table_id token.old.me seat) step }
     requires word { word ≡ reached token.old.me.0.config (now_of (state_of token.old.table_id token.old.me seat))
         (record { seat = seat; step = step }) }
@@ -73,8 +75,10 @@ pub(crate) fn perform_as<J: Making>(
         (state_of token.new.table_id token.new.me seat) }
     ensures order { IsInOrder token.new.me seat }
 {
-    let index = index_of(words.config.pages, word);
-    access_as::<J>(&words.table.shared, token, index, by)
+    words.is_within_limits();
+    let shared = &words.table.shared;
+    let index = index_of(pages, word);
+    access_as::<J>(shared, token, index, by)
 }
 
 /// Makes a step that stores, and answers what the store found.
@@ -134,6 +138,30 @@ impl Pass {
         }
     }
 
+    /// Makes a step of any kind but a marker's, in a table of so many pages.
+    #[inline(always)]
+    pub(crate) fn perform_among(
+        &mut self,
+        words: &Words,
+        pages: u64,
+        step: Step,
+        word: TableWord,
+        by: Access,
+    ) -> u64
+        requires one_table { self.old.table ≡ words.now }
+        requires pages { pages ≡ words.now.config.pages }
+        requires kind { is_markers (group_of step) ≡ false }
+        requires may { May self.old step }
+        requires word { word ≡ reached self.old.table.config (now_of self.old) (event_of self.old step) }
+        requires access { by ≡ access self.old.table.config (now_of self.old) (event_of self.old step) }
+        ensures told { Tells self.old step result self.new }
+        ensures own { Has self.old.seats self.old.seat }
+        ensures history { IsHistory self.new.table.config self.new.seen }
+    {
+        let seat = self.seat;
+        perform_as::<Brand>(words, pages, &mut self.token, seat, step, word, by)
+    }
+
     /// Makes a step of any kind but a marker's.
     #[inline(always)]
     pub(crate) fn perform(&mut self, words: &Words, step: Step, word: TableWord, by: Access) -> u64
@@ -146,8 +174,7 @@ impl Pass {
         ensures own { Has self.old.seats self.old.seat }
         ensures history { IsHistory self.new.table.config self.new.seen }
     {
-        let seat = self.seat;
-        perform_as::<Brand>(words, &mut self.token, seat, step, word, by)
+        self.perform_among(words, words.config.pages, step, word, by)
     }
 
     /// What its seat is at as a marker.
@@ -177,7 +204,7 @@ impl Pass {
         words.is_within_limits();
         let seat = self.seat;
         let marker = self.marker;
-        let found = perform_as::<Brand>(words, &mut self.token, seat, step, word, by);
+        let found = perform_as::<Brand>(words, words.config.pages, &mut self.token, seat, step, word, by);
         self.marker = marker_behind(&words.config, found, step, marker);
         found
     }

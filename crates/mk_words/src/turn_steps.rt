@@ -39,7 +39,23 @@ impl Turn {
         ensures acts { Acts self.old.pass (step.Look x) self.new.pass }
         ensures finds { Finds self.old.pass (step.Look x) result self.new.pass }
     {
-        self.perform(words, Step::Look(x), TableWord::Named(x), Access::Load)
+        self.look_among(words, words.pages(), x)
+    }
+
+    /// Looks at a word as `look` does, in a table of so many pages. Loops over pages have the number at hand, and needn't
+    /// load it again behind each access.
+    #[inline(always)]
+    pub fn look_among(&mut self, words: &Words, pages: u64, x: Word) -> u64
+        requires one_table { self.old.pass.table ≡ words.now }
+        requires pages { pages ≡ words.now.config.pages }
+        requires enabled { IsEnabledTo self.old.pass (step.Look x) }
+        requires admitted { may_decide (step.Look x) ≡ true → IsAdmittedTo self.old.pass (step.Look x) }
+        ensures op { self.new.op ≡ self.old.op }
+        ensures acts { Acts self.old.pass (step.Look x) self.new.pass }
+        ensures finds { Finds self.old.pass (step.Look x) result self.new.pass }
+    {
+        let at = TableWord::Named(x);
+        self.pass.perform_among(words, pages, Step::Look(x), at, Access::Load)
     }
 
     /// Stores a page's header.

@@ -1,15 +1,29 @@
-use Rattle.std.proofs.Common.{refl}
+use Rattle.std.proofs.Common.{◌≡◌, ℕ, refl, sym, subst, ap, ◌∙◌}
+use Rattle.mk_core.specs.declared.accesses.TableWord.{TableWord}
+use Rattle.mk_core.specs.Layout.{IsOfTable, index_of}
 use Rattle.mk_words.specs.Passes.{state_of}
+use Rattle.mk_words.specs.States.{WordsState}
 use Rattle.mk_words.proofs.Owed.{names_word, perform_call, perform_learns, perform_keeps}
 use Rattle.mk_words.proofs.passes.perform_as.Goals as goal
+
+-- The number of pages at hand is the table's.
+pages_told : (u v : WordsState) (pages : ℕ) → u ≡ v → pages ≡ v.config.pages → pages ≡ u.config.pages
+pages_told u v pages same number = number ∙ ap (λ (w : WordsState). w.config.pages) (sym same)
+
+index_told : (u v : WordsState) (pages index : ℕ) (word : TableWord) → u ≡ v → pages ≡ v.config.pages
+    → index ≡ index_of pages word → index ≡ index_of u.config.pages word
+index_told u v pages index word same number is =
+    is ∙ ap (λ (n : ℕ). index_of n word) (pages_told u v pages same number)
 
 pub index_of-index-requires-clause-names : goal.index_of-index-requires-clause-names
 index_of-index-requires-clause-names g c =
     let w = c.words.inside in
     let t = c.args.token.now in
-    names_word c.args.words.now (state_of t.table_id t.me c.args.seat) w.table.shared.table_id t.table_id w.config
+    subst (λ (n : ℕ). IsOfTable n c.args.word)
+    (sym (pages_told _ c.args.words.now c.args.pages c.words.view_is c.requires.pages))
+    (names_word c.args.words.now (state_of t.table_id t.me c.args.seat) w.table.shared.table_id t.table_id w.config
     w.table.shared.key t.me c.args.seat c.words.view_is refl c.requires.one_table
-    c.args.step c.args.word c.requires.order c.requires.may c.requires.word
+    c.args.step c.args.word c.requires.order c.requires.may c.requires.word)
 
 pub access_as-requires-clause-within : goal.access_as-requires-clause-within
 access_as-requires-clause-within g c =
@@ -20,7 +34,8 @@ access_as-requires-clause-within g c =
     w.table.shared.table_id.words w.table.shared.table_id.slots t.id c.args.step c.index_of-index.result c.args.word
     c.args.by g.J.Making.event
     c.requires.order c.words.invariant.key c.words.invariant.words c.requires.picked c.requires.may c.requires.word
-    c.requires.access c.index_of-index.ensures).0
+    c.requires.access (index_told _ c.args.words.now c.args.pages c.index_of-index.result c.args.word
+    c.words.view_is c.requires.pages c.index_of-index.ensures)).0
 
 pub access_as-requires-clause-allowed : goal.access_as-requires-clause-allowed
 access_as-requires-clause-allowed g c =
@@ -31,7 +46,8 @@ access_as-requires-clause-allowed g c =
     w.table.shared.table_id.words w.table.shared.table_id.slots t.id c.args.step c.index_of-index.result c.args.word
     c.args.by g.J.Making.event
     c.requires.order c.words.invariant.key c.words.invariant.words c.requires.picked c.requires.may c.requires.word
-    c.requires.access c.index_of-index.ensures).1
+    c.requires.access (index_told _ c.args.words.now c.args.pages c.index_of-index.result c.args.word
+    c.words.view_is c.requires.pages c.index_of-index.ensures)).1
 
 pub returns-clause-told : goal.returns-clause-told
 returns-clause-told g c =
