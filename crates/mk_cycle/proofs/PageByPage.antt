@@ -1,11 +1,11 @@
 -- Pages are settled one by one: what is known of those before, and of those still to come, goes on.
-use Rattle.std.proofs.Common.{◌≡◌, ℕ, ◌+◌, ◌<◌, ◌≤◌, ◌∙◌, arith, below_more, sym}
+use Rattle.std.proofs.Common.{◌≡◌, ℕ, ◌+◌, ◌<◌, ◌≤◌, ◌∙◌, arith, below_more}
 use Rattle.mk_words.specs.States.{PassState, now_of}
-use Rattle.mk_core.specs.Words.{Words, header_at}
+use Rattle.mk_core.specs.Words.{header_at}
 use Rattle.mk_cycle.specs.declared.finishing.Released.{Released}
 use Rattle.mk_cycle.specs.Freeing.{Frees, FreesNone, FreesPage, HasFreeCells, IsSettledPage, SamePage}
 use Rattle.mk_cycle.specs.HeldPages.{held_at}
-use Rattle.mk_cycle.specs.ReleasedPages.{released_below, released_on, sum_below}
+use Rattle.mk_cycle.specs.ReleasedPages.{released_below, sum_below}
 use Rattle.mk_cycle.specs.TurnKeeps.{InTurn}
 use Rattle.mk_cycle.proofs.CountedPages.{counted_more, nothing_on, same_released, told_alike, told_same}
 use Rattle.mk_cycle.proofs.FreeingSteps.{frees_then}

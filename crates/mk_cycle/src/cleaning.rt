@@ -1,8 +1,12 @@
 //! What comes before a cycle's `begin`: the marks of the cycle before are cleared, and the snapshot is taken. A word
 //! that is as it is to be isn't stored to.
-ghost use Rattle.std.specs.Prelude.{◌≡◌, ◌<◌, ℕ};
+ghost use Rattle.std.specs.Prelude.{◌≡◌, ◌<◌, ◌/◌, ◌%◌, ◌^◌, ℕ, true, false};
+ghost use Rattle.mk_core.specs.Ranges.{is_word};
+ghost use Rattle.mk_core.specs.Words.{named_word};
+ghost use Rattle.mk_words.specs.States.{now_of};
 ghost use Rattle.mk_cycle.specs.Cleaning.{Cleans, IsUnmarked, IsUnscanned, HasSnapshot, IsClean};
-ghost use Rattle.mk_cycle.specs.EngineLaw.{IsFreeForCycle, IsAtPhase};
+ghost use Rattle.mk_cycle.specs.EngineLaw.{IsFreeForCycle, IsAtPhase, is_register};
+ghost use Rattle.mk_cycle.specs.TurnKeeps.{InTurn};
 
 use crate::bits::FREED_END;
 use crate::turn_steps::{clear, look, look_among, take_snapshot, unblack, undirty};
@@ -70,6 +74,34 @@ fn copy_freed(turn: &mut Turn, words: &Words, page: u64)
     }
 }
 
+/// Looks at a word before the `begin`, in a table of so many pages.
+#[inline(always)]
+fn look_before(turn: &mut Turn, words: &Words, pages: u64, x: Word) -> u64
+    requires one_table { turn.old.pass.table ≡ words.now }
+    requires pages { pages ≡ words.now.config.pages }
+    requires free { IsFreeForCycle turn.old.pass }
+    requires phase { IsAtPhase turn.old.pass 0 }
+    requires in_range { is_word words.now.config x ≡ true }
+    requires no_register { is_register x ≡ false }
+    ensures op { turn.new.op ≡ turn.old.op }
+    ensures cleans { Cleans turn.old.pass turn.new.pass }
+    ensures is { InTurn turn.new.pass }
+    ensures reads { result ≡ named_word (now_of turn.new.pass).words x }
+{
+    look_among(turn, words, pages, x)
+}
+
+/// Whether these words of a page are as a `begin` wants them, and it isn't dirty.
+#[inline(always)]
+fn are_clean(marks: u64, blacks: u64, dirty: u64, quarantine: u64) -> bool
+    ensures unmarked { result ≡ true → marks ≡ 0 }
+    ensures unscanned { result ≡ true → blacks ≡ 0 }
+    ensures snapshot { result ≡ true → quarantine / 2 ^ 32 ≡ quarantine % 2 ^ 32 }
+{
+    let is_snapshot = quarantine / FREED_END == quarantine % FREED_END;
+    marks == 0 && blacks == 0 && dirty == 0 && is_snapshot
+}
+
 /// Whether a page is as a `begin` wants it, and not dirty. Each of its words is looked at.
 #[inline(always)]
 fn is_ready(turn: &mut Turn, words: &Words, pages: u64, page: u64) -> bool
@@ -82,16 +114,15 @@ fn is_ready(turn: &mut Turn, words: &Words, pages: u64, page: u64) -> bool
     ensures cleans { Cleans turn.old.pass turn.new.pass }
     ensures clean { result ≡ true → IsClean turn.new.pass page }
 {
-    let marks = look_among(turn, words, pages, Word::Mark(page));
-    let blacks = look_among(turn, words, pages, Word::Black(page));
-    let dirty = look_among(turn, words, pages, Word::Dirty(page));
-    let quarantine = look_among(turn, words, pages, Word::Quar(page));
-    let is_snapshot = quarantine / FREED_END == quarantine % FREED_END;
-    marks == 0 && blacks == 0 && dirty == 0 && is_snapshot
+    let marks = look_before(turn, words, pages, Word::Mark(page));
+    let blacks = look_before(turn, words, pages, Word::Black(page));
+    let dirty = look_before(turn, words, pages, Word::Dirty(page));
+    let quarantine = look_before(turn, words, pages, Word::Quar(page));
+    are_clean(marks, blacks, dirty, quarantine)
 }
 
 /// Makes a page ready, word by word.
-fn clean_page(turn: &mut Turn, words: &Words, page: u64)
+fn clean_words(turn: &mut Turn, words: &Words, page: u64)
     requires one_table { turn.old.pass.table ≡ words.now }
     requires free { IsFreeForCycle turn.old.pass }
     requires phase { IsAtPhase turn.old.pass 0 }
@@ -106,6 +137,24 @@ fn clean_page(turn: &mut Turn, words: &Words, page: u64)
     copy_freed(turn, words, page);
 }
 
+/// Makes a page ready, if it isn't.
+#[inline(always)]
+fn clean_page(turn: &mut Turn, words: &Words, pages: u64, page: u64)
+    requires one_table { turn.old.pass.table ≡ words.now }
+    requires pages { pages ≡ words.now.config.pages }
+    requires free { IsFreeForCycle turn.old.pass }
+    requires phase { IsAtPhase turn.old.pass 0 }
+    requires within { page < words.now.config.pages }
+    ensures op { turn.new.op ≡ turn.old.op }
+    ensures cleans { Cleans turn.old.pass turn.new.pass }
+    ensures clean { IsClean turn.new.pass page }
+{
+    if is_ready(turn, words, pages, page) {
+        return;
+    }
+    clean_words(turn, words, page);
+}
+
 /// Makes all pages ready for a `begin`. Most of them are.
 pub(crate) fn clean_pages(turn: &mut Turn, words: &Words)
     requires one_table { turn.old.pass.table ≡ words.now }
@@ -117,8 +166,6 @@ pub(crate) fn clean_pages(turn: &mut Turn, words: &Words)
 {
     let pages = words.pages();
     for page in 0..pages {
-        if !is_ready(turn, words, pages, page) {
-            clean_page(turn, words, page);
-        }
+        clean_page(turn, words, pages, page);
     }
 }

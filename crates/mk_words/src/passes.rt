@@ -204,7 +204,15 @@ impl Pass {
         words.is_within_limits();
         let seat = self.seat;
         let marker = self.marker;
-        let found = perform_as::<Brand>(words, words.config.pages, &mut self.token, seat, step, word, by);
+        let found = perform_as::<Brand>(
+            words,
+            words.config.pages,
+            &mut self.token,
+            seat,
+            step,
+            word,
+            by,
+        );
         self.marker = marker_behind(&words.config, found, step, marker);
         found
     }

@@ -55,7 +55,8 @@ impl Turn {
         ensures finds { Finds self.old.pass (step.Look x) result self.new.pass }
     {
         let at = TableWord::Named(x);
-        self.pass.perform_among(words, pages, Step::Look(x), at, Access::Load)
+        self.pass
+            .perform_among(words, pages, Step::Look(x), at, Access::Load)
     }
 
     /// Stores a page's header.

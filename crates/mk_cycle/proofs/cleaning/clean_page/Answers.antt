@@ -2,7 +2,4 @@ use Rattle.mk_cycle.proofs.CleaningSteps.{cleans_then}
 use Rattle.mk_cycle.proofs.cleaning.clean_page.Goals as goal
 
 pub returns-clause-cleans : goal.returns-clause-cleans
-returns-clause-cleans c =
-    cleans_then _ _ _ c.clear_marks.ensures.cleans
-    (cleans_then _ _ _ c.clear_black.ensures.cleans
-    (cleans_then _ _ _ c.clear_dirty.ensures.cleans c.copy_freed.ensures.cleans))
+returns-clause-cleans c = cleans_then _ _ _ c.is_ready.ensures.cleans c.clean_words.ensures.cleans

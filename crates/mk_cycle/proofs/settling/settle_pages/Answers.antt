@@ -32,10 +32,10 @@ loop-page-init c =
 pub loop-page-preserved-then-header-eq0 : goal.loop-page-preserved-then-header-eq0
 loop-page-preserved-then-header-eq0 c =
     let i = c.loop-page.invariant in
-    let x = c.look-header.ensures in
+    let x = c.look_among-header.ensures in
     let p : PassState = c.args.turn.now.pass in
     let q : PassState = c.loop-page.turn.pass in
-    let r : PassState = c.look-header.new.turn.pass in
+    let r : PassState = c.look_among-header.new.turn.pass in
     let n = c.loop-page.page in
     let bare = sym x.reads ∙ c.if-header-eq0.true in
     let page = bare_page q r n x.frees x.is bare in
@@ -49,21 +49,21 @@ loop-page-preserved-then-header-eq0 c =
       count = omega (arith, i.count);
       words = omega (arith, i.words);
       kept = omega (arith, i.kept);
-      held = bare_holds q r n x.frees x.is bare c.loop-page.held c.look-header.result x.reads c.if-header-eq0.true i.held;
+      held = bare_holds q r n x.frees x.is bare c.loop-page.held c.look_among-header.result x.reads c.if-header-eq0.true i.held;
       few = omega (arith, i.few);
     }
 
 pub settle_taken-here-requires-clause-cells : goal.settle_taken-here-requires-clause-cells
 settle_taken-here-requires-clause-cells c =
-    let first = c.look-header.ensures.frees in
+    let first = c.look_among-header.ensures.frees in
     let test = c.loop-page-test.true in
     free_cells_stay _ _ c.loop-page.page first.frees (first.same c.loop-page.page)
-    (c.loop-page.invariant.cells c.loop-page.page (omega arith) (omega (arith, test, c.pages-page-end.ensures)))
+    (c.loop-page.invariant.cells c.loop-page.page (omega arith) (omega (arith, test, c.pages-pages.ensures)))
 
 pub loop-page-preserved : goal.loop-page-preserved
 loop-page-preserved c =
     let i = c.loop-page.invariant in
-    let first = c.look-header.ensures in
+    let first = c.look_among-header.ensures in
     let x = c.settle_taken-here.ensures in
     let p : PassState = c.args.turn.now.pass in
     let q : PassState = c.loop-page.turn.pass in
@@ -77,7 +77,7 @@ loop-page-preserved c =
       cells = cells_on p q r n c.args.words.now.config.pages page i.cells;
       same = same_on p q r n c.args.words.now.config.pages page i.same;
       released = counted_more (now_of p).words n c.loop-page.all c.settle_taken-here.result.released i.released
-          (x.released ∙ told_alike q c.look-header.new.turn.pass n first.frees
+          (x.released ∙ told_alike q c.look_among-header.new.turn.pass n first.frees
           ∙ told_same p q n i.frees.marks (i.same n (omega arith)));
       count = omega (arith, i.count, x.one.count);
       words = omega (arith, i.words, x.one.words);
@@ -96,7 +96,7 @@ returns-clause-held c =
       (histories_keep_lengths q.table.config q.seen).pages,
       c.loop-page-test.false,
       c.loop-page.auto.page-end,
-      c.pages-page-end.ensures,
+      c.pages-pages.ensures,
       ap (λ (w : WordsState). w.config.pages)
           (freed_table p q c.args.words.now c.loop-page.invariant.frees c.requires.one_table),
     ) in

@@ -12,14 +12,14 @@ use Rattle.mk_tracing.proofs.dirty.unblack_if_dirty.Goals as goal
 pub returns-then-head-page-clause-on : goal.returns-then-head-page-clause-on
 returns-then-head-page-clause-on c =
     on_then c.args.stop.now c.look_at-header.new.stop c.unblack_page.new.stop
-    (on_then c.args.stop.now c.look_at.new.stop c.look_at-header.new.stop c.look_at.ensures.on
+    (on_then c.args.stop.now c.look_among.new.stop c.look_at-header.new.stop c.look_among.ensures.on
     c.look_at-header.ensures.on) c.unblack_page.ensures.on
 
 pub returns-clause-on : goal.returns-clause-on
 returns-clause-on c =
     on_then c.args.stop.now c.unblack_page.new.stop c.unblack_page-2.new.stop
     (on_then c.args.stop.now c.look_at-header.new.stop c.unblack_page.new.stop
-    (on_then c.args.stop.now c.look_at.new.stop c.look_at-header.new.stop c.look_at.ensures.on
+    (on_then c.args.stop.now c.look_among.new.stop c.look_at-header.new.stop c.look_among.ensures.on
     c.look_at-header.ensures.on) c.unblack_page.ensures.on)
     c.unblack_page-2.ensures.on
 
@@ -44,9 +44,9 @@ pub unblack_page-requires-clause-part : goal.unblack_page-requires-clause-part
 unblack_page-requires-clause-part c =
     let q = c.look_at-header.new.stop.pass in
     let same : still_words q ≡ still_words c.args.stop.now.pass = c.look_at-header.ensures.words
-    ∙ c.look_at.ensures.words in
+    ∙ c.look_among.ensures.words in
     own_part q c.args.page
-    (λ z. c.if-look_at-eq0.false (c.look_at.ensures.found ∙ sym
+    (λ z. c.if-look_among-eq0.false (c.look_among.ensures.found ∙ sym
     (ap (λ (w : Words). slice_index w.dirty c.args.page) same) ∙ z))
 
 pub unblack_page-requires-2-clause-part : goal.unblack_page-requires-2-clause-part
@@ -54,7 +54,7 @@ unblack_page-requires-2-clause-part c =
     let page : ℕ = c.args.page in
     let q = c.look_at-header.new.stop.pass in
     let same : still_words q ≡ still_words c.args.stop.now.pass = c.look_at-header.ensures.words
-    ∙ c.look_at.ensures.words in
+    ∙ c.look_among.ensures.words in
     let head : head_page (still_words q) page ≡ c.head_page-head.result =
     ap (λ (w : Words). head_page w page) c.look_at-header.ensures.words
     ∙ ap (λ h. head_page_under (header_of h) page) (sym c.look_at-header.ensures.found)
@@ -62,5 +62,5 @@ unblack_page-requires-2-clause-part c =
     part_kept (still_words q) (still_words c.unblack_page.new.stop.pass) c.head_page-head.result
     (blacks_cleared (still_words q) (still_words c.unblack_page.new.stop.pass) page c.unblack_page.ensures.words)
     (head_part q page c.head_page-head.result
-    (λ z. c.if-look_at-eq0.false (c.look_at.ensures.found ∙ sym (ap (λ (w : Words). slice_index w.dirty page) same)
+    (λ z. c.if-look_among-eq0.false (c.look_among.ensures.found ∙ sym (ap (λ (w : Words). slice_index w.dirty page) same)
     ∙ z)) head)

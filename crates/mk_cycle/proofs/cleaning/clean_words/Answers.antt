@@ -1,0 +1,8 @@
+use Rattle.mk_cycle.proofs.CleaningSteps.{cleans_then}
+use Rattle.mk_cycle.proofs.cleaning.clean_words.Goals as goal
+
+pub returns-clause-cleans : goal.returns-clause-cleans
+returns-clause-cleans c =
+    cleans_then _ _ _ c.clear_marks.ensures.cleans
+    (cleans_then _ _ _ c.clear_black.ensures.cleans
+    (cleans_then _ _ _ c.clear_dirty.ensures.cleans c.copy_freed.ensures.cleans))

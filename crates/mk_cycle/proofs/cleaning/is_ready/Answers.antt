@@ -1,0 +1,22 @@
+use Rattle.std.proofs.Common.{sym, ◌∙◌}
+use Rattle.mk_cycle.proofs.CleaningSteps.{cleans_then, halves}
+use Rattle.mk_cycle.proofs.cleaning.is_ready.Goals as goal
+
+pub returns-clause-cleans : goal.returns-clause-cleans
+returns-clause-cleans c =
+    cleans_then _ _ _ c.look_before-marks.ensures.cleans
+    (cleans_then _ _ _ c.look_before-blacks.ensures.cleans
+    (cleans_then _ _ _ c.look_before-dirty.ensures.cleans c.look_before-quarantine.ensures.cleans))
+
+pub returns-clause-clean : goal.returns-clause-clean
+returns-clause-clean c clean =
+    let last = c.look_before-quarantine in
+    let h = halves _ c.args.page last.result last.ensures.is last.ensures.reads in
+    let behind = cleans_then _ _ _ c.look_before-dirty.ensures.cleans last.ensures.cleans in
+    record {
+      unmarked = (cleans_then _ _ _ c.look_before-blacks.ensures.cleans behind).unmarked c.args.page
+          (sym c.look_before-marks.ensures.reads ∙ c.are_clean.ensures.unmarked clean);
+      unscanned = behind.unscanned c.args.page
+          (sym c.look_before-blacks.ensures.reads ∙ c.are_clean.ensures.unscanned clean);
+      snapshot = sym h.snapshot ∙ c.are_clean.ensures.snapshot clean ∙ h.freed;
+    }
