@@ -22,7 +22,8 @@ module _ (p q r : PassState) (n pages : ℕ) (page : FreesPage n q r) where
 
   pub cells_on : ((s : ℕ) → n ≤ s → s < pages → HasFreeCells q s) → (s : ℕ) → n + 1 ≤ s → s < pages → HasFreeCells r s
   cells_on before s le lt =
-      free_cells_stay q r s page.frees (page.others s (λ e. absurd (omega (arith, e, le)))) (before s (omega (arith, le)) lt)
+      free_cells_stay q r s page.frees (page.others s (λ e. absurd (omega (arith, e, le))))
+      (before s (omega (arith, le)) lt)
 
   pub same_on : ((s : ℕ) → n ≤ s → SamePage p q s) → (s : ℕ) → n + 1 ≤ s → SamePage p r s
   same_on before s le = page.others s (λ e. absurd (omega (arith, e, le))) ∙ before s (omega (arith, le))
@@ -35,15 +36,16 @@ module _ (q r : PassState) (n : ℕ) (look : FreesNone q r) (t : InTurn r) (bare
   pub bare_settled : IsSettledPage r n
   bare_settled = settled_bare r n (bare_left r t n bare) bare
 
-  pub bare_counts : (p : PassState) (all : Released) → Frees p q → SamePage p q n → all ≡ released_below (now_of p).words n
-      → all ≡ released_below (now_of p).words (n + 1)
+  pub bare_counts : (p : PassState) (all : Released) → Frees p q → SamePage p q n
+      → all ≡ released_below (now_of p).words n → all ≡ released_below (now_of p).words (n + 1)
   bare_counts p all frees same before =
       same_released all _ (omega arith) (omega arith) (omega arith)
       ∙ counted_more (now_of p).words n all (record { count = 0; words = 0; kept = 0 }) before
-      (nothing_on (now_of r).words n (bare_snapshot r t n bare) ∙ told_alike q r n look ∙ told_same p q n frees.marks same)
+      (nothing_on (now_of r).words n (bare_snapshot r t n bare) ∙ told_alike q r n look
+      ∙ told_same p q n frees.marks same)
 
-  pub bare_holds : (held header : ℕ) → header ≡ header_at (now_of r).words n → header ≡ 0 → held ≡ sum_below n (held_at q)
-      → held ≡ sum_below (n + 1) (held_at r)
+  pub bare_holds : (held header : ℕ) → header ≡ header_at (now_of r).words n → header ≡ 0
+      → held ≡ sum_below n (held_at q) → held ≡ sum_below (n + 1) (held_at r)
   bare_holds held header reads none before =
       let more = held_more q r n held 0 bare_page before (free_holds (now_of r).words n header reads none) in
       omega (arith, more)

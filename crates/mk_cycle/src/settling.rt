@@ -68,8 +68,8 @@ fn settle_taken(turn: &mut Turn, words: &Words, page: u64, header: u64) -> Settl
     Settled { released, held }
 }
 
-/// Gives back all that was released, and counts it, and what the pages hold then. Of a free page no more than its header
-/// is looked at.
+/// Gives back all that was released, and counts it, and what the pages hold then. Of a free page no more than its
+/// header is looked at.
 pub(crate) fn settle_pages(turn: &mut Turn, words: &Words) -> Settled
     requires one_table { turn.old.pass.table ≡ words.now }
     requires free { IsFreeForCycle turn.old.pass }

@@ -188,7 +188,8 @@ module _ (w : WordsState) (p : PassState) (m : IsMarking w p) (one : w.config.ca
           let count : q.table.config.callers ≡ 1 = ap (λ (v : WordsState). v.config.callers) stop_table ∙ one in
           all_held_below q q.table.config.callers
           (λ j lt. or_true (is_number_of q.seat j) (is_held (now_of q).words j)
-          (subst (λ (i : ℕ). is_held (now_of q).words i ≡ true) (sym (only_zero j q.table.config.callers count lt)) held))
+          (subst (λ (i : ℕ). is_held (now_of q).words i ≡ true)
+          (sym (only_zero j q.table.config.callers count lt)) held))
 
       pub may_want : IsEnabledTo q step.Want
       may_want =

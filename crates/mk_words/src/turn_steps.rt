@@ -42,8 +42,8 @@ impl Turn {
         self.look_among(words, words.pages(), x)
     }
 
-    /// Looks at a word as `look` does, in a table of so many pages. Loops over pages have the number at hand, and needn't
-    /// load it again behind each access.
+    /// Looks at a word as `look` does, in a table of so many pages. Loops over pages have the number at hand, and
+    /// needn't load it again behind each access.
     #[inline(always)]
     pub fn look_among(&mut self, words: &Words, pages: u64, x: Word) -> u64
         requires one_table { self.old.pass.table ≡ words.now }

@@ -49,7 +49,8 @@ loop-page-preserved-then-header-eq0 c =
       count = omega (arith, i.count);
       words = omega (arith, i.words);
       kept = omega (arith, i.kept);
-      held = bare_holds q r n x.frees x.is bare c.loop-page.held c.look_among-header.result x.reads c.if-header-eq0.true i.held;
+      held = bare_holds q r n x.frees x.is bare c.loop-page.held c.look_among-header.result x.reads
+          c.if-header-eq0.true i.held;
       few = omega (arith, i.few);
     }
 

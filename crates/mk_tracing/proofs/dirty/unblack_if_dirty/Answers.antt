@@ -62,5 +62,5 @@ unblack_page-requires-2-clause-part c =
     part_kept (still_words q) (still_words c.unblack_page.new.stop.pass) c.head_page-head.result
     (blacks_cleared (still_words q) (still_words c.unblack_page.new.stop.pass) page c.unblack_page.ensures.words)
     (head_part q page c.head_page-head.result
-    (λ z. c.if-look_among-eq0.false (c.look_among.ensures.found ∙ sym (ap (λ (w : Words). slice_index w.dirty page) same)
-    ∙ z)) head)
+    (λ z. c.if-look_among-eq0.false (c.look_among.ensures.found
+    ∙ sym (ap (λ (w : Words). slice_index w.dirty page) same) ∙ z)) head)
