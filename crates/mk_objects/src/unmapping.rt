@@ -91,9 +91,10 @@ pub(crate) fn wipe_run(words: &Words, turn: &mut Turn, run: RunPages)
 {
     words.is_within_limits();
     turn.is_in_order();
+    let pages = words.pages();
     for word in 0..PAGE_WORDS * run.count {
         turn.is_in_order();
-        let found = turn.look(words, Word::Heap(PAGE_WORDS * run.page + word));
+        let found = turn.look_among(words, pages, Word::Heap(PAGE_WORDS * run.page + word));
         turn.is_in_order();
         if found != 0 {
             turn.wipe(words, PAGE_WORDS * run.page + word);

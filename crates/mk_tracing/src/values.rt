@@ -16,6 +16,7 @@ const HEAP_START: u64 = 65536;
 const PAGE_BYTES: u64 = 512;
 
 /// The cell into which a value points.
+#[inline(always)]
 fn cell_pointed(words: &Words, stop: &mut Stopped, value: u64) -> Option<Cell>
     requires one_table { stop.old.pass.table ≡ words.now }
     requires wanted { IsWanted stop.old.pass }
@@ -50,6 +51,7 @@ fn is_marked(words: &Words, stop: &mut Stopped, cell: Cell) -> bool
 }
 
 /// Marks what the hand points into, if that isn't marked yet. Answers the cell that it marked.
+#[inline(always)]
 pub(crate) fn mark_value(words: &Words, stop: &mut Stopped, value: u64) -> Option<Cell>
     requires one_table { stop.old.pass.table ≡ words.now }
     requires wanted { IsWanted stop.old.pass }

@@ -14,8 +14,8 @@ loop-word-init c =
           c.requires.decided c.requires.stopped;
     }
 
-pub look-found-requires-clause-enabled : goal.look-found-requires-clause-enabled
-look-found-requires-clause-enabled c =
+pub look_among-found-requires-clause-enabled : goal.look_among-found-requires-clause-enabled
+look_among-found-requires-clause-enabled c =
     look_may c.args.turn.now.pass c.args.turn.now.op c.args.run c.is_in_order.ensures.turn c.requires.decided
     c.requires.stopped c.loop-word.turn.pass c.loop-word.word c.loop-word.invariant.wiped c.loop-word-test.true
     c.requires.within
@@ -26,10 +26,10 @@ wipe-requires-clause-enabled c =
     let holds = subst (λ o. IsTurn c.loop-word.turn.pass o) c.loop-word.invariant.op
     c.is_in_order-in-loop-word.ensures.turn in
     wipe_may p c.args.turn.now.op c.args.run c.is_in_order.ensures.turn c.requires.decided c.requires.stopped
-    c.look-found.new.self.pass c.loop-word.word
+    c.look_among-found.new.self.pass c.loop-word.word
     (looks_then p c.args.turn.now.op c.args.run c.is_in_order.ensures.turn c.requires.decided c.requires.stopped
-    c.loop-word.turn.pass c.look-found.new.self.pass c.loop-word.word c.loop-word.invariant.wiped holds
-    c.loop-word-test.true c.requires.few c.requires.unmapped c.look-found.ensures.acts
+    c.loop-word.turn.pass c.look_among-found.new.self.pass c.loop-word.word c.loop-word.invariant.wiped holds
+    c.loop-word-test.true c.requires.few c.requires.unmapped c.look_among-found.ensures.acts
     c.is_in_order-in-loop-word.ensures.own c.is_in_order-in-loop-word-2.ensures.history)
     c.requires.freed c.requires.unmapped c.loop-word-test.true c.requires.within
 
@@ -38,18 +38,18 @@ loop-word-preserved c =
     let p : PassState = c.args.turn.now.pass in
     let i = c.loop-word.invariant in
     let n = c.loop-word.word in
-    let q : PassState = c.look-found.new.self.pass in
+    let q : PassState = c.look_among-found.new.self.pass in
     let holds = subst (λ o. IsTurn c.loop-word.turn.pass o) i.op c.is_in_order-in-loop-word.ensures.turn in
     let seen = looks_then p c.args.turn.now.op c.args.run c.is_in_order.ensures.turn c.requires.decided
     c.requires.stopped c.loop-word.turn.pass q n i.wiped holds c.loop-word-test.true c.requires.few
-    c.requires.unmapped c.look-found.ensures.acts c.is_in_order-in-loop-word.ensures.own
+    c.requires.unmapped c.look_among-found.ensures.acts c.is_in_order-in-loop-word.ensures.own
     c.is_in_order-in-loop-word-2.ensures.history in
     elim c.if-found-ne0.branch [
       | then-found-ne0 w ↦
-          let still = subst (λ o. IsTurn q o) (c.look-found.ensures.op ∙ i.op)
+          let still = subst (λ o. IsTurn q o) (c.look_among-found.ensures.op ∙ i.op)
           c.is_in_order-in-loop-word-2.ensures.turn in
           record {
-            op = ap (λ (t : TurnState). t.op) w.turn-is ∙ w.wipe.ensures.op ∙ c.look-found.ensures.op ∙ i.op;
+            op = ap (λ (t : TurnState). t.op) w.turn-is ∙ w.wipe.ensures.op ∙ c.look_among-found.ensures.op ∙ i.op;
             wiped = subst (λ (t : TurnState). HasWiped p c.args.turn.now.op c.args.run c.is_in_order.ensures.turn
                 c.requires.decided c.requires.stopped t.pass (n + 1)) (sym w.turn-is)
                 (wipes_on p c.args.turn.now.op c.args.run c.is_in_order.ensures.turn c.requires.decided
@@ -59,11 +59,11 @@ loop-word-preserved c =
           }
       | else-found-ne0 w ↦
           record {
-            op = ap (λ (t : TurnState). t.op) w.turn-is ∙ c.look-found.ensures.op ∙ i.op;
+            op = ap (λ (t : TurnState). t.op) w.turn-is ∙ c.look_among-found.ensures.op ∙ i.op;
             wiped = subst (λ (t : TurnState). HasWiped p c.args.turn.now.op c.args.run c.is_in_order.ensures.turn
                 c.requires.decided c.requires.stopped t.pass (n + 1)) (sym w.turn-is)
                 (found_wiped p c.args.turn.now.op c.args.run c.is_in_order.ensures.turn c.requires.decided
-                c.requires.stopped c.loop-word.turn.pass q n c.look-found.result seen c.look-found.ensures.finds
+                c.requires.stopped c.loop-word.turn.pass q n c.look_among-found.result seen c.look_among-found.ensures.finds
                 w.if-found-ne0.false);
           }
     ]
