@@ -1,7 +1,9 @@
 //! The engine that tells why.
-ghost use Rattle.std.specs.Prelude.{◌≡◌, [], IfOk, length};
+ghost use Rattle.std.specs.Prelude.{◌≡◌, [], IfOk, false, length};
 ghost use Rattle.mk_core.specs.declared.config.Config.{Config};
 ghost use Rattle.mk_core.specs.History.{World};
+ghost use Rattle.mk_cycle.specs.EngineLaw.{BeginsMarking, IsAtPhase, IsFreeForCycle};
+ghost use Rattle.mk_turns.specs.Sweeping.{SweepsNothing};
 ghost use Rattle.mk_why.specs.Chains.{AreKept};
 ghost use Rattle.mk_why.specs.Listing.{IsTold};
 ghost use Rattle.mk_why.specs.Sizes.{pages_for};
@@ -73,7 +75,17 @@ impl<E: Engine> Engine for Why<E> {
         self.inner.keeps_on()
     }
 
-    fn begin<R: Threads + Wait + Sync>(&mut self, rt: &R, words: &Words, turn: &mut Turn) {
+    fn begin<R: Threads + Wait + Sync>(&mut self, rt: &R, words: &Words, turn: &mut Turn)
+        requires one_table { turn.old.pass.table ≡ words.now }
+        requires made_for { ⟦<Why<E> as Engine>⟧.made_for self.old ≡ words.now.config.pages }
+        requires marking { IsAtPhase turn.old.pass 1 }
+        requires free { IsFreeForCycle turn.old.pass }
+        ensures made_for { ⟦<Why<E> as Engine>⟧.made_for self.new ≡ ⟦<Why<E> as Engine>⟧.made_for self.old }
+        ensures kept { self.new.kept ≡ self.old.kept }
+        ensures op { turn.new.op ≡ turn.old.op }
+        ensures law { BeginsMarking turn.old.pass turn.new.pass }
+        ensures reached { E.sweeps ≡ false → SweepsNothing turn.old.pass turn.new.pass }
+    {
         words.is_within_limits();
         self.inner.begin(rt, words, turn);
     }
