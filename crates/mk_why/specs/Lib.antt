@@ -3,5 +3,6 @@ pub mod Entries
 pub mod Listing
 pub mod Searching
 pub mod Sizes
+pub mod States
 pub mod Stops
 pub mod SweptChains

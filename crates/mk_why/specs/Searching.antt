@@ -1,5 +1,4 @@
--- The search for chains, breadth first: what its tables say of a view. `Why` cites `at`; all other words private
--- functions alone cite.
+-- The search for chains, breadth first: what its tables say of a view. Private functions alone cite these words.
 use Rattle.std.specs.Prelude.{◌≡◌, ℕ, ◌+◌, ◌*◌, ◌<◌, ◌≤◌, true, false, List, length, slice_index, slice_index_or}
 use Rattle.std.specs.Prelude.{Option, Some, None}
 use Rattle.mk_geom.specs.StorageWords.{IsWordOf}

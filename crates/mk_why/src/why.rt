@@ -1,11 +1,13 @@
 //! The engine that tells why.
-ghost use Rattle.std.specs.Prelude.{◌≡◌, ℕ, [], None, IfOk, length};
+ghost use Rattle.std.specs.Prelude.{◌≡◌, [], IfOk, false, length};
 ghost use Rattle.mk_core.specs.declared.config.Config.{Config};
 ghost use Rattle.mk_core.specs.History.{World};
+ghost use Rattle.mk_cycle.specs.EngineLaw.{BeginsMarking, IsAtPhase, IsFreeForCycle};
+ghost use Rattle.mk_turns.specs.Sweeping.{SweepsNothing};
 ghost use Rattle.mk_why.specs.Chains.{AreKept};
 ghost use Rattle.mk_why.specs.Listing.{IsTold};
-ghost use Rattle.mk_why.specs.Searching.{at};
 ghost use Rattle.mk_why.specs.Sizes.{pages_for};
+ghost use Rattle.mk_why.specs.States.{HasKeptNothing};
 ghost use Rattle.mk_why.specs.Stops.{IsToldBefore, view_of};
 
 use crate::entries::list_entries;
@@ -17,6 +19,7 @@ use mk_cycle::Engine;
 use mk_never::NoMemory;
 use mk_words::{Stopped, Turn, Words};
 use std::alloc::Global;
+use std::marker::Model;
 use std::sync::Wait;
 use std::thread::Threads;
 
@@ -31,13 +34,20 @@ pub struct Why<E: Engine> {
     pub(crate) tables: Tables,
 }
 
+impl<E: Engine> Model for Why<E> {
+    ghost use Rattle.mk_why.specs.States.{WhyState};
+
+    ghost Value = { WhyState E };
+
+    ghost view = { λ why. record { inner = why.inner; found = why.tables.found.items; kept = why.tables.kept.items } };
+}
+
 impl<E: Engine> Why<E> {
     /// What the last `close_marks` found kept, and why. Before the first the list is empty.
     pub fn kept(&self, alloc: Global) -> Result<Vec<Kept>, NoMemory>
         ensures kept { (c : Config) (w : World) → ⟦<Why<E> as Engine>⟧.tells self.now c w
             → IfOk result (λ entries. AreKept c w entries.items) }
-        ensures none { ((base : ℕ) → at self.now.tables.kept.items base ≡ None)
-            → IfOk result (λ entries. entries.items ≡ []) }
+        ensures none { HasKeptNothing self.now → IfOk result (λ entries. entries.items ≡ []) }
     {
         list_entries(&self.tables, alloc)
     }
@@ -48,15 +58,13 @@ impl<E: Engine> Engine for Why<E> {
 
     ghost sweeps = { E.sweeps };
 
-    ghost made_for = { λ why. pages_for (E.made_for why.inner) (length why.tables.found.items) };
+    ghost made_for = { λ why. pages_for (E.made_for why.inner) (length why.found) };
 
-    ghost tells = { λ why c w. IsToldBefore (E.tells why.inner) c w
-        × IsTold c why.tables.found.items why.tables.kept.items (view_of w) };
+    ghost tells = { λ why c w. IsToldBefore (E.tells why.inner) c w × IsTold c why.found why.kept (view_of w) };
 
     fn make(alloc: Global, pages: u64) -> Result<Why<E>, NoMemory>
-        ensures made_for { IfOk result (λ why.
-            pages_for (E.made_for why.inner) (length why.tables.found.items) ≡ pages) }
-        ensures none { IfOk result (λ why. (base : ℕ) → at why.tables.kept.items base ≡ None) }
+        ensures made_for { IfOk result (λ why. ⟦<Why<E> as Engine>⟧.made_for why ≡ pages) }
+        ensures none { IfOk result HasKeptNothing }
     {
         let inner = E::make(alloc, pages)?;
         let tables = Tables::new(alloc, pages.min(MOST_PAGES))?;
@@ -67,7 +75,17 @@ impl<E: Engine> Engine for Why<E> {
         self.inner.keeps_on()
     }
 
-    fn begin<R: Threads + Wait + Sync>(&mut self, rt: &R, words: &Words, turn: &mut Turn) {
+    fn begin<R: Threads + Wait + Sync>(&mut self, rt: &R, words: &Words, turn: &mut Turn)
+        requires one_table { turn.old.pass.table ≡ words.now }
+        requires made_for { ⟦<Why<E> as Engine>⟧.made_for self.old ≡ words.now.config.pages }
+        requires marking { IsAtPhase turn.old.pass 1 }
+        requires free { IsFreeForCycle turn.old.pass }
+        ensures made_for { ⟦<Why<E> as Engine>⟧.made_for self.new ≡ ⟦<Why<E> as Engine>⟧.made_for self.old }
+        ensures kept { self.new.kept ≡ self.old.kept }
+        ensures op { turn.new.op ≡ turn.old.op }
+        ensures law { BeginsMarking turn.old.pass turn.new.pass }
+        ensures reached { E.sweeps ≡ false → SweepsNothing turn.old.pass turn.new.pass }
+    {
         words.is_within_limits();
         self.inner.begin(rt, words, turn);
     }

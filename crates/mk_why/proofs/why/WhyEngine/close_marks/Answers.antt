@@ -1,18 +1,18 @@
-use Rattle.std.proofs.Common.{◌∙◌, ap, arith, length}
+use Rattle.std.proofs.Common.{◌∙◌, ap, arith}
 use Rattle.mk_words.specs.States.{PassState}
 use Rattle.mk_cycle.proofs.Allowed.{in_turn}
 use Rattle.mk_why.proofs.Closing.{law_kept, still_closed, sweepless_kept}
 use Rattle.mk_why.proofs.Looks.{looks_then}
 use Rattle.mk_why.proofs.Pointed.{apart}
-use Rattle.mk_why.proofs.Sizes.{of_pages}
+use Rattle.mk_why.proofs.Sizes.{of_state}
 use Rattle.mk_why.proofs.Telling.{told_by, told_of}
 use Rattle.mk_why.proofs.why.WhyEngine.close_marks.Goals as goal
 
 pub close_marks-requires-clause-made_for : goal.close_marks-requires-clause-made_for
 close_marks-requires-clause-made_for g c =
     let pages = c.is_within_limits.ensures.pages in
-    (of_pages (g.E.Engine.made_for c.args.self.now.inner) (length c.args.self.now.tables.found.items)
-    c.args.words.now.config.pages c.requires.made_for (omega arith) (omega arith)).0
+    (of_state g.E.Engine.made_for _ _ c.args.words.now.config.pages c.self.view_is c.requires.made_for (omega arith)
+    (omega arith)).0
 
 pub search-requires-clause-still : goal.search-requires-clause-still
 search-requires-clause-still g c =
@@ -26,8 +26,8 @@ pub search-requires-clause-size : goal.search-requires-clause-size
 search-requires-clause-size g c =
     let pages = c.is_within_limits.ensures.pages in
     c.forget_found.ensures.size
-    ∙ (of_pages (g.E.Engine.made_for c.args.self.now.inner) (length c.args.self.now.tables.found.items)
-    c.args.words.now.config.pages c.requires.made_for (omega arith) (omega arith)).1
+    ∙ (of_state g.E.Engine.made_for _ _ c.args.words.now.config.pages c.self.view_is c.requires.made_for (omega arith)
+    (omega arith)).1
 
 pub list_kept-requires-clause-one_table : goal.list_kept-requires-clause-one_table
 list_kept-requires-clause-one_table g c =
