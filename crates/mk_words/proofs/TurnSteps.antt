@@ -160,7 +160,7 @@ op_behind c m Host s p exists h = refl
 -- the step of whoever holds the turn
 module _ (p : PassState) (s : Step) (q : PassState) (m : Makes p s q) (own : Has p.seats p.seat)
     (history : IsHistory q.table.config q.seen) where
-  d : Made p s q m
+  abbrev d : Made p s q m
   d = made p s q m own history
 
   pub protocol_now : Protocol p.table.config (world_of q).now
@@ -168,7 +168,7 @@ module _ (p : PassState) (s : Step) (q : PassState) (m : Makes p s q) (own : Has
       subst (λ (r : PassState). Protocol p.table.config (world_of r).now) (sym m.is)
       (lists_keep_the_protocol p.table.config _ d.whole.within_limits d.whole.enabled)
 
-  pub acts : Holds p.table.config (now_of p) p.seat → Acts p s q
+  unfoldable pub acts : Holds p.table.config (now_of p) p.seat → Acts p s q
   acts h =
       let turn = d.frame.turn h in
       record {
