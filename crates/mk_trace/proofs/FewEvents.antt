@@ -1,9 +1,8 @@
 -- A trace has few events, each has few operations, and so few cycles end.
-use Rattle.std.proofs.Common.{◌≡◌, ℕ, ◌+◌, ◌≤◌, ◌==◌, nat_le, Bool, true, false, List, [], ◌∷◌, ◌++◌}
-use Rattle.std.proofs.Common.{length, Ok, Result}
-use Rattle.std.proofs.Common.{refl, sym, ◌∙◌, ap, subst, arith}
+use Rattle.std.proofs.Common.{◌≡◌, ℕ, ◌+◌, ◌≤◌, ◌==◌, nat_le, Bool, true, false, List, [], ◌∷◌, length}
+use Rattle.std.proofs.Common.{Ok, Result, sym, ap, subst, arith}
 use Rattle.std.specs.Prelude.{drop, if◌then◌else◌}
-use Rattle.std.specs.List.{count_by, slice_split}
+use Rattle.std.specs.List.{slice_split}
 use Rattle.std.proofs.lemmas.Bool.Decides.{nat_tests}
 use Rattle.std.proofs.lemmas.List.{length-append}
 use Rattle.std.proofs.lemmas.List.Splits.{length-slice_split}
@@ -18,7 +17,7 @@ use Rattle.mk_trace.specs.declared.lines.Line.{Line}
 use Rattle.mk_trace.specs.declared.lines.Line.TheVariants as line
 use Rattle.mk_trace.specs.declared.trace.TraceEvent.{TraceEvent}
 use Rattle.mk_trace.specs.declared.trace.TraceEvent.TheVariants.{A, K, F, C, W}
-use Rattle.mk_trace.specs.Grammar.{along, events_from, go_on, read_behind, text_fault_at, type_fault_at, with_event}
+use Rattle.mk_trace.specs.Grammar.{along, events_from, read_behind, text_fault_at, type_fault_at, with_event}
 use Rattle.mk_trace.specs.Grammar.{written_from}
 use Rattle.mk_trace.specs.Lines.{Written, header_of, nothing_written, with_line}
 use Rattle.mk_trace.specs.Playing.{ops_of}

@@ -11,9 +11,7 @@ use Rattle.mk_trace.specs.Calls.{most_held}
 use Rattle.mk_trace.specs.Ends.{IsIdle}
 use Rattle.mk_trace.specs.Ledgers.{AreAgesOf, Keeps, objects_kept}
 use Rattle.mk_trace.specs.Peaks.{HistoryPeaks, found_by_ends, found_by_ends_from, greatest, greatest_from, peaks_of}
-use Rattle.mk_trace.specs.declared.peaks.Peaks.{Peaks}
-use Rattle.mk_trace.specs.Playing.{AreCounted, ArePeaks, IsMostHeld, IsMostQuarantined, IsMostReserved, config_of}
-use Rattle.mk_trace.specs.Playing.{history_peaks}
+use Rattle.mk_trace.specs.Playing.{config_of}
 use Rattle.mk_trace.specs.Traces.{Contents}
 use Rattle.mk_trace.proofs.ReleasedAreFreed.{ages_counted}
 
@@ -61,19 +59,11 @@ ages_of trace c es fs pairs same config history h =
     pairs) (sym same)
     (subst (λ (d : Config). AreAgesOf (found_by_ends d es) (left d es).allocations pairs) config h))
 
-pub peaks_by : (trace : Contents) (es : List Event) (peaks : Peaks) → AreCounted trace es peaks
-    → IsMostHeld trace es peaks → IsMostQuarantined trace es peaks → IsMostReserved trace es peaks
-    → peaks.ages.items ≡ (peaks_of (config_of trace) es).ages → ArePeaks trace es peaks
-peaks_by trace es peaks counts held quarantined reserved ages =
-    let p : HistoryPeaks = history_peaks peaks in
-    let is : HistoryPeaks = peaks_of (config_of trace) es in
-    record {
-      events = counts.events;
-      refused = counts.refused;
-      of_history =
-          ap (λ (n : ℕ). record p { held = n }) held
-          ∙ ap (λ (n : ℕ). record p { held = is.held; quarantined = n }) quarantined
-          ∙ ap (λ (n : ℕ). record p { held = is.held; quarantined = is.quarantined; reserved = n }) reserved
-          ∙ ap (λ (n : ℕ). record is { cycles = n; ages = p.ages }) counts.cycles
-          ∙ ap (λ (l : List (ℕ × ℕ)). record is { ages = l }) ages;
-    }
+pub peaks_by : (p is : HistoryPeaks) → p.held ≡ is.held → p.quarantined ≡ is.quarantined → p.reserved ≡ is.reserved
+    → p.cycles ≡ is.cycles → p.ages ≡ is.ages → p ≡ is
+peaks_by p is held quarantined reserved cycles ages =
+    ap (λ (n : ℕ). record p { held = n }) held
+    ∙ ap (λ (n : ℕ). record p { held = is.held; quarantined = n }) quarantined
+    ∙ ap (λ (n : ℕ). record p { held = is.held; quarantined = is.quarantined; reserved = n }) reserved
+    ∙ ap (λ (n : ℕ). record is { cycles = n; ages = p.ages }) cycles
+    ∙ ap (λ (l : List (ℕ × ℕ)). record is { ages = l }) ages

@@ -1,9 +1,8 @@
 -- What is kept once what was released is let go.
 use Rattle.std.proofs.Common.{◌≡◌, ℕ, ◌+◌, ◌≤◌, ◌<◌, Bool, true, false, List, [], ◌∷◌, ◌++◌, length, get_or, take, refl}
 use Rattle.std.proofs.Common.{sym}
-use Rattle.std.proofs.Common.{◌∙◌, ap, subst, arith}
+use Rattle.std.proofs.Common.{◌∙◌, ap, subst}
 use Rattle.std.specs.Prelude.{filter, fold, map, not, if◌then◌else◌}
-use Rattle.std.proofs.lemmas.Bool.{eq-eqb}
 use Rattle.std.proofs.lemmas.List.{map-append, take_all, take_more}
 use Rattle.std.proofs.lemmas.List.Elements.{filter-append}
 use Rattle.std.proofs.lemmas.List.Sums.{fold-append}
@@ -78,16 +77,6 @@ ages_all freed found i first ages all is =
     is ∙ ap (λ (l : List FreedObject). fold with_one first (ages_let_go freed (map aged l))) (take_all i found all)
 
 -- All of it
-
-pub settles_same : (freed : List ℕ) (count told : ℕ) (f : Freed) → count ≡ told → count ≡ f.ends
-    → Settles freed told f f
-settles_same freed count told f is same =
-    subst (λ (n : ℕ). Settles freed n f f) is
-    (record {
-      ends = sym same;
-      objects = subst (λ (b : Bool). SettlesWhere b freed f f) (sym (eq-eqb count f.ends same))
-          (refl, refl, refl, refl);
-    })
 
 pub settles_anew : (freed shown : List ℕ) (count told : ℕ) (old new : Freed) (found kept : List FreedObject)
     → shown ≡ freed → count ≡ told → (count ≡ old.ends → ⊥) → found ≡ objects_kept old

@@ -13,7 +13,7 @@ use Rattle.mk_core.specs.declared.events.Answer.{Answer}
 use Rattle.mk_core.specs.declared.events.Event.{Event}
 use Rattle.mk_core.specs.declared.events.Seat.TheVariants.{Caller}
 use Rattle.mk_core.specs.Calls.{at_rest}
-use Rattle.mk_core.specs.Counts.{ends, in_a_word, is_full_answer, IsTidy}
+use Rattle.mk_core.specs.Counts.{is_full_answer, IsTidy}
 use Rattle.mk_core.specs.Decided.{asked, answered}
 use Rattle.mk_core.specs.History.{left, calls, IsHistory, RefinesNever}
 use Rattle.mk_core.specs.Moments.{flight_of}
@@ -104,24 +104,6 @@ history_peaks peaks =
       cycles = peaks.cycles;
       ages = peaks.ages.items;
     }
-
--- What is counted of a trace whose playing made this history: its events, those that are refused, and the cycles that
--- ended.
-pub record AreCounted (trace : Contents) (es : List Event) (peaks : Peaks) : Type 0 where
-  pub events : peaks.events ≡ length trace.events
-  pub refused : peaks.refused ≡ refused_events trace.events (answered (calls (config_of trace) es))
-  pub cycles : peaks.cycles ≡ in_a_word (ends es)
-
--- The most that was held.
-abbrev pub IsMostHeld : Contents → List Event → Peaks → Type 0
-IsMostHeld trace es peaks = peaks.held ≡ (peaks_of (config_of trace) es).held
-
--- The most that was quarantined, and of that reserved.
-abbrev pub IsMostQuarantined : Contents → List Event → Peaks → Type 0
-IsMostQuarantined trace es peaks = peaks.quarantined ≡ (peaks_of (config_of trace) es).quarantined
-
-abbrev pub IsMostReserved : Contents → List Event → Peaks → Type 0
-IsMostReserved trace es peaks = peaks.reserved ≡ (peaks_of (config_of trace) es).reserved
 
 -- The peaks of a trace whose playing made this history.
 pub record ArePeaks (trace : Contents) (es : List Event) (peaks : Peaks) : Type 0 where

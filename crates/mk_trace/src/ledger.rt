@@ -32,8 +32,8 @@ impl Peak {
     }
 }
 
-/// A freed object: its cell, the words of its storage, those of a large object's, whose addresses stay
-/// reserved, and how many cycles have ended since it was freed.
+/// A freed object: its cell, the words of its storage, those of a large object's, whose addresses stay reserved, and
+/// how many cycles have ended since it was freed.
 #[derive(Clone, Copy)]
 pub(crate) struct FreedObject {
     pub(crate) cell: Cell,

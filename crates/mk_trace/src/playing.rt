@@ -8,8 +8,7 @@ ghost use Rattle.mk_trace.specs.Ends.{IsIdle};
 ghost use Rattle.mk_trace.specs.Laws.{IsEventOf};
 ghost use Rattle.mk_trace.specs.Ledgers.{Keeps};
 ghost use Rattle.mk_trace.specs.Playing as spec;
-ghost use Rattle.mk_trace.specs.Playing.{history_of, IsPlayed, AreCounted, ArePeaks};
-ghost use Rattle.mk_trace.specs.Playing.{IsMostHeld, IsMostQuarantined, IsMostReserved};
+ghost use Rattle.mk_trace.specs.Playing.{history_of, IsPlayed, ArePeaks};
 
 use crate::calls::refuses;
 use crate::configs::config_of;
@@ -129,10 +128,6 @@ fn play_by<E: Engine, R: Threads + Wait + Sync>(
 ) -> Result<Peaks, NoMemory>
     requires off { E.on ≡ false }
     ensures played { IfOk result (λ peaks. IsPlayed trace.now (history_of peaks)) }
-    ensures counted { IfOk result (λ peaks. AreCounted trace.now (history_of peaks) peaks) }
-    ensures held { IfOk result (λ peaks. IsMostHeld trace.now (history_of peaks) peaks) }
-    ensures quarantined { IfOk result (λ peaks. IsMostQuarantined trace.now (history_of peaks) peaks) }
-    ensures reserved { IfOk result (λ peaks. IsMostReserved trace.now (history_of peaks) peaks) }
     ensures peaks { IfOk result (λ peaks. ArePeaks trace.now (history_of peaks) peaks) }
 {
     let config = config_of(alloc, trace)?;
@@ -162,10 +157,6 @@ pub fn play<R: Threads + Wait + Sync>(
     trace: &Trace,
 ) -> Result<Peaks, NoMemory>
     ensures played { IfOk result (λ peaks. IsPlayed trace.now (history_of peaks)) }
-    ensures counted { IfOk result (λ peaks. AreCounted trace.now (history_of peaks) peaks) }
-    ensures held { IfOk result (λ peaks. IsMostHeld trace.now (history_of peaks) peaks) }
-    ensures quarantined { IfOk result (λ peaks. IsMostQuarantined trace.now (history_of peaks) peaks) }
-    ensures reserved { IfOk result (λ peaks. IsMostReserved trace.now (history_of peaks) peaks) }
     ensures peaks { IfOk result (λ peaks. ArePeaks trace.now (history_of peaks) peaks) }
 {
     play_by::<StopEngine, R>(rt, alloc, trace)

@@ -1,9 +1,8 @@
-use Rattle.std.proofs.Common.{◌∙◌, List, ap, length, rules, sym}
+use Rattle.std.proofs.Common.{◌∙◌, List, ap, length, sym}
 use Rattle.mk_trace.specs.declared.trace.TraceEvent.{TraceEvent}
 use Rattle.mk_trace.specs.Peaks.{quarantined_words, reserved_words}
 use Rattle.mk_trace.proofs.FewEvents.{none_ended}
-use Rattle.mk_trace.proofs.FirstLedgers.{ages_of, first_held, first_idle, first_keeps, most_of}
-use Rattle.mk_trace.proofs.FirstLedgers.{peaks_by}
+use Rattle.mk_trace.proofs.FirstLedgers.{ages_of, first_held, first_idle, first_keeps, most_of, peaks_by}
 use Rattle.mk_trace.proofs.HeldCalls.{most_told}
 use Rattle.mk_trace.proofs.OneCaller.{home_joined}
 use Rattle.mk_trace.proofs.Played.{closed, refused_at}
@@ -19,33 +18,30 @@ returns-clause-played g c =
     (c.close-report.ensures.config ∙ c.in_ok-heap.ensures.config ∙ c.in_ok-config.ensures.config)
     c.in_ok-refused.ensures.played c.close-report.ensures.whole
 
-pub returns-clause-counted : goal.returns-clause-counted
-returns-clause-counted g c = record {
-  events = search rules;
-  refused =
-      refused_at c.args.trace.now c.in_ok-refused.refused c.play_events.new.host.pass.seen _
-      c.close-report.ensures.history c.in_ok-refused.ensures.played;
-  cycles = c.close-report.ensures.counts.cycles;
-}
-
-pub returns-clause-held : goal.returns-clause-held
-returns-clause-held g c =
-    most_told c.args.trace.now c.in_ok-heap.heap.config c.play_events.new.host.pass.seen _
-    c.held_at_most-held.result c.close-report.ensures.history
-    (c.in_ok-heap.ensures.config ∙ c.in_ok-config.ensures.config)
-    (c.held_at_most-held.ensures.same ∙ c.in_ok-refused.ensures.held) c.held_at_most-held.ensures.fits
-
-pub returns-clause-quarantined : goal.returns-clause-quarantined
-returns-clause-quarantined g c =
-    most_of c.args.trace.now c.in_ok-heap.heap.config quarantined_words c.play_events.new.host.pass.seen _ _
-    c.close-report.ensures.history (c.in_ok-heap.ensures.config ∙ c.in_ok-config.ensures.config)
-    c.in_ok-refused.ensures.keeps.quarantined.most
-
-pub returns-clause-reserved : goal.returns-clause-reserved
-returns-clause-reserved g c =
-    most_of c.args.trace.now c.in_ok-heap.heap.config reserved_words c.play_events.new.host.pass.seen _ _
-    c.close-report.ensures.history (c.in_ok-heap.ensures.config ∙ c.in_ok-config.ensures.config)
-    c.in_ok-refused.ensures.keeps.reserved.most
+pub returns-clause-peaks : goal.returns-clause-peaks
+returns-clause-peaks g c =
+    let trace = c.args.trace.now in
+    let d = c.in_ok-heap.heap.config in
+    let es = c.play_events.new.host.pass.seen in
+    let at = c.in_ok-heap.ensures.config ∙ c.in_ok-config.ensures.config in
+    let keeps = c.in_ok-refused.ensures.keeps in
+    let played =
+    closed trace c.in_ok-refused.refused _ es _ c.close-report.ensures.history (c.close-report.ensures.config ∙ at)
+    c.in_ok-refused.ensures.played c.close-report.ensures.whole in
+    record {
+      events = ap (λ (l : List TraceEvent). length l) c.events.ensures.events;
+      refused =
+          refused_at trace c.in_ok-refused.refused es _ c.close-report.ensures.history
+          c.in_ok-refused.ensures.played;
+      of_history =
+          peaks_by _ _
+          (most_told trace d es _ c.held_at_most-held.result c.close-report.ensures.history at
+          (c.held_at_most-held.ensures.same ∙ c.in_ok-refused.ensures.held) c.held_at_most-held.ensures.fits)
+          (most_of trace d quarantined_words es _ _ c.close-report.ensures.history at keeps.quarantined.most)
+          (most_of trace d reserved_words es _ _ c.close-report.ensures.history at keeps.reserved.most)
+          c.close-report.ensures.counts.cycles
+          (ages_of trace d es _ _ c.close-report.ensures.history at played.history keeps.ages);
+    }
 
 pub play_events-requires-clause-idle : goal.play_events-requires-clause-idle
 play_events-requires-clause-idle g c κs within =
@@ -65,27 +61,3 @@ play_events-requires-clause-keeps g c κs within =
 
 pub play_events-requires-clause-none_ended : goal.play_events-requires-clause-none_ended
 play_events-requires-clause-none_ended g c κs within = none_ended c.in_ok-heap.host.pass.seen c.in_ok-heap.ensures.empty
-
-pub returns-clause-peaks : goal.returns-clause-peaks
-returns-clause-peaks g c =
-    let trace = c.args.trace.now in
-    let d = c.in_ok-heap.heap.config in
-    let es = c.play_events.new.host.pass.seen in
-    let at = c.in_ok-heap.ensures.config ∙ c.in_ok-config.ensures.config in
-    let keeps = c.in_ok-refused.ensures.keeps in
-    let played =
-    closed trace c.in_ok-refused.refused _ es _ c.close-report.ensures.history (c.close-report.ensures.config ∙ at)
-    c.in_ok-refused.ensures.played c.close-report.ensures.whole in
-    peaks_by trace _ _
-    (record {
-      events = ap (λ (l : List TraceEvent). length l) c.events.ensures.events;
-      refused =
-          refused_at trace c.in_ok-refused.refused es _ c.close-report.ensures.history
-          c.in_ok-refused.ensures.played;
-      cycles = c.close-report.ensures.counts.cycles;
-    })
-    (most_told trace d es _ c.held_at_most-held.result c.close-report.ensures.history at
-    (c.held_at_most-held.ensures.same ∙ c.in_ok-refused.ensures.held) c.held_at_most-held.ensures.fits)
-    (most_of trace d quarantined_words es _ _ c.close-report.ensures.history at keeps.quarantined.most)
-    (most_of trace d reserved_words es _ _ c.close-report.ensures.history at keeps.reserved.most)
-    (ages_of trace d es _ _ c.close-report.ensures.history at played.history keeps.ages)

@@ -1,8 +1,7 @@
-use Rattle.std.proofs.Common.{◌≡◌, List, ap, refl, rules}
+use Rattle.std.proofs.Common.{◌≡◌, ap, refl, rules}
 use Rattle.mk_core.specs.Counts.{ends, in_a_word}
 use Rattle.mk_core.specs.History.{left}
 use Rattle.mk_core.specs.Words.{Words}
-use Rattle.mk_trace.specs.declared.ledger.FreedObject.{FreedObject}
 use Rattle.mk_trace.proofs.SettledLedgers.{settles_anew}
 use Rattle.mk_trace.proofs.settling.settle.Goals as goal
 
