@@ -39,6 +39,8 @@ fn try_place<E: Engine>(words: &Words, turn: &mut Turn, bench: &mut Bench<E>) ->
 }
 
 /// Finishes the cycle that is on, and grants the object where it fits then.
+#[cold]
+#[inline(never)]
 fn finish_and_place<E: Engine, R: Threads + Wait + Sync>(
     rt: &R,
     words: &Words,
@@ -108,6 +110,8 @@ fn place_behind_older<E: Engine, R: Threads + Wait + Sync>(
 }
 
 /// Begins and finishes a cycle, and grants the object where it fits then.
+#[cold]
+#[inline(never)]
 fn place_behind_cycle<E: Engine, R: Threads + Wait + Sync>(
     rt: &R,
     words: &Words,
