@@ -30,8 +30,8 @@ use Rattle.mk_images.proofs.Kept.{exists_placed}
 use Rattle.mk_invariant.proofs.Theorems.{reach_is_kept}
 use Rattle.mk_trace.specs.Freeing.{AreLater, FlagsBehind, number_freed}
 use Rattle.mk_trace.proofs.FreedFlags.{is_freed_behind, is_freed_there, others_kept, points_there, twins, was_unfreed}
-use Rattle.mk_trace.proofs.FreedSteps.{flagged_free, freeing_decides, is_free, is_free_call}
 use Rattle.mk_trace.proofs.LaterFlags.{later_left}
+use Rattle.mk_trace.proofs.FreeCalls.{flagged_free, freeing_decides, is_free, is_free_call}
 
 -- Events that decide no Free free none.
 

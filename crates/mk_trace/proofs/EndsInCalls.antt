@@ -46,11 +46,11 @@ use Rattle.mk_trace.specs.Calls.{Calls}
 use Rattle.mk_trace.specs.Ends.{EndsTell, LeavesAllocations}
 use Rattle.mk_trace.proofs.EndsInLists.{changes, leaves_tell, leaves_then, next_of, tells_behind_none, tells_ends}
 use Rattle.mk_trace.proofs.EndsInLists.{tells_none}
-use Rattle.mk_trace.proofs.FlagSteps.{frees_decide, is_free, is_free_call}
 use Rattle.mk_trace.proofs.FoundByEnds.{FreesNoneFrom, is_over}
 use Rattle.mk_trace.proofs.OwnPieces.{AreMine, HasTheRest, all_again, are_mine, has_mine, is_mine, mine_parts}
 use Rattle.mk_trace.proofs.OwnPieces.{none_of_others}
 use Rattle.mk_trace.proofs.TurnPieces.{before_turn, before_turn_lacks, giving, turn_seen, within_is}
+use Rattle.mk_trace.proofs.FreeCalls.{frees_decide, is_free, is_free_call}
 
 -- Where all events are of the one caller.
 

@@ -25,8 +25,9 @@ use Rattle.mk_readings.proofs.CyclePhases.{AsksPhase, moves_phase, phase_behind}
 use Rattle.mk_alloc.specs.TurnCycles.{has_step}
 use Rattle.mk_trace.specs.Ends.{FreesNone, ReleasesNone}
 use Rattle.mk_trace.specs.Peaks.{found_by_ends_from}
-use Rattle.mk_trace.proofs.FlagSteps.{frees_by, frees_decide, frees_then, is_free_call, releases_by, releases_then}
+use Rattle.mk_trace.proofs.FlagSteps.{frees_by, frees_then, releases_by, releases_then}
 use Rattle.mk_trace.proofs.FlagSteps.{same_releases}
+use Rattle.mk_trace.proofs.FreeCalls.{frees_decide, is_free_call}
 
 abbrev pub is_over : Step → Bool
 is_over step.Over = true

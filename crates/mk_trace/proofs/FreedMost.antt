@@ -34,13 +34,14 @@ use Rattle.mk_alloc.specs.TurnCycles.{has_step}
 use Rattle.mk_trace.specs.Freeing.{number_freed, unfreed, words_of_some}
 use Rattle.mk_trace.specs.Peaks.{greatest, greatest_from}
 use Rattle.mk_trace.proofs.FreedFlags.{points_there}
-use Rattle.mk_trace.proofs.FreedSteps.{falls_without_free, flagged_free, freeing_decides, is_free, is_free_call}
+use Rattle.mk_trace.proofs.FreedSteps.{falls_without_free}
 use Rattle.mk_trace.proofs.FreedSteps.{rises_without_release}
 use Rattle.mk_trace.proofs.FreedSums.{freed_adds}
 use Rattle.mk_trace.proofs.FreedWords.{weighed}
 use Rattle.mk_trace.proofs.GreatestParts.{from-append, last_below}
 use Rattle.mk_trace.specs.Freeing.{AreLater}
 use Rattle.mk_trace.proofs.LaterFlags.{SameReleased, later_left, same_released}
+use Rattle.mk_trace.proofs.FreeCalls.{flagged_free, freeing_decides, is_free, is_free_call}
 
 -- An event frees, before any is released.
 pub record FreesBefore (c : Config) (es more : List Event) : Type 0 where

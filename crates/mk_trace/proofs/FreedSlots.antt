@@ -20,9 +20,9 @@ use Rattle.mk_trace.specs.declared.trace.TraceEvent.TheVariants.{A, K, F, C, W}
 use Rattle.mk_trace.specs.Freeing.{FreesItsSlot, FreesSlot}
 use Rattle.mk_trace.specs.Playing.{calls_of_caller, ops_of}
 use Rattle.mk_trace.specs.Traces.{slot_of}
-use Rattle.mk_trace.proofs.FreedSteps.{is_free}
 use Rattle.mk_trace.proofs.LaterOps.{AreCalled}
 use Rattle.mk_trace.proofs.OneCaller.{never_behind_all}
+use Rattle.mk_trace.proofs.FreeCalls.{is_free}
 
 no_free : (ops before : List Op) (o : Op) (rest : List Op) (p : ℕ) → list_any is_free ops ≡ false
     → ops ≡ before ++ o ∷ rest → o ≡ op.Free p → ⊥

@@ -5,79 +5,29 @@ use Rattle.std.specs.List.{list_any}
 use Rattle.std.proofs.lemmas.Bool.{or_parts, true≢false}
 use Rattle.std.proofs.lemmas.List.Folds.{list_any-append}
 use Rattle.std.proofs.lemmas.List.Sums.{sum_by-cons, sum_by-append}
-use Rattle.mk_never.specs.declared.operations.Op.{Op}
-use Rattle.mk_never.specs.declared.operations.Op.TheVariants as op
 use Rattle.mk_geom.specs.declared.addresses.Cell.{Cell}
 use Rattle.mk_core.specs.declared.config.Config.{Config}
-use Rattle.mk_core.specs.declared.events.Answer.{Answer}
-use Rattle.mk_core.specs.declared.events.Answer.TheVariants as answer
 use Rattle.mk_core.specs.declared.events.Event.{Event}
 use Rattle.mk_core.specs.declared.events.Seat.{Seat}
-use Rattle.mk_core.specs.declared.events.Seat.TheVariants.{Caller, Marker, Host}
 use Rattle.mk_core.specs.declared.events.Step.{Step}
 use Rattle.mk_core.specs.declared.events.Step.TheVariants as step
 use Rattle.mk_core.specs.declared.seats.Flight.{Flight}
-use Rattle.mk_core.specs.declared.seats.Stage.{Stage}
-use Rattle.mk_core.specs.declared.seats.Stage.TheVariants as stage
 use Rattle.mk_core.specs.Allocations.{PlacedAllocation, allocations_by, freed_where_it_stands, granted}
 use Rattle.mk_core.specs.Allocations.{no_longer_fresh, stands_in, with_released}
 use Rattle.mk_core.specs.Bounded.{is_some_and}
 use Rattle.mk_core.specs.Cells.{is_left_unmarked, pointed_cell}
 use Rattle.mk_core.specs.Cycles.{is_release}
-use Rattle.mk_core.specs.Decided.{Decided, entry_of, flagged}
-use Rattle.mk_core.specs.Effects.{progress_freed}
+use Rattle.mk_core.specs.Decided.{Decided}
 use Rattle.mk_core.specs.History.{World, call_decided, calls_from, left_from, world_behind}
 use Rattle.mk_core.specs.Moments.{Moment, flight_of}
-use Rattle.mk_core.specs.NewPlaces.{is_free_at, is_undecided_free, target}
 use Rattle.mk_core.specs.TurnConditions.{cell_freed}
 use Rattle.mk_core.specs.Words.{Words}
 use Rattle.mk_core.proofs.ChangedAllocations.{none_freed}
 use Rattle.mk_geom.specs.Addresses.{address_of}
 use Rattle.mk_alloc.specs.TurnCycles.{has_step}
 use Rattle.mk_trace.specs.Peaks.{greatest_from}
+use Rattle.mk_trace.proofs.FreeCalls.{freeing_decides, is_free_call}
 use Rattle.mk_trace.proofs.FreedWords.{part, weighed, sum_falls, sum_rises}
-
-abbrev pub is_free : Op → Bool
-is_free (op.Free p) = true
-is_free _ = false
-
-abbrev pub is_free_call : Decided → Bool
-is_free_call x = is_free x.op
-
--- A store that frees a cell decides a Free.
-
-if_some : (b : Bool) (x : Option Cell) (cell : Cell) → (if b then x else None) ≡ Some cell
-    → (b ≡ true) × (x ≡ Some cell)
-if_some true x cell is = (refl, is)
-if_some false x cell is = cc
-
-free_at : (s : Stage) (o : Op) → is_free_at s o ≡ true → is_free o ≡ true
-free_at stage.Turn (op.Free p) h = refl
-free_at stage.Turn _ h = cc
-free_at _ o h = cc
-
-freed_by_free : (pages : ℕ) (w : Words) (f : Flight) (p v : ℕ) (cell : Cell) → cell_freed pages w f p v ≡ Some cell
-    → is_undecided_free f ≡ true
-freed_by_free pages w f p v cell is =
-    (if_some (is_undecided_free f) (pointed_cell pages w.pages f.p) cell (if_some _ (target pages w f) cell is).1).0
-
-pub flagged_free : (o : Op) (a : Answer) → is_free (flagged o a) ≡ is_free o
-flagged_free (op.New d ty full) answer.Full = refl
-flagged_free (op.New d ty full) _ = refl
-flagged_free o a = refl
-
-pub freeing_decides : (c : Config) (m : Moment) (seat : Seat) (p v : ℕ) (cell : Cell)
-    → cell_freed c.pages m.words (flight_of m seat) p v ≡ Some cell
-    → list_any is_free_call (call_decided c m (record { seat = seat; step = step.Quar p v })) ≡ true
-freeing_decides c m (Caller k) p v cell is =
-    let f : Flight = flight_of m (Caller k) in
-    ap (λ (x : Option Cell). list_any is_free_call (entry_of k f.op (progress_freed f x).answer)) is
-    ∙ ap (λ (b : Bool). b || false)
-    (flagged_free f.op answer.Done ∙ free_at f.stage f.op (freed_by_free c.pages m.words f p v cell is))
-freeing_decides c m (Marker k) p v cell is =
-    let none : false ≡ true = freed_by_free c.pages m.words (flight_of m (Marker k)) p v cell is in absurd cc
-freeing_decides c m Host p v cell is =
-    let none : false ≡ true = freed_by_free c.pages m.words (flight_of m Host) p v cell is in absurd cc
 
 -- What single changes add.
 

@@ -16,6 +16,7 @@ pub mod FoundAges
 pub mod FoundByEnds
 pub mod FoundCells
 pub mod FoundObjects
+pub mod FreeCalls
 pub mod FreePieces
 pub mod FreedCalls
 pub mod FreedFlags

@@ -1,0 +1,79 @@
+-- What frees an object decides a Free.
+use Rattle.std.proofs.Common.{◌≡◌, ℕ, Bool, true, false, refl}
+use Rattle.std.proofs.Common.{◌∙◌, ap}
+use Rattle.std.specs.Prelude.{◌&&◌, ◌||◌, not, Option, Some, None, is_some, if◌then◌else◌}
+use Rattle.std.specs.List.{list_any}
+use Rattle.mk_never.specs.declared.operations.Op.{Op}
+use Rattle.mk_never.specs.declared.operations.Op.TheVariants as op
+use Rattle.mk_geom.specs.declared.addresses.Cell.{Cell}
+use Rattle.mk_core.specs.declared.config.Config.{Config}
+use Rattle.mk_core.specs.declared.events.Answer.TheVariants as answer
+use Rattle.mk_core.specs.declared.events.Seat.{Seat}
+use Rattle.mk_core.specs.declared.events.Seat.TheVariants.{Caller, Host, Marker}
+use Rattle.mk_core.specs.declared.events.Step.{Step}
+use Rattle.mk_core.specs.declared.events.Step.TheVariants as step
+use Rattle.mk_core.specs.declared.seats.Flight.{Flight}
+use Rattle.mk_core.specs.declared.seats.Stage.{Stage}
+use Rattle.mk_core.specs.declared.seats.Stage.TheVariants as stage
+use Rattle.mk_core.specs.Counts.{decides_freed}
+use Rattle.mk_core.specs.Decided.{Decided, entry_of, flagged}
+use Rattle.mk_core.specs.Effects.{progress_freed}
+use Rattle.mk_core.specs.History.{call_decided}
+use Rattle.mk_core.specs.Cells.{pointed_cell}
+use Rattle.mk_core.specs.Moments.{Moment, flight_of, is_phase}
+use Rattle.mk_core.specs.NewPlaces.{is_free_at, is_undecided_free, target}
+use Rattle.mk_core.specs.TurnConditions.{cell_freed, frees}
+use Rattle.mk_core.specs.declared.events.Answer.{Answer}
+
+abbrev pub is_free : Op → Bool
+is_free (op.Free p) = true
+is_free _ = false
+
+abbrev pub is_free_call : Decided → Bool
+is_free_call x = is_free x.op
+
+pub flagged_free : (o : Op) (a : Answer) → is_free (flagged o a) ≡ is_free o
+flagged_free (op.New d ty full) answer.Full = refl
+flagged_free (op.New d ty full) _ = refl
+flagged_free o a = refl
+
+frees_at : (s : Stage) (o : Op) → is_free_at s o ≡ true → is_free o ≡ true
+frees_at stage.Turn (op.Free p) h = refl
+frees_at stage.Turn _ h = cc
+frees_at _ o h = cc
+
+some_by_test : (b : Bool) (x : Option Cell) → is_some (if b then x else None) ≡ true → (b ≡ true) × (is_some x ≡ true)
+some_by_test true x h = (refl, h)
+some_by_test false x h = cc
+
+freed_by_free : (c : Config) (m : Moment) (f : Flight) (p v : ℕ) → is_some (cell_freed c.pages m.words f p v) ≡ true
+    → is_free f.op ≡ true
+freed_by_free c m f p v some =
+    let target_some = (some_by_test
+    (not (is_phase m.words 4) && frees m.words (target c.pages m.words f) p v) (target c.pages m.words f) some).1 in
+    frees_at f.stage f.op
+    (some_by_test (is_undecided_free f) (pointed_cell c.pages m.words.pages f.p) target_some).0
+
+decided_by_cell : (k : ℕ) (f : Flight) (cell : Option Cell) → is_some cell ≡ true → is_free f.op ≡ true
+    → list_any is_free_call (entry_of k f.op (progress_freed f cell).answer) ≡ true
+decided_by_cell k f (Some cell) some free = ap (λ (b : Bool). b || false) (flagged_free f.op answer.Done ∙ free)
+decided_by_cell k f None some free = cc
+
+quar_decides : (c : Config) (m : Moment) (seat : Seat) (p v : ℕ)
+    → is_some (cell_freed c.pages m.words (flight_of m seat) p v) ≡ true
+    → list_any is_free_call (call_decided c m (record { seat = seat; step = step.Quar p v })) ≡ true
+quar_decides c m (Caller k) p v some =
+    let f : Flight = flight_of m (Caller k) in
+    decided_by_cell k f (cell_freed c.pages m.words f p v) some (freed_by_free c m f p v some)
+quar_decides c m (Marker k) p v some = let free = freed_by_free c m (flight_of m (Marker k)) p v some in cc
+quar_decides c m Host p v some = let free = freed_by_free c m (flight_of m Host) p v some in cc
+
+pub frees_decide : (c : Config) (m : Moment) (seat : Seat) (s : Step) → decides_freed c m (flight_of m seat) s ≡ true
+    → list_any is_free_call (call_decided c m (record { seat = seat; step = s })) ≡ true
+frees_decide c m seat (step.Quar p v) h = quar_decides c m seat p v h
+frees_decide c m seat _ h = cc
+
+pub freeing_decides : (c : Config) (m : Moment) (seat : Seat) (p v : ℕ) (cell : Cell)
+    → cell_freed c.pages m.words (flight_of m seat) p v ≡ Some cell
+    → list_any is_free_call (call_decided c m (record { seat = seat; step = step.Quar p v })) ≡ true
+freeing_decides c m seat p v cell is = quar_decides c m seat p v (ap (λ (x : Option Cell). is_some x) is)
