@@ -1,6 +1,6 @@
 //! What comes before a cycle's `begin`: the marks of the cycle before are cleared, and the snapshot is taken. A word
 //! that is as it is to be isn't stored to.
-ghost use Rattle.std.specs.Prelude.{◌≡◌, ◌<◌, ◌/◌, ◌%◌, ◌^◌, ℕ, true, false};
+ghost use Rattle.std.specs.Prelude.{◌≡◌, ◌<◌, ℕ, true, false};
 ghost use Rattle.mk_core.specs.Ranges.{is_word};
 ghost use Rattle.mk_core.specs.Words.{named_word};
 ghost use Rattle.mk_words.specs.States.{now_of};
@@ -91,18 +91,18 @@ fn look_before(turn: &mut Turn, words: &Words, pages: u64, x: Word) -> u64
     look_among(turn, words, pages, x)
 }
 
-/// Whether these words of a page are as a `begin` wants them, and it isn't dirty.
+/// Whether all these words are 0.
 #[inline(always)]
-fn are_clean(marks: u64, blacks: u64, dirty: u64, quarantine: u64) -> bool
-    ensures unmarked { result ≡ true → marks ≡ 0 }
-    ensures unscanned { result ≡ true → blacks ≡ 0 }
-    ensures snapshot { result ≡ true → quarantine / 2 ^ 32 ≡ quarantine % 2 ^ 32 }
+fn are_zero(marks: u64, blacks: u64, dirty: u64, quarantine: u64) -> bool
+    ensures marks { result ≡ true → marks ≡ 0 }
+    ensures blacks { result ≡ true → blacks ≡ 0 }
+    ensures quarantine { result ≡ true → quarantine ≡ 0 }
 {
-    let is_snapshot = quarantine / FREED_END == quarantine % FREED_END;
-    marks == 0 && blacks == 0 && dirty == 0 && is_snapshot
+    marks | blacks | dirty | quarantine == 0
 }
 
-/// Whether a page is as a `begin` wants it, and not dirty. Each of its words is looked at.
+/// Whether nothing of a page is marked, scanned, dirty or quarantined: so a `begin` wants it. Each of these words is
+/// looked at.
 #[inline(always)]
 fn is_ready(turn: &mut Turn, words: &Words, pages: u64, page: u64) -> bool
     requires one_table { turn.old.pass.table ≡ words.now }
@@ -118,10 +118,11 @@ fn is_ready(turn: &mut Turn, words: &Words, pages: u64, page: u64) -> bool
     let blacks = look_before(turn, words, pages, Word::Black(page));
     let dirty = look_before(turn, words, pages, Word::Dirty(page));
     let quarantine = look_before(turn, words, pages, Word::Quar(page));
-    are_clean(marks, blacks, dirty, quarantine)
+    are_zero(marks, blacks, dirty, quarantine)
 }
 
-/// Makes a page ready, word by word.
+/// Makes a page ready, word by word. It stands by itself, since few pages need it.
+#[inline(never)]
 fn clean_words(turn: &mut Turn, words: &Words, page: u64)
     requires one_table { turn.old.pass.table ≡ words.now }
     requires free { IsFreeForCycle turn.old.pass }

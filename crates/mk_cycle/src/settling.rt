@@ -44,7 +44,9 @@ fn free_unused(turn: &mut Turn, words: &Words, page: u64, head: u64)
     }
 }
 
-/// Gives back the released cells of a page with this header word, and frees it if nothing is left on it.
+/// Gives back the released cells of a page with this header word, and frees it if nothing is left on it. It stands by
+/// itself, so that to pass a free page costs a look.
+#[inline(never)]
 fn settle_taken(turn: &mut Turn, words: &Words, page: u64, header: u64) -> Settled
     requires one_table { turn.old.pass.table ≡ words.now }
     requires free { IsFreeForCycle turn.old.pass }

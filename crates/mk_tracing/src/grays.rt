@@ -26,6 +26,7 @@ fn first_of(cells: u64, header: u64) -> Option<u64>
 
 /// The first gray cell of a page on which these cells are marked. The black word is looked at, and the header only
 /// where a marked cell isn't black.
+#[inline(never)]
 fn gray_among(words: &Words, stop: &mut Stopped, page: u64, marks: u64) -> Option<Cell>
     requires one_table { stop.old.pass.table ≡ words.now }
     requires wanted { IsWanted stop.old.pass }

@@ -1,4 +1,4 @@
-use Rattle.std.proofs.Common.{sym, ◌∙◌}
+use Rattle.std.proofs.Common.{◌≡◌, ℕ, ◌/◌, ◌%◌, ◌^◌, sym, ap, ◌∙◌}
 use Rattle.mk_cycle.proofs.CleaningSteps.{cleans_then, halves}
 use Rattle.mk_cycle.proofs.cleaning.is_ready.Goals as goal
 
@@ -8,6 +8,9 @@ returns-clause-cleans c =
     (cleans_then _ _ _ c.look_before-blacks.ensures.cleans
     (cleans_then _ _ _ c.look_before-dirty.ensures.cleans c.look_before-quarantine.ensures.cleans))
 
+no_halves : (n : ℕ) → n ≡ 0 → n / 2 ^ 32 ≡ n % 2 ^ 32
+no_halves n is = ap (λ (k : ℕ). k / 2 ^ 32) is ∙ sym (ap (λ (k : ℕ). k % 2 ^ 32) is)
+
 pub returns-clause-clean : goal.returns-clause-clean
 returns-clause-clean c clean =
     let last = c.look_before-quarantine in
@@ -15,8 +18,8 @@ returns-clause-clean c clean =
     let behind = cleans_then _ _ _ c.look_before-dirty.ensures.cleans last.ensures.cleans in
     record {
       unmarked = (cleans_then _ _ _ c.look_before-blacks.ensures.cleans behind).unmarked c.args.page
-          (sym c.look_before-marks.ensures.reads ∙ c.are_clean.ensures.unmarked clean);
+          (sym c.look_before-marks.ensures.reads ∙ c.are_zero.ensures.marks clean);
       unscanned = behind.unscanned c.args.page
-          (sym c.look_before-blacks.ensures.reads ∙ c.are_clean.ensures.unscanned clean);
-      snapshot = sym h.snapshot ∙ c.are_clean.ensures.snapshot clean ∙ h.freed;
+          (sym c.look_before-blacks.ensures.reads ∙ c.are_zero.ensures.blacks clean);
+      snapshot = sym h.snapshot ∙ no_halves last.result (c.are_zero.ensures.quarantine clean) ∙ h.freed;
     }
