@@ -1,8 +1,7 @@
 -- What a seat is at as a marker, behind its own steps and those of others.
-use Rattle.std.proofs.Common.{◌≡◌, ℕ, ◌<◌, true, false, List, [], ◌∷◌, ◌++◌, length, refl, sym, ◌∙◌, ap, subst, arith}
+use Rattle.std.proofs.Common.{◌≡◌, ℕ, ◌<◌, true, false, List, ◌++◌, length, refl, sym, ◌∙◌, ap, subst, arith}
 use Rattle.std.proofs.lemmas.Bool.{ltb-true}
 use Rattle.std.proofs.lemmas.List.{get_or-set_same}
-use Rattle.atomic_table.specs.Seated.{TableId}
 use Rattle.mk_core.specs.declared.config.Config.{Config}
 use Rattle.mk_core.specs.declared.events.Seat.{Seat}
 use Rattle.mk_core.specs.declared.events.Seat.TheVariants.{Caller, Marker, Host}
@@ -20,13 +19,12 @@ use Rattle.mk_core.specs.Moments.{Moment, outside, flight_of, marker_at, holder_
 use Rattle.mk_core.specs.Enabled.{marker_may}
 use Rattle.mk_core.specs.Effects.{marker_behind, moment_behind}
 use Rattle.mk_core.specs.History.{World, left, IsHistory}
-use Rattle.mk_core.specs.Growing.{AreOfOthers, Grows}
+use Rattle.mk_core.specs.Growing.{Grows}
 use Rattle.mk_core.proofs.Conditions.{enabled_meets}
 use Rattle.mk_protocol.proofs.Frames.{others_leave}
 use Rattle.mk_words.specs.Seats.{Has}
-use Rattle.mk_words.specs.States.{PassState, now_of, event_of}
-use Rattle.mk_words.specs.Rule.{Mine, told_by, first_view}
-use Rattle.mk_words.specs.Passes.{state_of, IsInOrder, IsPass}
+use Rattle.mk_words.specs.States.{PassState, WordsState, now_of, event_of}
+use Rattle.mk_words.specs.Rule.{told_by}
 use Rattle.mk_words.specs.Steps.{IsEnabledTo, Makes, moment_of, found_by, Tells}
 use Rattle.mk_words.specs.Markers.{is_markers, marker_in, Marks}
 use Rattle.mk_words.proofs.Seats.{others_own}
@@ -69,15 +67,16 @@ behind_own c m (Marker j) k s is lt = let same : j ≡ k = cc in get_or-set_same
 behind_own c m (Caller j) k s is lt = cc
 behind_own c m Host k s is lt = cc
 
--- a step of another kind leaves nothing of a marker
-no_marker : (p : PassState) (s : Step) (q : PassState) (m : Makes p s q) → Has p.seats p.seat
+-- a seat that makes a step of another kind is out as a marker
+pub is_outside : (p : PassState) (s : Step) (q : PassState) (m : Makes p s q) → Has p.seats p.seat
     → IsHistory q.table.config q.seen → is_markers (group_of s) ≡ false
-    → marker_in q ≡ marker_in p
-no_marker p s q m own history kind =
-    let d = made p s q m own history in
-    ap (λ (x : Seat). marker_at (now_of q) x) d.seat
-    ∙ other_steps p.table.config (now_of p) p.seat s kind d.meets.kind (now_of q)
-    ∙ sym (other_steps p.table.config (now_of p) p.seat s kind d.meets.kind (now_of p))
+    → (marker_in p ≡ outside) × (marker_in q ≡ outside)
+is_outside p s q m own history kind =
+    let d = made p s q m own history in (
+      other_steps p.table.config (now_of p) p.seat s kind d.meets.kind (now_of p),
+      ap (λ (x : Seat). marker_at (now_of q) x) d.seat
+          ∙ other_steps p.table.config (now_of p) p.seat s kind d.meets.kind (now_of q),
+    )
 
 module _ (p : PassState) (s : Step) (n : ℕ) (q : PassState) (t : Tells p s n q) (own : Has p.seats p.seat)
     (history : IsHistory q.table.config q.seen) where
@@ -102,81 +101,20 @@ module _ (p : PassState) (s : Step) (n : ℕ) (q : PassState) (t : Tells p s n q
             ∙ ap (λ (i : ℕ). marker_behind c i s (marker_in p)) (sym found_is);
       }
 
--- others leave it
-pub marker_stays : (c : Config) (seen more : List Event) (seat : Seat) → IsHistory c (seen ++ more)
-    → AreOfOthers (seat ∷ []) more
-    → marker_at (left c (seen ++ more)).now seat ≡ marker_at (left c seen).now seat
-marker_stays c seen more seat h others = (others_leave c seen more seat h.within_limits h.enabled others).own.marker
-
--- A pass keeps it in all that it goes through.
-
-pub first_pass : (c : Config) (me : Mine) → me ≡ (first_view c, []) → IsInOrder me Host → IsPass me Host outside
-first_pass c me is order = record { order = order; keeps = refl }
-
-pub stays_pass : (me n : Mine) (seat : Seat) (marker : MarkerState) → IsPass me seat marker → n.0.config ≡ me.0.config
-    → n.0.own.seen ≡ me.0.own.seen → IsInOrder n seat → IsPass n seat marker
-stays_pass me n seat marker pass config_is seen_is order =
-    record {
-      order = order;
-      keeps = pass.keeps
-          ∙ ap (λ (c : Config). marker_at (left c me.0.own.seen).now seat) (sym config_is)
-          ∙ ap (λ (es : List Event). marker_at (left n.0.config es).now seat) (sym seen_is);
-    }
-
-pub out_pass : (me n : Mine) (seat : Seat) → n.0.config ≡ me.0.config → n.0.own.seen ≡ me.0.own.seen
-    → marker_at (left me.0.config me.0.own.seen).now seat ≡ outside → IsInOrder n seat
-    → IsPass n seat outside
-out_pass me n seat config_is seen_is out order =
-    record {
-      order = order;
-      keeps = sym out
-          ∙ ap (λ (c : Config). marker_at (left c me.0.own.seen).now seat) (sym config_is)
-          ∙ ap (λ (es : List Event). marker_at (left n.0.config es).now seat) (sym seen_is);
-    }
-
-pub joined_pass : (me n : Mine) (seat : Seat) (marker : MarkerState) → IsPass me seat marker → n.0.config ≡ me.0.config
-    → Grows me.0.own.seats me.0.own.seen n.0.own.seen → IsInOrder n seat
-    → IsPass n seat marker
-joined_pass me n seat marker pass config_is grows order =
-    let whole : IsHistory me.0.config (me.0.own.seen ++ grows.more) =
-    subst (λ (es : List Event). IsHistory me.0.config es) grows.is
-    (subst (λ (c : Config). IsHistory c n.0.own.seen) config_is order.history) in
-    record {
-      order = order;
-      keeps = pass.keeps
-          ∙ sym (marker_stays me.0.config me.0.own.seen grows.more seat whole
-          (others_own me.0.own.seats seat grows.more pass.order.own grows.of_others))
-          ∙ ap (λ (es : List Event). marker_at (left me.0.config es).now seat) (sym grows.is)
-          ∙ ap (λ (c : Config). marker_at (left c n.0.own.seen).now seat) (sym config_is);
-    }
-
-pub other_pass_made : (tid qid : TableId) (me n : Mine) (seat : Seat) (marker : MarkerState) (s : Step)
-    → IsPass me seat marker → IsInOrder n seat
-    → Makes (state_of tid me seat) s (state_of qid n seat) → is_markers (group_of s) ≡ false → IsPass n seat marker
-other_pass_made tid qid me n seat marker s pass order m kind =
-    record {
-      order = order;
-      keeps = pass.keeps
-          ∙ sym (no_marker (state_of tid me seat) s (state_of qid n seat) m pass.order.own order.history kind);
-    }
-
-pub other_pass : (tid qid : TableId) (me n : Mine) (seat : Seat) (marker : MarkerState) (s : Step) (k : ℕ)
-    → IsPass me seat marker → IsInOrder n seat
-    → Tells (state_of tid me seat) s k (state_of qid n seat) → is_markers (group_of s) ≡ false → IsPass n seat marker
-other_pass tid qid me n seat marker s k pass order t kind =
-    other_pass_made tid qid me n seat marker s pass order t.makes kind
-
-pub marking_pass : (tid qid : TableId) (me n : Mine) (seat : Seat) (marker behind : MarkerState) (s : Step) (k : ℕ)
-    → IsPass me seat marker → IsInOrder n seat
-    → Tells (state_of tid me seat) s k (state_of qid n seat) → is_markers (group_of s) ≡ true
-    → behind ≡ marker_behind me.0.config k s marker → IsPass n seat behind
-marking_pass tid qid me n seat marker behind s k pass order t kind is =
-    let m = marks (state_of tid me seat) s k (state_of qid n seat) t pass.order.own order.history kind in
-    record {
-      order = order;
-      keeps = is ∙ ap (λ (x : MarkerState). marker_behind me.0.config k s x) pass.keeps
-          ∙ sym m.marker;
-    }
+-- a pass that has seen more of others is at the same
+pub joined_marker : (p q : PassState) → q.table ≡ p.table → q.seat ≡ p.seat → Has p.seats p.seat
+    → Grows p.seats p.seen q.seen → IsHistory q.table.config q.seen
+    → marker_in q ≡ marker_in p
+joined_marker p q table seat own grows history =
+    let at = λ (w : WordsState) (es : List Event) (x : Seat). marker_at (left w.config es).now x in
+    let whole : IsHistory p.table.config (p.seen ++ grows.more) =
+    subst (λ (es : List Event). IsHistory p.table.config es) grows.is
+    (subst (λ (w : WordsState). IsHistory w.config q.seen) table history) in
+    ap (λ (w : WordsState). at w q.seen q.seat) table
+    ∙ ap (λ (es : List Event). at p.table es q.seat) grows.is
+    ∙ ap (λ (x : Seat). at p.table (p.seen ++ grows.more) x) seat
+    ∙ (others_leave p.table.config p.seen grows.more p.seat whole.within_limits whole.enabled
+    (others_own p.seats p.seat grows.more own grows.of_others)).own.marker
 
 -- what an enabled step of a marker's is asked of what the marker is at
 pub own_met : (p : PassState) (s : Step) → IsEnabledTo p s → marker_may p.table.config (marker_in p) s ≡ true

@@ -2,9 +2,7 @@
 use Rattle.std.specs.Prelude.{◌≡◌, []}
 use Rattle.atomic_table.specs.Seated.{TableId}
 use Rattle.mk_core.specs.declared.events.Seat.{Seat}
-use Rattle.mk_core.specs.declared.seats.Marker.{Marker}
-use Rattle.mk_core.specs.Moments.{marker_at}
-use Rattle.mk_core.specs.History.{left, IsHistory}
+use Rattle.mk_core.specs.History.{IsHistory}
 use Rattle.mk_core.specs.Counts.{IsTidy}
 use Rattle.mk_words.specs.Seats.{CallersAreBeforeOver, Has}
 use Rattle.mk_words.specs.States.{PassState}
@@ -29,8 +27,3 @@ pub record IsInOrder (me : Mine) (seat : Seat) : Type 0 where
   pub history : IsHistory me.0.config me.0.own.seen
   pub tidy : IsTidy me.0.config me.0.own.seen
   pub before_over : CallersAreBeforeOver me.0.config me.0.own.seats me.0.own.seen
-
--- The pass is in order, and has kept what its seat is at as a marker.
-pub record IsPass (me : Mine) (seat : Seat) (marker : Marker) : Type 0 where
-  pub order : IsInOrder me seat
-  pub keeps : marker ≡ marker_at (left me.0.config me.0.own.seen).now seat

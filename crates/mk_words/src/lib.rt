@@ -14,6 +14,7 @@ mod scans;
 mod stop_steps;
 mod stopped;
 mod telling;
+mod tokens;
 mod turn_steps;
 mod turns;
 mod words;

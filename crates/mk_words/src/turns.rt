@@ -12,7 +12,8 @@ ghost use Rattle.mk_words.specs.States.{now_of, call_of, event_of};
 ghost use Rattle.mk_words.specs.Steps.{IsEnabledTo, May, Makes, Finds, Tells};
 ghost use Rattle.mk_words.specs.TurnSteps.{IsTurn, IsFresh, turn_stays, may_take_cell, Acts};
 
-use crate::passes::Pass;
+use crate::passes::{OUTSIDE, Pass};
+use crate::tokens::SeatToken;
 use crate::words::Words;
 use mk_core::{Access, Seat, Step, TableWord};
 use mk_geom::Cell;
@@ -22,7 +23,7 @@ use std::marker::Model;
 /// The turn of a table, with the pass of the seat that has it.
 #[derive(Drop)]
 pub struct Turn {
-    pub(crate) pass: Pass,
+    pub(crate) pass: SeatToken,
     pub(crate) op: Option<Op>,
     pub(crate) cell: Option<Cell>,
 }
@@ -45,7 +46,7 @@ pub struct Busy {
     pub holder: u64,
 }
 
-impl Pass {
+impl SeatToken {
     /// What the turn word is while the seat has the turn.
     #[inline(always)]
     fn turn_word(&self, words: &Words) -> u64
@@ -59,10 +60,12 @@ impl Pass {
             Seat::Marker(_) | Seat::Host => 1 + words.callers(),
         }
     }
+}
 
+impl Pass {
     /// Takes the turn, for an operation where the seat is a caller's, or gives the pass back where another has it.
     /// A New's flag is ignored.
-    pub fn try_take(mut self, words: &Words, op: Option<Op>) -> Result<Turn, (Pass, Busy)>
+    pub fn try_take(self, words: &Words, op: Option<Op>) -> Result<Turn, (Pass, Busy)>
         requires one_table { self.table ≡ words.now }
         requires enabled { IsEnabledTo self (step.Take op) }
         ensures made { IfOk result (λ turn. Finds self (step.Take op) 0 turn.pass) }
@@ -74,8 +77,9 @@ impl Pass {
         ensures stays { IfErr result (λ back. call_of back.0 ≡ call_of self) }
         ensures again { IfErr result (λ back. IsEnabledTo back.0 (step.Take op)) }
     {
-        let number = self.turn_word(words);
-        let found = self.perform(
+        let Pass { own: mut pass, .. } = self;
+        let number = pass.turn_word(words);
+        let found = pass.perform(
             words,
             Step::Take(op),
             TableWord::Turn,
@@ -84,15 +88,19 @@ impl Pass {
                 new: number,
             },
         );
-        self.is_in_order();
+        pass.is_in_order();
         if found == 0 {
             Ok(Turn {
-                pass: self,
+                pass,
                 op,
                 cell: None,
             })
         } else {
-            Err((self, Busy { holder: found - 1 }))
+            let back = Pass {
+                own: pass,
+                marker: OUTSIDE,
+            };
+            Err((back, Busy { holder: found - 1 }))
         }
     }
 }
@@ -152,6 +160,9 @@ impl Turn {
     {
         let Turn { mut pass, .. } = self;
         pass.perform(words, Step::Give, TableWord::Turn, Access::Store(0));
-        pass
+        Pass {
+            own: pass,
+            marker: OUTSIDE,
+        }
     }
 }

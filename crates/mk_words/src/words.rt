@@ -12,17 +12,20 @@ use crate::finals::{Final, freed_bits};
 use crate::passes::{OUTSIDE, Pass};
 use crate::rule::{OneHistory, View};
 use crate::telling::{HandOver, Handing, Remember, Settle, Together};
+use crate::tokens::SeatToken;
 use atomic_table::Table;
 use mk_core::{Config, Seat};
 use mk_never::{NoMemory, TypeTable};
 use std::alloc::Global;
 use std::marker::{Brand, Model};
+use std::sync::{Mutex, MutexGuard, Wait};
 
 /// The words of a heap, which threads share. Who has a pass may access them.
 #[derive(Drop)]
 pub struct Words {
     pub(crate) table: Table<(), View, Config, OneHistory, Global>,
     pub(crate) config: Config,
+    queue: Mutex<()>,
 }
 
 impl Model for Words {
@@ -102,10 +105,13 @@ impl Words {
                 Words {
                     table,
                     config: copy,
+                    queue: Mutex::new(()),
                 },
                 Pass {
-                    token,
-                    seat: Seat::Host,
+                    own: SeatToken {
+                        token,
+                        seat: Seat::Host,
+                    },
                     marker: OUTSIDE,
                 },
             )),
@@ -125,26 +131,27 @@ impl Words {
         ensures pass { pass.new ≡ record pass.old { seats = without_seat seat pass.old.seats } }
         ensures made { result ≡ record pass.old { seat = seat; seats = seat ∷ [] } }
     {
-        Words::split_as::<Brand>(words, pass, seat)
+        Pass {
+            own: Words::split_as::<Brand>(words, &mut pass.own, seat),
+            marker: OUTSIDE,
+        }
     }
 
-    fn split_as<J: Handing>(words: &Words, pass: &mut Pass, seat: Seat) -> Pass
+    fn split_as<J: Handing>(words: &Words, own: &mut SeatToken, seat: Seat) -> SeatToken
         requires picked { J.seat ≡ seat }
-        requires one_table { pass.old.table ≡ words.now }
-        requires host { pass.old.seat ≡ Host }
+        requires one_table { own.old.table ≡ words.now }
+        requires host { own.old.seat ≡ Host }
         requires another { is_same_seat seat Host ≡ false }
-        requires here { Has pass.old.seats seat }
-        requires out { marker_at (now_of pass.old) seat ≡ outside }
-        requires before_over { is_caller seat ≡ true → has_over pass.old.seen ≡ false }
-        ensures pass { pass.new ≡ record pass.old { seats = without_seat seat pass.old.seats } }
-        ensures made { result ≡ record pass.old { seat = seat; seats = seat ∷ [] } }
+        requires here { Has own.old.seats seat }
+        requires before_over { is_caller seat ≡ true → has_over own.old.seen ≡ false }
+        ensures own { own.new ≡ record own.old { seats = without_seat seat own.old.seats } }
+        ensures made { result ≡ record own.old { seat = seat; seats = seat ∷ [] } }
     {
-        let token = &mut pass.token;
+        let token = &mut own.token;
         let shared = &words.table.shared;
-        Pass {
+        SeatToken {
             token: shared.split_seat::<HandOver<J>>(token),
             seat,
-            marker: OUTSIDE,
         }
     }
 
@@ -156,7 +163,20 @@ impl Words {
         ensures own { Grows into.old.seats into.old.seen into.new.seen }
         ensures came { Grows from.seats from.seen into.new.seen }
     {
-        let Pass { token, .. } = from;
+        let Pass { own, .. } = from;
+        into.own.is_in_order();
+        Words::join_tokens(words, &mut into.own, own);
+        into.own.is_in_order();
+    }
+
+    fn join_tokens(words: &Words, into: &mut SeatToken, from: SeatToken)
+        requires into { into.old.table ≡ words.now }
+        requires from { from.table ≡ words.now }
+        ensures pass { into.new ≡ record into.old { seats = into.old.seats ++ from.seats; seen = into.new.seen } }
+        ensures own { Grows into.old.seats into.old.seen into.new.seen }
+        ensures came { Grows from.seats from.seen into.new.seen }
+    {
+        let SeatToken { token, .. } = from;
         let own = &mut into.token;
         let shared = &words.table.shared;
         shared.join_seat::<Together>(own, token);
@@ -171,6 +191,13 @@ impl Words {
         self.table.shared.peek(16) == 0
     }
 
+    /// Waits in line with others that want the turn, and stands first until what it gives is dropped. Who stands in
+    /// line sleeps, where by the turn word alone it would spin. No promise rests on it: the turn is had by the turn
+    /// word, with or without a place in line.
+    pub fn line_up<R: Wait>(&self, rt: &R) -> MutexGuard<'_, ()> {
+        self.queue.lock(rt)
+    }
+
     /// Ends the table. The pass has all seats, so what it has seen is the whole history.
     pub fn close(words: Words, pass: Pass) -> Final
         requires one_table { pass.table ≡ words }
@@ -179,8 +206,19 @@ impl Words {
         ensures config { config_of result ≡ words.config }
         ensures tallies { HasTallies (now_of pass).words words.config.pages result }
     {
-        let Words { table, config } = words;
-        let Pass { mut token, .. } = pass;
+        let Pass { own, .. } = pass;
+        Words::close_by(words, own)
+    }
+
+    fn close_by(words: Words, own: SeatToken) -> Final
+        requires one_table { own.table ≡ words }
+        requires home { HasAll words.config own.seats }
+        ensures history { history_of result ≡ own.seen }
+        ensures config { config_of result ≡ words.config }
+        ensures tallies { HasTallies (now_of own).words words.config.pages result }
+    {
+        let Words { table, config, .. } = words;
+        let SeatToken { mut token, .. } = own;
         let memory = table.shared.split_seat::<Remember>(&mut token);
         let closed = table.close_with(token);
         let quarantined = freed_bits(&closed, config.pages);

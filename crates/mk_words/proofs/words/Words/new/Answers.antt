@@ -1,12 +1,10 @@
 use Rattle.std.proofs.Common.{◌∙◌}
 use Rattle.mk_words.proofs.Owed.{first_call, first_in_order}
-use Rattle.mk_words.proofs.Markers.{first_pass}
 use Rattle.mk_words.proofs.words.Words.new.Goals as goal
 
 pub of_words-requires : goal.of_words-requires
 of_words-requires c = first_call c.args.config.now c.as_slice.result.now c.requires (c.as_slice.ensures.value
     ∙ c.in_ok-zeros.ensures)
 
-pub invariant_of-result-in-Ok : goal.invariant_of-result-in-Ok
-invariant_of-result-in-Ok c = let e = c.in-Ok.ensures in first_pass c.args.config.now c.in-Ok.token.me e.4
-    (first_in_order c.args.config.now c.in-Ok.token.me c.requires e.4)
+pub invariant_of-result : goal.invariant_of-result
+invariant_of-result c = first_in_order c.args.config.now c.in-Ok.token.me c.requires c.in-Ok.ensures.4

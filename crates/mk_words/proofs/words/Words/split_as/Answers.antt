@@ -1,48 +1,40 @@
 use Rattle.std.proofs.Common.{◌≡◌, ◌∙◌, true, false, sym, ap, subst}
 use Rattle.mk_core.specs.declared.events.Seat.{Seat}
 use Rattle.mk_words.specs.Seats.{Has, has_over, is_caller}
-use Rattle.mk_words.specs.States.{PassState, now_of}
-use Rattle.mk_core.specs.Moments.{marker_at, outside}
-use Rattle.mk_words.specs.Rule.{Mine}
+use Rattle.mk_words.specs.States.{PassState}
 use Rattle.mk_words.proofs.Owed.{same_id, same_config, split_call, kept_by_split, made_by_split}
-use Rattle.mk_words.proofs.Markers.{stays_pass, out_pass}
 use Rattle.mk_words.proofs.words.Words.split_as.Goals as goal
 
 pub split_seat-requires : goal.split_seat-requires
 split_seat-requires g c =
     let w = c.words.inside in
-    let p = c.pass.inside in
-    let mine = ap (λ (r : PassState). r.seat) c.pass.view_is ∙ c.requires.host in
-    let id = same_id c.args.words.now c.args.pass.now w.table.shared.table_id p.token.table_id w.config
-    w.table.shared.key p.token.me p.seat c.words.view_is c.pass.view_is c.requires.one_table in
-    let same = same_config c.args.words.now c.args.pass.now w.table.shared.table_id p.token.table_id w.config
-    w.table.shared.key p.token.me p.seat c.words.view_is c.pass.view_is c.requires.one_table in
+    let p = c.own.inside in
+    let mine = ap (λ (r : PassState). r.seat) c.own.view_is ∙ c.requires.host in
+    let id = same_id c.args.words.now c.args.own.now w.table.shared.table_id p.token.table_id w.config
+    w.table.shared.key p.token.me p.seat c.words.view_is c.own.view_is c.requires.one_table in
+    let same = same_config c.args.words.now c.args.own.now w.table.shared.table_id p.token.table_id w.config
+    w.table.shared.key p.token.me p.seat c.words.view_is c.own.view_is c.requires.one_table in
     let t = split_call w.config w.table.shared.key w.table.shared.table_id.words p.token.id p.token.me p.seat
-    c.args.seat g.J.Handing.seat c.pass.invariant.order same c.words.invariant.key
+    c.args.seat g.J.Handing.seat c.own.invariant same c.words.invariant.key
     c.words.invariant.words c.requires.picked
-    (subst (λ (r : PassState). Has r.seats c.args.seat) (sym c.pass.view_is) c.requires.here)
-    (subst (λ (s : Seat). Has p.token.me.0.own.seats s) mine c.pass.invariant.order.own) c.requires.another
+    (subst (λ (r : PassState). Has r.seats c.args.seat) (sym c.own.view_is) c.requires.here)
+    (subst (λ (s : Seat). Has p.token.me.0.own.seats s) mine c.own.invariant.own) c.requires.another
     (subst (λ (r : PassState). is_caller c.args.seat ≡ true
-    → has_over r.seen ≡ false) (sym c.pass.view_is) c.requires.before_over) in
+    → has_over r.seen ≡ false) (sym c.own.view_is) c.requires.before_over) in
     (id, t.0, t.1)
 
-pub invariant_of-pass : goal.invariant_of-pass
-invariant_of-pass g c =
-    let p = c.pass.inside in
+pub invariant_of-own : goal.invariant_of-own
+invariant_of-own g c =
+    let p = c.own.inside in
     let n = c.split_seat.new.seat.me in
-    let mine = ap (λ (r : PassState). r.seat) c.pass.view_is ∙ c.requires.host in
-    stays_pass p.token.me n p.seat p.marker c.pass.invariant (ap (λ (m : Mine). m.0.config) c.split_seat.ensures.2)
-    (ap (λ (m : Mine). m.0.own.seen) c.split_seat.ensures.2)
-    (kept_by_split p.token.me n p.seat c.args.seat g.J.Handing.seat c.pass.invariant.order c.requires.picked
-    (rw mine c.requires.another) c.requires.another c.split_seat.ensures.2)
+    let mine = ap (λ (r : PassState). r.seat) c.own.view_is ∙ c.requires.host in
+    kept_by_split p.token.me n p.seat c.args.seat g.J.Handing.seat c.own.invariant c.requires.picked
+    (rw mine c.requires.another) c.requires.another c.split_seat.ensures.2
 
 pub invariant_of-result : goal.invariant_of-result
 invariant_of-result g c =
-    let p = c.pass.inside in
+    let p = c.own.inside in
     let n = c.split_seat.result.me in
-    out_pass p.token.me n c.args.seat (ap (λ (m : Mine). m.0.config) c.split_seat.ensures.4)
-    (ap (λ (m : Mine). m.0.own.seen) c.split_seat.ensures.4)
-    (subst (λ (r : PassState). marker_at (now_of r) c.args.seat ≡ outside) (sym c.pass.view_is) c.requires.out)
-    (made_by_split p.token.me n p.seat c.args.seat g.J.Handing.seat c.pass.invariant.order c.requires.picked
+    made_by_split p.token.me n p.seat c.args.seat g.J.Handing.seat c.own.invariant c.requires.picked
     (subst (λ (r : PassState). is_caller c.args.seat ≡ true
-    → has_over r.seen ≡ false) (sym c.pass.view_is) c.requires.before_over) c.split_seat.ensures.4)
+    → has_over r.seen ≡ false) (sym c.own.view_is) c.requires.before_over) c.split_seat.ensures.4

@@ -5,8 +5,7 @@ use Rattle.mk_words.specs.Seats.{Has}
 use Rattle.mk_words.specs.States.{PassState, now_of, event_of}
 use Rattle.mk_words.specs.Passes.{state_of}
 use Rattle.mk_words.specs.Steps.{May, Finds}
-use Rattle.mk_words.proofs.Markers.{other_pass_made}
-use Rattle.mk_words.proofs.passes.Pass.replace.Goals as goal
+use Rattle.mk_words.proofs.tokens.SeatToken.replace.Goals as goal
 
 pub replace_as-requires-clause-one_table : goal.replace_as-requires-clause-one_table
 replace_as-requires-clause-one_table c =
@@ -26,11 +25,7 @@ replace_as-requires-clause-access c =
     (sym c.self.view_is) c.requires.access
 
 pub invariant_of-self : goal.invariant_of-self
-invariant_of-self c =
-    let p = c.self.inside in
-    let f = c.replace_as in
-    other_pass_made p.token.table_id f.new.token.table_id p.token.me f.new.token.me p.seat p.marker c.args.step
-    c.self.invariant f.ensures.order f.ensures.finds.makes c.requires.kind
+invariant_of-self c = c.replace_as.ensures.order
 
 pub returns-clause-finds : goal.returns-clause-finds
 returns-clause-finds c =
@@ -39,7 +34,7 @@ returns-clause-finds c =
     (state_of f.new.token.table_id f.new.token.me c.self.inside.seat)) c.self.view_is f.ensures.finds
 
 pub returns-clause-own : goal.returns-clause-own
-returns-clause-own c = subst (λ (r : PassState). Has r.seats r.seat) c.self.view_is c.self.invariant.order.own
+returns-clause-own c = subst (λ (r : PassState). Has r.seats r.seat) c.self.view_is c.self.invariant.own
 
 pub returns-clause-history : goal.returns-clause-history
 returns-clause-history c = c.replace_as.ensures.order.history

@@ -8,14 +8,14 @@ use Rattle.mk_words.specs.declared.rule.View.{View}
 use Rattle.mk_words.specs.Rule.{Mine}
 use Rattle.mk_words.specs.Passes.{state_of}
 use Rattle.mk_words.proofs.Closing.{tallies_told}
-use Rattle.mk_words.proofs.words.Words.close.Goals as goal
+use Rattle.mk_words.proofs.words.Words.close_by.Goals as goal
 
 pub split_seat-memory-requires : goal.split_seat-memory-requires
 split_seat-memory-requires c =
     let w = c.words.inside in
-    let p = c.pass.inside in
-    let id = same_id c.args.words c.args.pass w.table.shared.table_id p.token.table_id w.config w.table.shared.key
-    p.token.me p.seat c.words.view_is c.pass.view_is c.requires.one_table in
+    let p = c.own.inside in
+    let id = same_id c.args.words c.args.own w.table.shared.table_id p.token.table_id w.config w.table.shared.key
+    p.token.me p.seat c.words.view_is c.own.view_is c.requires.one_table in
     let t = copy_call w.config w.table.shared.key w.table.shared.table_id.words p.token.id p.token.me
     c.words.invariant.key c.words.invariant.words in
     (id, t.0, t.1)
@@ -29,17 +29,17 @@ free-requires c k lt =
 pub returns-clause-tallies : goal.returns-clause-tallies
 returns-clause-tallies c =
     let w = c.words.inside in
-    let p = c.pass.inside in
+    let p = c.own.inside in
     let token = c.split_seat-memory.new.seat in
     let r = c.close_with-closed.result in
     let mine = ap (λ (m : Mine). m.0) c.split_seat-memory.ensures.2 in
-    let view = ap (λ (v : View). state_of p.token.table_id (v, p.token.me.1) p.seat) mine ∙ c.pass.view_is in
+    let view = ap (λ (v : View). state_of p.token.table_id (v, p.token.me.1) p.seat) mine ∙ c.own.view_is in
     let same = ap (λ (x : WordsState). x.config) c.words.view_is in
     let home = subst (λ (d : Config). HasAll d token.me.0.own.seats) (sym same)
     (subst (λ (q : PassState). HasAll c.args.words.config q.seats) (sym view) c.requires.home) in
     let ended = close_call w.config w.table.shared.key token.id token.me (slots_items r.words)
     (slots_items r.slots) c.words.invariant.key home c.close_with-closed.ensures.values.2 in
-    tallies_told w.config c.args.pass.table.config c.args.words.config token.me.0.own.seen c.args.pass.seen
+    tallies_told w.config c.args.own.table.config c.args.words.config token.me.0.own.seen c.args.own.seen
     (slots_items r.words)
     c.word.result c.word-2.result c.freed_bits-quarantined.result c.word-3.result c.word-4.result c.word-5.result
     c.split_seat-memory.result

@@ -4,7 +4,7 @@ use Rattle.mk_core.specs.Layout.{IsOfTable, index_of}
 use Rattle.mk_words.specs.Passes.{state_of}
 use Rattle.mk_words.specs.States.{WordsState}
 use Rattle.mk_words.proofs.Owed.{names_word, perform_call, perform_learns, perform_keeps}
-use Rattle.mk_words.proofs.passes.perform_as.Goals as goal
+use Rattle.mk_words.proofs.tokens.perform_as.Goals as goal
 
 -- The number of pages at hand is the table's.
 pages_told : (u v : WordsState) (pages : ℕ) → u ≡ v → pages ≡ v.config.pages → pages ≡ u.config.pages

@@ -4,8 +4,7 @@ use Rattle.mk_words.specs.Seats.{Has}
 use Rattle.mk_words.specs.States.{PassState, now_of, event_of}
 use Rattle.mk_words.specs.Passes.{state_of}
 use Rattle.mk_words.specs.Steps.{May, Tells}
-use Rattle.mk_words.proofs.Markers.{other_pass}
-use Rattle.mk_words.proofs.passes.Pass.perform_among.Goals as goal
+use Rattle.mk_words.proofs.tokens.SeatToken.perform_among.Goals as goal
 
 pub perform_as-requires-clause-one_table : goal.perform_as-requires-clause-one_table
 perform_as-requires-clause-one_table c =
@@ -25,11 +24,7 @@ perform_as-requires-clause-access c =
     (sym c.self.view_is) c.requires.access
 
 pub invariant_of-self : goal.invariant_of-self
-invariant_of-self c =
-    let p = c.self.inside in
-    let f = c.perform_as in
-    other_pass p.token.table_id f.new.token.table_id p.token.me f.new.token.me p.seat p.marker c.args.step f.result
-    c.self.invariant f.ensures.order f.ensures.told c.requires.kind
+invariant_of-self c = c.perform_as.ensures.order
 
 pub returns-clause-told : goal.returns-clause-told
 returns-clause-told c =
@@ -38,7 +33,7 @@ returns-clause-told c =
     (state_of f.new.token.table_id f.new.token.me c.self.inside.seat)) c.self.view_is f.ensures.told
 
 pub returns-clause-own : goal.returns-clause-own
-returns-clause-own c = subst (λ (r : PassState). Has r.seats r.seat) c.self.view_is c.self.invariant.order.own
+returns-clause-own c = subst (λ (r : PassState). Has r.seats r.seat) c.self.view_is c.self.invariant.own
 
 pub returns-clause-history : goal.returns-clause-history
 returns-clause-history c = c.perform_as.ensures.order.history

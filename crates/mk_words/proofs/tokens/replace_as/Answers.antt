@@ -2,7 +2,7 @@ use Rattle.std.proofs.Common.{refl}
 use Rattle.mk_core.specs.declared.accesses.Access.TheVariants.{Store}
 use Rattle.mk_words.specs.Passes.{state_of}
 use Rattle.mk_words.proofs.Owed.{names_word, perform_call, perform_finds, perform_keeps}
-use Rattle.mk_words.proofs.passes.replace_as.Goals as goal
+use Rattle.mk_words.proofs.tokens.replace_as.Goals as goal
 
 pub index_of-index-requires-clause-names : goal.index_of-index-requires-clause-names
 index_of-index-requires-clause-names g c =

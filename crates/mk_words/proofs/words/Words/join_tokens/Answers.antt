@@ -1,0 +1,38 @@
+use Rattle.std.proofs.Common.{◌∙◌, ap}
+use Rattle.mk_words.specs.Rule.{Mine}
+use Rattle.mk_words.proofs.Owed.{same_id, same_config, join_call, settle_call, joined}
+use Rattle.mk_words.proofs.words.Words.join_tokens.Goals as goal
+
+pub join_seat-requires : goal.join_seat-requires
+join_seat-requires c =
+    let w = c.words.inside in
+    let p = c.into.inside in
+    let q = c.from.inside in
+    let mine = same_id c.args.words.now c.args.into.now w.table.shared.table_id p.token.table_id w.config
+    w.table.shared.key p.token.me p.seat c.words.view_is c.into.view_is c.requires.into in
+    let theirs = same_id c.args.words.now c.args.from w.table.shared.table_id q.token.table_id w.config
+    w.table.shared.key q.token.me q.seat c.words.view_is c.from.view_is c.requires.from in
+    let t = join_call w.config w.table.shared.key w.table.shared.table_id.words p.token.id p.token.me q.token.id
+    q.token.me p.seat q.seat c.into.invariant c.from.invariant c.words.invariant.key
+    c.words.invariant.words in
+    (mine, theirs, c.from.invariant.no_slot, t.0, t.1)
+
+pub load-requires : goal.load-requires
+load-requires c =
+    let w = c.words.inside in
+    let p = c.into.inside in
+    let mine = same_id c.args.words.now c.args.into.now w.table.shared.table_id p.token.table_id w.config
+    w.table.shared.key p.token.me p.seat c.words.view_is c.into.view_is c.requires.into in
+    let same = same_config c.args.words.now c.args.into.now w.table.shared.table_id p.token.table_id w.config
+    w.table.shared.key p.token.me p.seat c.words.view_is c.into.view_is c.requires.into in
+    let t = settle_call w.config w.table.shared.key w.table.shared.table_id.words w.table.shared.table_id.slots
+    c.join_seat.new.seat.id c.join_seat.new.seat.me
+    (ap (λ (m : Mine). m.0.config) c.join_seat.ensures.2 ∙ same) c.words.invariant.key c.words.invariant.words in
+    (c.join_seat.ensures.0 ∙ mine, t.0, t.1)
+
+pub invariant_of-into : goal.invariant_of-into
+invariant_of-into c =
+    let p = c.into.inside in
+    let j = joined p.token.table_id p.token.me c.from.inside.token.me c.join_seat.new.seat.me c.load.new.seat.me p.seat
+    c.load.result c.into.invariant c.join_seat.ensures.2 c.load.ensures.2 in
+    j.order

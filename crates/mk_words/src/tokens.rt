@@ -1,0 +1,180 @@
+//! A token of the table with the seat whose steps it makes: what a pass and a turn have in common.
+ghost use Rattle.std.specs.Prelude.{◌≡◌};
+ghost use Rattle.mk_core.specs.Accesses.{caller_number, reached, access};
+ghost use Rattle.mk_core.specs.History.{IsHistory};
+ghost use Rattle.mk_core.specs.Counts.{IsTidy};
+ghost use Rattle.mk_core.specs.declared.accesses.Access.TheVariants.{Store};
+ghost use Rattle.mk_words.specs.Seats.{CallersAreBeforeOver, Has};
+ghost use Rattle.mk_words.specs.States.{now_of, event_of};
+ghost use Rattle.mk_words.specs.Passes.{state_of, IsInOrder};
+ghost use Rattle.mk_words.specs.Steps.{May, Tells, Finds};
+
+use crate::indexes::index_of;
+use crate::performing::{access_as, swap_as};
+use crate::rule::View;
+use crate::telling::Making;
+use crate::words::Words;
+use atomic_table::Seat as Token;
+use mk_core::{Access, Seat, Step, TableWord};
+use std::marker::{Brand, Model};
+
+/// A token with a seat. What a marker is at isn't kept here, so a turn is moved in few words.
+#[derive(Drop)]
+pub(crate) struct SeatToken {
+    pub(crate) token: Token<(), View>,
+    pub(crate) seat: Seat,
+}
+
+impl Model for SeatToken {
+    ghost use Rattle.mk_words.specs.States.{PassState};
+
+    ghost Value = { PassState };
+
+    ghost use Rattle.mk_words.specs.Passes.{state_of, IsInOrder};
+
+    ghost view = { λ t. state_of t.token.table_id t.token.me t.seat };
+
+    ghost invariant = { λ t. IsInOrder t.token.me t.seat };
+}
+
+/// Makes a step of any kind: the access that the event makes behind what the pass has seen, to the word that it
+/// reaches there. Behind all that others did since it is the same one.
+#[inline(always)]
+fn perform_as<J: Making>(
+    words: &Words,
+    pages: u64,
+    token: &mut Token<(), View>,
+    seat: Seat,
+    step: Step,
+    word: TableWord,
+    by: Access,
+) -> u64
+    requires picked { J.event ≡ record { seat = seat; step = step } }
+    requires order { IsInOrder token.old.me seat }
+    requires one_table { (state_of token.old.table_id token.old.me seat).table ≡ words.now }
+    requires pages { pages ≡ words.now.config.pages }
+    requires may { May (state_of token.old.table_id token.old.me seat) step }
+    requires word { word ≡ reached token.old.me.0.config (now_of (state_of token.old.table_id token.old.me seat))
+        (record { seat = seat; step = step }) }
+    requires access { by ≡ access token.old.me.0.config (now_of (state_of token.old.table_id token.old.me seat))
+        (record { seat = seat; step = step }) }
+    ensures told { Tells (state_of token.old.table_id token.old.me seat) step result
+        (state_of token.new.table_id token.new.me seat) }
+    ensures order { IsInOrder token.new.me seat }
+{
+    words.is_within_limits();
+    let shared = &words.table.shared;
+    let index = index_of(pages, word);
+    access_as::<J>(shared, token, index, by)
+}
+
+/// Makes a step that stores, and answers what the store found.
+#[inline(always)]
+fn replace_as<J: Making>(
+    words: &Words,
+    token: &mut Token<(), View>,
+    seat: Seat,
+    step: Step,
+    word: TableWord,
+    value: u64,
+) -> u64
+    requires picked { J.event ≡ record { seat = seat; step = step } }
+    requires order { IsInOrder token.old.me seat }
+    requires one_table { (state_of token.old.table_id token.old.me seat).table ≡ words.now }
+    requires may { May (state_of token.old.table_id token.old.me seat) step }
+    requires word { word ≡ reached token.old.me.0.config (now_of (state_of token.old.table_id token.old.me seat))
+        (record { seat = seat; step = step }) }
+    requires access { Store value
+        ≡ access token.old.me.0.config (now_of (state_of token.old.table_id token.old.me seat))
+        (record { seat = seat; step = step }) }
+    ensures finds { Finds (state_of token.old.table_id token.old.me seat) step result
+        (state_of token.new.table_id token.new.me seat) }
+    ensures order { IsInOrder token.new.me seat }
+{
+    let index = index_of(words.config.pages, word);
+    swap_as::<J>(&words.table.shared, token, index, value)
+}
+
+impl SeatToken {
+    /// Whose token it is.
+    #[inline(always)]
+    pub(crate) fn seat(&self) -> Seat
+        ensures { result ≡ self.now.seat }
+    {
+        self.seat
+    }
+
+    /// What holds of every token. It does nothing.
+    #[inline(always)]
+    pub(crate) fn is_in_order(&self)
+        ensures own { Has self.now.seats self.now.seat }
+        ensures history { IsHistory self.now.table.config self.now.seen }
+        ensures before_over { CallersAreBeforeOver self.now.table.config self.now.seats self.now.seen }
+        ensures tidy { IsTidy self.now.table.config self.now.seen }
+    {
+        let _seat = &self.seat;
+    }
+
+    /// The number of a caller, and 0 of another.
+    #[inline(always)]
+    pub(crate) fn caller(&self) -> u64
+        ensures { result ≡ caller_number self.now.seat }
+    {
+        match self.seat {
+            Seat::Caller(caller) => caller,
+            Seat::Marker(_) | Seat::Host => 0,
+        }
+    }
+
+    /// Makes a step of any kind, in a table of so many pages.
+    #[inline(always)]
+    pub(crate) fn perform_among(
+        &mut self,
+        words: &Words,
+        pages: u64,
+        step: Step,
+        word: TableWord,
+        by: Access,
+    ) -> u64
+        requires one_table { self.old.table ≡ words.now }
+        requires pages { pages ≡ words.now.config.pages }
+        requires may { May self.old step }
+        requires word { word ≡ reached self.old.table.config (now_of self.old) (event_of self.old step) }
+        requires access { by ≡ access self.old.table.config (now_of self.old) (event_of self.old step) }
+        ensures told { Tells self.old step result self.new }
+        ensures own { Has self.old.seats self.old.seat }
+        ensures history { IsHistory self.new.table.config self.new.seen }
+    {
+        let seat = self.seat;
+        perform_as::<Brand>(words, pages, &mut self.token, seat, step, word, by)
+    }
+
+    /// Makes a step of any kind.
+    #[inline(always)]
+    pub(crate) fn perform(&mut self, words: &Words, step: Step, word: TableWord, by: Access) -> u64
+        requires one_table { self.old.table ≡ words.now }
+        requires may { May self.old step }
+        requires word { word ≡ reached self.old.table.config (now_of self.old) (event_of self.old step) }
+        requires access { by ≡ access self.old.table.config (now_of self.old) (event_of self.old step) }
+        ensures told { Tells self.old step result self.new }
+        ensures own { Has self.old.seats self.old.seat }
+        ensures history { IsHistory self.new.table.config self.new.seen }
+    {
+        self.perform_among(words, words.config.pages, step, word, by)
+    }
+
+    /// Makes a step that stores, and answers what the store found.
+    #[inline(always)]
+    pub(crate) fn replace(&mut self, words: &Words, step: Step, word: TableWord, value: u64) -> u64
+        requires one_table { self.old.table ≡ words.now }
+        requires may { May self.old step }
+        requires word { word ≡ reached self.old.table.config (now_of self.old) (event_of self.old step) }
+        requires access { Store value ≡ access self.old.table.config (now_of self.old) (event_of self.old step) }
+        ensures finds { Finds self.old step result self.new }
+        ensures own { Has self.old.seats self.old.seat }
+        ensures history { IsHistory self.new.table.config self.new.seen }
+    {
+        let seat = self.seat;
+        replace_as::<Brand>(words, &mut self.token, seat, step, word, value)
+    }
+}
