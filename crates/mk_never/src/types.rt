@@ -1,6 +1,6 @@
 //! Types: what each word of an object holds.
 ghost use Rattle.std.specs.Prelude.{◌≡◌, ◌<◌, length, [], ◌∷◌, ◌++◌, IfOk, OnOk, OnErr};
-ghost use Rattle.mk_never.specs.Types.{kinds_of};
+ghost use Rattle.mk_never.specs.Types.{is_leaf, is_number, kinds_of};
 
 use crate::NoMemory;
 use std::alloc::Global;
@@ -15,19 +15,50 @@ pub enum Kind {
     To { ty: u64, offset: u64 },
 }
 
+/// The kinds of a type, and whether none of them is a pointer's.
+#[derive(Drop)]
+struct TypeWords {
+    kinds: Vec<Kind>,
+    leaf: bool,
+}
+
+impl Model for TypeWords {
+    ghost use Rattle.std.specs.Prelude.{◌≡◌, List};
+    ghost use Rattle.mk_never.specs.declared.types.Kind.{Kind};
+    ghost use Rattle.mk_never.specs.Types.{is_leaf};
+
+    ghost Value = { List Kind };
+
+    ghost view = { λ t. t.kinds.items };
+
+    ghost invariant = { λ t. t.leaf ≡ is_leaf t.kinds.items };
+}
+
+fn is_number(kind: &Kind) -> bool
+    ensures { result ≡ is_number kind.now }
+{
+    matches!(kind, Kind::Num)
+}
+
+fn is_leaf(kinds: &[Kind]) -> bool
+    ensures { result ≡ is_leaf kinds.now }
+{
+    kinds.iter().all(is_number)
+}
+
 /// The types of a program, numbered from 0, each a list of kinds, one kind a word.
 #[derive(Drop)]
 pub struct TypeTable {
-    types: Vec<Vec<Kind>>,
+    types: Vec<TypeWords>,
 }
 
 impl Model for TypeTable {
-    ghost use Rattle.std.specs.Prelude.{List, map};
+    ghost use Rattle.std.specs.Prelude.{List};
     ghost use Rattle.mk_never.specs.declared.types.Kind.{Kind};
 
     ghost Value = { List (List Kind) };
 
-    ghost view = { λ t. map (λ kinds. kinds.items) t.types.items };
+    ghost view = { λ t. t.types.items };
 }
 
 impl TypeTable {
@@ -45,7 +76,8 @@ impl TypeTable {
         ensures added { OnOk result (self.new ≡ self.old ++ kinds.items ∷ []) }
         ensures unchanged { OnErr result (self.new ≡ self.old) }
     {
-        Ok(self.types.push(kinds)?)
+        let leaf = is_leaf(&kinds);
+        Ok(self.types.push(TypeWords { kinds, leaf })?)
     }
 
     /// The kinds of a type.
@@ -53,7 +85,15 @@ impl TypeTable {
         requires { ty < length self.now }
         ensures { result.now ≡ kinds_of self.now ty }
     {
-        self.types[ty as usize].as_slice()
+        self.types[ty as usize].kinds.as_slice()
+    }
+
+    /// Whether none of a type's words is a pointer.
+    pub fn is_leaf(&self, ty: u64) -> bool
+        requires { ty < length self.now }
+        ensures { result ≡ is_leaf (kinds_of self.now ty) }
+    {
+        self.types[ty as usize].leaf
     }
 
     /// How many types there are.

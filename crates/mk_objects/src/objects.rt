@@ -1,6 +1,6 @@
 //! The objects of a program's types: how large they are, and what their pages become.
-ghost use Rattle.std.specs.Prelude.{◌≡◌, ◌<◌, ◌≤◌, true};
-ghost use Rattle.mk_never.specs.Types.{is_number, is_leaf};
+ghost use Rattle.std.specs.Prelude.{◌≡◌, ◌<◌, ◌≤◌, length, true};
+ghost use Rattle.mk_never.specs.Types.{kinds_of};
 ghost use Rattle.mk_core.specs.NewPlaces.{object_of, is_small_object, class_made, pages_made, header_made, bits_made};
 ghost use Rattle.mk_core.specs.ObjectHeaders.{IsSized, words_made};
 ghost use Rattle.mk_geom.specs.Classes.{run_pages_of};
@@ -9,7 +9,7 @@ ghost use Rattle.mk_geom.specs.Storages.{block_header, run_header};
 ghost use Rattle.mk_objects.specs.Shapes.{object_shaped};
 
 use mk_geom::{Header, cells, class_of, class_words, encode, run_pages};
-use mk_never::Kind;
+use mk_never::TypeTable;
 
 /// The largest object that takes a cell, in words.
 pub(crate) const SMALL_WORDS: u64 = 32;
@@ -21,26 +21,14 @@ pub(crate) struct Shape {
     pub(crate) leaf: bool,
 }
 
-fn is_number(kind: &Kind) -> bool
-    ensures { result ≡ is_number kind.now }
-{
-    matches!(kind, Kind::Num)
-}
-
-/// Whether none of the words is a pointer.
-fn is_leaf(kinds: &[Kind]) -> bool
-    ensures { result ≡ is_leaf kinds.now }
-{
-    kinds.iter().all(is_number)
-}
-
 /// The shape of an object of a type.
-pub(crate) fn shape_of(kinds: &[Kind]) -> Shape
-    ensures { object_shaped result ≡ object_of kinds.now }
+pub(crate) fn shape_of(types: &TypeTable, ty: u64) -> Shape
+    requires { ty < length types.now }
+    ensures { object_shaped result ≡ object_of (kinds_of types.now ty) }
 {
     Shape {
-        words: kinds.len() as u64,
-        leaf: is_leaf(kinds),
+        words: types.kinds(ty).len() as u64,
+        leaf: types.is_leaf(ty),
     }
 }
 

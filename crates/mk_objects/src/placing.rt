@@ -131,7 +131,7 @@ fn shape_made(words: &Words, op: Op) -> Shape
     ensures { object_shaped result ≡ object_made words.now.config op }
 {
     match op {
-        Op::New { ty, .. } => shape_of(words.types().kinds(ty)),
+        Op::New { ty, .. } => shape_of(words.types(), ty),
         _ => Shape {
             words: 0,
             leaf: true,

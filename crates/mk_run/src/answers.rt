@@ -101,7 +101,10 @@ fn call_until_open<R: Wait>(rt: &R, caller: &mut Caller, op: Op) -> Answer
         caller.is_idle();
         match call(caller, op) {
             Ok(told) => return told,
-            Err(_) => backoff.snooze(),
+            Err(_) => {
+                drop(caller.words().line_up(rt));
+                backoff.snooze();
+            }
         }
     }
     unreachable!()
