@@ -1,12 +1,12 @@
-use Rattle.std.proofs.Common.{true}
-use Rattle.mk_run.proofs.ScriptCalls.{answered_by_call, makes_none, none_then_answers, still_admitted}
+use Rattle.std.proofs.Common.{true, refl}
+use Rattle.mk_run.proofs.ScriptCalls.{answered_by_call, makes_none, none_then_answers}
 use Rattle.mk_turns.proofs.Sweeping.{sweeps_then}
 use Rattle.mk_alloc.proofs.UnsweptTurns.{calls_sweep_nothing, sweep_nothing_where_held}
-use Rattle.mk_run.specs.Scripts.{MakesNoCall}
 use Rattle.mk_run.proofs.answers.call_until_open.Goals as goal
 
 pub call-requires-clause-admitted : goal.call-requires-clause-admitted
-call-requires-clause-admitted g c = c.requires.admitted.admitted
+call-requires-clause-admitted g c =
+    c.requires.admitted c.args.caller.now.pass.seen c.is_idle.ensures.history refl
 
 pub returns-in-Ok-clause-answers : goal.returns-in-Ok-clause-answers
 returns-in-Ok-clause-answers g c = λ on.
