@@ -1,5 +1,5 @@
 use Rattle.std.proofs.Common.{true, refl}
-use Rattle.mk_run.proofs.ScriptCalls.{answered_by_call, makes_none, none_then_answers}
+use Rattle.mk_run.proofs.ScriptCalls.{answered_by_call, makes_none, none_then_answers, stays_admitted}
 use Rattle.mk_turns.proofs.Sweeping.{sweeps_then}
 use Rattle.mk_alloc.proofs.UnsweptTurns.{calls_sweep_nothing, sweep_nothing_where_held}
 use Rattle.mk_run.proofs.answers.call_until_open.Goals as goal
@@ -7,6 +7,12 @@ use Rattle.mk_run.proofs.answers.call_until_open.Goals as goal
 pub call-requires-clause-admitted : goal.call-requires-clause-admitted
 call-requires-clause-admitted g c =
     c.requires.admitted c.args.caller.now.pass.seen c.is_idle.ensures.history refl
+
+pub call_in_line-requires-clause-admitted : goal.call_in_line-requires-clause-admitted
+call_in_line-requires-clause-admitted g c =
+    stays_admitted true c.args.caller.now.pass c.args.op c.call.new.caller.pass c.requires.admitted
+    (makes_none true c.args.caller.now.pass c.args.op c.call.new.caller.pass c.is_idle.ensures.own
+    c.in-Err.ensures.held)
 
 pub returns-in-Ok-clause-answers : goal.returns-in-Ok-clause-answers
 returns-in-Ok-clause-answers g c = λ on.
