@@ -38,7 +38,6 @@ pub fn free_object<E: Engine, R: Threads + Wait + Sync>(
 {
     caller.is_idle();
     let words = caller.words();
-    let _first = words.line_up(rt);
     let home = caller.lend();
     let mut turn = take(rt, words, home, Op::Free { p });
     turn.is_in_order();

@@ -49,7 +49,6 @@ pub fn new_object<E: Engine, R: Threads + Wait + Sync>(
 {
     caller.is_idle();
     let words = caller.words();
-    let _first = words.line_up(rt);
     let home = caller.lend();
     let op = Op::New { d, ty, full: false };
     let turn = take(rt, words, home, op);

@@ -116,16 +116,13 @@ none_then_answers on p q o told r h entered g = record {
   beside = λ besides. beside_then p q r h.is h.beside (g.beside entered);
 }
 
--- What stays admitted does so behind a list to which the caller added no call, and is admitted there.
-
-pub stays_admitted : (on : Bool) (p : PassState) (o : Op) (q : PassState) → StaysAdmitted p o → MakesNoCall on p q
-    → StaysAdmitted q o
-stays_admitted on p o q stays h =
-    subst (λ (r : PassState). StaysAdmitted r o) (sym h.is) (λ es history same. stays es history (same ∙ h.entries))
-
+-- What stays admitted is admitted behind a list to which the caller added no call.
 pub still_admitted : (on : Bool) (p : PassState) (o : Op) (q : PassState) → StaysAdmitted p o → MakesNoCall on p q
     → IsHistory q.table.config q.seen → Admits q o
-still_admitted on p o q stays h history = stays_admitted on p o q stays h q.seen history refl
+still_admitted on p o q stays h history =
+    subst (λ (r : PassState). Admits r o) (sym h.is)
+    (stays q.seen
+    (subst (λ (w : WordsState). IsHistory w.config q.seen) (ap (λ (r : PassState). r.table) h.is) history) h.entries)
 
 -- A New.
 

@@ -87,9 +87,8 @@ fn call(caller: &mut Caller, op: Op) -> Result<Answer, Held>
     }
 }
 
-/// The same, tried again while the gate is held, behind those that want the turn.
-#[inline(never)]
-fn call_in_line<R: Wait>(rt: &R, caller: &mut Caller, op: Op) -> Answer
+/// The same, tried again while the gate is held.
+fn call_until_open<R: Wait>(rt: &R, caller: &mut Caller, op: Op) -> Answer
     requires home { caller.old.home ≡ true }
     requires entered { is_under_turn op ≡ false }
     requires admitted { StaysAdmitted caller.old.pass op }
@@ -97,7 +96,6 @@ fn call_in_line<R: Wait>(rt: &R, caller: &mut Caller, op: Op) -> Answer
     ensures answers { (on : Bool) → Answers on caller.old.pass op result caller.new.pass }
     ensures reached { SweepsNothing caller.old.pass caller.new.pass }
 {
-    let _first = caller.words().line_up(rt);
     let backoff = Backoff::new();
     'held: for _ in rt.forever() {
         caller.is_idle();
@@ -107,22 +105,6 @@ fn call_in_line<R: Wait>(rt: &R, caller: &mut Caller, op: Op) -> Answer
         }
     }
     unreachable!()
-}
-
-/// The same, until the gate is open.
-fn call_until_open<R: Wait>(rt: &R, caller: &mut Caller, op: Op) -> Answer
-    requires home { caller.old.home ≡ true }
-    requires entered { is_under_turn op ≡ false }
-    requires admitted { StaysAdmitted caller.old.pass op }
-    ensures home { caller.new.home ≡ true }
-    ensures answers { (on : Bool) → Answers on caller.old.pass op result caller.new.pass }
-    ensures reached { SweepsNothing caller.old.pass caller.new.pass }
-{
-    caller.is_idle();
-    match call(caller, op) {
-        Ok(told) => told,
-        Err(_) => call_in_line(rt, caller, op),
-    }
 }
 
 /// Carries out an operation, and tells its answer. Which pointer was loaded isn't told.

@@ -5,6 +5,7 @@ mod answers;
 mod joining;
 mod last_turns;
 pub mod laws;
+mod lines;
 mod marking;
 mod outcomes;
 mod paces;

@@ -3,18 +3,20 @@ ghost use Rattle.std.specs.Prelude.{◌≡◌, ◌+◌, [], ◌∷◌, length, c
 ghost use Rattle.mk_check.specs.Declarations.{config_of};
 ghost use Rattle.mk_check.specs.Feeding.{IsWaiting};
 ghost use Rattle.mk_check.specs.Laws.{IsScript};
+ghost use Rattle.mk_core.specs.Calls.{is_under_turn};
 ghost use Rattle.mk_caller.specs.States.{number_of};
 ghost use Rattle.mk_turns.specs.Sweeping.{SweepsNothing};
 ghost use Rattle.mk_run.specs.Running.{answers_in, FollowsScript, EndsScript, IsTextOf};
 ghost use Rattle.mk_run.specs.Scripts.{HasRoom, IsFedWith, TakesAnswer};
 
 use crate::answers::answer_to;
+use crate::lines::Line;
 use crate::paces::Pace;
 use mk_caller::Caller;
 use mk_check::{Checked, Feed, Text, is_refusal};
 use mk_core::Answer;
 use mk_cycle::{Bench, Engine};
-use mk_never::NoMemory;
+use mk_never::{NoMemory, Op};
 use std::alloc::Global;
 use std::sync::Wait;
 use std::thread::Threads;
@@ -82,6 +84,13 @@ impl Script {
     }
 }
 
+/// Whether the operation is carried out under the turn.
+fn takes_turn(op: Op) -> bool
+    ensures { result ≡ is_under_turn op }
+{
+    matches!(op, Op::New { .. } | Op::Free { .. })
+}
+
 /// Runs a script to its end, or up to where no memory is left, between two calls. A call that finds its gate held is
 /// tried again.
 pub fn run_script<E: Engine, P: Pace, R: Threads + Wait + Sync>(
@@ -112,6 +121,7 @@ pub fn run_script<E: Engine, P: Pace, R: Threads + Wait + Sync>(
     // The program is well typed, so its scripts ask for nothing that isn't admitted.
     let _well_typed = program.program();
     let mut script = Script::start(alloc, program, k)?;
+    let mut line = Line::new();
     'instructions: for _ in rt.forever() {
         caller.is_idle();
         let Some(op) = script.feed.op() else {
@@ -119,7 +129,13 @@ pub fn run_script<E: Engine, P: Pace, R: Threads + Wait + Sync>(
         };
         let instruction = script.ops;
         pace.before(k, instruction);
+        if takes_turn(op) {
+            line.before_turn(rt, caller.words());
+        }
         let answer = answer_to(rt, caller, bench, op);
+        if pace.may_wait() {
+            line.leave();
+        }
         pace.answered(k, instruction);
         script.answer(alloc, answer)?;
     }

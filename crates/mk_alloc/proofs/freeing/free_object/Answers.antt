@@ -126,8 +126,8 @@ returns-in-Ok-clause-freed g c =
     (in_turn decided _ j.own j.turn j.history) c.run_if_due-turn.ensures.runs (in_turn done _ k.own k.turn k.history)
     c.give.ensures.gives c.give.ensures.rests c.give.ensures.history)
 
-pub returns-clause-double : goal.returns-clause-double
-returns-clause-double g c =
+pub returns-in-Err-clause-double : goal.returns-in-Err-clause-double
+returns-in-Err-clause-double g c =
     let p : PassState = c.args.caller.now.pass in
     let r = c.args.p in
     let taken : PassState = c.take-turn.result.pass in
@@ -167,8 +167,8 @@ returns-in-Ok-clause-reached g c =
     (c.run_if_due-turn.ensures.reached none))
     (only_seen taken done on.does.more on.does.is) k.own c.give.ensures.gives)
 
-pub returns-clause-reached : goal.returns-clause-reached
-returns-clause-reached g c =
+pub returns-in-Err-clause-reached : goal.returns-in-Err-clause-reached
+returns-in-Err-clause-reached g c =
     let p : PassState = c.args.caller.now.pass in
     let r = c.args.p in
     let taken : PassState = c.take-turn.result.pass in

@@ -1,40 +1,52 @@
 use Rattle.std.proofs.Common.{true, refl}
-use Rattle.mk_run.proofs.ScriptCalls.{answered_by_call, makes_none, none_then_answers, stays_admitted}
-use Rattle.mk_turns.proofs.Sweeping.{sweeps_then}
+use Rattle.mk_run.proofs.BesideTurns.{stays_still}
+use Rattle.mk_run.proofs.ScriptCalls.{answered_by_call, makes_none, none_then_none, none_then_answers, still_admitted}
+use Rattle.mk_turns.proofs.Sweeping.{nothing_sweeps, sweeps_then}
 use Rattle.mk_alloc.proofs.UnsweptTurns.{calls_sweep_nothing, sweep_nothing_where_held}
 use Rattle.mk_run.proofs.answers.call_until_open.Goals as goal
 
 pub call-requires-clause-admitted : goal.call-requires-clause-admitted
 call-requires-clause-admitted g c =
-    c.requires.admitted c.args.caller.now.pass.seen c.is_idle.ensures.history refl
-
-pub call_in_line-requires-clause-admitted : goal.call_in_line-requires-clause-admitted
-call_in_line-requires-clause-admitted g c =
-    stays_admitted true c.args.caller.now.pass c.args.op c.call.new.caller.pass c.requires.admitted
-    (makes_none true c.args.caller.now.pass c.args.op c.call.new.caller.pass c.is_idle.ensures.own
-    c.in-Err.ensures.held)
+    still_admitted true c.args.caller.now.pass c.args.op c.held.caller.pass c.requires.admitted
+    (c.held.invariant.none true)
+    c.is_idle.ensures.history
 
 pub returns-in-Ok-clause-answers : goal.returns-in-Ok-clause-answers
 returns-in-Ok-clause-answers g c = λ on.
-    answered_by_call on c.args.caller.now.pass c.args.op c.in-Ok.told c.call.new.caller.pass c.is_idle.ensures.own
-    c.requires.entered c.in-Ok.ensures.called
+    none_then_answers on c.args.caller.now.pass c.held.caller.pass c.args.op c.in-Ok.told c.call.new.caller.pass
+    (c.held.invariant.none on) c.requires.entered
+    (answered_by_call on c.held.caller.pass c.args.op c.in-Ok.told c.call.new.caller.pass c.is_idle.ensures.own
+    c.requires.entered c.in-Ok.ensures.called)
+
+pub held-preserved : goal.held-preserved
+held-preserved g c = record {
+  home = c.call.ensures.home;
+  none = λ on.
+      none_then_none on c.args.caller.now.pass c.held.caller.pass c.call.new.caller.pass (c.held.invariant.none on)
+      (makes_none on c.held.caller.pass c.args.op c.call.new.caller.pass c.is_idle.ensures.own c.in-Err.ensures.held);
+  reached =
+      sweeps_then c.args.caller.now.pass c.held.caller.pass c.call.new.caller.pass (c.held.invariant.none true).is
+      c.held.invariant.reached
+      (sweep_nothing_where_held c.held.caller.pass c.args.op c.call.new.caller.pass c.is_idle.ensures.own
+      c.in-Err.ensures.held);
+}
 
 pub returns-in-Ok-clause-reached : goal.returns-in-Ok-clause-reached
 returns-in-Ok-clause-reached g c =
     let called = c.in-Ok.ensures.called in
-    calls_sweep_nothing c.args.caller.now.pass c.args.op called.answer c.call.new.caller.pass called.called
+    sweeps_then c.args.caller.now.pass c.held.caller.pass c.call.new.caller.pass (c.held.invariant.none true).is
+    c.held.invariant.reached
+    (calls_sweep_nothing c.held.caller.pass c.args.op called.answer c.call.new.caller.pass called.called)
 
-pub returns-in-Err-clause-answers : goal.returns-in-Err-clause-answers
-returns-in-Err-clause-answers g c = λ on.
-    none_then_answers on c.args.caller.now.pass c.call.new.caller.pass c.args.op c.call_in_line.result
-    c.call_in_line.new.caller.pass
-    (makes_none on c.args.caller.now.pass c.args.op c.call.new.caller.pass c.is_idle.ensures.own
-    c.in-Err.ensures.held) c.requires.entered (c.call_in_line.ensures.answers on)
-
-pub returns-in-Err-clause-reached : goal.returns-in-Err-clause-reached
-returns-in-Err-clause-reached g c =
-    let none = makes_none true c.args.caller.now.pass c.args.op c.call.new.caller.pass c.is_idle.ensures.own
-    c.in-Err.ensures.held in
-    sweeps_then c.args.caller.now.pass c.call.new.caller.pass c.call_in_line.new.caller.pass none.is
-    (sweep_nothing_where_held c.args.caller.now.pass c.args.op c.call.new.caller.pass c.is_idle.ensures.own
-    c.in-Err.ensures.held) c.call_in_line.ensures.reached
+pub held-init : goal.held-init
+held-init g c =
+    record {
+      home = c.requires.home;
+      none = λ on. record {
+        is = refl;
+        entries = refl;
+        exact = λ e. e;
+        beside = stays_still c.args.caller.now.pass;
+      };
+      reached = nothing_sweeps c.args.caller.now.pass;
+    }

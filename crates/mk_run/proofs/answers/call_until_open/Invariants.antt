@@ -1,7 +1,7 @@
 use Rattle.std.proofs.Common.{◌≡◌, Bool, true}
 use Rattle.mk_turns.specs.Sweeping.{SweepsNothing}
 use Rattle.mk_run.specs.Scripts.{MakesNoCall}
-use Rattle.mk_run.proofs.answers.call_in_line.Given as goal
+use Rattle.mk_run.proofs.answers.call_until_open.Given as goal
 
 abbrev pub invariant-held : goal.invariant-held
 invariant-held g l = record {
