@@ -49,24 +49,6 @@ fn gray_among(words: &Words, stop: &mut Stopped, page: u64, marks: u64) -> Optio
     Some(Cell { page, index })
 }
 
-/// The first gray cell of a page.
-fn gray_on_page(words: &Words, stop: &mut Stopped, pages: u64, page: u64) -> Option<Cell>
-    requires one_table { stop.old.pass.table ≡ words.now }
-    requires pages { pages ≡ words.now.config.pages }
-    requires wanted { IsWanted stop.old.pass }
-    requires page { page < words.now.config.pages }
-    ensures on { MarksOn stop.old stop.new }
-    ensures words { still_words stop.new.pass ≡ still_words stop.old.pass }
-    ensures gray { IfSome result (λ cell. IsGray words.now.config.pages (still_words stop.old.pass) cell) }
-    ensures none { IfNone result (HasNoGray (still_words stop.old.pass) page) }
-{
-    let marks = look_among(words, stop, pages, Word::Mark(page));
-    if marks == 0 {
-        return None;
-    }
-    gray_among(words, stop, page, marks)
-}
-
 /// The first gray cell from a page on, up to another.
 fn gray_between(words: &Words, stop: &mut Stopped, from: u64, to: u64) -> Option<Cell>
     requires one_table { stop.old.pass.table ≡ words.now }
@@ -79,7 +61,11 @@ fn gray_between(words: &Words, stop: &mut Stopped, from: u64, to: u64) -> Option
 {
     let pages = words.pages();
     for page in from..to {
-        let found = gray_on_page(words, stop, pages, page);
+        let marks = look_among(words, stop, pages, Word::Mark(page));
+        if marks == 0 {
+            continue;
+        }
+        let found = gray_among(words, stop, page, marks);
         if let Some(cell) = found {
             return Some(cell);
         }

@@ -13,7 +13,7 @@ use Rattle.mk_core.specs.Growing.{AreOfOthers, is_one_of, is_same_seat}
 use Rattle.mk_words.specs.States.{PassState, event_of}
 use Rattle.mk_words.specs.Steps.{Makes}
 use Rattle.mk_words.proofs.Seats.{same_self}
-use Rattle.mk_waiting.specs.Taking.{is_take, waits_for, Waits}
+use Rattle.mk_waiting.specs.Taking.{is_take, waits_for, TakesTurn, Waits}
 
 -- the list of a pass that made a step
 pub joined_lists : (p q r : PassState) (first : List Event) (s : Step) → q ≡ record p { seen = p.seen ++ first }
@@ -56,3 +56,18 @@ waits_more p q r o w m =
           (ap (λ (b : Bool). not (is_one_of p.seats p.seat) || b) (same_self p.seat)
           ∙ or_last (not (is_one_of p.seats p.seat))) refl));
     }
+
+pub waits_then : (p q r : PassState) → Waits p q → Waits q r → Waits p r
+waits_then p q r w v =
+    record {
+      more = w.more ++ v.more;
+      is = v.is ∙ ap (λ (x : PassState). record x { seen = x.seen ++ v.more }) w.is
+          ∙ ap (λ (l : List Event). record p { seen = l }) (append_assoc p.seen w.more v.more);
+      only = list_all-append (waits_for p) w.more v.more
+          ∙ and_from (list_all (waits_for p) w.more) (list_all (waits_for p) v.more) w.only
+          (subst (λ (x : PassState). list_all (waits_for x) v.more ≡ true) w.is v.only);
+    }
+
+pub takes_then : (p q r : PassState) (o : Option Op) → Waits p q → TakesTurn q o r → TakesTurn p o r
+takes_then p q r o w t =
+    record { waited = t.waited; waits = waits_then p q t.waited w t.waits; takes = t.takes }

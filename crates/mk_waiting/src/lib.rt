@@ -14,8 +14,9 @@ use mk_never::Op;
 use mk_words::{Pass, Turn, Words};
 use std::sync::Wait;
 
-/// Waits for the turn, and takes it.
-pub fn take_turn<R: Wait>(rt: &R, words: &Words, home: Pass, op: Option<Op>) -> Turn
+/// Waits for the turn, looks at it before each try, and takes it.
+#[inline(never)]
+fn wait_for_turn<R: Wait>(rt: &R, words: &Words, home: Pass, op: Option<Op>) -> Turn
     requires one_table { home.table ≡ words.now }
     requires enabled { IsEnabledTo home (step.Take op) }
     ensures takes { TakesTurn home op result.pass }
@@ -36,6 +37,23 @@ pub fn take_turn<R: Wait>(rt: &R, words: &Words, home: Pass, op: Option<Op>) -> 
         backoff.snooze();
     }
     unreachable!()
+}
+
+/// Takes the turn, and waits for it where another has it.
+#[inline(always)]
+pub fn take_turn<R: Wait>(rt: &R, words: &Words, home: Pass, op: Option<Op>) -> Turn
+    requires one_table { home.table ≡ words.now }
+    requires enabled { IsEnabledTo home (step.Take op) }
+    ensures takes { TakesTurn home op result.pass }
+    ensures op { result.op ≡ op }
+    ensures fresh { IsFresh result.pass op }
+    ensures exact { TalliesAreExact result.pass.table.config result.pass.seen }
+    ensures tidy { TalliesAreTidy result.pass.table.config result.pass.seen }
+{
+    match home.try_take(words, op) {
+        Ok(turn) => turn,
+        Err((back, _)) => wait_for_turn(rt, words, back, op),
+    }
 }
 
 /// Who waits for the turn and takes it makes no sweeping mark: facts alone, with no code.

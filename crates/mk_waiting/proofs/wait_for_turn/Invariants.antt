@@ -1,7 +1,7 @@
 use Rattle.mk_core.specs.declared.events.Step.TheVariants as step
 use Rattle.mk_words.specs.Steps.{IsEnabledTo}
 use Rattle.mk_waiting.specs.Taking.{Waits}
-use Rattle.mk_waiting.proofs.take_turn.Given as goal
+use Rattle.mk_waiting.proofs.wait_for_turn.Given as goal
 
 abbrev pub invariant-waiting : goal.invariant-waiting
 invariant-waiting g l =
