@@ -18,6 +18,7 @@ use mk_words::{Pass, Turn, Words};
 use std::sync::Wait;
 
 /// Waits for the turn, and takes it for an operation of a caller whose seat is the pass's only one.
+#[inline(always)]
 pub(crate) fn take<R: Wait>(rt: &R, words: &Words, home: Pass, op: Op) -> Turn
     requires one_table { home.table ≡ words.now }
     requires idle { IsIdleCaller home }
@@ -50,6 +51,7 @@ pub(crate) fn is_cycle_on(words: &Words, turn: &mut Turn) -> bool
 }
 
 /// Gives the turn of a call that is decided back.
+#[inline(always)]
 pub(crate) fn give(words: &Words, turn: Turn) -> Pass
     requires one_table { turn.pass.table ≡ words.now }
     requires quiet { IsQuiet turn.pass }

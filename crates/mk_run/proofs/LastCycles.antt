@@ -1,8 +1,8 @@
 -- The host's last cycle, by the events of the whole list: where its turn and its cycle stand, and that no other `close`
 -- stands behind.
-use Rattle.std.proofs.Common.{◌≡◌, ℕ, ◌<◌, ◌≤◌, Bool, true, false, List, [], ◌∷◌, ◌++◌, refl, sym, ◌∙◌, ap, subst, inl}
+use Rattle.std.proofs.Common.{◌≡◌, ℕ, ◌<◌, ◌≤◌, true, false, List, [], ◌∷◌, ◌++◌, refl, sym, ◌∙◌, ap, subst, inl}
 use Rattle.std.proofs.Common.{inr, arith, append-nil, append_assoc}
-use Rattle.std.specs.Prelude.{Option, None}
+use Rattle.std.specs.Prelude.{None}
 use Rattle.std.proofs.lemmas.Bool.{or_from, or_parts}
 use Rattle.std.proofs.lemmas.List.{append_cancel_left}
 use Rattle.mk_core.specs.declared.config.Config.{Config}
@@ -34,11 +34,11 @@ use Rattle.mk_heap.proofs.MovedHosts.{MovesOn, moves_does, moves_more, turn_move
 use Rattle.mk_objects.proofs.JoinedLooks.{does_wider}
 use Rattle.mk_alloc.specs.TurnCycles.{finishes, has_step, within_turn}
 use Rattle.mk_alloc.proofs.CalmStretches.{cycles_in_turn, is_of_cycles}
-use Rattle.mk_alloc.proofs.CycleParts.{BeginIn, EndsIn, FinishIn, begin_does, begin_in, begins_held, finish_does}
+use Rattle.mk_alloc.proofs.CycleParts.{BeginIn, FinishIn, begin_does, begin_in, begins_held, finish_does}
 use Rattle.mk_alloc.proofs.CycleParts.{finish_in}
 use Rattle.mk_alloc.proofs.ListParts.{IsAt, Lacks, SomeKind, lacks_append, lacks_first, lacks_second, only_at}
 use Rattle.mk_alloc.proofs.OwnGives.{GivesNone, doing_gives, gives_append, others_give}
-use Rattle.mk_alloc.proofs.Parts.{has_then, history_before, in_turn_then, made_as, others_lack, seen_behind, seen_made}
+use Rattle.mk_alloc.proofs.Parts.{has_then, history_before, in_turn_then, made_as, others_lack, seen_behind}
 use Rattle.mk_run.specs.LastCycle.{MakesLastCycle, give_of}
 
 -- Outside of phases 1 and 2 no cycle is closed before another is begun.

@@ -1,7 +1,7 @@
-use Rattle.std.proofs.Common.{◌≡◌, ◌∙◌, ap, subst, sym}
+use Rattle.std.proofs.Common.{ap, subst, sym}
 use Rattle.mk_turns.proofs.Sweeping.{sweeps_then}
 use Rattle.mk_heap.specs.Ending.{CallersAreJoined}
-use Rattle.mk_heap.specs.Hosts.{HostState, with_seen}
+use Rattle.mk_heap.specs.Hosts.{HostState}
 use Rattle.mk_run.specs.LastTurns.{TakesLastTurns}
 use Rattle.mk_run.proofs.LastTurns.{last_turns, still_behind_both}
 use Rattle.mk_run.proofs.last_turns.cycle_and_over.Goals as goal

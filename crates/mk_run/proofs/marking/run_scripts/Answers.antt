@@ -1,6 +1,5 @@
 use Rattle.std.proofs.Common.{◌≡◌, ◌∙◌, ap, arith, sym, subst}
 use Rattle.std.proofs.lemmas.Result.{IfOk-weaker}
-use Rattle.mk_words.specs.States.{WordsState}
 use Rattle.mk_heap.specs.Hosts.{HostState}
 use Rattle.mk_run.specs.Joining.{AreTextsFrom, HasJoined}
 use Rattle.mk_run.proofs.WholeRuns.{all_callers_home, all_callers_joined, still_joined, still_texts}
