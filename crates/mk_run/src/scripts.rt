@@ -129,9 +129,7 @@ pub fn run_script<E: Engine, P: Pace, R: Threads + Wait + Sync>(
         };
         let instruction = script.ops;
         pace.before(k, instruction);
-        if takes_turn(op) {
-            line.before_turn(rt, caller.words());
-        }
+        line.before(rt, caller.words(), takes_turn(op));
         let answer = answer_to(rt, caller, bench, op);
         if pace.may_wait() {
             line.leave();
