@@ -191,15 +191,10 @@ impl Words {
         self.table.shared.peek(16) == 0
     }
 
-    /// Where the turn doesn't look free, waits in line with others that want it, and stands first until what it gives
-    /// is dropped. Who stands behind sleeps, so one seat at a time spins on the turn word. No promise rests on it: the
-    /// turn is had by the turn word alone, with or without a place in line.
-    pub fn line_up<R: Wait>(&self, rt: &R) -> Option<MutexGuard<'_, ()>> {
-        if self.table.shared.peek(16) == 0 {
-            None
-        } else {
-            Some(self.queue.lock(rt))
-        }
+    /// Waits in line with others that want the turn, and stands first until what it gives is dropped. Who stands behind
+    /// sleeps. No promise rests on it: the turn is had by the turn word alone, with or without a place in line.
+    pub fn line_up<R: Wait>(&self, rt: &R) -> MutexGuard<'_, ()> {
+        self.queue.lock(rt)
     }
 
     /// Ends the table. The pass has all seats, so what it has seen is the whole history.
