@@ -232,21 +232,21 @@ look_kept p q u k =
     unplaced_kept p q u k.keeps.call.call (ap (λ (x : Done). x.placing) k.keeps.call.done)
     (ap (λ (s : Steady). s.phase) k.keeps.steady)
 
-pub misfits_seen : (p q r : PassState) → Misfits p q → InTurn q → IsQuiet q → Looks q r
-    → IsHistory r.table.config r.seen → Misfits p r
-misfits_seen p q r m t quiet k history =
-    let on = looked_on q r t (new_callers q m.unplaced) quiet k history in
+pub misfits_seen : (q r : PassState) → IsUnplaced q → place_now_for q ≡ None → InTurn q → IsQuiet q → Looks q r
+    → IsHistory r.table.config r.seen → Misfits q r
+misfits_seen q r u none t quiet k history =
+    let on = looked_on q r t (new_callers q u) quiet k history in
     record {
-      seeks = seeks_then None p q r m.seeks (record {
+      seeks = record {
         on = on;
         room = room_lacks (object_for q) q r k.does.more (seen_behind is_look q r k.does)
             (part_lacks is_look _ q r look_stays rooms_held looks_no_room t k.does history);
         none = λ none. looks_grant_none q r t k.does history;
         last = none_last q r (looks_grant_none q r t k.does history);
-      });
-      unplaced = look_kept q r m.unplaced k;
+      };
+      unplaced = look_kept q r u k;
       nowhere = still_nowhere q r (ap (λ (s : Steady). s.allocations) k.keeps.steady)
-          (ap (λ (x : PassState). x.table.config) k.keeps.call.pass) (same_object None q r on) m.nowhere;
+          (ap (λ (x : PassState). x.table.config) k.keeps.call.pass) (same_object None q r on) none;
     }
 
 pub seen_at : (q r : PassState) → Looks q r → (n : _) → IsAtPhase q n → IsAtPhase r n

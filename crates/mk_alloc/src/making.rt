@@ -7,7 +7,7 @@ ghost use Rattle.mk_turns.specs.Sweeping.{SweepsNothing};
 ghost use Rattle.mk_alloc.specs.TurnCalls.{CalledInTurn, IsAnsweredFull};
 
 use crate::fulls::answer_full;
-use crate::rooms::place;
+use crate::rooms::{make_room, try_place};
 use crate::turns::{give, take};
 use mk_books::census;
 use mk_caller::Caller;
@@ -51,9 +51,15 @@ pub fn new_object<E: Engine, R: Threads + Wait + Sync>(
     let words = caller.words();
     let home = caller.lend();
     let op = Op::New { d, ty, full: false };
-    let turn = take(rt, words, home, op);
+    let mut turn = take(rt, words, home, op);
     turn.is_in_order();
-    let (mut turn, placed) = place(rt, words, turn, bench);
+    if try_place(words, &mut turn, bench) {
+        turn.is_in_order();
+        caller.back(give(words, turn));
+        return Ok(());
+    }
+    turn.is_in_order();
+    let (mut turn, placed) = make_room(rt, words, turn, bench);
     turn.is_in_order();
     if placed {
         caller.back(give(words, turn));

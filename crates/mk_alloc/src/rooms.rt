@@ -17,7 +17,7 @@ use std::sync::Wait;
 use std::thread::Threads;
 
 /// Grants the object where it fits.
-fn try_place<E: Engine>(words: &Words, turn: &mut Turn, bench: &mut Bench<E>) -> bool
+pub(crate) fn try_place<E: Engine>(words: &Words, turn: &mut Turn, bench: &mut Bench<E>) -> bool
     requires one_table { turn.old.pass.table ≡ words.now }
     requires book { length bench.old.book ≡ words.now.config.pages }
     requires quiet { IsQuiet turn.old.pass }
@@ -73,7 +73,7 @@ fn finish_and_place<E: Engine, R: Threads + Wait + Sync>(
     (turn, placed)
 }
 
-/// Grants the object where it fits, or where it fits behind the cycle that is on.
+/// Grants the object, which fits nowhere, where it fits behind the cycle that is on.
 fn place_behind_older<E: Engine, R: Threads + Wait + Sync>(
     rt: &R,
     words: &Words,
@@ -85,6 +85,7 @@ fn place_behind_older<E: Engine, R: Threads + Wait + Sync>(
     requires book { length bench.old.book ≡ words.now.config.pages }
     requires quiet { IsQuiet turn.pass }
     requires unplaced { IsUnplaced turn.pass }
+    requires nowhere { place_now_for turn.pass ≡ None }
     ensures op { result.0.op ≡ turn.op }
     ensures made_for { E.made_for bench.new.engine ≡ E.made_for bench.old.engine }
     ensures book { length bench.new.book ≡ length bench.old.book }
@@ -94,10 +95,6 @@ fn place_behind_older<E: Engine, R: Threads + Wait + Sync>(
     ensures reached { E.sweeps ≡ false → SweepsNothing turn.pass result.0.pass }
 {
     let mut turn = turn;
-    turn.is_in_order();
-    if try_place(words, &mut turn, bench) {
-        return (turn, true);
-    }
     turn.is_in_order();
     if !is_cycle_on(words, &mut turn) {
         turn.is_in_order();
@@ -143,8 +140,11 @@ fn place_behind_cycle<E: Engine, R: Threads + Wait + Sync>(
     (turn, placed)
 }
 
-/// Grants the object, if it can be made to fit.
-pub(crate) fn place<E: Engine, R: Threads + Wait + Sync>(
+/// Makes room for the object, which fits nowhere, and grants it if it can be made to fit. It stands by itself: what it
+/// moves about costs nothing where the object fits.
+#[cold]
+#[inline(never)]
+pub(crate) fn make_room<E: Engine, R: Threads + Wait + Sync>(
     rt: &R,
     words: &Words,
     turn: Turn,
@@ -155,6 +155,7 @@ pub(crate) fn place<E: Engine, R: Threads + Wait + Sync>(
     requires book { length bench.old.book ≡ words.now.config.pages }
     requires quiet { IsQuiet turn.pass }
     requires unplaced { IsUnplaced turn.pass }
+    requires nowhere { place_now_for turn.pass ≡ None }
     ensures op { result.0.op ≡ turn.op }
     ensures made_for { E.made_for bench.new.engine ≡ E.made_for bench.old.engine }
     ensures book { length bench.new.book ≡ length bench.old.book }

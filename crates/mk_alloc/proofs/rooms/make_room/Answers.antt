@@ -4,7 +4,7 @@ use Rattle.mk_alloc.proofs.OneCycles.{none_runs_one, none_then_one}
 use Rattle.mk_alloc.proofs.SeekingTurns.{misfits_then, seeks_then}
 use Rattle.mk_words.specs.TurnSteps.{turn_stays}
 use Rattle.mk_alloc.proofs.UnsweptTurns.{part_then_sweeps}
-use Rattle.mk_alloc.proofs.rooms.place.Goals as goal
+use Rattle.mk_alloc.proofs.rooms.make_room.Goals as goal
 
 pub returns-clause-placed : goal.returns-clause-placed
 returns-clause-placed g c =
