@@ -1,11 +1,15 @@
 //! The line of the scripts that want the turn.
+use mk_never::Op;
 use mk_words::Words;
 use std::sync::{MutexGuard, Wait};
 
 /// Over how many operations who stands first keeps its place. What the words of the heap are is then mostly in the cache
 /// of the processor that takes the turns, as with lock cohorts (Dice, Marathe and Shavit, 2012). It is a prime, so that
-/// no loop of a script keeps step with it, and a script is put aside at each point of its loop in turn.
+/// no loop of a script keeps step with it.
 const OPERATIONS_IN_A_ROW: u64 = 1021;
+
+/// After so many operations the place is given up wherever the script is.
+const OPERATIONS_AT_MOST: u64 = 2 * OPERATIONS_IN_A_ROW;
 
 /// After how many operations beside the turn, with none that takes it between them, the place is given up before.
 const OPERATIONS_BESIDE: u64 = 16;
@@ -15,8 +19,9 @@ const OPERATIONS_BESIDE: u64 = 16;
 #[derive(Drop)]
 pub(crate) struct Line<'w> {
     first: Option<MutexGuard<'w, ()>>,
-    operations_left: u64,
+    operations: u64,
     beside: u64,
+    made: bool,
 }
 
 impl<'w> Line<'w> {
@@ -24,33 +29,44 @@ impl<'w> Line<'w> {
     pub(crate) fn new() -> Line<'w> {
         Line {
             first: None,
-            operations_left: 0,
+            operations: 0,
             beside: 0,
+            made: false,
         }
     }
 
     /// Comes before each operation.
     #[inline(always)]
-    pub(crate) fn before<R: Wait>(&mut self, rt: &R, words: &'w Words, takes_turn: bool) {
-        if self.operations_left == 0 || self.beside == OPERATIONS_BESIDE {
+    pub(crate) fn before<R: Wait>(&mut self, rt: &R, words: &'w Words, op: Op) {
+        if self.is_over() {
             self.leave();
         }
-        self.operations_left = self.operations_left.saturating_sub(1);
-        if !takes_turn {
+        self.operations = self.operations.saturating_add(1);
+        let makes = matches!(op, Op::New { .. });
+        if !makes && !matches!(op, Op::Free { .. }) {
             self.beside = self.beside.saturating_add(1);
             return;
         }
         self.beside = 0;
+        self.made = makes;
         if self.first.is_none() {
             self.stand(rt, words);
         }
+    }
+
+    /// Whether it is another script's time. A script that has made an object holds more than one that has freed it, and
+    /// the more is held by those that wait, the fewer cycles are due.
+    fn is_over(&self) -> bool {
+        self.beside == OPERATIONS_BESIDE
+            || self.operations >= OPERATIONS_IN_A_ROW && self.made
+            || self.operations >= OPERATIONS_AT_MOST
     }
 
     /// Waits until it is first.
     #[inline(never)]
     fn stand<R: Wait>(&mut self, rt: &R, words: &'w Words) {
         self.first = Some(words.line_up(rt));
-        self.operations_left = OPERATIONS_IN_A_ROW;
+        self.operations = 0;
     }
 
     /// Gives the place up.

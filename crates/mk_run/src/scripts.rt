@@ -3,7 +3,6 @@ ghost use Rattle.std.specs.Prelude.{◌≡◌, ◌+◌, [], ◌∷◌, length, c
 ghost use Rattle.mk_check.specs.Declarations.{config_of};
 ghost use Rattle.mk_check.specs.Feeding.{IsWaiting};
 ghost use Rattle.mk_check.specs.Laws.{IsScript};
-ghost use Rattle.mk_core.specs.Calls.{is_under_turn};
 ghost use Rattle.mk_caller.specs.States.{number_of};
 ghost use Rattle.mk_turns.specs.Sweeping.{SweepsNothing};
 ghost use Rattle.mk_run.specs.Running.{answers_in, FollowsScript, EndsScript, IsTextOf};
@@ -16,7 +15,7 @@ use mk_caller::Caller;
 use mk_check::{Checked, Feed, Text, is_refusal};
 use mk_core::Answer;
 use mk_cycle::{Bench, Engine};
-use mk_never::{NoMemory, Op};
+use mk_never::NoMemory;
 use std::alloc::Global;
 use std::sync::Wait;
 use std::thread::Threads;
@@ -84,13 +83,6 @@ impl Script {
     }
 }
 
-/// Whether the operation is carried out under the turn.
-fn takes_turn(op: Op) -> bool
-    ensures { result ≡ is_under_turn op }
-{
-    matches!(op, Op::New { .. } | Op::Free { .. })
-}
-
 /// Runs a script to its end, or up to where no memory is left, between two calls. A call that finds its gate held is
 /// tried again.
 pub fn run_script<E: Engine, P: Pace, R: Threads + Wait + Sync>(
@@ -129,7 +121,7 @@ pub fn run_script<E: Engine, P: Pace, R: Threads + Wait + Sync>(
         };
         let instruction = script.ops;
         pace.before(k, instruction);
-        line.before(rt, caller.words(), takes_turn(op));
+        line.before(rt, caller.words(), op);
         let answer = answer_to(rt, caller, bench, op);
         if pace.may_wait() {
             line.leave();
