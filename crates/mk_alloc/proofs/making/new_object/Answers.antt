@@ -17,6 +17,14 @@ use Rattle.mk_turns.proofs.Doing.{does_then}
 use Rattle.mk_turns.proofs.Sweeping.{only_seen}
 use Rattle.mk_alloc.proofs.UnsweptTurns.{part_then_sweeps, turn_sweeps}
 use Rattle.mk_alloc.proofs.making.new_object.Goals as goal
+use Rattle.mk_alloc.proofs.making.new_object.Goals.{After-is_in_order}
+
+-- the turn of the call, as it was taken
+takes : (g : _) (c : After-is_in_order g)
+    → TakesTurn c.args.caller.now.pass (Some (op.New c.args.d c.args.ty false)) c.take-turn.result.pass
+takes g c =
+    subst (λ (x : PassState). TakesTurn x (Some (op.New c.args.d c.args.ty false)) c.take-turn.result.pass)
+    c.lend-home.ensures.pass c.take-turn.ensures.takes
 
 pub give-requires-then-placed-clause-quiet : goal.give-requires-then-placed-clause-quiet
 give-requires-then-placed-clause-quiet g c = (c.make_room-turn.ensures.placed c.if-placed.true).on.quiet
@@ -32,8 +40,7 @@ returns-then-try_place-clause-made g c =
     let ty = c.args.ty in
     let taken : PassState = c.take-turn.result.pass in
     let done : PassState = c.try_place.new.turn.pass in
-    let takes = subst (λ (x : PassState). TakesTurn x (Some (op.New d ty false)) taken) c.lend-home.ensures.pass
-    c.take-turn.ensures.takes in
+    let takes = takes g (goal.at.returns-then-try_place-clause-made g c).After-is_in_order in
     let j = c.is_in_order-then-try_place.ensures in
     subst (λ (x : CallerState). CalledInTurn g.E.Engine.on p (op.New d ty false) answer.Done x.pass)
     (sym c.back.ensures)
@@ -52,8 +59,7 @@ returns-then-placed-clause-made g c =
     let taken : PassState = c.take-turn.result.pass in
     let tried : PassState = c.try_place.new.turn.pass in
     let done : PassState = c.make_room-turn.result.0.pass in
-    let takes = subst (λ (x : PassState). TakesTurn x (Some (op.New d ty false)) taken) c.lend-home.ensures.pass
-    c.take-turn.ensures.takes in
+    let takes = takes g (goal.at.returns-then-placed-clause-made g c).After-is_in_order in
     let m = c.try_place.ensures.misfits c.if-try_place.false in
     let j = c.is_in_order-3.ensures in
     subst (λ (x : CallerState). CalledInTurn g.E.Engine.on p (op.New d ty false) answer.Done x.pass)
@@ -75,8 +81,7 @@ returns-clause-full g c =
     let tried : PassState = c.try_place.new.turn.pass in
     let last : PassState = c.make_room-turn.result.0.pass in
     let done : PassState = c.answer_full.new.turn.pass in
-    let takes = subst (λ (x : PassState). TakesTurn x (Some (op.New d ty false)) taken) c.lend-home.ensures.pass
-    c.take-turn.ensures.takes in
+    let takes = takes g (goal.at.returns-clause-full g c).After-is_in_order in
     let j = c.is_in_order-3.ensures in
     let k = c.is_in_order-4.ensures in
     let m = c.try_place.ensures.misfits c.if-try_place.false in
@@ -99,8 +104,7 @@ returns-then-try_place-clause-reached g c =
     let o = op.New c.args.d c.args.ty false in
     let taken : PassState = c.take-turn.result.pass in
     let done : PassState = c.try_place.new.turn.pass in
-    let takes = subst (λ (x : PassState). TakesTurn x (Some o) taken) c.lend-home.ensures.pass
-    c.take-turn.ensures.takes in
+    let takes = takes g (goal.at.returns-then-try_place-clause-reached g c).After-is_in_order in
     let d = (c.try_place.ensures.placed c.if-try_place.true).on.does in
     λ none.
     subst (λ (x : CallerState). SweepsNothing p x.pass) (sym c.back.ensures)
@@ -115,8 +119,7 @@ returns-then-placed-clause-reached g c =
     let taken : PassState = c.take-turn.result.pass in
     let tried : PassState = c.try_place.new.turn.pass in
     let done : PassState = c.make_room-turn.result.0.pass in
-    let takes = subst (λ (x : PassState). TakesTurn x (Some o) taken) c.lend-home.ensures.pass
-    c.take-turn.ensures.takes in
+    let takes = takes g (goal.at.returns-then-placed-clause-reached g c).After-is_in_order in
     let first = (c.try_place.ensures.misfits c.if-try_place.false).seeks.on.does in
     let d = does_then turn_stays taken tried done first
     (c.make_room-turn.ensures.placed c.if-placed.true).on.does in
@@ -135,8 +138,7 @@ returns-clause-reached g c =
     let tried : PassState = c.try_place.new.turn.pass in
     let last : PassState = c.make_room-turn.result.0.pass in
     let done : PassState = c.answer_full.new.turn.pass in
-    let takes = subst (λ (x : PassState). TakesTurn x (Some o) taken) c.lend-home.ensures.pass
-    c.take-turn.ensures.takes in
+    let takes = takes g (goal.at.returns-clause-reached g c).After-is_in_order in
     let first = (c.try_place.ensures.misfits c.if-try_place.false).seeks.on.does in
     let n = c.make_room-turn.ensures.misfits c.if-placed.false in
     let to_last = does_then turn_stays taken tried last first n.misfits.seeks.on.does in
