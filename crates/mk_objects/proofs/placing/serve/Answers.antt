@@ -9,122 +9,113 @@ use Rattle.mk_words.specs.States.{PassState, now_of}
 use Rattle.mk_words.specs.Steps.{IsEnabledTo}
 use Rattle.mk_objects.specs.Placing.{object_for}
 use Rattle.mk_core.specs.Bits.{has_bit}
-use Rattle.mk_objects.proofs.Serves.{knows_place, place_unused}
-use Rattle.mk_objects.proofs.Takes.{counted, counted_held, few_held, grant_admits, grant_may, grant_on, one_bit_more}
-use Rattle.mk_objects.proofs.Takes.{small_index, tally_may, tally_on, used_may, used_on}
+use Rattle.mk_objects.proofs.Serves.{KnowsPlace, knows_place, place_unused}
+use Rattle.mk_objects.proofs.Takes.{HasGranted, HasTaken, counted, counted_held, few_held, grant_admits, grant_may, grant_on}
+use Rattle.mk_objects.proofs.Takes.{one_bit_more, small_index, tally_may, tally_on, used_may, used_on}
 use Rattle.mk_objects.proofs.UnsweptNews.{serving_sweeps}
 use Rattle.mk_objects.proofs.placing.serve.Goals as goal
+use Rattle.mk_objects.proofs.placing.serve.Goals.{After-is_in_order, After-is_in_order-3, After-is_in_order-4}
+
+-- what is known of the place
+knows : (c : After-is_in_order) → KnowsPlace c.args.turn.now.pass c.args.place
+knows c =
+    knows_place c.args.turn.now.pass c.args.turn.now.op c.args.place c.is_in_order.ensures.turn
+    c.is_in_order.ensures.history c.requires.goes
+
+-- its cell is taken
+taken : (c : After-is_in_order-3) (k : KnowsPlace c.args.turn.now.pass c.args.place)
+    → HasTaken c.args.turn.now.pass c.args.place c.requires.goes k c.used.new.self.pass
+taken c k =
+    used_on c.args.turn.now.pass c.args.place c.requires.goes k c.make_ready.new.turn.pass c.used.new.self.pass _
+    c.make_ready.ensures.ready c.used.ensures.acts c.is_in_order-2.ensures.own c.is_in_order-3.ensures.history
+
+-- and the object is granted
+granted : (c : After-is_in_order-4) (k : KnowsPlace c.args.turn.now.pass c.args.place)
+    → HasTaken c.args.turn.now.pass c.args.place c.requires.goes k c.used.new.self.pass
+    → HasGranted c.args.turn.now.pass c.args.place c.requires.goes k c.grant.new.self.pass
+granted c k taken =
+    grant_on c.args.turn.now.pass c.args.place c.requires.goes k c.used.new.self.pass c.grant.new.self.pass taken
+    c.grant.ensures.acts c.is_in_order-3.ensures.own c.is_in_order-4.ensures.history c.is_in_order.ensures.history
 
 pub overflow_shl-place : goal.overflow_shl-place
 overflow_shl-place c =
-    let p : PassState = c.args.turn.now.pass in
-    small_index p c.args.place
-    (knows_place p c.args.turn.now.op c.args.place c.is_in_order.ensures.turn c.is_in_order.ensures.history
-    c.requires.goes)
+    small_index c.args.turn.now.pass c.args.place (knows (goal.at.overflow_shl-place c).After-is_in_order)
 
 pub used-requires-clause-enabled : goal.used-requires-clause-enabled
 used-requires-clause-enabled c =
     let p : PassState = c.args.turn.now.pass in
-    let k = knows_place p c.args.turn.now.op c.args.place c.is_in_order.ensures.turn c.is_in_order.ensures.history
-    c.requires.goes in
+    let k = knows (goal.at.used-requires-clause-enabled c).After-is_in_order in
     let known : used_at (now_of p).words c.args.place.page ≡ c.args.page.used =
     sym (ap (λ (x : Page). x.used) c.requires.page) in
-    let clear : has_bit c.args.page.used c.args.place.index ≡ _ = sym (ap (λ n. has_bit n c.args.place.index) known)
-    ∙ place_unused p c.args.place k in
+    let clear : has_bit c.args.page.used c.args.place.index ≡ _ =
+    sym (ap (λ n. has_bit n c.args.place.index) known) ∙ place_unused p c.args.place k in
     subst (λ n. IsEnabledTo c.make_ready.new.turn.pass (step.Used c.args.place.page n))
     (sym (one_bit_more c.args.page.used c.args.place.index (small_index p c.args.place k) clear))
-    (used_may p c.args.place c.requires.goes k c.make_ready.new.turn.pass c.args.page.used c.make_ready.ensures.ready
-    known)
+    (used_may p c.args.place c.requires.goes k c.make_ready.new.turn.pass c.args.page.used
+    c.make_ready.ensures.ready known)
 
 pub grant-requires-clause-enabled : goal.grant-requires-clause-enabled
 grant-requires-clause-enabled c =
-    let p : PassState = c.args.turn.now.pass in
-    let k = knows_place p c.args.turn.now.op c.args.place c.is_in_order.ensures.turn c.is_in_order.ensures.history
-    c.requires.goes in
-    let taken = used_on p c.args.place c.requires.goes k c.make_ready.new.turn.pass c.used.new.self.pass _
-    c.make_ready.ensures.ready c.used.ensures.acts
-    c.is_in_order-2.ensures.own c.is_in_order-3.ensures.history in
-    grant_may p c.args.place c.requires.goes k c.used.new.self.pass taken
+    let x = goal.at.grant-requires-clause-enabled c in
+    let k = knows x.After-is_in_order in
+    grant_may c.args.turn.now.pass c.args.place c.requires.goes k c.used.new.self.pass (taken x.After-is_in_order-3 k)
 
 pub grant-requires-clause-admitted : goal.grant-requires-clause-admitted
 grant-requires-clause-admitted c =
-    let p : PassState = c.args.turn.now.pass in
-    let k = knows_place p c.args.turn.now.op c.args.place c.is_in_order.ensures.turn c.is_in_order.ensures.history
-    c.requires.goes in
-    let taken = used_on p c.args.place c.requires.goes k c.make_ready.new.turn.pass c.used.new.self.pass _
-    c.make_ready.ensures.ready c.used.ensures.acts
-    c.is_in_order-2.ensures.own c.is_in_order-3.ensures.history in
-    grant_admits p c.args.place c.requires.goes k c.used.new.self.pass taken c.is_in_order-3.ensures.history
-    c.is_in_order.ensures.history
+    let x = goal.at.grant-requires-clause-admitted c in
+    let k = knows x.After-is_in_order in
+    grant_admits c.args.turn.now.pass c.args.place c.requires.goes k c.used.new.self.pass
+    (taken x.After-is_in_order-3 k) c.is_in_order-3.ensures.history c.is_in_order.ensures.history
 
 pub storage-requires : goal.storage-requires
 storage-requires c =
-    let p : PassState = c.args.turn.now.pass in
-    let k = knows_place p c.args.turn.now.op c.args.place c.is_in_order.ensures.turn c.is_in_order.ensures.history
-    c.requires.goes in
-    subst (λ (o : Object). IsSized o) (sym c.requires.shape) k.sized
+    subst (λ (o : Object). IsSized o) (sym c.requires.shape)
+    (knows (goal.at.storage-requires c).After-is_in_order).sized
 
 pub overflow_add-held : goal.overflow_add-held
 overflow_add-held c =
     let p : PassState = c.args.turn.now.pass in
     let h = c.is_in_order.ensures.history in
-    let k = knows_place p c.args.turn.now.op c.args.place c.is_in_order.ensures.turn h c.requires.goes in
+    let k = knows (goal.at.overflow_add-held c).After-is_in_order in
     let few = few_held p c.args.place k c.requires.goes h in
     let most = h.within_limits.pages.1 in
     let words = (words_within (object_for p) k.sized).1 in
-    let size : c.storage.result ≡ words_made (object_for p) = c.storage.ensures
-    ∙ ap (λ (o : Object). words_made o) c.requires.shape in
+    let size : c.storage.result ≡ words_made (object_for p) =
+    c.storage.ensures ∙ ap (λ (o : Object). words_made o) c.requires.shape in
     omega (arith, c.requires.held, c.requires.exact)
 
 pub tally-requires-clause-enabled : goal.tally-requires-clause-enabled
 tally-requires-clause-enabled c =
-    let p : PassState = c.args.turn.now.pass in
-    let h = c.is_in_order.ensures.history in
-    let k = knows_place p c.args.turn.now.op c.args.place c.is_in_order.ensures.turn h c.requires.goes in
-    let taken = used_on p c.args.place c.requires.goes k c.make_ready.new.turn.pass c.used.new.self.pass _
-    c.make_ready.ensures.ready c.used.ensures.acts
-    c.is_in_order-2.ensures.own c.is_in_order-3.ensures.history in
-    let granted = grant_on p c.args.place c.requires.goes k c.used.new.self.pass c.grant.new.self.pass taken
-    c.grant.ensures.acts c.is_in_order-3.ensures.own
-    c.is_in_order-4.ensures.history h in
-    tally_may p c.args.place c.requires.goes k c.grant.new.self.pass _ granted
+    let x = goal.at.tally-requires-clause-enabled c in
+    let k = knows x.After-is_in_order in
+    tally_may c.args.turn.now.pass c.args.place c.requires.goes k c.grant.new.self.pass _
+    (granted x.After-is_in_order-4 k (taken x.After-is_in_order-3 k))
 
 -- the last step, and the tally
 pub returns-clause-granted : goal.returns-clause-granted
 returns-clause-granted c =
+    let x = goal.at.returns-clause-granted c in
     let p : PassState = c.args.turn.now.pass in
-    let h = c.is_in_order.ensures.history in
-    let k = knows_place p c.args.turn.now.op c.args.place c.is_in_order.ensures.turn h c.requires.goes in
-    let taken = used_on p c.args.place c.requires.goes k c.make_ready.new.turn.pass c.used.new.self.pass _
-    c.make_ready.ensures.ready c.used.ensures.acts
-    c.is_in_order-2.ensures.own c.is_in_order-3.ensures.history in
-    let granted = grant_on p c.args.place c.requires.goes k c.used.new.self.pass c.grant.new.self.pass taken
-    c.grant.ensures.acts c.is_in_order-3.ensures.own
-    c.is_in_order-4.ensures.history h in
+    let k = knows x.After-is_in_order in
     let n = c.args.held + c.storage.result in
     counted p c.args.place c.requires.goes k c.tally.new.self.pass n
-    (tally_on p c.args.place c.requires.goes k c.grant.new.self.pass c.tally.new.self.pass n granted
-    c.tally.ensures.acts c.is_in_order-4.ensures.own
-    c.is_in_order-5.ensures.history h)
+    (tally_on p c.args.place c.requires.goes k c.grant.new.self.pass c.tally.new.self.pass n
+    (granted x.After-is_in_order-4 k (taken x.After-is_in_order-3 k))
+    c.tally.ensures.acts c.is_in_order-4.ensures.own c.is_in_order-5.ensures.history c.is_in_order.ensures.history)
 
 pub returns-clause-held : goal.returns-clause-held
 returns-clause-held c =
+    let x = goal.at.returns-clause-held c in
     let p : PassState = c.args.turn.now.pass in
-    let h = c.is_in_order.ensures.history in
-    let k = knows_place p c.args.turn.now.op c.args.place c.is_in_order.ensures.turn h c.requires.goes in
-    let taken = used_on p c.args.place c.requires.goes k c.make_ready.new.turn.pass c.used.new.self.pass _
-    c.make_ready.ensures.ready c.used.ensures.acts
-    c.is_in_order-2.ensures.own c.is_in_order-3.ensures.history in
-    let granted = grant_on p c.args.place c.requires.goes k c.used.new.self.pass c.grant.new.self.pass taken
-    c.grant.ensures.acts c.is_in_order-3.ensures.own
-    c.is_in_order-4.ensures.history h in
-    let size : c.storage.result ≡ words_made (object_for p) = c.storage.ensures
-    ∙ ap (λ (o : Object). words_made o) c.requires.shape in
+    let k = knows x.After-is_in_order in
+    let n = c.args.held + c.storage.result in
+    let size : c.storage.result ≡ words_made (object_for p) =
+    c.storage.ensures ∙ ap (λ (o : Object). words_made o) c.requires.shape in
     counted_held p c.args.place c.requires.goes k c.tally.new.self.pass c.args.held c.storage.result
     (c.requires.held ∙ c.requires.exact) size
-    (tally_on p c.args.place c.requires.goes k c.grant.new.self.pass c.tally.new.self.pass
-    (c.args.held + c.storage.result) granted c.tally.ensures.acts
-    c.is_in_order-4.ensures.own c.is_in_order-5.ensures.history h)
+    (tally_on p c.args.place c.requires.goes k c.grant.new.self.pass c.tally.new.self.pass n
+    (granted x.After-is_in_order-4 k (taken x.After-is_in_order-3 k))
+    c.tally.ensures.acts c.is_in_order-4.ensures.own c.is_in_order-5.ensures.history c.is_in_order.ensures.history)
 
 pub returns-clause-reached : goal.returns-clause-reached
 returns-clause-reached c =
