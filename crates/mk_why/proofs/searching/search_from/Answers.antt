@@ -1,28 +1,48 @@
-use Rattle.std.proofs.Common.{◌+◌, ◌<◌, refl, sym, subst, arith, length}
-use Rattle.std.specs.Prelude.{slice_index}
-use Rattle.mk_why.specs.Searching.{AreScannedFrom, IsBase, IsDone, IsSearch, SearchesOn, links_of}
+use Rattle.std.proofs.Common.{◌≡◌, ◌+◌, ◌<◌, refl, sym, subst, arith, length}
+use Rattle.std.specs.Prelude.{Some, slice_index}
+use Rattle.mk_why.specs.Searching.{AreScannedFrom, IsBase, IsDone, IsSearch, SearchesOn, at, links_of}
 use Rattle.mk_why.specs.Stops.{View, view_by}
 use Rattle.mk_why.proofs.Scans.{done_from, entry_read, links_there, one_more_fits, queue_read, queued_base}
 use Rattle.mk_why.proofs.Scans.{queued_within}
 use Rattle.mk_why.proofs.Searches.{looks_search, part_noted, through_stays, view_search}
 use Rattle.mk_why.proofs.searching.search_from.Goals as goal
+use Rattle.mk_why.proofs.searching.search_from.Goals.{After-index-base, In-Some}
+
+-- the base at this place of the queue
+base : (c : After-index-base) → c.index-base.result.now ≡ slice_index c.args.tables.now.queue.items c.args.place
+base c =
+    queue_read c.args.tables.now c.args.place c.index-base.result.now c.index-base.ensures c.requires.place
+
+low : (c : After-index-base) → c.index-base.result.now < length c.args.tables.now.found.items
+low c =
+    let r = c.args.tables.now in
+    subst (λ n. n < length r.found.items) (sym (base c))
+    (queued_within c.args.words.now.config (view_by c.args.stop.now.pass) r c.args.place
+    (links_of r c.args.place + 1) c.requires.search c.requires.place)
+
+-- what was found there
+there : (c : In-Some) → c.index-base.result.now < length c.args.tables.now.found.items
+    → at c.args.tables.now.found.items c.index-base.result.now ≡ Some c.in-Some.found
+there c low =
+    entry_read c.args.tables.now c.index-base.result.now c.index.result.now c.in-Some.found c.index.ensures low
+    c.in-Some.is
+
+links : (c : In-Some) → c.index-base.result.now ≡ slice_index c.args.tables.now.queue.items c.args.place
+    → at c.args.tables.now.found.items c.index-base.result.now ≡ Some c.in-Some.found
+    → links_of c.args.tables.now c.args.place ≡ c.in-Some.found.links
+links c base there =
+    let r = c.args.tables.now in
+    links_there c.args.words.now.config (view_by c.args.stop.now.pass) r c.args.place (links_of r c.args.place + 1)
+    c.requires.search c.requires.place c.index-base.result.now base c.in-Some.found there
 
 pub index-requires : goal.index-requires
-index-requires c =
-    let r = c.args.tables.now in
-    let base = queue_read r c.args.place c.index-base.result.now c.index-base.ensures c.requires.place in
-    let low : c.index-base.result.now < length r.found.items =
-    subst (λ n. n < length r.found.items) (sym base)
-    (queued_within c.args.words.now.config (view_by c.args.stop.now.pass) r c.args.place
-    (links_of r c.args.place + 1) c.requires.search c.requires.place) in
-    omega arith
+index-requires c = let less = low (goal.at.index-requires c).After-index-base in omega arith
 
 pub scanned_size-size-requires-clause-base : goal.scanned_size-size-requires-clause-base
 scanned_size-size-requires-clause-base c =
     let r = c.args.tables.now in
     let v = view_by c.args.stop.now.pass in
-    let base = queue_read r c.args.place c.index-base.result.now c.index-base.ensures c.requires.place in
-    subst (λ n. IsBase v n) (sym base)
+    subst (λ n. IsBase v n) (sym (base (goal.at.scanned_size-size-requires-clause-base c).After-index-base))
     (queued_base c.args.words.now.config v r c.args.place (links_of r c.args.place + 1) c.requires.search
     c.requires.place)
 
@@ -33,67 +53,46 @@ search_words-requires-clause-scanned c =
 
 pub search_words-requires-clause-found : goal.search_words-requires-clause-found
 search_words-requires-clause-found c =
-    let k = c.args.words.now.config in
-    let v = view_by c.args.stop.now.pass in
-    let r = c.args.tables.now in
-    let base = queue_read r c.args.place c.index-base.result.now c.index-base.ensures c.requires.place in
-    let there = entry_read r c.index-base.result.now c.index.result.now c.in-Some.found c.index.ensures
-    (subst (λ n. n < length r.found.items) (sym base)
-    (queued_within k v r c.args.place (links_of r c.args.place + 1) c.requires.search c.requires.place)) c.in-Some.is in
-    record { entry = c.in-Some.found; there = there; through = refl }
+    let x = goal.at.search_words-requires-clause-found c in
+    record { entry = c.in-Some.found; there = there x.In-Some (low x.After-index-base); through = refl }
 
 pub search_words-requires-clause-search : goal.search_words-requires-clause-search
 search_words-requires-clause-search c =
+    let x = goal.at.search_words-requires-clause-search c in
     let k = c.args.words.now.config in
-    let v = view_by c.args.stop.now.pass in
     let r = c.args.tables.now in
-    let base = queue_read r c.args.place c.index-base.result.now c.index-base.ensures c.requires.place in
-    let there = entry_read r c.index-base.result.now c.index.result.now c.in-Some.found c.index.ensures
-    (subst (λ n. n < length r.found.items) (sym base)
-    (queued_within k v r c.args.place (links_of r c.args.place + 1) c.requires.search c.requires.place)) c.in-Some.is in
-    let links = links_there k v r c.args.place (links_of r c.args.place + 1) c.requires.search c.requires.place
-    c.index-base.result.now base c.in-Some.found there in
     view_search k c.args.stop.now c.scanned_size-size.new.stop r (c.in-Some.found.links + 1)
-    c.scanned_size-size.ensures.on (subst (λ n. IsSearch k v r (n + 1)) links c.requires.search)
+    c.scanned_size-size.ensures.on
+    (subst (λ n. IsSearch k (view_by c.args.stop.now.pass) r (n + 1))
+    (links x.In-Some (base x.After-index-base) (there x.In-Some (low x.After-index-base))) c.requires.search)
 
 pub search_words-requires-clause-shallow : goal.search_words-requires-clause-shallow
 search_words-requires-clause-shallow c =
-    let k = c.args.words.now.config in
-    let v = view_by c.args.stop.now.pass in
+    let x = goal.at.search_words-requires-clause-shallow c in
     let r = c.args.tables.now in
-    let base = queue_read r c.args.place c.index-base.result.now c.index-base.ensures c.requires.place in
-    let there = entry_read r c.index-base.result.now c.index.result.now c.in-Some.found c.index.ensures
-    (subst (λ n. n < length r.found.items) (sym base)
-    (queued_within k v r c.args.place (links_of r c.args.place + 1) c.requires.search c.requires.place)) c.in-Some.is in
-    one_more_fits k v r c.args.place (links_of r c.args.place + 1) c.requires.search c.requires.place
-    c.index-base.result.now base c.in-Some.found there
+    one_more_fits c.args.words.now.config (view_by c.args.stop.now.pass) r c.args.place (links_of r c.args.place + 1)
+    c.requires.search c.requires.place c.index-base.result.now (base x.After-index-base) c.in-Some.found
+    (there x.In-Some (low x.After-index-base))
 
 pub returns-clause-on : goal.returns-clause-on
 returns-clause-on c =
+    let x = goal.at.returns-clause-on c in
     let k = c.args.words.now.config in
-    let v = view_by c.args.stop.now.pass in
     let r = c.args.tables.now in
-    let base = queue_read r c.args.place c.index-base.result.now c.index-base.ensures c.requires.place in
-    let there = entry_read r c.index-base.result.now c.index.result.now c.in-Some.found c.index.ensures
-    (subst (λ n. n < length r.found.items) (sym base)
-    (queued_within k v r c.args.place (links_of r c.args.place + 1) c.requires.search c.requires.place)) c.in-Some.is in
-    let links = links_there k v r c.args.place (links_of r c.args.place + 1) c.requires.search c.requires.place
-    c.index-base.result.now base c.in-Some.found there in
-    subst (λ n. SearchesOn k c.args.stop.now c.search_words.new.stop r c.search_words.new.tables (n + 1)) (sym links)
+    subst (λ n. SearchesOn k c.args.stop.now c.search_words.new.stop r c.search_words.new.tables (n + 1))
+    (sym (links x.In-Some (base x.After-index-base) (there x.In-Some (low x.After-index-base))))
     (looks_search k c.args.stop.now c.scanned_size-size.new.stop c.search_words.new.stop r c.search_words.new.tables
     (c.in-Some.found.links + 1) c.scanned_size-size.ensures.on c.search_words.ensures.on)
 
 pub returns-clause-done : goal.returns-clause-done
 returns-clause-done c =
+    let x = goal.at.returns-clause-done c in
     let k = c.args.words.now.config in
     let v = view_by c.args.stop.now.pass in
     let r = c.args.tables.now in
-    let base = queue_read r c.args.place c.index-base.result.now c.index-base.ensures c.requires.place in
-    let there = entry_read r c.index-base.result.now c.index.result.now c.in-Some.found c.index.ensures
-    (subst (λ n. n < length r.found.items) (sym base)
-    (queued_within k v r c.args.place (links_of r c.args.place + 1) c.requires.search c.requires.place)) c.in-Some.is in
+    let there = there x.In-Some (low x.After-index-base) in
     let found = c.search_words.new.tables.found.items in
-    subst (λ n. IsDone k v found n) base
+    subst (λ n. IsDone k v found n) (base x.After-index-base)
     (done_from k v found c.index-base.result.now c.scanned_size-size.result c.in-Some.found.links
     (through_stays r.found.items found c.search_words.ensures.on.grows.stays c.index-base.result.now
     c.in-Some.found.links (record { entry = c.in-Some.found; there = there; through = refl }))
