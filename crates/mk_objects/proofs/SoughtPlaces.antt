@@ -116,16 +116,30 @@ taken_told pages n header head some =
     taken_under_other (slice_index_or pages n free_page).header (slice_index_or pages n free_page).used
     (λ z. some (head ∙ z))
 
--- The pages before one were looked at, and none has a free cell of the class and sort.
-pub record IsSoughtTo (was now : TurnState) (class : ℕ) (leaf : Bool) (resident : ℕ) (first_free : Option ℕ)
-    (page : ℕ) : Type 0 where
+-- The pages before one were looked at, and so many of them are resident.
+pub record IsCountedTo (was now : TurnState) (resident page : ℕ) : Type 0 where
   pub op : now.op ≡ was.op
   pub looks : OnlyLooks was.pass now.pass
   pub few : resident ≤ page
-  pub cells : cell_from page class leaf (now_of was.pass).words.pages
-      ≡ cell_place class leaf (uses_of_pages (now_of was.pass).words.pages)
   pub counted : resident + resident_from page (now_of was.pass).words.pages
       ≡ resident_pages (uses_of_pages (now_of was.pass).words.pages)
+
+pub counted_none : (t : TurnState) → IsCountedTo t t 0 0
+counted_none t =
+    record {
+      op = refl;
+      looks = looks_nothing t.pass;
+      few = omega arith;
+      counted = zero-add (resident_pages (uses_of_pages (now_of t.pass).words.pages));
+    }
+
+-- They were looked at, and none has a free cell of the class and sort.
+pub record IsSoughtTo (was now : TurnState) (class : ℕ) (leaf : Bool) (first_free : Option ℕ) (page : ℕ)
+    : Type 0 where
+  pub op : now.op ≡ was.op
+  pub looks : OnlyLooks was.pass now.pass
+  pub cells : cell_from page class leaf (now_of was.pass).words.pages
+      ≡ cell_place class leaf (uses_of_pages (now_of was.pass).words.pages)
   pub free_pages : option_or first_free (free_page_from page (now_of was.pass).words.pages)
       ≡ first_where is_free_page (uses_of_pages (now_of was.pass).words.pages)
 
@@ -138,15 +152,13 @@ more_none : (o : Option ℕ) → option_map (λ n. n + 0) o ≡ o
 more_none None = refl
 more_none (Some n) = let same : n + 0 ≡ n = omega arith in ap Some same
 
-pub sought_none : (t : TurnState) (class : ℕ) (leaf : Bool) → IsSoughtTo t t class leaf 0 None 0
+pub sought_none : (t : TurnState) (class : ℕ) (leaf : Bool) → IsSoughtTo t t class leaf None 0
 sought_none t class leaf =
     let pages = (now_of t.pass).words.pages in
     record {
       op = refl;
       looks = looks_nothing t.pass;
-      few = omega arith;
       cells = behind_none (cell_place class leaf (uses_of_pages pages));
-      counted = zero-add (resident_pages (uses_of_pages pages));
       free_pages = more_none (first_where is_free_page (uses_of_pages pages));
     }
 
@@ -171,16 +183,14 @@ or_none (Some n) = refl
 -- or there is none.
 pub place_of_free : (limit class resident n : ℕ) (leaf : Bool) (first : Option ℕ) (pages : List Page) → length pages ≤ n
     → cell_from n class leaf pages ≡ cell_place class leaf (uses_of_pages pages)
-    → resident + resident_from n pages ≡ resident_pages (uses_of_pages pages)
+    → resident ≡ resident_pages (uses_of_pages pages)
     → option_or first (free_page_from n pages) ≡ first_where is_free_page (uses_of_pages pages)
     → (if nat_lt resident limit then option_map carved first else None)
     ≡ small_place limit class leaf (uses_of_pages pages)
-place_of_free limit class resident n leaf first pages past cells counted free =
+place_of_free limit class resident n leaf first pages past cells all free =
     let none : cell_place class leaf (uses_of_pages pages) ≡ None =
     sym cells ∙ at_drop_all (λ rest. option_map (place_behind n) (cell_place class leaf (uses_of_pages rest))) pages n
     past in
-    let ended = resident_from-end n pages past in
-    let all : resident ≡ resident_pages (uses_of_pages pages) = omega (arith, counted, ended) in
     let lowest : first ≡ first_where is_free_page (uses_of_pages pages) =
     sym (or_none first)
     ∙ ap (option_or first)

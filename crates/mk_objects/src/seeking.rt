@@ -6,7 +6,7 @@ ghost use Rattle.std.specs.Prelude.{option_map};
 ghost use Rattle.mk_geom.specs.Classes.{cells_of};
 ghost use Rattle.mk_geom.specs.Headers.{header_of, word_of};
 ghost use Rattle.mk_geom.specs.PageUses.{cells_taken, first_where, is_resident_page, place_among, small_place};
-ghost use Rattle.mk_geom.specs.PageUses.{large_place, carved};
+ghost use Rattle.mk_geom.specs.PageUses.{large_place, carved, resident_pages};
 ghost use Rattle.mk_geom.specs.PageWords.{bits_of, use_of_page, use_under, uses_of_pages};
 ghost use Rattle.mk_geom.specs.Storages.{block_header};
 ghost use Rattle.mk_core.specs.Words.{header_at, page_of};
@@ -36,6 +36,11 @@ fn block_word(class: u64, leaf: bool) -> u64
 fn is_resident(header: u64) -> bool
     ensures { result ≡ is_resident_page (use_under (header_of header) 0) }
 {
+    // The kind alone tells of unmapped runs, which are many between two cycles.
+    let kind = header % 16;
+    if kind == 11 || kind == 12 {
+        return false;
+    }
     match decode(header) {
         None | Some(Header::Free) => false,
         Some(Header::Run { mapped, .. } | Header::Later { mapped, .. }) => mapped,
@@ -99,7 +104,28 @@ fn free_place(first_free: Option<u64>, resident: u64, limit: u64) -> Option<Plac
     }
 }
 
-/// The place of an object of a class and sort.
+/// How many pages are resident.
+fn count_resident(words: &Words, turn: &mut Turn) -> u64
+    requires one_table { turn.old.pass.table ≡ words.now }
+    requires acting { is_acting (call_of turn.old.pass).stage ≡ true }
+    ensures op { turn.new.op ≡ turn.old.op }
+    ensures looks { OnlyLooks turn.old.pass turn.new.pass }
+    ensures count { result ≡ resident_pages (uses_of_pages (now_of turn.old.pass).words.pages) }
+{
+    let pages = words.pages();
+    let mut resident: u64 = 0;
+    turn.is_in_order();
+    for number in 0..pages {
+        let header = look_at(words, turn, Word::Head(number));
+        if is_resident(header) {
+            resident += 1;
+        }
+    }
+    resident
+}
+
+/// The place of an object of a class and sort. Only where no block has a free cell it matters how many pages are
+/// resident.
 fn seek_small(words: &Words, turn: &mut Turn, class: u64, leaf: bool) -> Option<Place>
     requires one_table { turn.old.pass.table ≡ words.now }
     requires acting { is_acting (call_of turn.old.pass).stage ≡ true }
@@ -110,7 +136,6 @@ fn seek_small(words: &Words, turn: &mut Turn, class: u64, leaf: bool) -> Option<
         ≡ small_place words.now.config.resident class leaf (uses_of_pages (now_of turn.old.pass).words.pages) }
 {
     let pages = words.pages();
-    let mut resident: u64 = 0;
     let mut first_free = None;
     turn.is_in_order();
     for number in 0..pages {
@@ -123,13 +148,11 @@ fn seek_small(words: &Words, turn: &mut Turn, class: u64, leaf: bool) -> Option<
                 carve: false,
             });
         }
-        if is_resident(header) {
-            resident += 1;
-        }
         if header == 0 {
             first_free = first_free.or(Some(number));
         }
     }
+    let resident = count_resident(words, turn);
     free_place(first_free, resident, words.resident())
 }
 

@@ -1,18 +1,18 @@
-use Rattle.std.proofs.Common.{◌≡◌, ◌+◌, ◌<◌, ◌≤◌, true, false, not, List, length, sym, ap, ◌∙◌, arith}
+use Rattle.std.proofs.Common.{◌≡◌, ◌+◌, ◌<◌, ◌≤◌, not, List, length, sym, ap, ◌∙◌, arith}
 use Rattle.std.specs.Prelude.{None, slice_index_or}
 use Rattle.std.specs.Option.{option_or}
 use Rattle.mk_geom.specs.declared.pages.Page.{Page}
-use Rattle.mk_geom.specs.PageUses.{cells_taken, first_where, small_place}
+use Rattle.mk_geom.specs.PageUses.{cells_taken, first_where, resident_pages, small_place}
 use Rattle.mk_geom.specs.PageWords.{use_of_page, uses_of_pages}
 use Rattle.mk_geom.specs.Storages.{free_page}
 use Rattle.mk_core.proofs.Lengths.{histories_keep_lengths}
 use Rattle.mk_words.specs.States.{PassState, WordsState, now_of}
-use Rattle.mk_books.proofs.PlaceLemmas.{cell_from-next, resident_from-next, free_page_from, free_page_from-next}
+use Rattle.mk_books.proofs.PlaceLemmas.{cell_from-next, free_page_from, free_page_from-next}
 use Rattle.mk_books.proofs.PlaceLemmas.{free_page_from-here, or_known}
 use Rattle.mk_objects.proofs.JoinedLooks.{looks_joined, looks_pages}
-use Rattle.mk_objects.proofs.SoughtPlaces.{free_told, place_of_free, resident_told, sought_none, taken_told}
+use Rattle.mk_objects.proofs.SoughtPlaces.{free_told, place_of_free, sought_none, taken_told}
 use Rattle.mk_objects.proofs.seeking.seek_small.Goals as goal
-use Rattle.mk_objects.proofs.seeking.seek_small.Goals.{then-is_resident, else-is_resident, then-header-eq0}
+use Rattle.mk_objects.proofs.seeking.seek_small.Goals.{then-header-eq0}
 use Rattle.mk_objects.proofs.seeking.seek_small.Goals.{else-header-eq0}
 
 pub loop-number-init : goal.loop-number-init
@@ -47,31 +47,7 @@ loop-number-preserved c =
     record {
       op = c.free_cell-found.ensures.op ∙ c.look_at-header.ensures.op ∙ i.op;
       looks = b;
-      few = elim c.if-is_resident.branch [
-        | then-is_resident w ↦ omega (arith, w.resident-is, i.few)
-        | else-is_resident w ↦ omega (arith, w.resident-is, i.few)
-      ];
       cells = sym (cell_from-next n c.args.class c.args.leaf pages free_page within none) ∙ i.cells;
-      counted = elim c.if-is_resident.branch [
-        | then-is_resident w ↦
-            omega (
-              arith,
-              w.resident-is,
-              i.counted,
-              resident_from-next n pages free_page true within
-                  (resident_told pages n c.look_at-header.result c.is_resident.result head c.is_resident.ensures
-                  ∙ w.if-is_resident.true),
-            )
-        | else-is_resident w ↦
-            omega (
-              arith,
-              w.resident-is,
-              i.counted,
-              resident_from-next n pages free_page false within
-                  (resident_told pages n c.look_at-header.result c.is_resident.result head c.is_resident.ensures
-                  ∙ w.if-is_resident.false),
-            )
-      ];
       free_pages = elim c.if-header-eq0.branch [
         | then-header-eq0 w ↦
             rw (w.first_free-is, w.or-first_free.ensures)
@@ -107,8 +83,15 @@ returns-clause-place c =
       c.pages-pages.ensures,
       ap (λ (w : WordsState). w.config.pages) c.requires.one_table,
     ) in
+    let counted = c.count_resident-resident.ensures.count
+    ∙ ap (λ (ps : List Page). resident_pages (uses_of_pages ps)) (looks_pages p c.loop-number.turn.pass i.looks) in
     c.free_place.ensures
-    ∙ place_of_free c.resident.result c.args.class c.loop-number.resident c.loop-number.number c.args.leaf
+    ∙ place_of_free c.resident.result c.args.class c.count_resident-resident.result c.loop-number.number c.args.leaf
     c.loop-number.first_free pages
-    past i.cells i.counted i.free_pages
+    past i.cells counted i.free_pages
     ∙ ap (λ n. small_place n c.args.class c.args.leaf (uses_of_pages pages)) c.resident.ensures
+
+pub returns-clause-looks : goal.returns-clause-looks
+returns-clause-looks c =
+    looks_joined c.args.turn.now.pass c.loop-number.turn.pass c.count_resident-resident.new.turn.pass
+    c.loop-number.invariant.looks c.count_resident-resident.ensures.looks
