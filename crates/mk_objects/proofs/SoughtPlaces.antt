@@ -1,28 +1,31 @@
 -- What the pages that were looked at tell of the place of a small object.
-use Rattle.std.proofs.Common.{◌≡◌, ◌≢◌, ℕ, ◌+◌, ◌-◌, ◌<◌, ◌≤◌, Bool, true, false, not, ◌&&◌, nat_eq, List, [], length}
-use Rattle.std.proofs.Common.{drop, get_or, zero-add, refl, sym, ap, ◌∙◌, inl, inr, arith}
-use Rattle.std.specs.Prelude.{Option, Some, None, option_map, nat_le, nat_lt, if◌then◌else◌, slice_index_or}
+use Rattle.std.proofs.Common.{◌≡◌, ◌≢◌, ℕ, ◌+◌, ◌<◌, ◌≤◌, Bool, true, false, not, ◌&&◌, nat_eq, List, [], length}
+use Rattle.std.proofs.Common.{◌∷◌, get_or, zero-add, refl, sym, ap, ◌∙◌, inl, inr, arith}
+use Rattle.std.specs.Prelude.{Option, Some, None, is_some, option_map, cond, nat_le, nat_lt, if◌then◌else◌}
+use Rattle.std.specs.Prelude.{slice_index_or}
 use Rattle.std.specs.Option.{option_or}
-use Rattle.std.proofs.lemmas.Bool.{cases_Bool, cases_eq, le-leb, leb-true, ne_eqb}
+use Rattle.std.proofs.lemmas.Bool.{cases_Bool, cases_eq, le-leb, leb-true, lt-ltb, ne_eqb}
 use Rattle.mk_geom.specs.declared.headers.Header.{Header}
 use Rattle.mk_geom.specs.declared.headers.Header.TheVariants.{Block, Free, Later, LeafBlock, LeafRun, Run}
 use Rattle.mk_geom.specs.declared.pages.Page.{Page}
 use Rattle.mk_geom.specs.declared.pages.Place.{Place}
 use Rattle.mk_geom.specs.Classes.{cells_of}
 use Rattle.mk_geom.specs.Headers.{header_of, word_of}
-use Rattle.std.proofs.lemmas.List.{at_drop_all, at_drop_more, length-drop, length-map}
-use Rattle.std.proofs.lemmas.List.Sums.{count_by-le-length}
-use Rattle.mk_geom.specs.PageUses.{Cells, carved, cell_place, cells_taken, first_where, is_free_page, is_resident_page}
+use Rattle.std.proofs.lemmas.List.{at_drop_all, at_drop_more}
+use Rattle.std.proofs.lemmas.List.Sums.{count_by-le-length, sum_by-cons}
+use Rattle.mk_geom.specs.PageUses.{Cells, Nothing, PartOfRun, PageUse, carved, cell_place, cells_taken, first_where}
+use Rattle.mk_geom.specs.PageUses.{free_range, is_free_page, is_resident_page}
 use Rattle.mk_geom.specs.PageUses.{is_same_sort, large_place, or_else, range_start, resident_pages, small_place}
 use Rattle.mk_geom.specs.PageWords.{bits_of, use_of_page, use_under, uses_of_pages}
 use Rattle.mk_geom.specs.Storages.{block_header, free_page}
 use Rattle.mk_geom.proofs.HeaderLemmas.{header_of-word_of, word_of-header_of}
 use Rattle.mk_books.proofs.FreeCellLemmas.{cells_taken_alike}
-use Rattle.mk_books.proofs.FreeRangeLemmas.{first-end, free_range_from, range_start_from}
-use Rattle.mk_books.proofs.PlaceLemmas.{cell_from, free_page_from, place_behind, resident_from, resident_from-end}
-use Rattle.mk_words.specs.States.{TurnState, now_of}
+use Rattle.mk_books.proofs.FreeRangeLemmas.{free_range_from, range_start_from}
+use Rattle.mk_books.proofs.PlaceLemmas.{cell_from, free_page_from, place_behind, resident_from}
+use Rattle.mk_core.proofs.Lengths.{histories_keep_lengths}
+use Rattle.mk_words.specs.States.{PassState, TurnState, WordsState, now_of}
 use Rattle.mk_objects.specs.Placing.{OnlyLooks}
-use Rattle.mk_objects.proofs.JoinedLooks.{looks_nothing}
+use Rattle.mk_objects.proofs.JoinedLooks.{looks_nothing, looks_pages}
 
 -- Whether a page is resident, or free, doesn't depend on its used word.
 
@@ -116,6 +119,19 @@ taken_told pages n header head some =
     taken_under_other (slice_index_or pages n free_page).header (slice_index_or pages n free_page).used
     (λ z. some (head ∙ z))
 
+-- There are as many pages as the words tell.
+pub pages_long : (p : PassState) (w : WordsState) (pages : ℕ) → p.table ≡ w → pages ≡ w.config.pages
+    → length (now_of p).words.pages ≡ pages
+pages_long p w pages table is =
+    (histories_keep_lengths p.table.config p.seen).pages ∙ ap (λ (x : WordsState). x.config.pages) table ∙ sym is
+
+-- What a look behind others finds in a header word stood there before.
+pub header_seen : (p q : PassState) (n found : ℕ) → OnlyLooks p q
+    → found ≡ (slice_index_or (now_of q).words.pages n free_page).header
+    → found ≡ (slice_index_or (now_of p).words.pages n free_page).header
+header_seen p q n found looks is =
+    is ∙ ap (λ (ps : List Page). (slice_index_or ps n free_page).header) (looks_pages p q looks)
+
 -- The pages before one were looked at, and so many of them are resident.
 pub record IsCountedTo (was now : TurnState) (resident page : ℕ) : Type 0 where
   pub op : now.op ≡ was.op
@@ -180,7 +196,70 @@ or_none : (o : Option ℕ) → option_or o None ≡ o
 or_none None = refl
 or_none (Some n) = refl
 
--- or there is none.
+-- Free pages aren't resident.
+
+resident_next : (page : PageUse) (pages : List PageUse)
+    → resident_pages (page ∷ pages) ≡ cond (is_resident_page page) 1 0 + resident_pages pages
+resident_next page pages = sum_by-cons (λ (x : PageUse). cond (is_resident_page x) 1 0) page pages
+
+one_at_most : (resident : Bool) → cond resident 1 0 ≤ 1
+one_at_most true = omega arith
+one_at_most false = omega arith
+
+free_beside_resident : (pages : List PageUse) → resident_pages pages + free_range pages ≤ length pages
+free_beside_resident [] = omega arith
+free_beside_resident (Nothing ∷ pages) =
+    let rest = free_beside_resident pages in let next = resident_next Nothing pages in omega (arith, rest, next)
+free_beside_resident (Cells class leaf taken ∷ pages) =
+    let next = resident_next (Cells class leaf taken) pages in
+    let few : resident_pages pages ≤ length pages = count_by-le-length is_resident_page pages in
+    omega (arith, next, few)
+free_beside_resident (PartOfRun mapped ∷ pages) =
+    let next = resident_next (PartOfRun mapped) pages in
+    let few : resident_pages pages ≤ length pages = count_by-le-length is_resident_page pages in
+    let one = one_at_most mapped in
+    omega (arith, next, few, one)
+
+some_shifted : (first : Option ℕ) → is_some (option_map (λ n. n + 1) first) ≡ is_some first
+some_shifted None = refl
+some_shifted (Some n) = refl
+
+fewer_resident : (pages : List PageUse) → is_some (first_where is_free_page pages) ≡ true
+    → resident_pages pages < length pages
+fewer_resident [] found = cc
+fewer_resident (Nothing ∷ pages) found =
+    let next = resident_next Nothing pages in
+    let few : resident_pages pages ≤ length pages = count_by-le-length is_resident_page pages in
+    omega (arith, next, few)
+fewer_resident (Cells class leaf taken ∷ pages) found =
+    let next = resident_next (Cells class leaf taken) pages in
+    let rest = fewer_resident pages (sym (some_shifted (first_where is_free_page pages)) ∙ found) in
+    omega (arith, next, rest)
+fewer_resident (PartOfRun mapped ∷ pages) found =
+    let next = resident_next (PartOfRun mapped) pages in
+    let rest = fewer_resident pages (sym (some_shifted (first_where is_free_page pages)) ∙ found) in
+    let one = one_at_most mapped in
+    omega (arith, next, rest, one)
+
+-- or there is none, and the first free page was found.
+
+no_cell : (class n : ℕ) (leaf : Bool) (pages : List Page) → length pages ≤ n
+    → cell_from n class leaf pages ≡ cell_place class leaf (uses_of_pages pages)
+    → cell_place class leaf (uses_of_pages pages) ≡ None
+no_cell class n leaf pages past cells =
+    sym cells
+    ∙ at_drop_all (λ rest. option_map (place_behind n) (cell_place class leaf (uses_of_pages rest))) pages n past
+
+lowest : (n : ℕ) (first : Option ℕ) (pages : List Page) → length pages ≤ n
+    → option_or first (free_page_from n pages) ≡ first_where is_free_page (uses_of_pages pages)
+    → first ≡ first_where is_free_page (uses_of_pages pages)
+lowest n first pages past free =
+    sym (or_none first)
+    ∙ ap (option_or first)
+    (sym (at_drop_all (λ rest. option_map (λ page. page + n) (first_where is_free_page (uses_of_pages rest))) pages n
+    past))
+    ∙ free
+
 pub place_of_free : (limit class resident n : ℕ) (leaf : Bool) (first : Option ℕ) (pages : List Page) → length pages ≤ n
     → cell_from n class leaf pages ≡ cell_place class leaf (uses_of_pages pages)
     → resident ≡ resident_pages (uses_of_pages pages)
@@ -188,98 +267,99 @@ pub place_of_free : (limit class resident n : ℕ) (leaf : Bool) (first : Option
     → (if nat_lt resident limit then option_map carved first else None)
     ≡ small_place limit class leaf (uses_of_pages pages)
 place_of_free limit class resident n leaf first pages past cells all free =
-    let none : cell_place class leaf (uses_of_pages pages) ≡ None =
-    sym cells ∙ at_drop_all (λ rest. option_map (place_behind n) (cell_place class leaf (uses_of_pages rest))) pages n
-    past in
-    let lowest : first ≡ first_where is_free_page (uses_of_pages pages) =
-    sym (or_none first)
-    ∙ ap (option_or first)
-    (sym (at_drop_all (λ rest. option_map (λ page. page + n) (first_where is_free_page (uses_of_pages rest))) pages n
-    past))
-    ∙ free in
-    (λ i. if nat_lt (all i) limit then option_map carved (lowest i) else None)
+    let found = lowest n first pages past free in
+    (λ i. if nat_lt (all i) limit then option_map carved (found i) else None)
     ∙ ap (λ (o : Option Place). or_else o
     (if nat_lt (resident_pages (uses_of_pages pages)) limit
-    then option_map carved (first_where is_free_page (uses_of_pages pages)) else None)) (sym none)
+    then option_map carved (first_where is_free_page (uses_of_pages pages)) else None))
+    (sym (no_cell class n leaf pages past cells))
 
--- The pages before one were looked at, and no range of so many free ones but the first that was found ends among them.
-pub record IsRangedTo (was now : TurnState) (count resident range : ℕ) (first : Option ℕ) (page : ℕ) : Type 0 where
+-- Where all pages may be resident, it may be.
+pub place_of_any : (limit class n : ℕ) (leaf : Bool) (first : Option ℕ) (pages : List Page) → length pages ≤ n
+    → length (uses_of_pages pages) ≤ limit
+    → cell_from n class leaf pages ≡ cell_place class leaf (uses_of_pages pages)
+    → option_or first (free_page_from n pages) ≡ first_where is_free_page (uses_of_pages pages)
+    → option_map carved first ≡ small_place limit class leaf (uses_of_pages pages)
+place_of_any limit class n leaf first pages past few cells free =
+    ap (option_map carved) (lowest n first pages past free)
+    ∙ may_be (first_where is_free_page (uses_of_pages pages)) refl
+    ∙ ap (λ (o : Option Place). or_else o
+    (if nat_lt (resident_pages (uses_of_pages pages)) limit
+    then option_map carved (first_where is_free_page (uses_of_pages pages)) else None))
+    (sym (no_cell class n leaf pages past cells))
+  where
+    none : (fits : Bool) → None ≡ (if fits then option_map carved None else None)
+    none true = refl
+    none false = refl
+
+    may_be : (o : Option ℕ) → first_where is_free_page (uses_of_pages pages) ≡ o
+        → option_map carved (first_where is_free_page (uses_of_pages pages))
+        ≡ (if nat_lt (resident_pages (uses_of_pages pages)) limit
+        then option_map carved (first_where is_free_page (uses_of_pages pages)) else None)
+    may_be None is =
+        ap (option_map carved) is ∙ none (nat_lt (resident_pages (uses_of_pages pages)) limit)
+        ∙ sym (ap (λ o. if nat_lt (resident_pages (uses_of_pages pages)) limit then option_map carved o else None) is)
+    may_be (Some k) is =
+        let less = fewer_resident (uses_of_pages pages) (ap is_some is) in
+        sym (ap (λ b. if b then option_map carved (first_where is_free_page (uses_of_pages pages)) else None)
+        (lt-ltb (resident_pages (uses_of_pages pages)) limit (omega (arith, less, few))))
+
+-- The pages before one were looked at, and no range of so many free ones ends among them.
+pub record IsRangedTo (was now : TurnState) (count range page : ℕ) : Type 0 where
   pub op : now.op ≡ was.op
   pub looks : OnlyLooks was.pass now.pass
-  pub few : resident ≤ page
-  pub counted : resident + resident_from page (now_of was.pass).words.pages
-      ≡ resident_pages (uses_of_pages (now_of was.pass).words.pages)
   pub begun : range ≤ page
   pub free : free_range_from range (now_of was.pass).words.pages + range
       ≡ page + free_range_from page (now_of was.pass).words.pages
-  pub short : first ≡ None → page < range + count
-  pub starts : option_or first (range_start_from range count (now_of was.pass).words.pages)
+  pub short : page < range + count
+  pub starts : range_start_from range count (now_of was.pass).words.pages
       ≡ range_start count (uses_of_pages (now_of was.pass).words.pages)
 
-pub ranged_none : (t : TurnState) (count : ℕ) → 1 ≤ count → IsRangedTo t t count 0 0 None 0
+pub ranged_none : (t : TurnState) (count : ℕ) → 1 ≤ count → IsRangedTo t t count 0 0
 ranged_none t count some =
-    let pages = (now_of t.pass).words.pages in
     record {
       op = refl;
       looks = looks_nothing t.pass;
-      few = omega arith;
-      counted = zero-add (resident_pages (uses_of_pages pages));
       begun = omega arith;
       free = omega arith;
-      short = λ none. omega (arith, some);
-      starts = more_none (range_start count (uses_of_pages pages));
+      short = omega (arith, some);
+      starts = more_none (range_start count (uses_of_pages (now_of t.pass).words.pages));
     }
 
-few_left : (n : ℕ) (pages : List Page) → n ≤ length pages → resident_from n pages + n ≤ length pages
-few_left n pages within =
-    let few : resident_from n pages ≤ length (uses_of_pages (drop n pages)) =
-    count_by-le-length is_resident_page (uses_of_pages (drop n pages)) in
-    let long : length (uses_of_pages (drop n pages)) ≡ length pages - n =
-    length-map (drop n pages) use_of_page ∙ length-drop n pages in
-    omega (arith, few, long, within)
+-- So with a range of so many of them no more are resident than there are pages.
 
--- A range was found, and all pages from one on may be resident with it.
-pub place_at_once : (limit count resident range n : ℕ) (first : Option ℕ) (place : Place) (pages : List Page)
-    → n ≤ length pages
-    → resident + resident_from n pages ≡ resident_pages (uses_of_pages pages)
-    → option_or first (range_start_from range count pages) ≡ range_start count (uses_of_pages pages)
-    → (if nat_le (resident + (length pages - n) + count) limit then option_map carved first else None) ≡ Some place
-    → Some place ≡ large_place limit count (uses_of_pages pages)
-place_at_once limit count resident range n first place pages within counted starts settled =
-    elim (cases_Bool (nat_le (resident + (length pages - n) + count) limit)) [
-      | inl fits ↦
-          let less = leb-true (resident + (length pages - n) + count) limit fits in
-          let all : nat_le (resident_pages (uses_of_pages pages) + count) limit ≡ true =
-          le-leb _ _ (omega (arith, less, counted, few_left n pages within)) in
-          let found : option_map carved first ≡ Some place =
-          sym (ap (λ b. if b then option_map carved first else None) fits) ∙ settled in
-          by first found all starts
-      | inr tight ↦ absurd (none_is (sym (ap (λ b. if b then option_map carved first else None) tight) ∙ settled))
-    ]
+room : (count : ℕ) (pages : List PageUse) → is_some (range_start count pages) ≡ true
+    → resident_pages pages + count ≤ length pages
+room count [] found = cc
+room count (page ∷ pages) found = elim (cases_Bool (nat_le count (free_range (page ∷ pages)))) [
+  | inl long ↦
+      let less = leb-true count (free_range (page ∷ pages)) long in
+      omega (arith, less, free_beside_resident (page ∷ pages))
+  | inr short ↦
+      let later : is_some (range_start count pages) ≡ true =
+      sym (some_shifted (range_start count pages))
+      ∙ sym (ap (λ b. is_some (if b then Some 0 else option_map (λ n. n + 1) (range_start count pages))) short) ∙ found
+      in
+      let rest = room count pages later in
+      let next = resident_next page pages in
+      let one = one_at_most (is_resident_page page) in
+      omega (arith, rest, next, one)
+]
+
+pub place_at_once : (limit count : ℕ) (first : Option ℕ) (pages : List PageUse) → length pages ≤ limit
+    → first ≡ range_start count pages → option_map carved first ≡ large_place limit count pages
+place_at_once limit count first pages all is = by (range_start count pages) refl
   where
-    none_is : None ≡ Some place → ⊥
-    none_is e = cc
+    none : (fits : Bool) → None ≡ (if fits then option_map carved None else None)
+    none true = refl
+    none false = refl
 
-    by : (o : Option ℕ) → option_map carved o ≡ Some place
-        → nat_le (resident_pages (uses_of_pages pages) + count) limit ≡ true
-        → option_or o (range_start_from range count pages) ≡ range_start count (uses_of_pages pages)
-        → Some place ≡ large_place limit count (uses_of_pages pages)
-    by None found all start = cc
-    by (Some k) found all start =
-        sym found
-        ∙ ap (option_map carved) start
-        ∙ sym (ap (λ b. if b then option_map carved (range_start count (uses_of_pages pages)) else None) all)
-
--- All were looked at.
-pub place_of_range : (limit count resident range n : ℕ) (first : Option ℕ) (pages : List Page) → length pages ≡ n
-    → range ≤ n
-    → resident + resident_from n pages ≡ resident_pages (uses_of_pages pages) → (first ≡ None → n < range + count)
-    → option_or first (range_start_from range count pages) ≡ range_start count (uses_of_pages pages)
-    → (if nat_le (resident + count) limit then option_map carved first else None)
-    ≡ large_place limit count (uses_of_pages pages)
-place_of_range limit count resident range n first pages all begun counted short starts =
-    let ended = resident_from-end n pages (omega arith) in
-    let held : resident ≡ resident_pages (uses_of_pages pages) = omega (arith, counted, ended) in
-    let found : first ≡ range_start count (uses_of_pages pages) =
-    sym (first-end first range count pages (omega arith) (λ none. omega (arith, short none))) ∙ starts in
-    (λ i. if nat_le (held i + count) limit then option_map carved (found i) else None)
+    by : (o : Option ℕ) → range_start count pages ≡ o → option_map carved first ≡ large_place limit count pages
+    by None start =
+        ap (option_map carved) (is ∙ start) ∙ none (nat_le (resident_pages pages + count) limit)
+        ∙ sym (ap (λ o. if nat_le (resident_pages pages + count) limit then option_map carved o else None) start)
+    by (Some k) start =
+        let less = room count pages (ap is_some start) in
+        ap (option_map carved) is
+        ∙ sym (ap (λ b. if b then option_map carved (range_start count pages) else None)
+        (le-leb (resident_pages pages + count) limit (omega (arith, less, all))))

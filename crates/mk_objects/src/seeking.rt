@@ -1,12 +1,12 @@
 //! The search for the place of an object, page by page by header words. That of a small one stops at the first free
 //! cell, and looks besides at the used words of blocks of the object's class and sort. That of a large one stops at the
-//! first range, unless too many of the pages behind it might be resident.
+//! first range. How many pages are resident is counted only where it matters.
 ghost use Rattle.std.specs.Prelude.{◌≡◌, ◌+◌, ◌<◌, ◌≤◌, ◌^◌, nat_le, nat_lt, if◌then◌else◌, not, true, None};
 ghost use Rattle.std.specs.Prelude.{option_map};
 ghost use Rattle.mk_geom.specs.Classes.{cells_of};
 ghost use Rattle.mk_geom.specs.Headers.{header_of, word_of};
 ghost use Rattle.mk_geom.specs.PageUses.{cells_taken, first_where, is_resident_page, place_among, small_place};
-ghost use Rattle.mk_geom.specs.PageUses.{large_place, carved, resident_pages};
+ghost use Rattle.mk_geom.specs.PageUses.{large_place, carved, range_start, resident_pages};
 ghost use Rattle.mk_geom.specs.PageWords.{bits_of, use_of_page, use_under, uses_of_pages};
 ghost use Rattle.mk_geom.specs.Storages.{block_header};
 ghost use Rattle.mk_core.specs.Words.{header_at, page_of};
@@ -93,12 +93,19 @@ fn free_from(page: u64) -> Place
     }
 }
 
+/// Free pages from this one on, as a place.
+fn place_from(first: Option<u64>) -> Option<Place>
+    ensures { result ≡ option_map carved first }
+{
+    first.map(free_from)
+}
+
 /// The first free page, as a place, where fewer pages are resident than may be.
 fn free_place(first_free: Option<u64>, resident: u64, limit: u64) -> Option<Place>
     ensures { result ≡ (if nat_lt resident limit then option_map carved first_free else None) }
 {
     if resident < limit {
-        first_free.map(free_from)
+        place_from(first_free)
     } else {
         None
     }
@@ -111,10 +118,10 @@ fn count_resident(words: &Words, turn: &mut Turn) -> u64
     ensures op { turn.new.op ≡ turn.old.op }
     ensures looks { OnlyLooks turn.old.pass turn.new.pass }
     ensures count { result ≡ resident_pages (uses_of_pages (now_of turn.old.pass).words.pages) }
+    ensures few { result ≤ words.now.config.pages }
 {
     let pages = words.pages();
     let mut resident: u64 = 0;
-    turn.is_in_order();
     for number in 0..pages {
         let header = look_at(words, turn, Word::Head(number));
         if is_resident(header) {
@@ -124,8 +131,8 @@ fn count_resident(words: &Words, turn: &mut Turn) -> u64
     resident
 }
 
-/// The place of an object of a class and sort. Only where no block has a free cell it matters how many pages are
-/// resident.
+/// The place of an object of a class and sort. Where a block has a free cell, or all pages may be resident, it doesn't
+/// matter how many are.
 fn seek_small(words: &Words, turn: &mut Turn, class: u64, leaf: bool) -> Option<Place>
     requires one_table { turn.old.pass.table ≡ words.now }
     requires acting { is_acting (call_of turn.old.pass).stage ≡ true }
@@ -152,8 +159,12 @@ fn seek_small(words: &Words, turn: &mut Turn, class: u64, leaf: bool) -> Option<
             first_free = first_free.or(Some(number));
         }
     }
+    let limit = words.resident();
+    if pages <= limit {
+        return place_from(first_free);
+    }
     let resident = count_resident(words, turn);
-    free_place(first_free, resident, words.resident())
+    free_place(first_free, resident, limit)
 }
 
 /// A range of so many free pages, as a place, where with it no more pages are resident than may be.
@@ -162,13 +173,36 @@ fn free_range(first: Option<u64>, resident: u64, count: u64, limit: u64) -> Opti
     ensures { result ≡ (if nat_le (resident + count) limit then option_map carved first else None) }
 {
     if resident + count <= limit {
-        first.map(free_from)
+        place_from(first)
     } else {
         None
     }
 }
 
-/// The place of a run of so many pages.
+/// Where the lowest range of so many free pages begins.
+fn first_range(words: &Words, turn: &mut Turn, count: u64) -> Option<u64>
+    requires one_table { turn.old.pass.table ≡ words.now }
+    requires acting { is_acting (call_of turn.old.pass).stage ≡ true }
+    requires some { 1 ≤ count }
+    ensures op { turn.new.op ≡ turn.old.op }
+    ensures looks { OnlyLooks turn.old.pass turn.new.pass }
+    ensures first { result ≡ range_start count (uses_of_pages (now_of turn.old.pass).words.pages) }
+{
+    let pages = words.pages();
+    // Where the free range begins that ends before this page.
+    let mut range = 0;
+    for number in 0..pages {
+        let header = look_at(words, turn, Word::Head(number));
+        if header != 0 {
+            range = number + 1;
+        } else if number + 1 - range >= count {
+            return Some(range);
+        }
+    }
+    None
+}
+
+/// The place of a run of so many pages. Where all pages may be resident it doesn't matter how many are.
 fn seek_large(words: &Words, turn: &mut Turn, count: u64) -> Option<Place>
     requires one_table { turn.old.pass.table ≡ words.now }
     requires acting { is_acting (call_of turn.old.pass).stage ≡ true }
@@ -180,28 +214,12 @@ fn seek_large(words: &Words, turn: &mut Turn, count: u64) -> Option<Place>
         ≡ large_place words.now.config.resident count (uses_of_pages (now_of turn.old.pass).words.pages) }
 {
     words.is_within_limits();
-    let pages = words.pages();
     let limit = words.resident();
-    let mut resident: u64 = 0;
-    // Where the free range begins that ends before this page.
-    let mut range = 0;
-    let mut first = None;
-    for number in 0..pages {
-        // The pages that are left don't matter where all of them may be resident.
-        let settled = free_range(first, resident + (pages - number), count, limit);
-        if let Some(place) = settled {
-            return Some(place);
-        }
-        let header = look_at(words, turn, Word::Head(number));
-        if is_resident(header) {
-            resident += 1;
-        }
-        if header != 0 {
-            range = number + 1;
-        } else if number + 1 - range >= count {
-            first = first.or(Some(range));
-        }
+    let first = first_range(words, turn, count);
+    if words.pages() <= limit {
+        return place_from(first);
     }
+    let resident = count_resident(words, turn);
     free_range(first, resident, count, limit)
 }
 

@@ -1,12 +1,11 @@
-use Rattle.std.proofs.Common.{◌≡◌, ◌<◌, ◌≤◌, true, false, List, length, ap, ◌∙◌, arith}
+use Rattle.std.proofs.Common.{◌≡◌, ◌<◌, ◌≤◌, true, false, List, length, ◌∙◌, arith}
 use Rattle.std.specs.Prelude.{slice_index_or}
 use Rattle.mk_geom.specs.declared.pages.Page.{Page}
 use Rattle.mk_geom.specs.Storages.{free_page}
-use Rattle.mk_core.proofs.Lengths.{histories_keep_lengths}
-use Rattle.mk_words.specs.States.{PassState, WordsState, now_of}
+use Rattle.mk_words.specs.States.{PassState, now_of}
 use Rattle.mk_books.proofs.PlaceLemmas.{resident_from-end, resident_from-next}
-use Rattle.mk_objects.proofs.JoinedLooks.{looks_joined, looks_pages}
-use Rattle.mk_objects.proofs.SoughtPlaces.{counted_none, resident_told}
+use Rattle.mk_objects.proofs.JoinedLooks.{looks_joined}
+use Rattle.mk_objects.proofs.SoughtPlaces.{counted_none, header_seen, pages_long, resident_told}
 use Rattle.mk_objects.proofs.seeking.count_resident.Goals as goal
 use Rattle.mk_objects.proofs.seeking.count_resident.Goals.{then-is_resident, else-is_resident}
 
@@ -19,17 +18,10 @@ loop-number-preserved c =
     let pages : List Page = (now_of p).words.pages in
     let n = c.loop-number.number in
     let i = c.loop-number.invariant in
-    let within : n < length pages = omega (
-      arith,
-      (histories_keep_lengths p.table.config p.seen).pages,
-      c.loop-number-test.true,
-      c.pages-pages.ensures,
-      ap (λ (w : WordsState). w.config.pages) c.requires.one_table,
-    ) in
+    let within : n < length pages =
+    omega (arith, pages_long p _ _ c.requires.one_table c.pages-pages.ensures, c.loop-number-test.true) in
     let head : c.look_at-header.result ≡ (slice_index_or pages n free_page).header =
-    c.look_at-header.ensures.finds
-    ∙ ap (λ (ps : List Page). (slice_index_or ps n free_page).header)
-    (looks_pages p c.loop-number.turn.pass i.looks) in
+    header_seen p c.loop-number.turn.pass n c.look_at-header.result i.looks c.look_at-header.ensures.finds in
     record {
       op = c.look_at-header.ensures.op ∙ i.op;
       looks = looks_joined p c.loop-number.turn.pass c.look_at-header.new.turn.pass i.looks
@@ -64,11 +56,6 @@ pub returns-clause-count : goal.returns-clause-count
 returns-clause-count c =
     let p : PassState = c.args.turn.now.pass in
     let pages : List Page = (now_of p).words.pages in
-    let past : length pages ≤ c.loop-number.number = omega (
-      arith,
-      (histories_keep_lengths p.table.config p.seen).pages,
-      c.loop-number-test.false,
-      c.pages-pages.ensures,
-      ap (λ (w : WordsState). w.config.pages) c.requires.one_table,
-    ) in
+    let past : length pages ≤ c.loop-number.number =
+    omega (arith, pages_long p _ _ c.requires.one_table c.pages-pages.ensures, c.loop-number-test.false) in
     omega (arith, c.loop-number.invariant.counted, resident_from-end c.loop-number.number pages past)

@@ -5,12 +5,13 @@ use Rattle.mk_geom.specs.declared.pages.Page.{Page}
 use Rattle.mk_geom.specs.PageUses.{cells_taken, first_where, resident_pages, small_place}
 use Rattle.mk_geom.specs.PageWords.{use_of_page, uses_of_pages}
 use Rattle.mk_geom.specs.Storages.{free_page}
-use Rattle.mk_core.proofs.Lengths.{histories_keep_lengths}
-use Rattle.mk_words.specs.States.{PassState, WordsState, now_of}
+use Rattle.std.proofs.lemmas.List.{length-map}
+use Rattle.mk_words.specs.States.{PassState, now_of}
 use Rattle.mk_books.proofs.PlaceLemmas.{cell_from-next, free_page_from, free_page_from-next}
 use Rattle.mk_books.proofs.PlaceLemmas.{free_page_from-here, or_known}
 use Rattle.mk_objects.proofs.JoinedLooks.{looks_joined, looks_pages}
-use Rattle.mk_objects.proofs.SoughtPlaces.{free_told, place_of_free, sought_none, taken_told}
+use Rattle.mk_objects.proofs.SoughtPlaces.{free_told, header_seen, pages_long, place_of_any, place_of_free, sought_none}
+use Rattle.mk_objects.proofs.SoughtPlaces.{taken_told}
 use Rattle.mk_objects.proofs.seeking.seek_small.Goals as goal
 use Rattle.mk_objects.proofs.seeking.seek_small.Goals.{then-header-eq0}
 use Rattle.mk_objects.proofs.seeking.seek_small.Goals.{else-header-eq0}
@@ -28,17 +29,10 @@ loop-number-preserved c =
     in
     let b = looks_joined p c.look_at-header.new.turn.pass c.free_cell-found.new.turn.pass a
     c.free_cell-found.ensures.looks in
-    let within : n < length pages = omega (
-      arith,
-      (histories_keep_lengths p.table.config p.seen).pages,
-      c.loop-number-test.true,
-      c.pages-pages.ensures,
-      ap (λ (w : WordsState). w.config.pages) c.requires.one_table,
-    ) in
+    let within : n < length pages =
+    omega (arith, pages_long p _ _ c.requires.one_table c.pages-pages.ensures, c.loop-number-test.true) in
     let head : c.look_at-header.result ≡ (slice_index_or pages n free_page).header =
-    c.look_at-header.ensures.finds
-    ∙ ap (λ (ps : List Page). (slice_index_or ps n free_page).header)
-    (looks_pages p c.loop-number.turn.pass i.looks) in
+    header_seen p c.loop-number.turn.pass n c.look_at-header.result i.looks c.look_at-header.ensures.finds in
     let none : first_where not (cells_taken c.args.class c.args.leaf (use_of_page (slice_index_or pages n free_page)))
     ≡ None =
     ap (λ (ps : List Page). first_where not
@@ -76,22 +70,29 @@ returns-clause-place c =
     let p : PassState = c.args.turn.now.pass in
     let pages : List Page = (now_of p).words.pages in
     let i = c.loop-number.invariant in
-    let past : length pages ≤ c.loop-number.number = omega (
-      arith,
-      (histories_keep_lengths p.table.config p.seen).pages,
-      c.loop-number-test.false,
-      c.pages-pages.ensures,
-      ap (λ (w : WordsState). w.config.pages) c.requires.one_table,
-    ) in
+    let past : length pages ≤ c.loop-number.number =
+    omega (arith, pages_long p _ _ c.requires.one_table c.pages-pages.ensures, c.loop-number-test.false) in
     let counted = c.count_resident-resident.ensures.count
     ∙ ap (λ (ps : List Page). resident_pages (uses_of_pages ps)) (looks_pages p c.loop-number.turn.pass i.looks) in
     c.free_place.ensures
-    ∙ place_of_free c.resident.result c.args.class c.count_resident-resident.result c.loop-number.number c.args.leaf
-    c.loop-number.first_free pages
+    ∙ place_of_free c.resident-limit.result c.args.class c.count_resident-resident.result c.loop-number.number
+    c.args.leaf c.loop-number.first_free pages
     past i.cells counted i.free_pages
-    ∙ ap (λ n. small_place n c.args.class c.args.leaf (uses_of_pages pages)) c.resident.ensures
+    ∙ ap (λ n. small_place n c.args.class c.args.leaf (uses_of_pages pages)) c.resident-limit.ensures
 
 pub returns-clause-looks : goal.returns-clause-looks
 returns-clause-looks c =
     looks_joined c.args.turn.now.pass c.loop-number.turn.pass c.count_resident-resident.new.turn.pass
     c.loop-number.invariant.looks c.count_resident-resident.ensures.looks
+
+pub returns-then-pages-limit-clause-place : goal.returns-then-pages-limit-clause-place
+returns-then-pages-limit-clause-place c =
+    let p : PassState = c.args.turn.now.pass in
+    let pages : List Page = (now_of p).words.pages in
+    let i = c.loop-number.invariant in
+    let long : length pages ≡ c.pages-pages.result = pages_long p _ _ c.requires.one_table c.pages-pages.ensures in
+    c.place_from.ensures
+    ∙ place_of_any c.resident-limit.result c.args.class c.loop-number.number c.args.leaf c.loop-number.first_free pages
+    (omega (arith, long, c.loop-number-test.false))
+    (omega (arith, long, length-map pages use_of_page, c.if-pages-limit.true)) i.cells i.free_pages
+    ∙ ap (λ n. small_place n c.args.class c.args.leaf (uses_of_pages pages)) c.resident-limit.ensures
