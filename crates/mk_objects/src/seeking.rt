@@ -36,11 +36,6 @@ fn block_word(class: u64, leaf: bool) -> u64
 fn is_resident(header: u64) -> bool
     ensures { result ≡ is_resident_page (use_under (header_of header) 0) }
 {
-    // The kind alone tells of unmapped runs, which are many between two cycles.
-    let kind = header % 16;
-    if kind == 11 || kind == 12 {
-        return false;
-    }
     match decode(header) {
         None | Some(Header::Free) => false,
         Some(Header::Run { mapped, .. } | Header::Later { mapped, .. }) => mapped,

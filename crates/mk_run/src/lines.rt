@@ -11,7 +11,7 @@ const OPERATIONS_IN_A_ROW: u64 = 1021;
 /// After so many operations the place is given up wherever the script is.
 const OPERATIONS_AT_MOST: u64 = 2 * OPERATIONS_IN_A_ROW;
 
-/// After how many operations beside the turn, with none that takes it between them, the place is given up before.
+/// The place is given up before that, after so many operations in a row that don't take the turn.
 const OPERATIONS_BESIDE: u64 = 16;
 
 /// A script's place in the line. Who wants the turn stands in line, and sleeps until it is first. No promise rests on it:
@@ -58,7 +58,7 @@ impl<'w> Line<'w> {
     /// the more is held by those that wait, the fewer cycles are due.
     fn is_over(&self) -> bool {
         self.beside == OPERATIONS_BESIDE
-            || self.operations >= OPERATIONS_IN_A_ROW && self.made
+            || (self.operations >= OPERATIONS_IN_A_ROW && self.made)
             || self.operations >= OPERATIONS_AT_MOST
     }
 
