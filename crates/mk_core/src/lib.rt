@@ -28,8 +28,9 @@ pub use config::{Config, GlobalTable};
 pub use events::{Answer, Event, NotEnabled, Seat, Step, Tally, Word};
 pub use history_laws::{
     bits_and_sizes_agree, enabled_events_meet_all_conditions, histories_are_of_two_parts,
+    what_is_touched,
 };
-pub use laws::words_have_indexes_of_their_own;
+pub use laws::{line_groups_stand_apart, words_are_one_list, words_have_indexes_of_their_own};
 pub use machine::Core;
 pub use seats::{
     Flight, Hand, Holding, Marker, OwnCycle, Placing, Presence, RunPages, Scan, SeenHeader, Source,

@@ -13,6 +13,7 @@ use Rattle.mk_placement.proofs.Theorems.{fulls_fit_nowhere, grants_stand_at_thei
 use Rattle.mk_precision.proofs.Freeing.{frees_the_untouched}
 use Rattle.mk_precision.proofs.Stopped.{releases_the_untouched}
 use Rattle.mk_readings.proofs.FreeCells.{free_cells_are_zero, words_behind_cells_are_zero}
+use Rattle.mk_readings.proofs.ReleasedCycles.{releases_are_of_cycles}
 use Rattle.mk_readings.proofs.Releases.{no_others_release, releases_are_exact, releases_none_reached}
 use Rattle.mk_readings.proofs.Snapshots.{snapshots_tell}
 use Rattle.mk_readings.proofs.Stands.{headers_and_quarantine_tell}
@@ -42,6 +43,7 @@ histories_keep_all_promises c es h =
       snapshots = at_each _ snapshots_tell c es h;
       released = releases_are_exact c es h;
       none_reached = releases_none_reached c es h;
+      of_cycles = releases_are_of_cycles c es h;
       no_others = no_others_release c es h;
       guarded = at_each _ invariant.black_cells_are_guarded c es h;
       precise = releases_the_untouched c es h;

@@ -14,7 +14,7 @@ use Rattle.mk_placement.specs.ExactTallies.{TalliesAreExactAtGives}
 use Rattle.mk_precision.specs.Precision.{FreesTheUntouched, ReleasesTheUntouched}
 use Rattle.mk_readings.specs.FreeWords.{FreeCellsAreZero, Leaves, WordsBehindCellsAreZero}
 use Rattle.mk_readings.specs.Readings.{HeadersAndQuarantineTell}
-use Rattle.mk_readings.specs.Releases.{NoOthersRelease, ReleasesAreExact, ReleasesNoneReached}
+use Rattle.mk_readings.specs.Releases.{NoOthersRelease, ReleasesAreExact, ReleasesAreOfCycles, ReleasesNoneReached}
 
 -- It holds behind each front of the list.
 abbrev pub AtEachMoment : (Config → List Event → Type 0) → Config → List Event → Type 0
@@ -44,11 +44,12 @@ pub record KeepsAllPromises (c : Config) (es : List Event) : Type 0 where
   -- Exact tallies: before each `give` the tallies of held and fresh words are those of the allocations.
   pub tallies : TalliesAreExactAtGives c es
   -- Closed marks: each `close` finds them closed. A `release` releases the allocations of its cycle's snapshot whose
-  -- cells have no mark, and none that a program can get to; no other event releases any.
+  -- cells have no mark, and none that a program can get to; each is that of a cycle, and no other event releases any.
   pub closed : ClosesFindMarksClosed c es
   pub snapshots : AtEachMoment SnapshotsTell c es
   pub released : ReleasesAreExact c es
   pub none_reached : ReleasesNoneReached c es
+  pub of_cycles : ReleasesAreOfCycles c es
   pub no_others : NoOthersRelease c es
   -- Guarded: while a cycle marks, each word of a black cell points into nothing or into a marked cell, or its page is
   -- dirty, or its dirty mark is owed.
