@@ -17,6 +17,7 @@ use Rattle.mk_core.specs.TurnConditions.{is_decided, words_held}
 use Rattle.mk_core.specs.Words.{phase_of}
 use Rattle.mk_core.proofs.AllBelow.{all_below-at}
 use Rattle.mk_layout.specs.SettledPages.{IsSettled}
+use Rattle.mk_layout.proofs.Settled.{gone_is_unmapped}
 use Rattle.mk_protocol.specs.Protocol.{has_place}
 use Rattle.mk_words.specs.States.{PassState, call_of, now_of, world_of}
 use Rattle.mk_words.specs.Steps.{IsEnabledTo}
@@ -158,7 +159,7 @@ give_allowed p t quiet decided =
     let settled : IsSettled (world_of p) = record {
       releasing = off_four m quiet.phase;
       placing = quiet.free.unplaced;
-      gone = quiet.free.gone;
+      unmapped = gone_is_unmapped m.words m.seats.holding.freed quiet.free.gone;
     } in
     let told = settled_tallies p.table.config p.seen t.history settled quiet.exact in
     may_act p step.Give (protocol p t quiet.free) t.holds quiet.free.decided refl refl quiet.gates

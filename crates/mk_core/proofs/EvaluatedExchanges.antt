@@ -3,7 +3,6 @@ use Rattle.std.proofs.Common.{◌≡◌, ◌↔◌, ℕ, Bool, true, false, List
 use Rattle.std.proofs.lemmas.Bool.{false≢true}
 use Rattle.mk_never.specs.declared.values.Value.{Value}
 use Rattle.mk_never.specs.declared.values.Value.TheVariants.{Null, Ptr}
-use Rattle.mk_never.specs.declared.values.Target.{Target}
 use Rattle.mk_never.specs.declared.values.Target.TheVariants.{WordOf}
 use Rattle.mk_never.specs.declared.operations.Op.{Op}
 use Rattle.mk_never.specs.declared.operations.Op.TheVariants as op
@@ -30,14 +29,6 @@ abbrev pub is_cas : Step → Bool
 is_cas step.Cas = true
 is_cas _ = false
 
-number_in : Target → ℕ
-number_in (WordOf number place) = number
-number_in _ = 0
-
-place_in : Target → ℕ
-place_in (WordOf number place) = place
-place_in _ = 0
-
 -- what is compared, where the answer is 1
 abbrev Compares : Config → List Event → ℕ → ℕ → ℕ → ℕ → Type 0
 Compares c es k p number place =
@@ -47,9 +38,9 @@ Compares c es k p number place =
 -- what is to be shown of an exchange by the caller of an event
 abbrev ExchangeCompares : Config → List Event → Event → Type 0
 ExchangeCompares c es e =
-    (k q i p r number : ℕ) → e ≡ record { seat = Caller k; step = step.Cas }
+    (k q i p r : ℕ) → e ≡ record { seat = Caller k; step = step.Cas }
     → (flight_of (left c es).now (Caller k)).op ≡ op.CasPtr q i p r
-    → ComparesValues c es k q i p number
+    → ComparesValues c es k q i p
 
 -- The operation and the word that are compared are these alone.
 compares_there : (c : Config) (es : List Event) (q i p r number place : ℕ)
@@ -57,21 +48,13 @@ compares_there : (c : Config) (es : List Event) (q i p r number place : ℕ)
     → target_of (never_behind c es) (register_at (never_behind c es) 0 q) i ≡ WordOf number place
     → Compares c es 0 p number place
     → ExchangeCompares c es (record { seat = Caller 0; step = step.Cas })
-unfolding number_in place_in
-compares_there c es q i p r number place is there same k' q' i' p' r' number' is_event is' =
+compares_there c es q i p r number place is there same k' q' i' p' r' is_event is' =
     subst (λ (x : ℕ). (flight_of (left c es).now (Caller x)).op ≡ op.CasPtr q' i' p' r'
-    → ComparesValues c es x q' i' p' number')
+    → ComparesValues c es x q' i' p')
     (ap (λ (e : Event). caller_number e.seat) is_event)
     (λ (here : (flight_of (left c es).now (Caller 0)).op ≡ op.CasPtr q' i' p' r').
-    let both : op.CasPtr q i p r ≡ op.CasPtr q' i' p' r' = sym is ∙ here in
-    λ (place' : ℕ) (there' : target_of (never_behind c es) (register_at (never_behind c es) 0 q') i'
-    ≡ WordOf number' place').
-    let moved : WordOf number place ≡ WordOf number' place' =
-    sym there ∙ ap (λ (o : Op). target_of (never_behind c es) (register_at (never_behind c es) 0 (q_of o)) (i_of o))
-    both ∙ there' in
-    subst (λ (x : ℕ). Compares c es 0 x number' place') (ap p_of both)
-    (subst (λ (x : ℕ). Compares c es 0 p x place') (ap number_in moved)
-    (subst (λ (x : ℕ). Compares c es 0 p number x) (ap place_in moved) same)))
+    subst (λ (o : Op). ComparesValues c es 0 (q_of o) (i_of o) (p_of o)) (sym is ∙ here)
+    (record { number = number; place = place; target = there; answered = same }))
     is'
 
 answered_zero : Some (answer.Num 0) ≡ Some (answer.Num 1) → ⊥
@@ -99,7 +82,7 @@ second_exchange =
 
 pub exchanges_compare : ExchangesCompareValues pointer_page exchanged
 unfolding by c0 exchanged AtEach Also
-exchanges_compare before behind k q i p r number is at =
+exchanges_compare before behind k q i p r is at =
     at_each is_cas (λ (es : List Event) (e : Event). ExchangeCompares pointer_page es e) [] exchanged
     (first_exchange, (second_exchange, tt)) before (record { seat = Caller k; step = step.Cas }) behind is refl k q i p
-    r number refl at
+    r refl at

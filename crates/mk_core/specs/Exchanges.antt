@@ -12,17 +12,19 @@ use Rattle.mk_core.specs.Moments.{flight_of}
 use Rattle.mk_core.specs.Effects.{answer_decided}
 use Rattle.mk_core.specs.History.{left, never_behind}
 
--- The answer is 1 exactly where the values of the word and of register p are equal.
-abbrev pub ComparesValues : Config → List Event → ℕ → ℕ → ℕ → ℕ → ℕ → Type 0
-ComparesValues c es k q i p number =
-    (place : ℕ) → target_of (never_behind c es) (register_at (never_behind c es) k q) i ≡ WordOf number place
-    → (answer_decided c (left c es).now (record { seat = Caller k; step = step.Cas }) ≡ Some (answer.Num 1))
-    ↔ (word_at (never_behind c es) number place ≡ register_at (never_behind c es) k p)
+-- Register q leads to a word of an allocation, and the answer is 1 exactly where the values of that word and of
+-- register p are equal.
+pub record ComparesValues (c : Config) (es : List Event) (k q i p : ℕ) : Type 0 where
+  pub number : ℕ
+  pub place : ℕ
+  pub target : target_of (never_behind c es) (register_at (never_behind c es) k q) i ≡ WordOf number place
+  pub answered : (answer_decided c (left c es).now (record { seat = Caller k; step = step.Cas })
+      ≡ Some (answer.Num 1))
+      ↔ (word_at (never_behind c es) number place ≡ register_at (never_behind c es) k p)
 
 -- Each `cas` of the list does so, in the state that the calls before it leave.
 abbrev pub ExchangesCompareValues : Config → List Event → Type 0
 ExchangesCompareValues c es =
-    (before behind : List Event) (k q i p r number : ℕ)
-    → es ≡ before ++ record { seat = Caller k; step = step.Cas } ∷ behind
+    (before behind : List Event) (k q i p r : ℕ) → es ≡ before ++ record { seat = Caller k; step = step.Cas } ∷ behind
     → (flight_of (left c before).now (Caller k)).op ≡ op.CasPtr q i p r
-    → ComparesValues c before k q i p number
+    → ComparesValues c before k q i p

@@ -16,6 +16,7 @@ use Rattle.mk_core.specs.TurnConditions.{words_held}
 use Rattle.mk_core.specs.Words.{Words}
 use Rattle.mk_core.proofs.AllBelow.{all_below-at}
 use Rattle.mk_layout.specs.SettledPages.{IsSettled}
+use Rattle.mk_layout.proofs.Settled.{gone_is_unmapped}
 use Rattle.mk_invariant.proofs.Theorems.{pages_show_the_storage}
 use Rattle.mk_words.specs.States.{PassState, world_of, now_of}
 use Rattle.mk_words.specs.TurnSteps.{Acts}
@@ -134,7 +135,8 @@ module _ (p g e q : PassState) (r : Released) (gives : GivesAllBack p g) (free :
       record {
         releasing = ap (λ (s : Steady). s.phase == 4) steady_e;
         placing = ap (λ (x : Done). has_place x.placing) done_e ∙ free_g.unplaced;
-        gone = ended_gone g e t gives.phase u a free_g.gone;
+        unmapped = gone_is_unmapped (now_of e).words (now_of e).seats.holding.freed
+            (ended_gone g e t gives.phase u a free_g.gone);
       }
 
   held_e : words_held (now_of e).words ≡ held_words e.table.config (world_of e).allocations

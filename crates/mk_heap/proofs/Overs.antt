@@ -17,6 +17,7 @@ use Rattle.mk_core.specs.Readings.{is_in}
 use Rattle.mk_core.specs.TurnConditions.{is_decided, words_held}
 use Rattle.mk_core.specs.Words.{phase_of}
 use Rattle.mk_layout.specs.SettledPages.{IsSettled}
+use Rattle.mk_layout.proofs.Settled.{gone_is_unmapped}
 use Rattle.mk_protocol.proofs.Asked.{give_phase}
 use Rattle.mk_words.specs.States.{PassState, call_of, now_of, world_of}
 use Rattle.mk_words.specs.Steps.{IsEnabledTo}
@@ -101,7 +102,7 @@ give_allowed p t may =
         record {
           releasing = not_releasing (phase_of m.words) (give_phase (phase_of m.words) may.phase);
           placing = may.free.unplaced;
-          gone = may.free.gone;
+          unmapped = gone_is_unmapped m.words m.seats.holding.freed may.free.gone;
         }
 
     tallies : ((now_of p).words.held ≡ words_held (now_of p).words) × ((now_of p).words.fresh ≡ (now_of p).fresh_words)

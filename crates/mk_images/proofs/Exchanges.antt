@@ -6,8 +6,6 @@ use Rattle.std.proofs.lemmas.Bool.{ltb-true}
 use Rattle.mk_never.specs.declared.operations.Op.{Op}
 use Rattle.mk_never.specs.declared.operations.Op.TheVariants as op
 use Rattle.mk_never.specs.declared.values.Value.{Value}
-use Rattle.mk_never.specs.declared.values.Value.TheVariants.{Null}
-use Rattle.mk_never.specs.declared.values.Target.{Target}
 use Rattle.mk_never.specs.declared.values.Target.TheVariants.{WordOf}
 use Rattle.mk_never.specs.NeverHeap.{NeverState, register_at, word_at, target_of, is_same}
 use Rattle.mk_never.specs.Admitted.{AreAdmitted, IsAdmitted}
@@ -41,10 +39,6 @@ use Rattle.mk_images.proofs.CallMoves.{cas_compares}
 use Rattle.mk_images.proofs.CallSorts.{admitted_call, there_is, own_registers}
 use Rattle.mk_images.proofs.Histories.{say_along, histories_mirror}
 
-abbrev word_of_target : NeverState → Target → Value
-word_of_target n (WordOf number place) = word_at n number place
-word_of_target n _ = Null
-
 told : (b : Bool) (u v : Value) → b ≡ is_same u v → (Some (answer.Num (one_if b)) ≡ Some (answer.Num 1)) ↔ (u ≡ v)
 told b u v is = (
   λ e. equal_from_same u v (sym is ∙ one b e),
@@ -60,13 +54,20 @@ told b u v is = (
 abbrev cas_of : ℕ → Event
 cas_of k = record { seat = Caller k; step = step.Cas }
 
-compares_values : (c : Config) (w : World) (n : NeverState) (k q i p r number place : ℕ) → KnownWorld c w
+-- the word that register q leads to, and what the answer says of its value
+record Compares (c : Config) (w : World) (n : NeverState) (k q i p : ℕ) : Type 0 where
+  pub number : ℕ
+  pub place : ℕ
+  pub target : target_of n (register_at n k q) i ≡ WordOf number place
+  pub answered : (answer_decided c w.now (cas_of k) ≡ Some (answer.Num 1))
+      ↔ (word_at n number place ≡ register_at n k p)
+
+compares_values : (c : Config) (w : World) (n : NeverState) (k q i p r : ℕ) → KnownWorld c w
     → OthersSay c w → Mirrors c w n → MeetsAll c w.now (cas_of k)
     → (flight_of w.now (Caller k)).op ≡ op.CasPtr q i p r
     → AreAdmitted c.globals n (asked (call_decided c w.now (cas_of k)))
-    → target_of n (register_at n k q) i ≡ WordOf number place
-    → (answer_decided c w.now (cas_of k) ≡ Some (answer.Num 1)) ↔ (word_at n number place ≡ register_at n k p)
-compares_values c w n k q i p r number place known others mirrors h is ad target =
+    → Compares c w n k q i p
+compares_values c w n k q i p r known others mirrors h is ad =
     let f = flight_of w.now (Caller k) in
     let x = slice_index w.now.words.heap (word_met f) in
     let safe = mirrors.safe in
@@ -84,14 +85,16 @@ compares_values c w n k q i p r number place known others mirrors h is ad target
     (subst (λ (g : Flight). CarriesOwn (bases_of w.allocations) n k g) lit (ready.images.carried k))
     (subst (λ (g : Flight). ProbedOwn n k g) lit (ready.images.probed k))
     (ap (λ (g : Flight). slice_index w.now.words.heap (word_met g)) lit) admitted in
-    let word : word_at n compared.0.number compared.0.place ≡ word_at n number place =
-    ap (word_of_target n) (sym compared.0.target ∙ target) in
-    told (x == f.p) (word_at n number place) (register_at n k p) (compared.1
-    ∙ ap (λ (v : Value). is_same v (register_at n k p)) word)
+    record {
+      number = compared.0.number;
+      place = compared.0.place;
+      target = compared.0.target;
+      answered = told (x == f.p) (word_at n compared.0.number compared.0.place) (register_at n k p) compared.1;
+    }
 
 pub histories_compare : HistoriesCompareValues
 unfolding AreEnabledFrom calls_from
-histories_compare c es h others before behind k q i p r number whole is place target =
+histories_compare c es h others before behind k q i p r whole is =
     let parts : IsHistory c (before ++ cas_of k ∷ behind) = subst (λ (xs : List Event). IsHistory c xs) whole h in
     let say : OthersSayAlong c (before ++ cas_of k ∷ behind) =
     subst (λ (xs : List Event). OthersSayAlong c xs) whole others in
@@ -99,7 +102,13 @@ histories_compare c es h others before behind k q i p r number whole is place ta
     let mirrors = histories_mirror c before earlier (say_along c before (cas_of k ∷ behind) say) in
     let on = ((enabled_in_parts c before (cas_of k ∷ behind)).0 parts.enabled).1.0 in
     let admitted = ((admitted_in_parts c before (cas_of k ∷ behind)).0 parts.admitted).1 in
-    compares_values c (left c before) (never_behind c before) k q i p r number place
+    let compares = compares_values c (left c before) (never_behind c before) k q i p r
     (known_world c before earlier.within_limits earlier.enabled)
     (say before (cas_of k ∷ behind) refl) mirrors (enabled_meets c (left c before).now (cas_of k) on) is
-    (admitted.0, tt) target
+    (admitted.0, tt) in
+    record {
+      number = compares.number;
+      place = compares.place;
+      target = compares.target;
+      answered = compares.answered;
+    }

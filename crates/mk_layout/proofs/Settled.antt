@@ -12,6 +12,7 @@ use Rattle.mk_core.specs.Config.{IsWithinLimits}
 use Rattle.mk_core.specs.History.{World, left}
 use Rattle.mk_core.specs.Moments.{is_phase}
 use Rattle.mk_core.specs.NewPlaces.{is_run_gone, is_run_unmapped}
+use Rattle.mk_core.specs.Words.{Words}
 use Rattle.mk_core.specs.declared.config.Config.{Config}
 use Rattle.mk_core.specs.declared.seats.Placing.{Placing}
 use Rattle.mk_core.specs.declared.seats.Placing.TheVariants.{Chosen, Granted, Unplaced, Used}
@@ -20,7 +21,7 @@ use Rattle.mk_core.proofs.Lengths.{histories_keep_lengths}
 use Rattle.mk_protocol.specs.Protocol.{has_place}
 use Rattle.mk_layout.specs.Scene.{Claim, IsLaidOn, NoPlot, Plot}
 use Rattle.mk_layout.specs.SettledPages.{FirstFitIsThePlace, HeadersStand, IsSettled, UnreleasedAreApart}
-use Rattle.mk_layout.specs.SettledPages.{UnreleasedStand}
+use Rattle.mk_layout.specs.SettledPages.{UnreleasedStand, is_freed_unmapped}
 use Rattle.mk_protocol.specs.Ground.{ground_of}
 use Rattle.mk_layout.specs.Terrain.{IsLaidOut, claim_of, claims_of, claims_placed, object_now, plot_of}
 use Rattle.mk_layout.proofs.Apart.{Rests, quiet_scene}
@@ -51,21 +52,25 @@ unreleased_are_apart c es laid i j u v same =
     (claims_placed (object_now c w.now) w.now.seats.holding.placing) laid.scene.apart) u v
     (ap (λ (x : Cell). x.page) same, ap (λ (x : Cell). x.index) same)
 
+-- A run that is unmapped and wiped is unmapped.
+pub gone_is_unmapped : (w : Words) (freed : Option RunPages) → is_run_gone w freed ≡ true
+    → is_freed_unmapped w freed ≡ true
+gone_is_unmapped w None gone = refl
+gone_is_unmapped w (Some run) gone =
+    (and_parts (is_run_unmapped w run) (words_are_zero w (64 * run.page) (64 * run.count)) gone).0
+
+pub unmapped_run : (w : World) → is_freed_unmapped w.now.words w.now.seats.holding.freed ≡ true → (run : RunPages)
+    → w.now.seats.holding.freed ≡ Some run → is_run_unmapped w.now.words run ≡ true
+unmapped_run w unmapped run is =
+    ap (λ (x : Option RunPages). is_freed_unmapped w.now.words x) (sym is) ∙ unmapped
+
 settled_rests : (c : Config) (w : World) → IsWithinLimits c → length w.now.words.pages ≡ c.pages → IsLaidOut c w
     → IsSettled w → Rests c w.now.words w.allocations
 settled_rests c w limits len laid s = by w.now.seats.holding.placing refl s.placing
   where
-    gone : (x : Option RunPages) {run : RunPages} → x ≡ Some run → is_run_gone w.now.words x ≡ true
-        → is_run_unmapped w.now.words run ≡ true
-    gone x {run} is k =
-        let there : is_run_gone w.now.words (Some run) ≡ true =
-        ap (λ (y : Option RunPages). is_run_gone w.now.words y) (sym is) ∙ k in
-        (and_parts (is_run_unmapped w.now.words run) (words_are_zero w.now.words (64 * run.page) (64 * run.count))
-        there).0
-
     rested : Laid c (object_now c w.now) false w (record (ground_of w) { run = None })
     rested =
-        gone_terrain c (object_now c w.now) false w (λ run is. gone w.now.seats.holding.freed is s.gone)
+        gone_terrain c (object_now c w.now) false w (unmapped_run w s.unmapped)
         (subst (λ b. Laid c (object_now c w.now) b w (ground_of w)) s.releasing laid)
 
     rests : (placing : Placing)

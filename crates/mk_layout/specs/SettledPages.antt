@@ -1,13 +1,16 @@
 -- What a laid out world says of its allocations, and of its pages where nothing is on its way.
-use Rattle.std.specs.Prelude.{◌≡◌, ℕ, true, false, List}
+use Rattle.std.specs.Prelude.{◌≡◌, ℕ, Bool, true, false, List, Option}
 use Rattle.mk_geom.specs.Storages.{PagesStandFor}
 use Rattle.mk_core.specs.declared.config.Config.{Config}
 use Rattle.mk_core.specs.declared.events.Event.{Event}
 use Rattle.mk_core.specs.declared.seats.Object.{Object}
+use Rattle.mk_core.specs.declared.seats.RunPages.{RunPages}
+use Rattle.mk_core.specs.Bounded.{is_none_or}
 use Rattle.mk_core.specs.Config.{IsWithinLimits}
 use Rattle.mk_core.specs.Cells.{is_used}
 use Rattle.mk_core.specs.Moments.{is_phase}
-use Rattle.mk_core.specs.NewPlaces.{place_on_pages, is_run_gone}
+use Rattle.mk_core.specs.NewPlaces.{place_on_pages, is_run_unmapped}
+use Rattle.mk_core.specs.Words.{Words}
 use Rattle.mk_core.specs.Allocations.{PlacedAllocation, placed_at, cell_of_allocation, unreleased_storage}
 use Rattle.mk_core.specs.Allocations.{place_among_allocations}
 use Rattle.mk_core.specs.StandingAllocations.{StandsOnHeap, HasItsHeaders}
@@ -37,11 +40,15 @@ UnreleasedAreApart =
     → cell_of_allocation c (placed_at (left c es).allocations i)
     ≡ cell_of_allocation c (placed_at (left c es).allocations j) → i ≡ j
 
--- Nothing is on its way: no cell is released, no New has a place, and the run that a call freed is gone.
+-- The run that a call freed, if it freed one, is unmapped. Its words may still be there.
+abbrev pub is_freed_unmapped : Words → Option RunPages → Bool
+is_freed_unmapped w freed = is_none_or (is_run_unmapped w) freed
+
+-- No header is on its way: no cell is released, no New has a place, and no Free is unmapping its run.
 pub record IsSettled (w : World) : Type 0 where
   pub releasing : is_phase w.now.words 4 ≡ false
   pub placing : has_place w.now.seats.holding.placing ≡ false
-  pub gone : is_run_gone w.now.words w.now.seats.holding.freed ≡ true
+  pub unmapped : is_freed_unmapped w.now.words w.now.seats.holding.freed ≡ true
 
 -- Then the headers and used bits are those of the unreleased storage,
 abbrev pub HeadersStand : Type 0

@@ -34,6 +34,7 @@ use Rattle.mk_protocol.proofs.Asked.{give_phase}
 use Rattle.mk_protocol.proofs.Known.{Known, known_left}
 use Rattle.mk_protocol.proofs.OthersCounts.{entry_fulls, fulls_append, fulls_of}
 use Rattle.mk_layout.specs.SettledPages.{IsSettled}
+use Rattle.mk_layout.proofs.Settled.{gone_is_unmapped}
 use Rattle.mk_layout.proofs.Before.{Before}
 use Rattle.mk_layout.proofs.Histories.{known_before}
 use Rattle.mk_layout.proofs.Holders.{giver_has_turn, placed_undecided}
@@ -94,7 +95,7 @@ exact_at_give c es seat h meets =
       releasing = giving (phase_of m.words) (give_phase (phase_of m.words) meets.phase);
       placing = false_from_ne_true (has_place m.seats.holding.placing)
           (λ has. decided_no_new f d.0 (placed_undecided c m seat known holds has));
-      gone = d.1;
+      unmapped = gone_is_unmapped m.words m.seats.holding.freed d.1;
     } in
     let shown = pages_show_the_storage c es h settled in
     record {

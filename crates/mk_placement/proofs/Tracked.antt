@@ -21,7 +21,7 @@ use Rattle.mk_core.specs.Calls.{at_rest}
 use Rattle.mk_core.specs.Cycles.{TurnOf, is_give}
 use Rattle.mk_core.specs.History.{IsHistory, World, first_world, left, left_from, world_behind}
 use Rattle.mk_core.specs.Moments.{flight_of, is_phase}
-use Rattle.mk_core.specs.NewPlaces.{is_run_gone, is_undecided_new, object_made, place_on_pages}
+use Rattle.mk_core.specs.NewPlaces.{is_undecided_new, object_made, place_on_pages}
 use Rattle.mk_core.specs.Placement.{FirstServed, NoneServesFrom, before_served, event_serves, place_for}
 use Rattle.mk_core.specs.Words.{phase_of}
 use Rattle.mk_core.proofs.Histories.{left_more}
@@ -32,7 +32,7 @@ use Rattle.mk_protocol.proofs.Known.{Known, known_left}
 use Rattle.mk_protocol.proofs.NewPlace.{held_place}
 use Rattle.mk_protocol.proofs.OrderlyLists.{at_first}
 use Rattle.mk_protocol.proofs.OthersMoves.{WorldBehind}
-use Rattle.mk_layout.specs.SettledPages.{IsSettled}
+use Rattle.mk_layout.specs.SettledPages.{IsSettled, is_freed_unmapped}
 use Rattle.mk_layout.proofs.Holders.{none_on_its_way}
 use Rattle.mk_invariant.specs.Theorems.{OfHistories}
 use Rattle.mk_invariant.proofs.Theorems.{first_fit_finds_the_place}
@@ -91,7 +91,7 @@ unplaced_settles c es k h lt new off at =
     record {
       releasing = off;
       placing = ap (λ (p : Placing). has_place p) at;
-      gone = ap (λ (run : Option RunPages). is_run_gone w.now.words run) none;
+      unmapped = ap (λ (run : Option RunPages). is_freed_unmapped w.now.words run) none;
     }
 
 -- and first fit over the words is the place among the allocations.

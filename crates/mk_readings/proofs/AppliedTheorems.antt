@@ -1,9 +1,13 @@
 -- The theorems over all histories, applied to small schedules: what each says there, read off by computation.
 use Rattle.std.proofs.Common.{◌≡◌, ℕ, ◌≤◌, true, false, List, [], ◌∷◌, ◌++◌, replicate, take, drop, None, Some, refl}
-use Rattle.std.proofs.Common.{sym, ◌∙◌, subst, inl, arith, append_assoc}
+use Rattle.std.proofs.Common.{sym, ◌∙◌, ap, subst, inl, arith, append_assoc}
 use Rattle.std.specs.Prelude.{slice_index}
 use Rattle.std.proofs.lemmas.Bool.{eqb-false, false≢true, leb-true, ltb-true}
-use Rattle.mk_never.specs.NeverHeap.{register_at, replies_of, word_at}
+use Rattle.mk_never.specs.declared.values.Target.{Target}
+use Rattle.mk_never.specs.declared.values.Target.TheVariants.{WordOf}
+use Rattle.mk_never.specs.declared.values.Value.{Value}
+use Rattle.mk_never.specs.declared.values.Value.TheVariants.{Null}
+use Rattle.mk_never.specs.NeverHeap.{NeverState, register_at, replies_of, word_at}
 use Rattle.mk_geom.specs.Headers.{IsHeaderWord}
 use Rattle.mk_geom.specs.PageUses.{resident_pages}
 use Rattle.mk_geom.specs.PageWords.{uses_of_pages}
@@ -22,6 +26,7 @@ use Rattle.mk_core.specs.Decided.{asked}
 use Rattle.mk_core.specs.History.{IsHistory, World, bases_of, calls, calls_from, left, left_from, never_behind}
 use Rattle.mk_core.specs.History.{never_first}
 use Rattle.mk_core.specs.Image.{answers_of}
+use Rattle.mk_core.specs.NewPlaces.{is_run_gone}
 use Rattle.mk_core.specs.StopConditions.{may_turn_black}
 use Rattle.mk_core.specs.Words.{header_at}
 use Rattle.mk_core.proofs.EvaluatedGuards.{page_is_clean, written_points_badly}
@@ -84,12 +89,18 @@ second_is_kept = theorems.reach_is_kept small begun_in_stop begun_is_history 1 s
 
 -- The first exchange is answered 1, so the values are equal; at the second they aren't, or it would be answered so too.
 
+abbrev word_of_target : NeverState → Target → Value
+word_of_target n (WordOf number place) = word_at n number place
+word_of_target n _ = Null
+
 pub first_compares_equal : word_at (never_behind pointer_page (take 16 exchanged)) 0 0
     ≡ register_at (never_behind pointer_page (take 16 exchanged)) 0 2
 unfolding by c0 all_below pointed_cell pointer_page exchanged left_from calls_from
 first_compares_equal =
-    (theorems.exchanges_compare pointer_page exchanged exchanged_is_history (take 16 exchanged) (drop 17 exchanged)
-    0 0 0 2 1 0 refl refl 0 refl).0 refl
+    let compares =
+    theorems.exchanges_compare pointer_page exchanged exchanged_is_history (take 16 exchanged) (drop 17 exchanged)
+    0 0 0 2 1 refl refl in
+    ap (word_of_target (never_behind pointer_page (take 16 exchanged))) compares.target ∙ compares.answered.0 refl
 
 answered_zero : Some (answer.Num 0) ≡ Some (answer.Num 1) → ⊥
 answered_zero h = let no : ◌≡◌ {A = ℕ} 0 1 = cc in omega arith
@@ -98,9 +109,11 @@ pub second_compares_unequal : word_at (never_behind pointer_page (take 24 exchan
     ≡ register_at (never_behind pointer_page (take 24 exchanged)) 0 2 → ⊥
 unfolding by c0 all_below pointed_cell pointer_page exchanged left_from calls_from
 second_compares_unequal same =
-    answered_zero
-    ((theorems.exchanges_compare pointer_page exchanged exchanged_is_history (take 24 exchanged) (drop 25 exchanged)
-    0 0 0 2 1 0 refl refl 0 refl).1 same)
+    let compares =
+    theorems.exchanges_compare pointer_page exchanged exchanged_is_history (take 24 exchanged) (drop 25 exchanged)
+    0 0 0 2 1 refl refl in
+    answered_zero (compares.answered.1
+    (sym (ap (word_of_target (never_behind pointer_page (take 24 exchanged))) compares.target) ∙ same))
 
 -- Two objects fill a page: each has its used bit, and no word of one is the other's.
 
@@ -117,7 +130,7 @@ word_of_the_first_alone word =
 
 full_is_settled : IsSettled full
 unfolding by c0 all_below pointed_cell may_turn_black one_page full_then_reused left_from
-full_is_settled = record { releasing = refl; placing = refl; gone = refl }
+full_is_settled = record { releasing = refl; placing = refl; unmapped = refl }
 
 -- The header and the used word of the page, told by the storage of the two,
 pub page_told_by_storage : words_of_storages (unreleased_storage one_page full.allocations) 0
@@ -134,6 +147,40 @@ unfolding by c0 all_below pointed_cell may_turn_black one_page full_then_reused 
 no_place_told_by_words =
     sym (theorems.first_fit_finds_the_place one_page full_then_reused full_is_history
     (record { words = 32; leaf = true }) full_is_settled)
+
+-- A large object's pages are unmapped and its words aren't wiped yet. Its run is shown as unmapped, and the next object
+-- has its place behind it.
+
+abbrev pub unmapped : World
+unmapped = left three_pages (take 19 large_freed)
+
+unmapped_is_history : IsHistory three_pages (take 19 large_freed)
+unfolding by c0 large_freed
+unmapped_is_history =
+    earlier_part_is_history three_pages (take 19 large_freed) (drop 19 large_freed) large_is_history
+
+pub not_wiped_yet : is_run_gone unmapped.now.words unmapped.now.seats.holding.freed ≡ false
+unfolding by c0 all_below pointed_cell three_pages large_freed left_from
+not_wiped_yet = refl
+
+unmapped_is_settled : IsSettled unmapped
+unfolding by c0 all_below pointed_cell may_turn_black three_pages large_freed left_from
+unmapped_is_settled = record { releasing = refl; placing = refl; unmapped = refl }
+
+pub head_told_by_storage : words_of_storages (unreleased_storage three_pages unmapped.allocations) 0
+    ≡ record { header = 43; used = 1 }
+unfolding by c0 all_below pointed_cell may_turn_black three_pages large_freed left_from
+head_told_by_storage =
+    sym ((theorems.pages_show_the_storage three_pages (take 19 large_freed) unmapped_is_history unmapped_is_settled).words
+    0 free_page (ltb-true 0 3 refl))
+
+pub place_behind_told_by_words : place_among_allocations three_pages 64 true unmapped.allocations
+    ≡ Some (record { page = 2; index = 0; carve = true })
+unfolding by c0 all_below pointed_cell may_turn_black three_pages large_freed left_from
+place_behind_told_by_words =
+    sym (theorems.first_fit_finds_the_place three_pages (take 19 large_freed) unmapped_is_history
+    (record { words = 64; leaf = true }) unmapped_is_settled)
+
 
 -- A word of a black object points to an unmarked one, and its page isn't dirty: so a call owes the page its dirty mark.
 

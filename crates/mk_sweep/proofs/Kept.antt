@@ -14,6 +14,7 @@ use Rattle.mk_core.specs.Frames.{Steady, CountsAreLeft}
 use Rattle.mk_core.specs.History.{IsHistory}
 use Rattle.mk_core.specs.Moments.{Moment, flight_of}
 use Rattle.mk_core.specs.NewPlaces.{is_run_gone}
+use Rattle.mk_layout.specs.SettledPages.{is_freed_unmapped}
 use Rattle.mk_core.specs.Readings.{Holds, is_idle}
 use Rattle.mk_core.specs.Words.{Words}
 use Rattle.mk_protocol.specs.Protocol.{Protocol, has_stage}
@@ -71,6 +72,14 @@ module _ (p q : PassState) (pass : q ≡ record p { seen = q.seen })
   pub gone_kept : IsGone p → IsGone q
   unfolding gone_as
   gone_kept gone = ap (λ (x : Untouched). gone_as (now_of q).words x) same ∙ gone
+
+  unmapped_as : Words → Untouched → Bool
+  unmapped_as w x = is_freed_unmapped (record w { pages = x.pages }) x.freed_run
+
+  pub unmapped_kept : is_freed_unmapped (now_of p).words (now_of p).seats.holding.freed ≡ true
+      → is_freed_unmapped (now_of q).words (now_of q).seats.holding.freed ≡ true
+  unfolding unmapped_as
+  unmapped_kept unmapped = ap (λ (x : Untouched). unmapped_as (now_of q).words x) same ∙ unmapped
 
   steady_as : Untouched → Steady
   steady_as x =

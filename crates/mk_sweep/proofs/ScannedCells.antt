@@ -12,7 +12,6 @@ use Rattle.mk_core.specs.declared.events.Event.{Event}
 use Rattle.mk_core.specs.declared.seats.Object.{Object}
 use Rattle.mk_core.specs.declared.seats.Placing.{Placing}
 use Rattle.mk_core.specs.declared.seats.Placing.TheVariants.{Chosen, Granted, Unplaced, Used}
-use Rattle.mk_core.specs.declared.seats.RunPages.{RunPages}
 use Rattle.mk_core.specs.Allocations.{PlacedAllocation, cell_of_allocation, is_mapped, placed_at, storage_of}
 use Rattle.mk_core.specs.Allocations.{storage_words}
 use Rattle.mk_core.specs.Bits.{has_bit}
@@ -22,7 +21,7 @@ use Rattle.mk_core.specs.ClosedMarks.{is_scanned_allocation}
 use Rattle.mk_core.specs.Effects.{is_mapped_cell, is_ungranted}
 use Rattle.mk_core.specs.History.{World, IsHistory, left, never_behind}
 use Rattle.mk_core.specs.Moments.{is_phase}
-use Rattle.mk_core.specs.NewPlaces.{header_made, is_run_gone, is_run_unmapped, is_small_object, pages_made}
+use Rattle.mk_core.specs.NewPlaces.{header_made, is_small_object, pages_made}
 use Rattle.mk_core.specs.ObjectHeaders.{IsSized, ShowsPart}
 use Rattle.mk_core.specs.StandingAllocations.{object_placed}
 use Rattle.mk_core.specs.Words.{header_at, phase_of, used_at}
@@ -35,6 +34,7 @@ use Rattle.mk_protocol.specs.Protocol.{has_place}
 use Rattle.mk_layout.specs.Scene.{Among, Claim, HasHeader, IsClaimed, IsShown, Mode, Unmapped, header_on}
 use Rattle.mk_layout.specs.Scene.{is_released_in}
 use Rattle.mk_layout.specs.SettledPages.{IsSettled, StandsUsed}
+use Rattle.mk_layout.proofs.Settled.{unmapped_run}
 use Rattle.mk_layout.specs.Terrain.{IsCellOf, claim_of, claims_of, claims_on, claims_placed, mode_of, object_now}
 use Rattle.mk_layout.proofs.Claims.{claim_among, claim_is}
 use Rattle.mk_layout.proofs.Freed.{gone_terrain}
@@ -68,13 +68,6 @@ pub record StandsScanned (c : Config) (w : World) (a : PlacedAllocation) : Type 
 neither : (a b : Bool) → (a || b) ≡ false → (a ≡ false) × (b ≡ false)
 neither true b h = absurd (true≢false h)
 neither false b h = (refl, h)
-
-run_unmapped : (w : World) (run : RunPages) → w.now.seats.holding.freed ≡ Some run
-    → is_run_gone w.now.words w.now.seats.holding.freed ≡ true → is_run_unmapped w.now.words run ≡ true
-run_unmapped w run is gone =
-    let there : is_run_gone w.now.words (Some run) ≡ true =
-    ap (λ (r : Option RunPages). is_run_gone w.now.words r) (sym is) ∙ gone in
-    (and_parts (is_run_unmapped w.now.words run) (words_are_zero w.now.words (64 * run.page) (64 * run.count)) there).0
 
 -- No New has a place, so the claims are those of allocations.
 unplaced_claims : (c : Config) (o : Object) (placing : Placing) (xs : List Claim) (x : Claim) → has_place placing ≡
@@ -148,7 +141,7 @@ module _ (c : Config) (es : List Event) (h : IsHistory c es) (settled : IsSettle
 
   rested : Laid c (object_now c (left c es).now) false (left c es) (record (ground_of (left c es)) { run = None })
   rested =
-      gone_terrain c (object_now c w.now) false w (λ run is. run_unmapped w run is settled.gone)
+      gone_terrain c (object_now c w.now) false w (unmapped_run w settled.unmapped)
       (subst (λ b. Laid c (object_now c w.now) b w (ground_of w)) settled.releasing all.order.laid)
 
   shown : (i : ℕ) → (placed_at (left c es).allocations i).released ≡ false

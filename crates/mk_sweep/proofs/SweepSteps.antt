@@ -44,7 +44,7 @@ use Rattle.mk_sweep.specs.Swept.{IsScannedWord, IsSweptCell, IsSweptValue, InGlo
 use Rattle.mk_sweep.specs.Sweeping.{HasInHand, IsReachedCell, IsSweeping, SweepsOn, heap_looks, word_looked_at}
 use Rattle.mk_sweep.proofs.Done.{looks_in_parts, looks_of_nothing, looks_of_step}
 use Rattle.mk_sweep.proofs.ScannedCells.{mapped_cell, scanned_stands}
-use Rattle.mk_sweep.proofs.Kept.{gone_kept}
+use Rattle.mk_sweep.proofs.Kept.{unmapped_kept}
 
 -- Where values and allocations are the same, so is what a sweep looks at and marks.
 module _ (c : Config) (v w : World) (same : untouched_of v ≡ untouched_of w) where
@@ -119,7 +119,7 @@ settled_kept p q pass same two settled =
     record {
       releasing = ne_eqb (phase_of (now_of q).words) 4 (λ e. omega arith);
       placing = ap (λ (x : Untouched). has_place x.placing) same ∙ settled.placing;
-      gone = gone_kept p q pass same settled.gone;
+      unmapped = unmapped_kept p q pass same settled.unmapped;
     }
 
 module _ (t u : TurnState) (sweeping : IsSweeping t.pass)

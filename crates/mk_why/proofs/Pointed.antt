@@ -17,6 +17,7 @@ use Rattle.mk_geom.specs.Headers.{header_of}
 use Rattle.mk_core.proofs.Sizes.{words_within}
 use Rattle.mk_core.proofs.StandingAllocations.{cells_begin, typed_size}
 use Rattle.mk_layout.specs.SettledPages.{IsSettled, StandsUsed}
+use Rattle.mk_layout.proofs.Settled.{gone_is_unmapped}
 use Rattle.mk_layout.proofs.Settled.{unreleased_are_apart}
 use Rattle.mk_images.proofs.KnownWorlds.{known_world}
 use Rattle.mk_invariant.proofs.Histories.{histories_keep_the_invariant}
@@ -46,7 +47,7 @@ module _ (p : PassState) (history : IsHistory p.table.config p.seen) (still : Is
       record {
         releasing = ne_eqb (phase_of (now_of p).words) 4 (λ e. let two = still.wanted in omega arith);
         placing = still.free.unplaced;
-        gone = still.free.gone;
+        unmapped = gone_is_unmapped (now_of p).words (now_of p).seats.holding.freed still.free.gone;
       }
 
   told : Told p.table.config (world_of p) (never_behind p.table.config p.seen)

@@ -19,12 +19,11 @@ use Rattle.mk_protocol.proofs.OthersCounts.{entry_fulls, fulls_append, fulls_of}
 use Rattle.mk_placement.proofs.TallySteps.{CountsNothing}
 use Rattle.mk_geom.proofs.HeldWords.{pages_hold_mapped_words}
 use Rattle.mk_core.specs.declared.seats.Holding.{Holding}
-use Rattle.mk_core.specs.NewPlaces.{is_run_gone}
 use Rattle.mk_core.specs.TurnConditions.{words_held}
 use Rattle.mk_core.proofs.Lengths.{histories_keep_lengths}
 use Rattle.mk_protocol.specs.Protocol.{Protocol, has_place}
 use Rattle.mk_protocol.proofs.Known.{known_left}
-use Rattle.mk_layout.specs.SettledPages.{IsSettled}
+use Rattle.mk_layout.specs.SettledPages.{IsSettled, is_freed_unmapped}
 use Rattle.mk_layout.proofs.Before.{Before}
 use Rattle.mk_layout.proofs.Histories.{known_before}
 use Rattle.mk_images.proofs.KnownWorlds.{known_world}
@@ -131,6 +130,6 @@ free_tallies c es h protocol free =
     let settled : IsSettled (left c es) = record {
       releasing = ne_eqb (phase_of m.words) 4 (λ four. protocol.cycle (omega arith) (omega arith) free);
       placing = ap (λ (x : Holding). has_place x.placing) nothing;
-      gone = ap (λ (x : Holding). is_run_gone m.words x.freed) nothing;
+      unmapped = ap (λ (x : Holding). is_freed_unmapped m.words x.freed) nothing;
     } in
     settled_tallies c es h settled (tallies_tell c es h free).0
