@@ -4,5 +4,6 @@ pub mod RunWords
 pub mod RunGates
 pub mod Joined
 pub mod Histories
+pub mod Induction
 pub mod Theorems
 pub mod Quarantines

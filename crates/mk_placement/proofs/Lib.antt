@@ -1,4 +1,3 @@
-pub mod Histories
 pub mod Longer
 pub mod OwnCycles
 pub mod Undecided

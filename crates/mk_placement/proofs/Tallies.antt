@@ -45,7 +45,7 @@ use Rattle.mk_invariant.proofs.Joined.{told_to_layout}
 use Rattle.mk_invariant.proofs.Theorems.{pages_show_the_storage}
 use Rattle.mk_placement.specs.ExactTallies.{TalliesAreExactAtGives}
 use Rattle.mk_placement.proofs.FreshSteps.{FreshTold, fresh_told_behind}
-use Rattle.mk_placement.proofs.Histories.{KeptByEvents, before_it, holds_of_histories}
+use Rattle.mk_invariant.proofs.Induction.{KeptByEvents, before_it, holds_of_histories}
 use Rattle.mk_placement.proofs.TallySteps.{CountsNothing, Gives, Leaves, Takes, TurnStep, give_counts_nothing}
 use Rattle.mk_placement.proofs.TallySteps.{others_count_nothing, turn_step}
 

@@ -27,7 +27,7 @@ use Rattle.mk_protocol.proofs.Actors.{Meets, fills_new, grants_new}
 use Rattle.mk_protocol.proofs.NewPlace.{held_place, new_holds}
 use Rattle.mk_invariant.specs.Theorems.{OfHistories}
 use Rattle.mk_invariant.proofs.Theorems.{first_fit_finds_the_place}
-use Rattle.mk_placement.proofs.Histories.{before_it}
+use Rattle.mk_invariant.proofs.Induction.{before_it}
 use Rattle.mk_placement.proofs.OwnCycles.{HasCycle}
 use Rattle.mk_placement.proofs.Tracked.{HasPlace, news_are_tracked, unplaced_settles}
 use Rattle.mk_placement.proofs.Undecided.{HasNew}

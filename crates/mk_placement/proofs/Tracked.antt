@@ -36,7 +36,7 @@ use Rattle.mk_layout.specs.SettledPages.{IsSettled, is_freed_unmapped}
 use Rattle.mk_layout.proofs.Holders.{none_on_its_way}
 use Rattle.mk_invariant.specs.Theorems.{OfHistories}
 use Rattle.mk_invariant.proofs.Theorems.{first_fit_finds_the_place}
-use Rattle.mk_placement.proofs.Histories.{KeptByEvents, before_it, holds_of_histories}
+use Rattle.mk_invariant.proofs.Induction.{KeptByEvents, before_it, holds_of_histories}
 use Rattle.mk_placement.proofs.Longer.{gives_turn, left_in_turn, longer_first, longer_turn, none_serves_more, taken}
 use Rattle.mk_placement.proofs.OwnCycles.{HasCycle, cycle_more, cycle_step}
 use Rattle.mk_placement.proofs.Placings.{Fixes, GoesOn, PlacingStep, Stays, places_at}

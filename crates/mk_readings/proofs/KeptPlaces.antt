@@ -38,7 +38,7 @@ changed_puts g xs i leaves u =
       unreleased = ap (λ (a : PlacedAllocation). a.released) at ∙ u;
     }
 
-put_step : (c : Config) (w : World) (seat : Seat) (x : Step) (i : ℕ) → is_release x ≡ false
+pub put_step : (c : Config) (w : World) (seat : Seat) (x : Step) (i : ℕ) → is_release x ≡ false
     → (placed_at w.allocations i).released ≡ false
     → StaysPut (placed_at w.allocations i) (placed_at (WorldBehind c w seat x).allocations i)
 put_step c w seat (step.Quar p n) i out u =

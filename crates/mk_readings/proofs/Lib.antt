@@ -1,10 +1,14 @@
 pub mod AppliedReadings
 pub mod AppliedTheorems
 pub mod CyclePhases
+pub mod DirtyPages
 pub mod FreeCells
+pub mod FreePages
 pub mod FreeWords
 pub mod KeptPlaces
 pub mod ReleasedCycles
+pub mod OwedMarks
 pub mod Releases
 pub mod Snapshots
 pub mod Stands
+pub mod UnsetWords

@@ -1,3 +1,5 @@
+pub mod FreePages
 pub mod FreeWords
 pub mod Readings
 pub mod Releases
+pub mod UnsetWords

@@ -6,9 +6,11 @@ ghost use Rattle.mk_core.specs.Readings.{SnapshotsTell};
 ghost use Rattle.mk_invariant.specs.Theorems.{OfHistories};
 ghost use Rattle.mk_readings.specs.FreeWords.{FreeCellsAreZero, Leaves, UnmappedWordsAreZero, WordsBehindCellsAreZero};
 ghost use Rattle.mk_readings.specs.FreeWords.{WordsOfNoneAreZero};
+ghost use Rattle.mk_readings.specs.FreePages.{DirtyPagesHaveAllocations, FreePagesHaveNothing};
 ghost use Rattle.mk_readings.specs.Readings.{HeadersAndQuarantineTell};
 ghost use Rattle.mk_readings.specs.Releases.{NoOthersRelease, ReleasesAreExact, ReleasesAreOfCycles};
 ghost use Rattle.mk_readings.specs.Releases.{ReleasesNoneReached};
+ghost use Rattle.mk_readings.specs.UnsetWords.{RegistersOfNoCallerAreZero, UnsetGlobalsAreZero};
 
 /// What a look at a header word and at the freed bits of a quarantine word tells.
 pub fn words_tell_what_stands()
@@ -36,4 +38,17 @@ pub fn free_cells_are_zero()
     ensures unmapped { OfHistories (Leaves UnmappedWordsAreZero) }
     ensures cells { OfHistories (Leaves FreeCellsAreZero) }
     ensures behind_cells { OfHistories (Leaves WordsBehindCellsAreZero) }
+{}
+
+/// A page without a header has its used word, its quarantine word and its dirty word 0: on each dirty page an
+/// unreleased allocation stands.
+pub fn free_pages_have_nothing()
+    ensures free { OfHistories (Leaves FreePagesHaveNothing) }
+    ensures dirty { OfHistories (Leaves DirtyPagesHaveAllocations) }
+{}
+
+/// Registers of callers that the configuration doesn't have hold 0, and so do globals that no `setg` stored to.
+pub fn unset_words_are_zero()
+    ensures registers { OfHistories (Leaves RegistersOfNoCallerAreZero) }
+    ensures globals { OfHistories UnsetGlobalsAreZero }
 {}

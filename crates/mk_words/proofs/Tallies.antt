@@ -32,7 +32,7 @@ use Rattle.mk_invariant.proofs.Histories.{histories_keep_the_invariant}
 use Rattle.mk_invariant.proofs.Joined.{told_to_layout}
 use Rattle.mk_invariant.proofs.Theorems.{pages_show_the_storage}
 use Rattle.mk_placement.proofs.FreshSteps.{FreshTold, fresh_told_behind}
-use Rattle.mk_placement.proofs.Histories.{KeptByEvents, before_it, holds_of_histories}
+use Rattle.mk_invariant.proofs.Induction.{KeptByEvents, before_it, holds_of_histories}
 use Rattle.mk_placement.proofs.Tallies.{tallies_tell}
 
 -- (as in the crate that proves what the tallies count, where it is private)

@@ -1,0 +1,22 @@
+-- Registers of callers that the configuration doesn't have, and globals that nobody has stored to: they hold 0.
+use Rattle.std.specs.Prelude.{◌≡◌, ◌≢◌, ℕ, ◌≤◌, List, ◌∷◌, ◌++◌, slice_index}
+use Rattle.mk_core.specs.declared.config.Config.{Config}
+use Rattle.mk_core.specs.declared.events.Event.{Event}
+use Rattle.mk_core.specs.declared.events.Seat.{Seat}
+use Rattle.mk_core.specs.declared.events.Step.TheVariants as step
+use Rattle.mk_core.specs.Calls.{g_of}
+use Rattle.mk_core.specs.History.{World, left}
+use Rattle.mk_core.specs.Moments.{flight_of}
+use Rattle.mk_core.specs.Words.{register_word}
+
+abbrev pub RegistersOfNoCallerAreZero : Config → World → Type 0
+RegistersOfNoCallerAreZero c w = (k r : ℕ) → c.callers ≤ k → register_word w.now.words k r ≡ 0
+
+-- no `setg` of the list is of the global
+abbrev pub IsNeverSet : Config → List Event → ℕ → Type 0
+IsNeverSet c es g =
+    (front rest : List Event) (seat : Seat) → es ≡ front ++ record { seat = seat; step = step.Setg } ∷ rest
+    → g_of (flight_of (left c front).now seat).op ≢ g
+
+abbrev pub UnsetGlobalsAreZero : Config → List Event → Type 0
+UnsetGlobalsAreZero c es = (g : ℕ) → IsNeverSet c es g → slice_index (left c es).now.words.globals g ≡ 0
