@@ -122,17 +122,17 @@ meets_before program script n caller s pointer i word b =
     (s.typed.registers (8 * caller + number_of_name pointer (pointer_names script)))
     (s.declared pointer b.at b.declared) b.is
 
--- a word that is typed_word is in an allocation, and of its kind
+-- a word that is reached is in an allocation, and of its kind
 record IsTypedWord (n : NeverState) (number place : ℕ) (Q : Kind → Type 0) : Type 0 where
   there : number < length n.allocations
   inside : place < length (words_of n number)
   is : Q (kind_in n (allocation_at n number) place)
 
-typed_word : (n : NeverState) (v : Value) (i : ℕ) (Q : Kind → Type 0) (number place : ℕ) → Meets n v i Q
+is_typed_word : (n : NeverState) (v : Value) (i : ℕ) (Q : Kind → Type 0) (number place : ℕ) → Meets n v i Q
     → target_of n v i ≡ WordOf number place → IsTypedWord n number place Q
-typed_word n Null i Q number place meets e = cc
-typed_word n (Num m) i Q number place meets e = cc
-typed_word n (Ptr a ty offset) i Q number place meets e =
+is_typed_word n Null i Q number place meets e = cc
+is_typed_word n (Num m) i Q number place meets e = cc
+is_typed_word n (Ptr a ty offset) i Q number place meets e =
     if_by (λ t. t ≡ WordOf number place → IsTypedWord n number place Q) (is_unmapped (allocation_at n a)) Unmapped
     (WordOf a (offset + i))
     (λ unmapped f. absurd (cc))
@@ -148,7 +148,7 @@ pub loaded_word : (program : List Item) (n : NeverState) (v : Value) (i : ℕ) (
     → Meets n v i (λ kind. kind ≡ kind_at program at) → target_of n v i ≡ WordOf number place
     → IsOfKind (word_at n number place) (kind_at program at)
 loaded_word program n v i at number place typed meets e =
-    let r = typed_word n v i (λ kind. kind ≡ kind_at program at) number place meets e in
+    let r = is_typed_word n v i (λ kind. kind ≡ kind_at program at) number place meets e in
     let suits : Suits n (word_at n number place) (kind_at program at) =
     subst (λ (k : Kind). Suits n (word_at n number place) k) r.is
     ((typed.allocations number r.there).words place r.inside) in
