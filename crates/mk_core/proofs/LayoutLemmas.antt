@@ -57,7 +57,7 @@ pub indexes_within : (pages : ℕ) (x : TableWord) → IsOfTable pages x → ind
 indexes_within pages Turn h = omega arith
 indexes_within pages (Named x) h = named_within pages x h
 
--- The groups in their order. One up to the headers begins at sixteen times its rank, a later one 5 words a page behind.
+-- The groups in their order. One up to the headers begins at sixteen times its rank, a later one 5 words a page after that.
 abbrev rank : ℕ → LineGroup → ℕ
 rank pages OfPhase = 0
 rank pages OfTurn = 1
@@ -146,7 +146,7 @@ stands_in pages Turn h = record {
 }
 stands_in pages (Named x) h = named_stands_in pages x h
 
--- behind the globals
+-- after the globals
 later_page : (pages g h i j : ℕ) → StandsIn pages g i → StandsIn pages h j → g < h → 35 < g → i + 8 ≤ j
 later_page pages g h i j sg sh lt more =
     let few = sg.between more in

@@ -72,7 +72,7 @@ spread_set (suc n) size between xs (suc i) r v e li lr =
     (sym (take-set-le size xs (size + place) v (omega arith)))
     ∙ ap (λ m. spread (suc n) size between (slice_set xs m v)) (omega arith)
 
--- words apart from each other, each with a gap of 15 behind it
+-- words apart from each other, each with a gap of 15 after it
 
 pub word_at : (n : ℕ) (xs : List ℕ) (j : ℕ) → length xs ≡ n → j < n
     → slice_index (spread n 1 15 xs) (16 * j) ≡ slice_index xs j

@@ -1,6 +1,6 @@
 -- The words of the shared table in their order, from index 0: the phase at 0, the turn at 16, the five tallies from 32,
 -- a gate at each sixteenth word from 48, each caller's eight registers at each sixteenth word from 304, the 64 globals
--- from 560. From 640 on the headers, used, quarantine, mark and black words, one a page; behind a gap of 16 each page's
+-- from 560. From 640 on the headers, used, quarantine, mark and black words, one a page; after a gap of 16 each page's
 -- dirty word, at each sixteenth word; and the heap, 64 a page. The words between are never used, and 0: threads that
 -- store to words of one cache line slow one another. With 4,096 pages these are 348,816 words, 2,790,528 bytes.
 use Rattle.std.specs.Prelude.{◌≡◌, ◌≢◌, ℕ, zero, suc, ◌+◌, ◌*◌, ◌<◌, ◌≤◌, ◌⊎◌, List, [], ◌∷◌, ◌++◌, length, map, take}
