@@ -6,9 +6,7 @@ ghost use Rattle.mk_geom.specs.PageWords.{use_of_page, bits_of};
 ghost use Rattle.mk_geom.specs.Classes.{cells_of};
 ghost use Rattle.mk_books.specs.FreeCells.{HasNoCells};
 
-use mk_geom::{Header, Page, cells, class_words, decode};
-
-const PAGE_WORDS: u64 = 64;
+use mk_geom::{Header, PAGE_WORDS, Page, cells, class_words, decode};
 
 pub(crate) fn is_free(page: Page) -> bool
     ensures { result ≡ is_free_page (use_of_page page) }

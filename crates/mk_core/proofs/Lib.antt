@@ -33,6 +33,7 @@ pub mod MarkTests
 pub mod MoreSchedules
 pub mod ObjectHeaders
 pub mod PageSteps
+pub mod PhaseTests
 pub mod PlacesNow
 pub mod PointedAllocations
 pub mod PointedPages

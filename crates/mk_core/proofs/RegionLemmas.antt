@@ -14,7 +14,8 @@ use Rattle.mk_core.specs.declared.accesses.TableWord.TheVariants.{Turn, Named}
 use Rattle.mk_core.specs.declared.accesses.Access.{Access}
 use Rattle.mk_core.specs.declared.accesses.Access.TheVariants.{Load, Store, Exchange, Or, Add, Sub}
 use Rattle.mk_core.specs.Words.{Words, zero_words_of, quarantine_word, word_in, with_word_in, becomes}
-use Rattle.mk_core.proofs.Spread.{set_later, length_spread, spread_at, spread_set, gates_at, gates_set}
+use Rattle.mk_core.proofs.Spread.{set_later, length_spread, spread_at, spread_set, word_at, word_set}
+use Rattle.mk_core.proofs.Spread.{length_words, words_set, zeros_spread}
 use Rattle.mk_core.specs.Layout.{index_of, IsOfTable, quarantine_words, gap, spread, regions, joined, in_order}
 use Rattle.mk_core.specs.Layout.{AreOfPages, WordsStandAtTheirIndexes, ChangesStandAtTheirIndexes, ListHasAllWords}
 use Rattle.mk_core.specs.Layout.{FirstWordsAreZero, AccessesStandAtTheirIndexes}
@@ -80,9 +81,9 @@ record Begins (pages : ℕ) (w : Words) : Type 0 where
   quarantine : before (regions w) 12 ≡ 640 + 2 * pages
   marks : before (regions w) 13 ≡ 640 + 3 * pages
   blacks : before (regions w) 14 ≡ 640 + 4 * pages
-  dirty : before (regions w) 15 ≡ 640 + 5 * pages
-  heap : before (regions w) 16 ≡ 640 + 6 * pages
-  all : before (regions w) 17 ≡ 640 + 70 * pages
+  dirty : before (regions w) 16 ≡ 656 + 5 * pages
+  heap : before (regions w) 17 ≡ 656 + 21 * pages
+  all : before (regions w) 18 ≡ 656 + 85 * pages
 
 begins : (pages : ℕ) (w : Words) → AreOfPages pages w → Begins pages w
 begins pages w h =
@@ -95,6 +96,7 @@ begins pages w h =
     ∙ h.pages in
     let q : length (quarantine_words w.freed w.snapshot) ≡ pages = quarantine_length w.freed w.snapshot (h.freed
     ∙ sym h.snapshot) ∙ h.freed in
+    let s : length (spread (length w.dirty) 1 15 w.dirty) ≡ 16 * length w.dirty = length_words w.dirty in
     let m = h.marks in let b = h.blacks in let d = h.dirty in let n = h.heap in
     record {
       gates = omega arith;
@@ -131,7 +133,7 @@ named_stands pages w word.Released h b t = refl
 named_stands pages w word.Full h b t = refl
 named_stands pages w (word.Gate j) h b t =
     let l : length (spread 16 1 15 w.gates) ≡ 256 = length_spread 16 1 15 w.gates h.gates in
-    at w 6 (16 * j) (48 + 16 * j) 48 b.gates refl (omega arith) ∙ gates_at w.gates j h.gates t
+    at w 6 (16 * j) (48 + 16 * j) 48 b.gates refl (omega arith) ∙ word_at 16 w.gates j h.gates t
 named_stands pages w (word.Reg c r) h b t =
     let l : length (spread 16 8 8 w.registers) ≡ 256 = length_spread 16 8 8 w.registers h.registers in let lc =
     t.0 in let lr = t.1 in
@@ -154,10 +156,12 @@ named_stands pages w (word.Mark p) h b t = let l =
     h.marks in at w 13 p (640 + 3 * pages + p) (640 + 3 * pages) b.marks refl (omega arith)
 named_stands pages w (word.Black p) h b t = let l =
     h.blacks in at w 14 p (640 + 4 * pages + p) (640 + 4 * pages) b.blacks refl (omega arith)
-named_stands pages w (word.Dirty p) h b t = let l =
-    h.dirty in at w 15 p (640 + 5 * pages + p) (640 + 5 * pages) b.dirty refl (omega arith)
+named_stands pages w (word.Dirty p) h b t =
+    let l = h.dirty in let s = length_words w.dirty in
+    at w 16 (16 * p) (656 + 5 * pages + 16 * p) (656 + 5 * pages) b.dirty refl (omega arith)
+    ∙ word_at (length w.dirty) w.dirty p refl (omega arith)
 named_stands pages w (word.Heap n) h b t = let l =
-    h.heap in at w 16 n (640 + 6 * pages + n) (640 + 6 * pages) b.heap refl (omega arith)
+    h.heap in at w 17 n (656 + 21 * pages + n) (656 + 21 * pages) b.heap refl (omega arith)
 
 pub words_stand : WordsStandAtTheirIndexes
 words_stand pages w Turn h t = refl
@@ -197,7 +201,7 @@ named_changes pages w word.Released v h b t = refl
 named_changes pages w word.Full v h b t = refl
 named_changes pages w (word.Gate j) v h b t =
     let l : length (spread 16 1 15 w.gates) ≡ 256 = length_spread 16 1 15 w.gates h.gates in
-    ap (λ xs. put w 6 xs) (gates_set w.gates j v h.gates t)
+    ap (λ xs. put w 6 xs) (word_set 16 w.gates j v h.gates t)
     ∙ set_at w 6 (16 * j) (48 + 16 * j) 48 v b.gates refl (omega arith)
 named_changes pages w (word.Reg c r) v h b t =
     let l : length (spread 16 8 8 w.registers) ≡ 256 = length_spread 16 8 8 w.registers h.registers in let lc =
@@ -233,10 +237,12 @@ named_changes pages w (word.Mark p) v h b t = let l =
     h.marks in set_at w 13 p (640 + 3 * pages + p) (640 + 3 * pages) v b.marks refl (omega arith)
 named_changes pages w (word.Black p) v h b t = let l =
     h.blacks in set_at w 14 p (640 + 4 * pages + p) (640 + 4 * pages) v b.blacks refl (omega arith)
-named_changes pages w (word.Dirty p) v h b t = let l =
-    h.dirty in set_at w 15 p (640 + 5 * pages + p) (640 + 5 * pages) v b.dirty refl (omega arith)
+named_changes pages w (word.Dirty p) v h b t =
+    let l = h.dirty in let s = length_words w.dirty in
+    ap (λ xs. put w 16 xs) (words_set w.dirty p v (omega arith))
+    ∙ set_at w 16 (16 * p) (656 + 5 * pages + 16 * p) (656 + 5 * pages) v b.dirty refl (omega arith)
 named_changes pages w (word.Heap n) v h b t = let l =
-    h.heap in set_at w 16 n (640 + 6 * pages + n) (640 + 6 * pages) v b.heap refl (omega arith)
+    h.heap in set_at w 17 n (656 + 21 * pages + n) (656 + 21 * pages) v b.heap refl (omega arith)
 
 pub words_change : ChangesStandAtTheirIndexes
 words_change pages w Turn v h t = refl
@@ -271,13 +277,16 @@ pub first_are_zero : FirstWordsAreZero
 unfolding spread
 first_are_zero pages =
     let w = zero_words_of pages in
-    let counts : List ℕ = 1 ∷ 15 ∷ 1 ∷ 15 ∷ 5 ∷ 11 ∷ 256 ∷ 256 ∷ 64 ∷ 16 ∷ pages ∷ pages ∷ pages ∷ pages ∷ pages ∷ pages
-    ∷ 64 * pages ∷ [] in
+    let counts : List ℕ = 1 ∷ 15 ∷ 1 ∷ 15 ∷ 5 ∷ 11 ∷ 256 ∷ 256 ∷ 64 ∷ 16 ∷ pages ∷ pages ∷ pages ∷ pages ∷ pages ∷ 16
+    ∷ 16 * pages ∷ 64 * pages ∷ [] in
     ap (λ hs. put w 10 hs) (map_replicate (λ (page : Page). page.header) free_page pages)
     ∙ ap (λ us. joined (slice_set (slice_set (regions w) 10 (gap pages)) 11 us))
     (map_replicate (λ (page : Page). page.used) free_page pages)
     ∙ ap (λ qs. joined (slice_set (slice_set (slice_set (regions w) 10 (gap pages)) 11 (gap pages)) 12 qs))
     (no_quarantine pages)
+    ∙ ap (λ ds. joined (slice_set (slice_set (slice_set (slice_set (regions w) 10 (gap pages)) 11 (gap pages)) 12
+    (gap pages)) 16 ds))
+    (zeros_spread pages)
     ∙ joined_gaps counts
     ∙ ap gap (omega arith)
 

@@ -1,9 +1,9 @@
 -- Groups of words with gaps between them: their length, the word r of group i, and a change of it.
 use Rattle.std.proofs.Common.{◌≡◌, ℕ, zero, suc, ◌+◌, ◌*◌, ◌<◌, List, ◌++◌, length, take, drop, slice_index, slice_set}
-use Rattle.std.proofs.Common.{refl, sym, ◌∙◌, ap, arith}
+use Rattle.std.proofs.Common.{◌∷◌, length-set, refl, sym, ◌∙◌, ap, arith}
 use Rattle.std.proofs.lemmas.List.{get_or_append_left, get_or-append-add, get_or-take, get_or-drop, set-append_left}
 use Rattle.std.proofs.lemmas.List.{set-append_right, take-set-le, drop-set-lt, drop-set-add, length-append, length-drop}
-use Rattle.std.proofs.lemmas.List.{length-take-le, length-replicate}
+use Rattle.std.proofs.lemmas.List.{length-take-le, length-replicate, replicate-append-replicate}
 use Rattle.std.proofs.Math.Seq.{take-set-lt}
 use Rattle.mk_core.specs.Layout.{gap, spread}
 
@@ -72,13 +72,38 @@ spread_set (suc n) size between xs (suc i) r v e li lr =
     (sym (take-set-le size xs (size + place) v (omega arith)))
     ∙ ap (λ m. spread (suc n) size between (slice_set xs m v)) (omega arith)
 
-pub gates_at : (xs : List ℕ) (j : ℕ) → length xs ≡ 16 → j < 16
-    → slice_index (spread 16 1 15 xs) (16 * j) ≡ slice_index xs j
-gates_at xs j e lt = ap (λ k. slice_index (spread 16 1 15 xs) k) (omega arith)
-    ∙ spread_at 16 1 15 xs j 0 e lt (omega arith) ∙ ap (λ k. slice_index xs k) (omega arith)
+-- words apart from each other, each with a gap of 15 after it
 
-pub gates_set : (xs : List ℕ) (j v : ℕ) → length xs ≡ 16 → j < 16
-    → spread 16 1 15 (slice_set xs j v) ≡ slice_set (spread 16 1 15 xs) (16 * j) v
-gates_set xs j v e lt =
-    ap (λ k. spread 16 1 15 (slice_set xs k v)) (omega arith) ∙ sym (spread_set 16 1 15 xs j 0 v e lt (omega arith))
-    ∙ ap (λ k. slice_set (spread 16 1 15 xs) k v) (omega arith)
+pub word_at : (n : ℕ) (xs : List ℕ) (j : ℕ) → length xs ≡ n → j < n
+    → slice_index (spread n 1 15 xs) (16 * j) ≡ slice_index xs j
+word_at n xs j e lt = ap (λ k. slice_index (spread n 1 15 xs) k) (omega arith)
+    ∙ spread_at n 1 15 xs j 0 (omega arith) lt (omega arith) ∙ ap (λ k. slice_index xs k) (omega arith)
+
+pub word_set : (n : ℕ) (xs : List ℕ) (j v : ℕ) → length xs ≡ n → j < n
+    → spread n 1 15 (slice_set xs j v) ≡ slice_set (spread n 1 15 xs) (16 * j) v
+word_set n xs j v e lt =
+    ap (λ k. spread n 1 15 (slice_set xs k v)) (omega arith)
+    ∙ sym (spread_set n 1 15 xs j 0 v (omega arith) lt (omega arith))
+    ∙ ap (λ k. slice_set (spread n 1 15 xs) k v) (omega arith)
+
+pub length_words : (xs : List ℕ) → length (spread (length xs) 1 15 xs) ≡ 16 * length xs
+length_words xs = length_spread (length xs) 1 15 xs (omega arith) ∙ omega arith
+
+zeros_apart : (n : ℕ) → spread n 1 15 (gap n) ≡ gap (16 * n)
+unfolding spread
+zeros_apart zero = refl
+zeros_apart (suc n) =
+    let all : 1 + (15 + 16 * n) ≡ 16 * suc n = omega arith in
+    ap (λ (xs : List ℕ). 0 ∷ (gap 15 ++ xs)) (zeros_apart n)
+    ∙ ap (λ (xs : List ℕ). 0 ∷ xs) (replicate-append-replicate {A = ℕ} 15 (16 * n) 0)
+    ∙ replicate-append-replicate {A = ℕ} 1 (15 + 16 * n) 0
+    ∙ ap gap all
+
+-- as many groups as there are words
+pub words_set : (xs : List ℕ) (j v : ℕ) → j < length xs
+    → spread (length (slice_set xs j v)) 1 15 (slice_set xs j v) ≡ slice_set (spread (length xs) 1 15 xs) (16 * j) v
+words_set xs j v lt = ap (λ n. spread n 1 15 (slice_set xs j v)) (length-set xs j v)
+    ∙ word_set (length xs) xs j v refl lt
+
+pub zeros_spread : (n : ℕ) → spread (length (gap n)) 1 15 (gap n) ≡ gap (16 * n)
+zeros_spread n = ap (λ m. spread m 1 15 (gap n)) (length-replicate n 0) ∙ zeros_apart n

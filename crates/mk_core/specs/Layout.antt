@@ -1,7 +1,8 @@
 -- The words of the shared table in their order, from index 0: the phase at 0, the turn at 16, the five tallies from 32,
 -- a gate at each sixteenth word from 48, each caller's eight registers at each sixteenth word from 304, the 64 globals
--- from 560. From 640 on the headers, used, quarantine, mark, black and dirty words, one a page, and the heap, 64 a
--- page. The words between are never used, and 0: threads that store to words of one cache line slow one another.
+-- from 560. From 640 on the headers, used, quarantine, mark and black words, one a page; after a gap of 16 each page's
+-- dirty word, at each sixteenth word; and the heap, 64 a page. The words between are never used, and 0: threads that
+-- store to words of one cache line slow one another. With 4,096 pages these are 348,816 words, 2,790,528 bytes.
 use Rattle.std.specs.Prelude.{◌≡◌, ◌≢◌, ℕ, zero, suc, ◌+◌, ◌*◌, ◌<◌, ◌≤◌, ◌⊎◌, List, [], ◌∷◌, ◌++◌, length, map, take}
 use Rattle.std.specs.Prelude.{drop, replicate, slice_index, slice_set, ⊤}
 use Rattle.mk_geom.specs.declared.pages.Page.{Page}
@@ -31,15 +32,15 @@ index_of_named pages (word.Used p) = 640 + pages + p
 index_of_named pages (word.Quar p) = 640 + 2 * pages + p
 index_of_named pages (word.Mark p) = 640 + 3 * pages + p
 index_of_named pages (word.Black p) = 640 + 4 * pages + p
-index_of_named pages (word.Dirty p) = 640 + 5 * pages + p
-index_of_named pages (word.Heap n) = 640 + 6 * pages + n
+index_of_named pages (word.Dirty p) = 656 + 5 * pages + 16 * p
+index_of_named pages (word.Heap n) = 656 + 21 * pages + n
 
 abbrev pub index_of : ℕ → TableWord → ℕ
 index_of pages Turn = 16
 index_of pages (Named name) = index_of_named pages name
 
 abbrev pub count_of_words : ℕ → ℕ
-count_of_words pages = 640 + 70 * pages
+count_of_words pages = 656 + 85 * pages
 
 -- the name is one of a table of so many pages
 abbrev pub NamesWord : ℕ → Word → Type 0
@@ -91,7 +92,9 @@ regions w =
     ∷ map (λ (page : Page). page.header) w.pages
     ∷ map (λ (page : Page). page.used) w.pages
     ∷ quarantine_words w.freed w.snapshot
-    ∷ w.marks ∷ w.blacks ∷ w.dirty ∷ w.heap ∷ []
+    ∷ w.marks ∷ w.blacks ∷ gap 16
+    ∷ spread (length w.dirty) 1 15 w.dirty
+    ∷ w.heap ∷ []
 
 abbrev pub joined : List (List ℕ) → List ℕ
 joined [] = []
@@ -150,11 +153,12 @@ AccessesStandAtTheirIndexes =
     → in_order (accessed w x a)
     ≡ slice_set (in_order w) (index_of pages x) (becomes a (slice_index (in_order w) (index_of pages x)))
 
--- Words that may share a cache line. From the headers on all may.
+-- Words that may share a cache line: those from the headers to the black words may, and so may those of the heap.
 pub data LineGroup : Type 0 where
-  OfPhase OfTurn OfTallies OfGlobals OfPages : LineGroup
+  OfPhase OfTurn OfTallies OfGlobals OfPages OfHeap : LineGroup
   OfGate : (caller : ℕ) → LineGroup
   OfRegisters : (caller : ℕ) → LineGroup
+  OfDirty : (page : ℕ) → LineGroup
 
 abbrev pub line_group_of_named : Word → LineGroup
 line_group_of_named word.Phase = OfPhase
@@ -166,6 +170,8 @@ line_group_of_named word.Full = OfTallies
 line_group_of_named (word.Gate caller) = OfGate caller
 line_group_of_named (word.Reg caller r) = OfRegisters caller
 line_group_of_named (word.Global g) = OfGlobals
+line_group_of_named (word.Dirty p) = OfDirty p
+line_group_of_named (word.Heap n) = OfHeap
 line_group_of_named _ = OfPages
 
 abbrev pub line_group : TableWord → LineGroup

@@ -26,6 +26,7 @@ pub mod NewPlaces
 pub mod ObjectHeaders
 pub mod Order
 pub mod PageHeaders
+pub mod Phases
 pub mod Placement
 pub mod Ranges
 pub mod Readings

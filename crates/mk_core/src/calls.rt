@@ -6,9 +6,9 @@ ghost use Rattle.mk_core.specs.Calls.{steps_of, first_of, stage_behind, stage_re
 ghost use Rattle.mk_core.specs.Calls.{value_for, value_written, onward, still, refused, progress_q, progress_p};
 ghost use Rattle.mk_core.specs.Calls.{progress_reg, progress_read, progress_cas, progress_getg};
 
-use crate::geometry::{HEAP_START, PAGE_WORDS, WORD_BYTES};
 use crate::seats::Progress;
 use crate::{Answer, Core, Flight, Stage};
+use mk_geom::{HEAP_START, PAGE_WORDS, WORD_BYTES};
 use mk_never::Op;
 
 pub(crate) fn register_q(op: Op) -> u8

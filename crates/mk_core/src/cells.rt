@@ -3,7 +3,7 @@ ghost use Rattle.std.specs.Prelude.{◌≡◌, ℕ, ◌+◌, ◌-◌, ◌*◌, �
 ghost use Rattle.mk_core.specs.Words.{header_at, used_at};
 ghost use Rattle.mk_geom.specs.Headers.{header_of};
 ghost use Rattle.mk_geom.specs.Addresses.{address_of};
-ghost use Rattle.mk_core.specs.Bits.{has_bit, without};
+ghost use Rattle.mk_core.specs.Bits.{bit_for, has_bit, without};
 ghost use Rattle.mk_core.specs.Bounded.{all_below};
 ghost use Rattle.mk_core.specs.Cells.{cells_under, words_under, run_headed, heads_run, is_leaf_header};
 ghost use Rattle.mk_core.specs.Cells.{is_unmapped_header, has_no_pointers, head_page, cell_bits, first_word};
@@ -12,17 +12,34 @@ ghost use Rattle.mk_core.specs.Cells.{word_points_well, words_point_well, words_
 ghost use Rattle.mk_core.specs.Cells.{is_left_unmarked, are_left_unmarked, none_is_left_unmarked, is_released_cell};
 ghost use Rattle.mk_core.specs.Cells.{is_in_run};
 
-use crate::geometry::{HEAP_START, PAGE_WORDS, WORD_BYTES, page_at};
 use crate::table::Table;
-use crate::{Core, RunPages};
-use mk_geom::{Cell, Header, cells, class_words, decode, lookup};
+use crate::{Core, Phase, RunPages};
+use mk_geom::{
+    Cell, HEAP_START, Header, PAGE_WORDS, WORD_BYTES, cells, class_words, decode, head_page_under,
+    lookup, page_at,
+};
+
+/// The bit of a word that stands for a cell.
+pub fn bit(index: u64) -> u64
+    requires { index < 64 }
+    ensures { result ≡ 2 ^ index }
+{
+    1 << index
+}
 
 /// The bit of a word that stands for a cell; none for a cell that no word has a bit for.
-pub(crate) fn bit(index: u64) -> Option<u64>
+pub(crate) fn word_bit(index: u64) -> Option<u64>
     ensures some { IfSome result (λ bit. bit ≡ 2 ^ index) }
     ensures none { IfNone result (64 ≤ index) }
 {
     (index < 64).then(|| 1 << index)
+}
+
+/// The bit that stands for a cell, or 0 where a word has none for it.
+pub fn bit_for(index: u64) -> u64
+    ensures { result ≡ bit_for index }
+{
+    word_bit(index).unwrap_or(0)
 }
 
 /// Whether the value is the one bit that stands for a cell.
@@ -30,7 +47,7 @@ pub(crate) fn bit(index: u64) -> Option<u64>
 pub(crate) fn is_bit(index: u64, value: u64) -> bool
     ensures { result ≡ (value == 2 ^ index) }
 {
-    match bit(index) {
+    match word_bit(index) {
         Some(bit) => value == bit,
         None => false,
     }
@@ -38,21 +55,21 @@ pub(crate) fn is_bit(index: u64, value: u64) -> bool
 
 /// Whether the word has the bit.
 #[tactic(auto, using(crate::proofs::Bits::has_bit_past))]
-pub(crate) fn has_bit(word: u64, index: u64) -> bool
+pub fn has_bit(word: u64, index: u64) -> bool
     ensures { result ≡ has_bit word index }
 {
     index < 64 && (word >> index) & 1 == 1
 }
 
 /// The bits of a word that another hasn't.
-pub(crate) fn without(word: u64, other: u64) -> u64
+pub fn without(word: u64, other: u64) -> u64
     ensures { result ≡ without word other }
 {
     word - (word & other)
 }
 
 /// How many cells there are under a header word; a run is one, at its head page.
-pub(crate) fn cells_under(header: u64) -> u64
+pub fn cells_under(header: u64) -> u64
     ensures exact { result ≡ cells_under (header_of header) }
     ensures few { result ≤ 32 }
 {
@@ -64,7 +81,7 @@ pub(crate) fn cells_under(header: u64) -> u64
 }
 
 /// The words of one of them.
-pub(crate) fn words_under(header: u64) -> u64
+pub fn words_under(header: u64) -> u64
     ensures exact { result ≡ words_under (header_of header) }
     ensures few { result ≤ 4096 }
 {
@@ -98,7 +115,7 @@ pub(crate) fn heads_run(header: u64) -> bool
 }
 
 /// Whether the page is one of an unmapped run.
-pub(crate) fn is_unmapped(header: u64) -> bool
+pub fn is_unmapped(header: u64) -> bool
     ensures { result ≡ is_unmapped_header (header_of header) }
 {
     matches!(
@@ -109,7 +126,7 @@ pub(crate) fn is_unmapped(header: u64) -> bool
 
 /// Whether the words of a cell under the header aren't scanned: those of a leaf object, and of an
 /// unmapped run.
-pub(crate) fn has_no_pointers(header: u64) -> bool
+pub fn has_no_pointers(header: u64) -> bool
     ensures { result ≡ has_no_pointers (header_of header) }
 {
     matches!(
@@ -145,10 +162,7 @@ impl Table {
     pub(crate) fn head_page(&self, page: u64) -> u64
         ensures { result ≡ head_page self.now page }
     {
-        match decode(self.header(page)) {
-            Some(Header::Later { distance, .. }) => page.saturating_sub(distance),
-            _ => page,
-        }
+        head_page_under(self.header(page), page)
     }
 
     /// The bits of a page's cells.
@@ -271,7 +285,7 @@ impl Table {
     pub(crate) fn is_released_cell(&self, cell: Cell) -> bool
         ensures { result ≡ is_released_cell self.now cell }
     {
-        self.phase() == 4 && has_bit(self.left_unmarked(cell.page), cell.index)
+        self.is_at(Phase::Releasing) && has_bit(self.left_unmarked(cell.page), cell.index)
     }
 }
 

@@ -22,14 +22,13 @@ use crate::calls::{
     begun, onward, progress_cas, progress_getg, progress_read, progress_reg, refused, still,
 };
 use crate::cells::{has_bit, has_no_pointers, heads_run, is_unmapped, run_headed, words_under};
-use crate::geometry::{HEAP_START, PAGE_BYTES, PAGE_WORDS, page_at};
 use crate::machine::{AT_REST, Core, NOTHING_DONE, OUTSIDE};
 use crate::seats::Progress;
 use crate::{
-    Answer, Flight, Hand, Holding, Marker, OwnCycle, Placing, Presence, RunPages, Scan, Seat,
-    SeenHeader, Source, Stage, Step, Word,
+    Answer, Flight, Hand, Holding, Marker, OwnCycle, Phase, Placing, Presence, RunPages, Scan,
+    Seat, SeenHeader, Source, Stage, Step, Word,
 };
-use mk_geom::{Cell, Place, lookup};
+use mk_geom::{Cell, HEAP_START, PAGE_BYTES, PAGE_WORDS, Place, lookup, page_at};
 use mk_never::Op;
 
 /// A decided answer, behind which `give` comes.
@@ -152,7 +151,7 @@ fn scan_onward(scan: Option<Scan>) -> Option<Scan>
 fn presence_behind_attend(found: u64) -> Presence
     ensures { result ≡ (if found % 8 == 1 then Presence.Attending else Presence.Visiting) }
 {
-    if found % 8 == 1 {
+    if Phase::Marking.is_in(found) {
         Presence::Attending
     } else {
         Presence::Visiting
@@ -264,7 +263,7 @@ impl Core {
     fn is_in_stop(&self, seat: Seat) -> bool
         ensures { result ≡ is_in_stop self.now.config.callers self.now.now.words seat }
     {
-        self.table.phase() == 2 && self.others_are_held(seat)
+        self.table.is_at(Phase::Wanted) && self.others_are_held(seat)
     }
 
     /// The hand that a heap word of a scanned cell gives: where the cell is marked, or belongs to a mapped
@@ -311,7 +310,7 @@ impl Core {
         ensures { result ≡ (if is_phase self.now.now.words 4 then self.now.now.seats.holding.placing
             else chosen self.now.now.seats.holding.placing (place_now self.now.config self.now.now flight)) }
     {
-        if self.table.phase() == 4 {
+        if self.table.is_at(Phase::Releasing) {
             self.holding.placing
         } else {
             chosen(self.holding.placing, self.place_now(flight))
@@ -323,7 +322,7 @@ impl Core {
         ensures { result ≡ (if is_phase self.now.now.words 4 then self.now.now.seats.holding.placing
             else taken self.now.now.seats.holding.placing (place_now self.now.config self.now.now flight)) }
     {
-        if self.table.phase() == 4 {
+        if self.table.is_at(Phase::Releasing) {
             self.holding.placing
         } else {
             taken(self.holding.placing, self.place_now(flight))

@@ -7,12 +7,12 @@ mod cells;
 mod config;
 mod effects;
 mod events;
-mod geometry;
 mod history_laws;
 mod laws;
 mod machine;
 mod marker_conditions;
 mod order;
+mod phases;
 mod placing;
 mod ranges;
 mod reaching;
@@ -24,6 +24,9 @@ mod table;
 mod turn_conditions;
 
 pub use accesses::{Access, TableWord};
+pub use cells::{
+    bit, bit_for, cells_under, has_bit, has_no_pointers, is_unmapped, without, words_under,
+};
 pub use config::{Config, GlobalTable};
 pub use events::{Answer, Event, NotEnabled, Seat, Step, Tally, Word};
 pub use history_laws::{
@@ -32,6 +35,7 @@ pub use history_laws::{
 };
 pub use laws::{line_groups_stand_apart, words_are_one_list, words_have_indexes_of_their_own};
 pub use machine::Core;
+pub use phases::{Phase, markers_in, phase_bits};
 pub use seats::{
     Flight, Hand, Holding, Marker, OwnCycle, Placing, Presence, RunPages, Scan, SeenHeader, Source,
     Stage,

@@ -7,10 +7,9 @@ ghost use Rattle.mk_core.specs.MarkerConditions.{may_end_all};
 ghost use Rattle.mk_core.specs.Enabled.{marker_may};
 
 use crate::cells::cells_under;
-use crate::geometry::page_at;
 use crate::stop_conditions::is_attending;
-use crate::{Core, Marker, Presence, Scan, SeenHeader, Step, Word};
-use mk_geom::{Cell, lookup};
+use crate::{Core, Marker, Phase, Presence, Scan, SeenHeader, Step, Word};
+use mk_geom::{Cell, lookup, page_at};
 
 fn is_out(presence: Presence) -> bool
     ensures { result ≡ is_out presence }
@@ -102,6 +101,6 @@ impl Core {
     pub(crate) fn may_end_all(&self) -> bool
         ensures { result ≡ may_end_all self.now.config self.now.now }
     {
-        self.host_has_turn() && self.table.phase() == 0
+        self.host_has_turn() && self.table.is_at(Phase::None)
     }
 }

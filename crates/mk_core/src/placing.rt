@@ -12,13 +12,12 @@ ghost use Rattle.mk_core.specs.NewPlaces.{is_undecided_new, is_undecided_free, t
 ghost use Rattle.mk_core.specs.PageHeaders.{header_wanted};
 ghost use Rattle.mk_core.specs.TurnConditions.{place_now, frees, cell_freed};
 
-use crate::cells::bit;
-use crate::geometry::{PAGE_WORDS, SMALL_WORDS};
+use crate::cells::word_bit;
 use crate::seats::Object;
 use crate::table::Table;
-use crate::{Core, Flight, Placing, RunPages, Stage};
+use crate::{Core, Flight, Phase, Placing, RunPages, Stage};
 use mk_books::first_fit;
-use mk_geom::{Cell, Header, Place, cells, class_of, class_words, encode, run_pages};
+use mk_geom::{Cell, Header, PAGE_WORDS, Place, cells, class_of, class_words, encode, run_pages};
 use mk_never::{Kind, Op};
 
 /// The header words that neighbouring pages are to get: those of a new object, or those of an unmapped run
@@ -62,6 +61,9 @@ fn object_of(kinds: &[Kind]) -> Object
         leaf: is_leaf(kinds),
     }
 }
+
+/// The largest object that takes a cell, in words.
+const SMALL_WORDS: u64 = 32;
 
 pub(crate) fn is_small(object: Object) -> bool
     ensures { result ≡ is_small_object object }
@@ -172,7 +174,7 @@ pub(crate) fn adds_bit(word: u64, index: u64, value: u64) -> bool
     ensures { result ≡ (value == word + 2 ^ index) }
 {
     // A bit that no word has makes the sum too great for a value.
-    bit(index).is_some_and(|bit| value as u128 == word as u128 + bit as u128)
+    word_bit(index).is_some_and(|bit| value as u128 == word as u128 + bit as u128)
 }
 
 impl Table {
@@ -316,7 +318,7 @@ impl Core {
         ensures { result ≡ cell_freed self.now.config.pages self.now.now.words flight page value }
     {
         let target = self.target(flight);
-        if self.table.phase() != 4 && self.table.frees(target, page, value) {
+        if !self.table.is_at(Phase::Releasing) && self.table.frees(target, page, value) {
             target
         } else {
             None

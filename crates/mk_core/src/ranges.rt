@@ -8,11 +8,10 @@ ghost use Rattle.mk_core.specs.Ranges.{has_phase};
 
 use crate::calls::word_met;
 use crate::cells::{heads_run, is_unmapped};
-use crate::geometry::{HEAP_START, PAGE_WORDS};
 use crate::machine::Core;
 use crate::table::Table;
-use crate::{Flight, Seat, Step, Word};
-use mk_geom::Cell;
+use crate::{Flight, Phase, Seat, Step, Word};
+use mk_geom::{Cell, HEAP_START, PAGE_WORDS};
 
 impl Seat {
     /// Whether it is the caller of this number.
@@ -175,7 +174,7 @@ impl Core {
                 self.others_are_held(seat)
             }
             Step::Undirty(_) | Step::Unblack(_) => {
-                self.table.phase() != 2 || self.others_are_held(seat)
+                !self.table.is_at(Phase::Wanted) || self.others_are_held(seat)
             }
             _ => true,
         }

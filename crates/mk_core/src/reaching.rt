@@ -16,14 +16,13 @@ use crate::calls::{
     global_of, page_met, register_d, register_p, register_q, register_r, value_for, value_written,
     word_met,
 };
-use crate::cells::bit;
-use crate::geometry::{HEAP_START, WORD_BYTES};
+use crate::cells::bit_for;
 use crate::machine::OUTSIDE;
 use crate::placing::base_made;
 use crate::{
     Access, Core, Event, Flight, Marker, Placing, Scan, Seat, Stage, Step, TableWord, Tally, Word,
 };
-use mk_geom::Cell;
+use mk_geom::{Cell, HEAP_START, WORD_BYTES};
 
 fn caller_number(seat: Seat) -> u64
     ensures { result ≡ caller_number seat }
@@ -97,13 +96,6 @@ fn seen_bit(cell: Option<Cell>) -> u64
     ensures { result ≡ seen_bit cell }
 {
     cell.map_or(0, |cell| bit_for(cell.index))
-}
-
-/// The bit that stands for a cell, or 0 where a word has none for it.
-fn bit_for(index: u64) -> u64
-    ensures { result ≡ bit_for index }
-{
-    bit(index).unwrap_or(0)
 }
 
 fn register_word(caller: u64, register: u8) -> Word

@@ -14,7 +14,7 @@ ghost use Rattle.mk_core.specs.NewPlaces.{object_made};
 use crate::cells::{cells_under, has_no_pointers, is_bit, without};
 use crate::placing::bits_made;
 use crate::table::Table;
-use crate::{Core, Flight, Marker, Presence};
+use crate::{Core, Flight, Marker, Phase, Presence};
 use mk_geom::Cell;
 
 pub(crate) fn is_attending(presence: Presence) -> bool
@@ -177,7 +177,7 @@ impl Core {
         let Some(place) = self.place_now(flight) else {
             return false;
         };
-        self.table.phase() == 1
+        self.table.is_at(Phase::Marking)
             && page == place.page
             && self.table.header(page) == 0
             && value == bits_made(self.object_made(flight.op))
@@ -213,7 +213,7 @@ impl Core {
     pub(crate) fn may_undirty(&self, page: u64) -> bool
         ensures { result ≡ may_undirty self.now.now page }
     {
-        self.table.phase() != 2
+        !self.table.is_at(Phase::Wanted)
             || self.none_attends()
                 && self.table.black(page) == 0
                 && self.table.black(self.table.head_page(page)) == 0
@@ -222,7 +222,7 @@ impl Core {
     pub(crate) fn may_unblack(&self) -> bool
         ensures { result ≡ may_unblack self.now.now }
     {
-        self.table.phase() != 2 || self.none_attends()
+        !self.table.is_at(Phase::Wanted) || self.none_attends()
     }
 
     pub(crate) fn may_black(&self, page: u64, value: u64) -> bool

@@ -1,12 +1,14 @@
 //! The words of the shared table, in plain lists.
-ghost use Rattle.std.specs.Prelude.{◌≡◌, ℕ, ◌+◌, ◌*◌, ◌^◌, ◌<◌, IfOk, replicate, slice_index, slice_set};
+ghost use Rattle.std.specs.Prelude.{◌≡◌, ℕ, ◌+◌, ◌*◌, ◌^◌, ◌<◌, ◌==◌, IfOk, replicate, slice_index, slice_set};
 ghost use Rattle.mk_core.specs.declared.events.Word.TheVariants as word;
 ghost use Rattle.mk_geom.specs.Storages.{free_page};
 ghost use Rattle.mk_core.specs.Words.{Words, zero_words_of, page_of, header_at, used_at, quarantine_word};
 ghost use Rattle.mk_core.specs.Words.{register_word, named_word, word_in, with_named, with_word_in, becomes, accessed};
 ghost use Rattle.mk_core.specs.Words.{phase_of};
+ghost use Rattle.mk_core.specs.Phases.{phase_number};
 
-use crate::{Access, TableWord, Word};
+use crate::phases::phase_bits;
+use crate::{Access, Phase, TableWord, Word};
 use mk_geom::{FREE_PAGE, Page};
 use mk_never::NoMemory;
 use std::alloc::Global;
@@ -221,7 +223,14 @@ impl Table {
     pub(crate) fn phase(&self) -> u64
         ensures { result ≡ phase_of self.now }
     {
-        self.phase % 8
+        phase_bits(self.phase)
+    }
+
+    /// Whether the phase is this one, whatever markers are in.
+    pub(crate) fn is_at(&self, phase: Phase) -> bool
+        ensures { result ≡ (phase_of self.now == phase_number phase) }
+    {
+        phase.is_in(self.phase)
     }
 
     /// A page's quarantine word.

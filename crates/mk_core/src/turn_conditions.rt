@@ -13,7 +13,7 @@ use crate::cells::{has_bit, without};
 use crate::placing::{PageHeaders, adds_bit, bits_made, pages_made};
 use crate::seats::Object;
 use crate::table::Table;
-use crate::{Core, Flight, OwnCycle, Placing, Stage};
+use crate::{Core, Flight, OwnCycle, Phase, Placing, Stage};
 use mk_books::held_by_pages;
 use mk_geom::{Cell, Place};
 
@@ -35,7 +35,7 @@ impl Table {
     fn is_marked_first(&self, object: Object, place: Place) -> bool
         ensures { result ≡ is_marked_first self.now object place }
     {
-        self.phase() != 1 || without(bits_made(object), self.mark(place.page)) == 0
+        !self.is_at(Phase::Marking) || without(bits_made(object), self.mark(place.page)) == 0
     }
 
     /// Whether the page is the next of the place to get its header.
@@ -92,7 +92,7 @@ impl Table {
         ensures { result ≡ takes_snapshot self.now page value }
     {
         let freed = self.freed(page) as u64;
-        self.phase() == 0 && value == freed + (freed << 32)
+        self.is_at(Phase::None) && value == freed + (freed << 32)
     }
 
     /// Whether released cells that aren't used lose both bits.
@@ -140,7 +140,7 @@ impl Core {
     pub(crate) fn may_head(&self, flight: Flight, page: u64, value: u64) -> bool
         ensures { result ≡ may_head self.now.config self.now.now flight page value }
     {
-        if self.table.phase() == 4 {
+        if self.table.is_at(Phase::Releasing) {
             self.table.empties(page, value)
         } else {
             self.carves(flight, page, value) || self.unmaps(page, value)
@@ -167,7 +167,7 @@ impl Core {
     pub(crate) fn may_use(&self, flight: Flight, page: u64, value: u64) -> bool
         ensures { result ≡ may_use self.now.config self.now.now flight page value }
     {
-        if self.table.phase() == 4 {
+        if self.table.is_at(Phase::Releasing) {
             self.table.gives_back(page, value)
         } else {
             !is_used_once(self.holding.placing) && self.takes_cell(flight, page, value)
@@ -177,7 +177,7 @@ impl Core {
     pub(crate) fn may_quarantine(&self, flight: Flight, page: u64, value: u64) -> bool
         ensures { result ≡ may_quarantine self.now.config self.now.now flight page value }
     {
-        if self.table.phase() == 4 {
+        if self.table.is_at(Phase::Releasing) {
             self.table.drops(page, value % (1 << 32), value >> 32)
         } else {
             self.table.frees(self.target(flight), page, value)

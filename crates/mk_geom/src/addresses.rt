@@ -1,22 +1,53 @@
-//! What an address points into.
-ghost use Rattle.std.specs.Prelude.{◌≡◌, ◌<◌};
-ghost use Rattle.mk_geom.specs.Addresses.{cell_at, cell_of_block};
+//! What an address points into. The heap's words stand one behind the other from the heap's start on.
+ghost use Rattle.std.specs.Prelude.{◌≡◌, ◌<◌, ◌≤◌, true, false, IfSome, IfNone};
+ghost use Rattle.mk_geom.specs.Addresses.{cell_at, cell_of_block, head_page_under, is_heap_address, page_at_address};
+ghost use Rattle.mk_geom.specs.Headers.{header_of};
 
 use crate::classes::PAGE_WORDS;
 use crate::{Header, cells, class_words, decode};
 
 /// The address of the heap's first word.
-const HEAP_START: u64 = 65536;
+pub const HEAP_START: u64 = 65536;
 
-const WORD_BYTES: u64 = 8;
+pub const WORD_BYTES: u64 = 8;
 
-const PAGE_BYTES: u64 = WORD_BYTES * PAGE_WORDS;
+pub const PAGE_BYTES: u64 = WORD_BYTES * PAGE_WORDS;
 
 /// A cell of a block, or a run, which is a cell of index 0 at its head page.
 #[derive(Clone, Copy, Debug, PartialEq, Eq)]
 pub struct Cell {
     pub page: u64,
     pub index: u64,
+}
+
+/// The page that an address is in, counted from the heap's first; that one, where the address is before the heap.
+pub fn page_at(address: u64) -> u64
+    ensures { result ≡ page_at_address address }
+{
+    address.saturating_sub(HEAP_START) / PAGE_BYTES
+}
+
+/// The page that an address is in, in a heap of so many pages. None where the address is outside the heap.
+pub fn heap_page(pages: u64, address: u64) -> Option<u64>
+    ensures page { IfSome result (λ page. page ≡ page_at_address address) }
+    ensures within { IfSome result (λ page. page < pages) }
+    ensures inside { IfSome result (λ page. is_heap_address pages address ≡ true) }
+    ensures outside { IfNone result (is_heap_address pages address ≡ false) }
+{
+    let offset = address.checked_sub(HEAP_START)?;
+    let page = offset / PAGE_BYTES;
+    (page < pages).then_some(page)
+}
+
+/// The head page of the run that a page is of, by its header word; another page is its own.
+pub fn head_page_under(header: u64, page: u64) -> u64
+    ensures exact { result ≡ head_page_under (header_of header) page }
+    ensures least { result ≤ page }
+{
+    match decode(header) {
+        Some(Header::Later { distance, .. }) => page.saturating_sub(distance),
+        _ => page,
+    }
 }
 
 /// The cell or run that an address points into, used or not, in a heap of so many pages, where

@@ -2,7 +2,8 @@
 ghost use Rattle.std.specs.Prelude.{◌≡◌, ℕ, ◌<◌, ◌≤◌, ◌↔◌, ◌⊎◌, IfSome, IsNone, nat_le, position};
 ghost use Rattle.mk_geom.specs.Classes.{class_for, class_words_of, cells_of, run_pages_of};
 
-pub(crate) const PAGE_WORDS: u64 = 64;
+/// The words of a page.
+pub const PAGE_WORDS: u64 = 64;
 
 /// The words of a cell, by class.
 const CLASS_WORDS: [u64; 8] = [2, 4, 6, 8, 12, 16, 24, 32];

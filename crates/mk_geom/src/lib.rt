@@ -8,8 +8,10 @@ mod headers;
 mod laws;
 mod pages;
 
-pub use addresses::{Cell, lookup};
-pub use classes::{cells, class_of, class_words, run_pages};
+pub use addresses::{
+    Cell, HEAP_START, PAGE_BYTES, WORD_BYTES, head_page_under, heap_page, lookup, page_at,
+};
+pub use classes::{PAGE_WORDS, cells, class_of, class_words, run_pages};
 pub use headers::{Header, decode, encode};
 pub use laws::{
     a_storage_has_its_cell, first_fit_finds_places, free_pages_stand_for_nothing,

@@ -8,11 +8,12 @@ use lib.ListN.{get_elem?}
 use Rattle.atomic_table.specs.declared.shared.Seat.{Seat as Token}
 use Rattle.mk_core.specs.declared.config.Config.{Config}
 use Rattle.mk_core.specs.declared.events.Event.{Event}
+use Rattle.mk_core.specs.declared.events.Word.{Word}
 use Rattle.mk_core.specs.declared.events.Word.TheVariants as word
 use Rattle.mk_core.specs.declared.accesses.TableWord.{TableWord}
 use Rattle.mk_core.specs.declared.accesses.TableWord.TheVariants.{Named}
 use Rattle.mk_core.specs.Words.{Words, word_in}
-use Rattle.mk_core.specs.Layout.{index_of, in_order, AreOfPages, IsOfTable}
+use Rattle.mk_core.specs.Layout.{index_of, index_of_named, in_order, AreOfPages, IsOfTable}
 use Rattle.mk_core.specs.History.{left}
 use Rattle.mk_core.proofs.Lengths.{histories_keep_lengths}
 use Rattle.mk_core.proofs.RegionLemmas.{words_stand}
@@ -25,11 +26,11 @@ found_at [] i n e = absurd (some-ne-none n (sym e))
 found_at (x ∷ l) zero n e = sym (some-injective x n e)
 found_at (x ∷ l) (suc i) n e = found_at l i n e
 
-pub one_page_more : (ws : List ℕ) (pages page freed word : ℕ) → freed ≡ freed_bits_in ws pages page
-    → word ≡ slice_index ws (640 + 2 * pages + page)
-    → freed + count_ones (word % 2 ^ 32) ≡ freed_bits_in ws pages (page + 1)
-one_page_more ws pages page freed word counted is =
-    ap (λ (n : ℕ). n + count_ones (word % 2 ^ 32)) counted
+pub one_page_more : (ws : List ℕ) (pages page freed found : ℕ) → freed ≡ freed_bits_in ws pages page
+    → found ≡ slice_index ws (index_of_named pages (word.Quar page))
+    → freed + count_ones (found % 2 ^ 32) ≡ freed_bits_in ws pages (page + 1)
+one_page_more ws pages page freed found counted is =
+    ap (λ (n : ℕ). n + count_ones (found % 2 ^ 32)) counted
     ∙ ap (λ (x : ℕ). freed_bits_in ws pages page + count_ones (x % 2 ^ 32)) is
     ∙ sym (ap (λ (n : ℕ). freed_bits_in ws pages n) (add-one page))
 
@@ -41,7 +42,7 @@ freed_are pages w zero of le = refl
 freed_are pages w (suc n) of le =
     let lt : n < pages = omega arith in
     let at = words_stand pages w (Named (word.Quar n)) of lt in
-    ap (λ (k : ℕ). k + count_ones (slice_index (in_order w) (640 + 2 * pages + n) % 2 ^ 32))
+    ap (λ (k : ℕ). k + count_ones (slice_index (in_order w) (index_of_named pages (word.Quar n)) % 2 ^ 32))
     (freed_are pages w n of (omega arith))
     ∙ ap (λ (k : ℕ). freed_cells w n + count_ones (k % 2 ^ 32)) at
     ∙ ap (λ (k : ℕ). freed_cells w n + count_ones k)
@@ -49,16 +50,20 @@ freed_are pages w (suc n) of le =
 
 tally_at : (pages : ℕ) (w : Words) (ws : List ℕ) (x : TableWord) (n : ℕ) → AreOfPages pages w → IsOfTable pages x
     → ws ≡ in_order w
-    → get_elem? ws (index_of pages x) ≡ some n → n ≡ word_in w x
+    → n ≡ slice_index ws (index_of pages x) → n ≡ word_in w x
 tally_at pages w ws x n of table is at =
-    found_at ws (index_of pages x) n at ∙ ap (λ (l : List ℕ). slice_index l (index_of pages x)) is
+    at ∙ ap (λ (l : List ℕ). slice_index l (index_of pages x)) is
     ∙ words_stand pages w x of table
+
+-- a tally, of which every table has one at the same index
+abbrev last_of : List ℕ → Word → ℕ
+last_of ws tally = slice_index ws (index_of_named 0 tally)
 
 pub tallies_are : (c : Config) (es : List Event) (ws : List ℕ) (held fresh quarantined cycles released full : ℕ)
     (memory : Token (Unit {0}) View)
-    → ws ≡ in_order (left c es).now.words → get_elem? ws 32 ≡ some held → get_elem? ws 33 ≡ some fresh
+    → ws ≡ in_order (left c es).now.words → held ≡ last_of ws word.Held → fresh ≡ last_of ws word.Fresh
     → quarantined ≡ freed_bits_in ws c.pages c.pages
-    → get_elem? ws 34 ≡ some cycles → get_elem? ws 35 ≡ some released → get_elem? ws 36 ≡ some full
+    → cycles ≡ last_of ws word.Cycles → released ≡ last_of ws word.Released → full ≡ last_of ws word.Full
     → HasTallies (left c es).now.words c.pages
     (record {
       held = held;
@@ -85,10 +90,10 @@ tallies_are c es ws held fresh quarantined cycles released full memory is a b q 
 -- The same, where a call names the configuration and the list in its own way.
 pub tallies_told : (c of_pass of_words : Config) (es seen : List Event) (ws : List ℕ)
     (held fresh quarantined cycles released full : ℕ) (memory : Token (Unit {0}) View)
-    → of_pass ≡ c → of_words ≡ c → seen ≡ es → ws ≡ in_order (left c es).now.words → get_elem? ws 32 ≡ some held
-    → get_elem? ws 33 ≡ some fresh
-    → quarantined ≡ freed_bits_in ws c.pages c.pages → get_elem? ws 34 ≡ some cycles → get_elem? ws 35 ≡ some released
-    → get_elem? ws 36 ≡ some full
+    → of_pass ≡ c → of_words ≡ c → seen ≡ es → ws ≡ in_order (left c es).now.words → held ≡ last_of ws word.Held
+    → fresh ≡ last_of ws word.Fresh
+    → quarantined ≡ freed_bits_in ws c.pages c.pages → cycles ≡ last_of ws word.Cycles
+    → released ≡ last_of ws word.Released → full ≡ last_of ws word.Full
     → HasTallies (left of_pass seen).now.words of_words.pages
     (record {
       held = held;

@@ -1,7 +1,9 @@
 -- What is known of a table that has ended.
-use Rattle.std.specs.Prelude.{◌≡◌, ℕ, zero, suc, ◌+◌, ◌*◌, ◌%◌, ◌^◌, List, slice_index, count_ones}
+use Rattle.std.specs.Prelude.{◌≡◌, ℕ, zero, suc, ◌+◌, ◌%◌, ◌^◌, List, slice_index, count_ones}
 use Rattle.mk_core.specs.declared.config.Config.{Config}
 use Rattle.mk_core.specs.declared.events.Event.{Event}
+use Rattle.mk_core.specs.declared.events.Word.TheVariants as word
+use Rattle.mk_core.specs.Layout.{index_of_named}
 use Rattle.mk_core.specs.Words.{Words}
 use Rattle.mk_words.specs.declared.finals.Final.{Final}
 
@@ -13,12 +15,12 @@ history_of f = f.memory.me.0.own.seen
 abbrev pub config_of : Final → Config
 config_of f = f.memory.me.0.config
 
--- How many cells are freed by the quarantine words of the first pages, of so many. They stand behind the headers and
--- the used words, and have the freed cells in their low halves.
+-- How many cells are freed by the quarantine words of the first pages, of so many. These words have the freed cells in
+-- their low halves.
 abbrev pub freed_bits_in : List ℕ → ℕ → ℕ → ℕ
 freed_bits_in words pages zero = 0
 freed_bits_in words pages (suc n) =
-    freed_bits_in words pages n + count_ones (slice_index words (640 + 2 * pages + n) % 2 ^ 32)
+    freed_bits_in words pages n + count_ones (slice_index words (index_of_named pages (word.Quar n)) % 2 ^ 32)
 
 -- and by the freed cells of these words
 abbrev pub freed_cells : Words → ℕ → ℕ

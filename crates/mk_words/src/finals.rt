@@ -1,10 +1,13 @@
 //! What is known of a table that has ended.
-ghost use Rattle.std.specs.Prelude.{◌≡◌, ◌≤◌, ◌+◌, ◌*◌};
+ghost use Rattle.std.specs.Prelude.{◌≡◌, ◌≤◌, slice_index};
 ghost use Rattle.std.specs.Mem.Slots.{slots_items, slots_len, IsFull};
+ghost use Rattle.mk_core.specs.Layout.{count_of_words, index_of_named, NamesWord};
 ghost use Rattle.mk_words.specs.Finals.{freed_bits_in};
 
+use crate::indexes::index_of;
 use crate::rule::View;
 use atomic_table::{Closed, Seat as Token};
+use mk_core::{TableWord, Word};
 use std::alloc::Global;
 
 /// The tallies that the history left, and how many freed bits the quarantine words have. The history itself stays
@@ -20,17 +23,28 @@ pub struct Final {
     pub(crate) memory: Token<(), View>,
 }
 
+/// The word of that name.
+pub(crate) fn last_word(closed: &Closed<(), Global>, pages: u64, name: Word) -> u64
+    requires pages { pages ≤ 4096 }
+    requires full { IsFull closed.now.words }
+    requires words { count_of_words pages ≤ slots_len closed.now.words }
+    requires names { NamesWord pages name }
+    ensures { result ≡ slice_index (slots_items closed.now.words) (index_of_named pages name) }
+{
+    closed.word(index_of(pages, TableWord::Named(name)))
+}
+
 /// The freed bits of the quarantine words of so many pages.
 pub(crate) fn freed_bits(closed: &Closed<(), Global>, pages: u64) -> u64
     requires pages { pages ≤ 4096 }
     requires full { IsFull closed.now.words }
-    requires words { 640 + 70 * pages ≤ slots_len closed.now.words }
+    requires words { count_of_words pages ≤ slots_len closed.now.words }
     ensures { result ≡ freed_bits_in (slots_items closed.now.words) pages pages }
 {
     let mut freed = 0;
     let mut page = 0;
     while page < pages {
-        let word = closed.word((640 + 2 * pages + page) as usize);
+        let word = last_word(closed, pages, Word::Quar(page));
         freed += (word % (1 << 32)).count_ones() as u64;
         page += 1;
     }

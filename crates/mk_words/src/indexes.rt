@@ -1,8 +1,16 @@
 //! Where each word stands in the table.
 ghost use Rattle.std.specs.Prelude.{◌≡◌, ◌≤◌};
-ghost use Rattle.mk_core.specs.Layout.{index_of, index_of_named, IsOfTable, NamesWord};
+ghost use Rattle.mk_core.specs.Layout.{count_of_words, index_of, index_of_named, IsOfTable, NamesWord};
 
 use mk_core::{TableWord, Word};
+
+/// How many words a table of so many pages has.
+pub(crate) fn count_of_words(pages: u64) -> usize
+    requires { pages ≤ 4096 }
+    ensures { result ≡ count_of_words pages }
+{
+    (656 + 85 * pages) as usize
+}
 
 /// The index of a word that has a name, in a table of so many pages.
 #[inline(always)]
@@ -26,8 +34,8 @@ fn index_of_named(pages: u64, word: Word) -> usize
         Word::Quar(page) => 640 + 2 * pages + page,
         Word::Mark(page) => 640 + 3 * pages + page,
         Word::Black(page) => 640 + 4 * pages + page,
-        Word::Dirty(page) => 640 + 5 * pages + page,
-        Word::Heap(place) => 640 + 6 * pages + place,
+        Word::Dirty(page) => 656 + 5 * pages + 16 * page,
+        Word::Heap(place) => 656 + 21 * pages + place,
     }) as usize
 }
 

@@ -8,13 +8,14 @@ ghost use Rattle.mk_words.specs.Seats.{Has, HasAll, all_seats, without_seat, is_
 ghost use Rattle.mk_words.specs.States.{now_of};
 ghost use Rattle.mk_words.specs.Finals.{history_of, config_of, HasTallies};
 
-use crate::finals::{Final, freed_bits};
+use crate::finals::{Final, freed_bits, last_word};
+use crate::indexes::{count_of_words, index_of};
 use crate::passes::{OUTSIDE, Pass};
 use crate::rule::{OneHistory, View};
 use crate::telling::{HandOver, Handing, Remember, Settle, Together};
 use crate::tokens::SeatToken;
 use atomic_table::Table;
-use mk_core::{Config, Seat};
+use mk_core::{Config, Seat, TableWord, Word};
 use mk_never::{NoMemory, TypeTable};
 use std::alloc::Global;
 use std::marker::{Brand, Model};
@@ -97,8 +98,7 @@ impl Words {
         ensures pass { IfOk result
             (λ made. made.1 ≡ record { table = made.0; seat = Host; seats = all_seats config.now; seen = [] }) }
     {
-        let count = 640 + 70 * config.pages as usize;
-        let zeros = zeros(alloc, count)?;
+        let zeros = zeros(alloc, count_of_words(config.pages))?;
         let copy = config.try_clone(alloc)?;
         match Table::of_words(alloc, zeros.as_slice(), config) {
             Ok((table, token)) => Ok((
@@ -188,7 +188,10 @@ impl Words {
     pub fn is_turn_free(&self, pass: &mut Pass) -> bool
         ensures { pass.new ≡ pass.old }
     {
-        self.table.shared.peek(16) == 0
+        self.table
+            .shared
+            .peek(index_of(self.config.pages, TableWord::Turn))
+            == 0
     }
 
     /// Waits in line with others that want the turn, and stands first until what it gives is dropped. Who stands behind
@@ -220,14 +223,14 @@ impl Words {
         let SeatToken { mut token, .. } = own;
         let memory = table.shared.split_seat::<Remember>(&mut token);
         let closed = table.close_with(token);
-        let quarantined = freed_bits(&closed, config.pages);
+        let pages = config.pages;
         let last = Final {
-            held: closed.word(32),
-            fresh: closed.word(33),
-            quarantined,
-            cycles: closed.word(34),
-            released: closed.word(35),
-            full: closed.word(36),
+            held: last_word(&closed, pages, Word::Held),
+            fresh: last_word(&closed, pages, Word::Fresh),
+            quarantined: freed_bits(&closed, pages),
+            cycles: last_word(&closed, pages, Word::Cycles),
+            released: last_word(&closed, pages, Word::Released),
+            full: last_word(&closed, pages, Word::Full),
             memory,
         };
         closed.free();

@@ -41,8 +41,10 @@ returns-clause-tallies c =
     (slots_items r.slots) c.words.invariant.key home c.close_with-closed.ensures.values.2 in
     tallies_told w.config c.args.own.table.config c.args.words.config token.me.0.own.seen c.args.own.seen
     (slots_items r.words)
-    c.word.result c.word-2.result c.freed_bits-quarantined.result c.word-3.result c.word-4.result c.word-5.result
+    c.last_word.result c.last_word-2.result c.freed_bits.result c.last_word-3.result c.last_word-4.result
+    c.last_word-5.result
     c.split_seat-memory.result
     (ap (λ (x : WordsState). x.config) c.requires.one_table
     ∙ sym same) (sym same) (ap (λ (q : PassState). q.seen) (sym view)) ended.words
-    c.word.ensures c.word-2.ensures c.freed_bits-quarantined.ensures c.word-3.ensures c.word-4.ensures c.word-5.ensures
+    c.last_word.ensures c.last_word-2.ensures c.freed_bits.ensures c.last_word-3.ensures c.last_word-4.ensures
+    c.last_word-5.ensures

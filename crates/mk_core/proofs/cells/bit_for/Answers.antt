@@ -2,7 +2,7 @@ use Rattle.std.proofs.Common.{◌≡◌, ℕ, ◌-◌, ◌*◌, ◌%◌, ◌^◌
 use Rattle.std.proofs.Math.Nat.{mul-mod_left}
 use Rattle.std.proofs.lemmas.Nat.{pow-add}
 use Rattle.mk_core.specs.Bits.{bit_for}
-use Rattle.mk_core.proofs.reaching.bit_for.Goals as goal
+use Rattle.mk_core.proofs.cells.bit_for.Goals as goal
 
 bit_for-past : (k : ℕ) → 64 ≤ k → bit_for k ≡ 0
 bit_for-past k le =

@@ -1,0 +1,11 @@
+-- What a test of a phase word tells of it.
+use Rattle.std.proofs.Common.{◌≡◌, ℕ, Bool, true, false, sym, ◌∙◌}
+use Rattle.std.specs.Prelude.{◌==◌, ◌%◌}
+use Rattle.std.proofs.lemmas.Bool.{eqb-true, eqb-false}
+
+pub in_word : (word number : ℕ) (answer : Bool) → answer ≡ (word % 8 == number) → answer ≡ true → word % 8 ≡ number
+in_word word number answer is h = eqb-true (word % 8) number (sym is ∙ h)
+
+pub not_in_word : (word number : ℕ) (answer : Bool) → answer ≡ (word % 8 == number) → answer ≡ false
+    → word % 8 ≡ number → ⊥
+not_in_word word number answer is h = eqb-false (word % 8) number (sym is ∙ h)
