@@ -1,7 +1,7 @@
 -- The pages of a freed large allocation aren't resident, until they get other headers.
-use Rattle.std.proofs.Common.{◌≡◌, ◌≢◌, ℕ, ◌+◌, ◌-◌, ◌/◌, ◌<◌, ◌≤◌, Bool, true, false, List, [], ◌∷◌, ◌++◌, length, refl}
+use Rattle.std.proofs.Common.{◌≡◌, ℕ, ◌+◌, ◌-◌, ◌/◌, ◌<◌, Bool, true, false, List, [], ◌∷◌, length, refl}
 use Rattle.std.proofs.Common.{sym, ◌∙◌, ap, subst, inl, inr, arith}
-use Rattle.std.specs.Prelude.{◌&&◌, ◌==◌, not, Option, Some, None, slice_index_or, slice_set}
+use Rattle.std.specs.Prelude.{◌&&◌, ◌==◌, not, Option, Some, None}
 use Rattle.std.specs.List.{list_any}
 use Rattle.std.proofs.lemmas.Bool.{and_from, cases_Bool, cases_eq, cases_lt, eq-eqb, eqb-true, false_from_ne_true}
 use Rattle.std.proofs.lemmas.Bool.{ne_eqb, or_parts, true≢false}
@@ -22,7 +22,7 @@ use Rattle.mk_core.specs.Allocations.{PlacedAllocation, placed_at}
 use Rattle.mk_core.specs.Cells.{is_unmapped_header}
 use Rattle.mk_core.specs.History.{IsHistory, World, first_world, left, left_from, never_behind, world_behind}
 use Rattle.mk_core.specs.Moments.{Moment, is_phase}
-use Rattle.mk_core.specs.NewPlaces.{is_run_unmapped, is_small_object, pages_made, unmapped_header}
+use Rattle.mk_core.specs.NewPlaces.{is_small_object, pages_made, unmapped_header}
 use Rattle.mk_core.specs.StandingAllocations.{object_placed}
 use Rattle.mk_core.specs.Words.{header_at}
 use Rattle.mk_core.proofs.Histories.{left_append}
@@ -32,7 +32,7 @@ use Rattle.mk_core.proofs.Sizes.{large_count}
 use Rattle.mk_protocol.specs.Ground.{ground_of}
 use Rattle.mk_protocol.proofs.SameWords.{Behind}
 use Rattle.mk_guard.proofs.Changes.{Table, reg_table, tally_table}
-use Rattle.mk_layout.specs.Scene.{HasHeader, IsShown, Unmapped, used_on}
+use Rattle.mk_layout.specs.Scene.{HasHeader, IsShown, used_on}
 use Rattle.mk_layout.specs.Terrain.{claim_of, is_unmapping, mode_of, object_now}
 use Rattle.mk_layout.proofs.Claims.{claim_among}
 use Rattle.mk_layout.proofs.Freed.{gone_terrain}
