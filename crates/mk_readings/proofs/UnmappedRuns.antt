@@ -32,7 +32,7 @@ use Rattle.mk_core.proofs.Sizes.{large_count}
 use Rattle.mk_protocol.specs.Ground.{ground_of}
 use Rattle.mk_protocol.proofs.SameWords.{Behind}
 use Rattle.mk_guard.proofs.Changes.{Table, reg_table, tally_table}
-use Rattle.mk_layout.specs.Scene.{HasHeader, IsShown, used_on}
+use Rattle.mk_layout.specs.LayoutScene.{HasHeader, IsShown, used_on}
 use Rattle.mk_layout.specs.Terrain.{claim_of, is_unmapping, mode_of, object_now}
 use Rattle.mk_layout.proofs.Claims.{claim_among}
 use Rattle.mk_layout.proofs.Freed.{gone_terrain}
