@@ -163,7 +163,7 @@ pub not_wiped_yet : is_run_gone unmapped.now.words unmapped.now.seats.holding.fr
 unfolding by c0 all_below pointed_cell three_pages large_freed left_from
 not_wiped_yet = refl
 
-unmapped_is_settled : IsSettled unmapped
+pub unmapped_is_settled : IsSettled unmapped
 unfolding by c0 all_below pointed_cell may_turn_black three_pages large_freed left_from
 unmapped_is_settled = record { releasing = refl; placing = refl; unmapped = refl }
 

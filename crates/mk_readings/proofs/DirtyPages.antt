@@ -1,6 +1,6 @@
 -- On a dirty page, and on one whose dirty mark a call owes, an unreleased allocation stands. Only a `release` could end
 -- that, and at a `release` no page is dirty and no mark is owed.
-use Rattle.std.proofs.Common.{◌≡◌, ◌≢◌, ◌⊎◌, ℕ, ◌<◌, Bool, true, false, List, [], ◌∷◌, ◌++◌, length, refl, sym}
+use Rattle.std.proofs.Common.{◌≡◌, ◌≢◌, ◌⊎◌, ℕ, true, false, List, [], ◌∷◌, ◌++◌, length, refl, sym}
 use Rattle.std.proofs.Common.{◌∙◌, ap, subst, inl, inr, arith, append-nil}
 use Rattle.std.specs.Prelude.{slice_index, slice_index_or, slice_set, ◌==◌, ◌&&◌}
 use Rattle.std.proofs.lemmas.Bool.{cases_eq, cases_lt, and_parts, eqb-true, ltb-true, true≢false}
@@ -17,24 +17,20 @@ use Rattle.mk_core.specs.declared.seats.Flight.{Flight}
 use Rattle.mk_core.specs.declared.seats.Stage.{Stage}
 use Rattle.mk_core.specs.declared.seats.Stage.TheVariants as stage
 use Rattle.mk_core.specs.Accesses.{found}
-use Rattle.mk_core.specs.Allocations.{PlacedAllocation, placed_at, storage_of, storage_words}
-use Rattle.mk_core.specs.Bits.{without}
+use Rattle.mk_core.specs.Allocations.{placed_at, storage_words}
 use Rattle.mk_core.specs.Bounded.{all_below}
 use Rattle.mk_core.specs.Calls.{at_rest, page_met, word_met}
 use Rattle.mk_core.specs.Cycles.{is_release}
 use Rattle.mk_core.specs.Effects.{progress}
 use Rattle.mk_core.specs.Decided.{Decided, asked}
 use Rattle.mk_core.specs.History.{AreEnabledFrom, IsHistory, World, call_decided, calls_from, first_world, left}
-use Rattle.mk_core.specs.History.{left_from, never_behind, world_behind}
+use Rattle.mk_core.specs.History.{left_from, never_behind}
 use Rattle.mk_core.specs.Moments.{Moment, flight_of}
-use Rattle.mk_core.specs.NewPlaces.{object_made}
-use Rattle.mk_core.specs.ObjectHeaders.{words_made}
 use Rattle.mk_core.specs.StopConditions.{has_closed_page, none_attends, roots_point_well}
 use Rattle.mk_core.specs.Words.{phase_of}
 use Rattle.mk_core.proofs.AllBelow.{all_below-at}
 use Rattle.mk_core.proofs.Histories.{left_more}
 use Rattle.mk_core.proofs.HistoryParts.{admitted_in_parts, earlier_part_is_history, enabled_in_parts}
-use Rattle.mk_protocol.specs.Protocol.{Protocol}
 use Rattle.mk_protocol.proofs.Actors.{Meets}
 use Rattle.mk_protocol.proofs.Known.{Known}
 use Rattle.mk_protocol.proofs.NextSteps.{at_its_stage}
@@ -58,7 +54,7 @@ use Rattle.mk_readings.specs.FreePages.{DirtyPagesHaveAllocations, HasAllocation
 use Rattle.mk_readings.proofs.CyclePhases.{phase_asked, phase_behind, phase_moves}
 use Rattle.mk_zeros.proofs.MappedWords.{mapped_stays}
 use Rattle.mk_readings.proofs.KeptPlaces.{put_step}
-use Rattle.mk_readings.proofs.OwedMarks.{OwesSince, owes_since}
+use Rattle.mk_readings.proofs.OwedMarks.{owes_since}
 
 pub record DirtyStands (c : Config) (w : World) : Type 0 where
   pub dirty : DirtyPagesHaveAllocations c w

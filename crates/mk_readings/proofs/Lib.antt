@@ -1,3 +1,4 @@
+pub mod AppliedPages
 pub mod AppliedReadings
 pub mod AppliedTheorems
 pub mod CyclePhases
@@ -11,4 +12,5 @@ pub mod OwedMarks
 pub mod Releases
 pub mod Snapshots
 pub mod Stands
+pub mod UnmappedRuns
 pub mod UnsetWords

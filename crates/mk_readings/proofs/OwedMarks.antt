@@ -14,11 +14,10 @@ use Rattle.mk_core.specs.declared.events.Step.TheVariants as step
 use Rattle.mk_core.specs.declared.seats.Flight.{Flight}
 use Rattle.mk_core.specs.declared.seats.Stage.{Stage}
 use Rattle.mk_core.specs.declared.seats.Stage.TheVariants as stage
-use Rattle.mk_core.specs.declared.seats.Progress.{Progress}
 use Rattle.mk_core.specs.Calls.{begun, first_of, onward, page_met, progress_reg, progress_q, progress_p, refused}
 use Rattle.mk_core.specs.Calls.{progress_read, stage_behind, stage_refused, steps_of, still}
 use Rattle.mk_core.specs.Cells.{is_unmapped_header}
-use Rattle.mk_core.specs.Effects.{begins_where_free, decided, progress, progress_freed, progress_probe, sees_double}
+use Rattle.mk_core.specs.Effects.{decided, progress, progress_freed, sees_double}
 use Rattle.mk_core.specs.Moments.{Moment}
 use Rattle.mk_core.specs.NewPlaces.{target}
 use Rattle.mk_core.specs.Order.{comes_next}

@@ -10,6 +10,7 @@ ghost use Rattle.mk_readings.specs.FreePages.{DirtyPagesHaveAllocations, FreePag
 ghost use Rattle.mk_readings.specs.Readings.{HeadersAndQuarantineTell};
 ghost use Rattle.mk_readings.specs.Releases.{NoOthersRelease, ReleasesAreExact, ReleasesAreOfCycles};
 ghost use Rattle.mk_readings.specs.Releases.{ReleasesNoneReached};
+ghost use Rattle.mk_readings.specs.UnmappedRuns.{UnmappedRunsTakeNoMemory};
 ghost use Rattle.mk_readings.specs.UnsetWords.{RegistersOfNoCallerAreZero, UnsetGlobalsAreZero};
 
 /// What a look at a header word and at the freed bits of a quarantine word tells.
@@ -51,4 +52,10 @@ pub fn free_pages_have_nothing()
 pub fn unset_words_are_zero()
     ensures registers { OfHistories (Leaves RegistersOfNoCallerAreZero) }
     ensures globals { OfHistories UnsetGlobalsAreZero }
+{}
+
+/// The pages of a freed large allocation aren't resident from its last `head` on, until they are made a block or a
+/// run again.
+pub fn unmapped_runs_take_no_memory()
+    ensures { OfHistories UnmappedRunsTakeNoMemory }
 {}

@@ -12,11 +12,14 @@ use Rattle.mk_placement.proofs.Tallies.{tallies_are_exact_at_gives}
 use Rattle.mk_placement.proofs.Theorems.{fulls_fit_nowhere, grants_stand_at_their_places}
 use Rattle.mk_precision.proofs.Freeing.{frees_the_untouched}
 use Rattle.mk_precision.proofs.Stopped.{releases_the_untouched}
+use Rattle.mk_readings.proofs.FreePages.{dirty_pages_have_allocations, free_pages_have_nothing}
 use Rattle.mk_readings.proofs.FreeCells.{free_cells_are_zero, words_behind_cells_are_zero}
 use Rattle.mk_readings.proofs.ReleasedCycles.{releases_are_of_cycles}
 use Rattle.mk_readings.proofs.Releases.{no_others_release, releases_are_exact, releases_none_reached}
 use Rattle.mk_readings.proofs.Snapshots.{snapshots_tell}
 use Rattle.mk_readings.proofs.Stands.{headers_and_quarantine_tell}
+use Rattle.mk_readings.proofs.UnmappedRuns.{unmapped_runs_take_no_memory}
+use Rattle.mk_readings.proofs.UnsetWords.{registers_of_no_caller_are_zero, unset_globals_are_zero}
 use Rattle.mk_theorems.specs.Promises.{AtEachMoment, KeepsAllPromises}
 
 at_each : (claim : Config → List Event → Type 0) → OfHistories claim → OfHistories (AtEachMoment claim)
@@ -32,10 +35,15 @@ histories_keep_all_promises c es h =
       disjoint = at_each _ invariant.allocations_are_disjoint c es h;
       zero_cells = at_each _ free_cells_are_zero c es h;
       zero_tails = at_each _ words_behind_cells_are_zero c es h;
+      free_pages = at_each _ free_pages_have_nothing c es h;
+      dirty_pages = at_each _ dirty_pages_have_allocations c es h;
+      spare_registers = at_each _ registers_of_no_caller_are_zero c es h;
+      unset_globals = at_each _ unset_globals_are_zero c es h;
       headers = at_each _ invariant.pages_show_the_storage c es h;
       first_fit = at_each _ invariant.first_fit_finds_the_place c es h;
       told = at_each _ headers_and_quarantine_tell c es h;
       resident = at_each _ few_pages_are_resident c es h;
+      reserved = at_each _ unmapped_runs_take_no_memory c es h;
       placed = grants_stand_at_their_places c es h;
       full = fulls_fit_nowhere c es h;
       tallies = tallies_are_exact_at_gives c es h;

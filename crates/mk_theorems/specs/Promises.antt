@@ -12,9 +12,12 @@ use Rattle.mk_invariant.specs.Theorems.{FewPagesAreResident}
 use Rattle.mk_invariant.specs.Theorems.{FirstFitFindsThePlace, GuardsBlackCells, KeepsTheReach, PagesShowTheStorage}
 use Rattle.mk_placement.specs.ExactTallies.{TalliesAreExactAtGives}
 use Rattle.mk_precision.specs.Precision.{FreesTheUntouched, ReleasesTheUntouched}
+use Rattle.mk_readings.specs.FreePages.{DirtyPagesHaveAllocations, FreePagesHaveNothing}
 use Rattle.mk_readings.specs.FreeWords.{FreeCellsAreZero, Leaves, WordsBehindCellsAreZero}
 use Rattle.mk_readings.specs.Readings.{HeadersAndQuarantineTell}
 use Rattle.mk_readings.specs.Releases.{NoOthersRelease, ReleasesAreExact, ReleasesAreOfCycles, ReleasesNoneReached}
+use Rattle.mk_readings.specs.UnmappedRuns.{UnmappedRunsTakeNoMemory}
+use Rattle.mk_readings.specs.UnsetWords.{RegistersOfNoCallerAreZero, UnsetGlobalsAreZero}
 
 -- It holds behind each front of the list.
 abbrev pub AtEachMoment : (Config → List Event → Type 0) → Config → List Event → Type 0
@@ -31,12 +34,23 @@ pub record KeepsAllPromises (c : Config) (es : List Event) : Type 0 where
   pub disjoint : AtEachMoment AllocationsAreDisjoint c es
   pub zero_cells : AtEachMoment (Leaves FreeCellsAreZero) c es
   pub zero_tails : AtEachMoment (Leaves WordsBehindCellsAreZero) c es
+  -- Free pages: the used, quarantine and dirty word of a page without a header are 0, since on each dirty page an
+  -- unreleased allocation stands.
+  pub free_pages : AtEachMoment (Leaves FreePagesHaveNothing) c es
+  pub dirty_pages : AtEachMoment (Leaves DirtyPagesHaveAllocations) c es
+  -- Nobody's words: registers of callers that the configuration doesn't have hold 0, and globals that no `setg` stored
+  -- to.
+  pub spare_registers : AtEachMoment (Leaves RegistersOfNoCallerAreZero) c es
+  pub unset_globals : AtEachMoment UnsetGlobalsAreZero c es
   -- Headers stand: while nothing is on its way they are those of the unreleased storage, and first fit over them finds
   -- the place; each page has a header word, and no more pages are resident than may be.
   pub headers : AtEachMoment PagesShowTheStorage c es
   pub first_fit : AtEachMoment FirstFitFindsThePlace c es
   pub told : AtEachMoment HeadersAndQuarantineTell c es
   pub resident : AtEachMoment FewPagesAreResident c es
+  -- Reserved only: the pages of a freed large allocation aren't resident from its last `head` on, until they are made a
+  -- block or a run again.
+  pub reserved : AtEachMoment UnmappedRunsTakeNoMemory c es
   -- Exact placement: each object is granted at its place, and a Full stands where nothing fits, behind a cycle that was
   -- begun and ended in its call.
   pub placed : GrantsStandAtTheirPlaces c es
