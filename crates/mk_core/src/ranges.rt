@@ -4,7 +4,7 @@ ghost use Rattle.std.specs.Prelude.{◌≡◌, ◌*◌, nat_lt};
 ghost use Rattle.mk_core.specs.Moments.{is_number_of, is_held, others_are_held, none_is_held};
 ghost use Rattle.mk_core.specs.NewPlaces.{target};
 ghost use Rattle.mk_core.specs.Ranges.{is_word, is_other_caller, is_word_met, is_in_range, is_run_cell, has_gates};
-ghost use Rattle.mk_core.specs.Ranges.{has_phase};
+ghost use Rattle.mk_core.specs.Ranges.{has_phase, may_look_at};
 
 use crate::calls::word_met;
 use crate::cells::{heads_run, is_unmapped};
@@ -31,6 +31,31 @@ impl Table {
         ensures { result ≡ is_held self.now caller }
     {
         self.gate(caller) == 2
+    }
+
+    /// Whether the seat may look at the word: a register is looked at by its own caller, or while that
+    /// caller's gate is held.
+    fn may_look_at(&self, seat: Seat, word: Word) -> bool
+        ensures { result ≡ may_look_at self.now seat word }
+    {
+        match word {
+            Word::Reg { caller, .. } => seat.is_caller(caller) || self.is_held(caller),
+            Word::Phase
+            | Word::Gate(_)
+            | Word::Global(_)
+            | Word::Head(_)
+            | Word::Used(_)
+            | Word::Quar(_)
+            | Word::Mark(_)
+            | Word::Black(_)
+            | Word::Dirty(_)
+            | Word::Heap(_)
+            | Word::Held
+            | Word::Fresh
+            | Word::Cycles
+            | Word::Released
+            | Word::Full => true,
+        }
     }
 
     /// Whether the cell is a large object's.
@@ -61,7 +86,29 @@ pub(crate) fn has_phase(phase: u64, step: Step) -> bool
         Step::End => phase == 4,
         Step::Want => phase == 1,
         Step::Undirty(_) | Step::Unblack(_) => matches!(phase, 0 | 2),
-        _ => true,
+        Step::Enter(_)
+        | Step::Leave
+        | Step::Reg
+        | Step::Probe
+        | Step::Read
+        | Step::Write
+        | Step::Cas
+        | Step::Getg
+        | Step::Setg
+        | Step::Take(_)
+        | Step::Look(_)
+        | Step::Tally { .. }
+        | Step::Hold(_)
+        | Step::Wipe(_)
+        | Step::Dirty
+        | Step::Attend
+        | Step::Quit
+        | Step::Mlook(_)
+        | Step::Claim { .. }
+        | Step::Mload
+        | Step::Mmark
+        | Step::Mblack
+        | Step::Over => true,
     }
 }
 
@@ -81,7 +128,8 @@ impl Core {
             | Word::Black(page)
             | Word::Dirty(page) => page < self.config.pages,
             Word::Heap(word) => self.is_heap_word(word as u128),
-            _ => true,
+            Word::Phase | Word::Held | Word::Fresh | Word::Cycles | Word::Released | Word::Full =>
+                true,
         }
     }
 
@@ -125,7 +173,26 @@ impl Core {
             Step::Hold(caller) | Step::Open(caller) => self.is_other_caller(seat, caller),
             Step::Wipe(word) => self.is_heap_word(word as u128),
             Step::Claim { page, cell } => page < self.config.pages && cell < 32,
-            _ => true,
+            Step::Take(None)
+            | Step::Leave
+            | Step::Reg
+            | Step::Getg
+            | Step::Setg
+            | Step::Give
+            | Step::Grant
+            | Step::Tally { .. }
+            | Step::Full
+            | Step::Begin
+            | Step::Close
+            | Step::Release
+            | Step::End
+            | Step::Want
+            | Step::Attend
+            | Step::Quit
+            | Step::Mload
+            | Step::Mmark
+            | Step::Mblack
+            | Step::Over => true,
         }
     }
 
@@ -161,9 +228,7 @@ impl Core {
     {
         match step {
             Step::Give => self.none_is_held(),
-            Step::Look(Word::Reg { caller, .. }) => {
-                seat.is_caller(caller) || self.table.is_held(caller)
-            }
+            Step::Look(word) => self.table.may_look_at(seat, word),
             Step::Head { value, .. } => !is_unmapped(value) || self.others_are_held(seat),
             Step::Quar { .. } => {
                 !self.table.is_run(self.target(flight)) || self.others_are_held(seat)
@@ -176,7 +241,34 @@ impl Core {
             Step::Undirty(_) | Step::Unblack(_) => {
                 !self.table.is_at(Phase::Wanted) || self.others_are_held(seat)
             }
-            _ => true,
+            Step::Enter(_)
+            | Step::Leave
+            | Step::Reg
+            | Step::Probe
+            | Step::Read
+            | Step::Write
+            | Step::Cas
+            | Step::Getg
+            | Step::Setg
+            | Step::Take(_)
+            | Step::Used { .. }
+            | Step::Grant
+            | Step::Tally { .. }
+            | Step::Clear(_)
+            | Step::Mark { .. }
+            | Step::Wipe(_)
+            | Step::Full
+            | Step::Begin
+            | Step::End
+            | Step::Dirty
+            | Step::Attend
+            | Step::Quit
+            | Step::Mlook(_)
+            | Step::Claim { .. }
+            | Step::Mload
+            | Step::Mmark
+            | Step::Mblack
+            | Step::Over => true,
         }
     }
 }
