@@ -13,7 +13,7 @@ use Rattle.mk_core.specs.Allocations.{PlacedAllocation, place_among_allocations}
 use Rattle.mk_core.specs.Frames.{Steady}
 use Rattle.mk_core.specs.History.{IsHistory}
 use Rattle.mk_core.specs.NewPlaces.{is_undecided_new, object_made}
-use Rattle.mk_core.specs.Placement.{place_for}
+use Rattle.mk_core.specs.Placement.{place_after}
 use Rattle.mk_core.specs.Words.{phase_of}
 use Rattle.mk_words.specs.States.{PassState, call_of, now_of, world_of}
 use Rattle.mk_words.specs.TurnSteps.{turn_stays}
@@ -181,8 +181,8 @@ unplaced_finished p q u f =
 pub nowhere_begun : (p q : PassState) → InTurn p → IsUnplaced p → IsQuiet p → place_now_for p ≡ None → BeginsCycle p q
     → IsHistory q.table.config q.seen → place_now_for q ≡ None
 nowhere_begun p q t u quiet none b history =
-    ap (λ (c : Config). place_for c q.seen (object_for q)) (ap (λ (x : PassState). x.table.config) b.pass)
-    ∙ ap (λ (o : Object). place_for p.table.config q.seen o)
+    ap (λ (c : Config). place_after c q.seen (object_for q)) (ap (λ (x : PassState). x.table.config) b.pass)
+    ∙ ap (λ (o : Object). place_after p.table.config q.seen o)
     (ap (λ (x : PassState). object_made x.table.config (call_of q).op) b.pass
     ∙ ap (λ (f : Flight). object_made p.table.config f.op) b.call)
     ∙ nowhere_then p.table.config q.seen (object_for p)

@@ -1,6 +1,6 @@
 //! Where an object goes, by first fit.
 ghost use Rattle.std.specs.Prelude.{◌≡◌, ◌<◌, ◌≤◌, ◌^◌};
-ghost use Rattle.mk_geom.specs.PageUses.{place_among, small_place, large_place, carved};
+ghost use Rattle.mk_geom.specs.PageUses.{place_on_uses, small_place, large_place, carved};
 ghost use Rattle.mk_geom.specs.PageWords.{uses_of_pages};
 
 use crate::page_uses::{free_cell, is_free, is_resident};
@@ -14,7 +14,7 @@ const SMALL_WORDS: u64 = 32;
 /// for an object of no words. A call walks over the pages once, and for a small object only to the
 /// first block that has a free cell.
 pub fn first_fit(pages: &[Page], resident_limit: u64, words: u64, leaf: bool) -> Option<Place>
-    ensures { result ≡ place_among resident_limit words leaf (uses_of_pages pages.now) }
+    ensures { result ≡ place_on_uses resident_limit words leaf (uses_of_pages pages.now) }
 {
     if words <= SMALL_WORDS {
         small_fit(pages, resident_limit, class_of(words)?, leaf)

@@ -51,7 +51,7 @@ impl<'a> Place<'a> {
 }
 
 /// Where a word points, if it is a pointer.
-pub fn place_in<'a>(word: Option<&'a TypeWord>) -> Option<Place<'a>>
+pub fn pointed_place<'a>(word: Option<&'a TypeWord>) -> Option<Place<'a>>
     ensures { option_map at_of result ≡ pointed_place (option_copied word.entry) }
 {
     match word {

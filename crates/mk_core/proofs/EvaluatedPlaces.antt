@@ -11,7 +11,8 @@ use Rattle.mk_core.specs.StopConditions.{may_turn_black}
 use Rattle.mk_core.specs.Allocations.{unreleased_storage, place_among_allocations, FitsAmongAllocations}
 use Rattle.mk_core.specs.Cycles.{is_begin, is_close, is_release, is_end}
 use Rattle.mk_core.specs.History.{left_from, left}
-use Rattle.mk_core.specs.Placement.{NoneServesFrom, StandsAtItsPlace, GrantsStandAtTheirPlaces, IsFull, FullsFitNowhere}
+use Rattle.mk_core.specs.Placement.{NoneServesFrom, StandsAtItsPlace, GrantsStandAtTheirPlaces, FindsNoPlace}
+use Rattle.mk_core.specs.Placement.{FullsFitNowhere}
 use Rattle.mk_core.proofs.EventsAt.{events_from, event_number, at_number, turn_number, AtEach, Also, at_each}
 use Rattle.mk_core.proofs.Schedules.{by, c0, host, one_page, freed_after_begin}
 use Rattle.mk_core.proofs.MoreSchedules.{two_pages, full_then_reused, granted_while_marking}
@@ -121,7 +122,7 @@ grant_while_marking =
     }
 
 -- The refused New begins and ends a cycle in its turn. Both cells are still taken behind it, so it doesn't fit.
-pub full : IsFull one_page (take 31 full_then_reused) c0
+pub full : FindsNoPlace one_page (take 31 full_then_reused) c0
 unfolding by c0 all_below pointed_cell may_turn_black one_page full_then_reused left_from unreleased_storage events_from
     event_number at_number turn_number
 full =
@@ -153,5 +154,5 @@ is_full_step _ = false
 pub fulls_fit_nowhere : FullsFitNowhere one_page full_then_reused
 unfolding by c0 full_then_reused AtEach Also
 fulls_fit_nowhere before e behind is kind =
-    at_each is_full_step (λ (es : List Event) (x : Event). IsFull one_page es x.seat) [] full_then_reused
+    at_each is_full_step (λ (es : List Event) (x : Event). FindsNoPlace one_page es x.seat) [] full_then_reused
     (full, tt) before e behind is (ap is_full_step kind)

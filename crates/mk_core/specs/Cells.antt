@@ -120,8 +120,8 @@ abbrev pub none_is_left_unmarked : Words → ℕ → Bool
 none_is_left_unmarked w p = left_unmarked w p == 0
 
 -- A released cell is one of them while the phase is releasing.
-abbrev pub is_released : Words → Cell → Bool
-is_released w cell = is_phase w 4 && is_left_unmarked w cell
+abbrev pub is_released_cell : Words → Cell → Bool
+is_released_cell w cell = is_phase w 4 && is_left_unmarked w cell
 
 abbrev pub is_in_run : RunPages → ℕ → Bool
 is_in_run run n = nat_le run.page (n / 64) && nat_lt (n / 64 - run.page) run.count

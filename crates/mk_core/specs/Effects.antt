@@ -44,7 +44,7 @@ use Rattle.mk_core.specs.NewPlaces.{object_made, target}
 use Rattle.mk_core.specs.TurnConditions.{place_now, cell_freed}
 use Rattle.mk_core.specs.StopConditions.{marks_place}
 use Rattle.mk_core.specs.Moments.{Moment, Seats, nothing_done, outside, flight_of, marker_of, others_are_held, is_phase}
-use Rattle.mk_core.specs.Accesses.{reached, access, found}
+use Rattle.mk_core.specs.Accesses.{word_accessed, access, found}
 
 -- a decided answer, and then `give`
 abbrev pub decided : Flight → Answer → Progress
@@ -244,7 +244,7 @@ seats_behind c m seat found s =
 abbrev pub moment_behind : Config → Moment → Event → Moment
 moment_behind c m e =
     record {
-      words = accessed m.words (reached c m e) (access c m e);
+      words = accessed m.words (word_accessed c m e) (access c m e);
       seats = seats_behind c m e.seat (found c m e) e.step;
       fresh_words = fresh_behind c m (flight_of m e.seat) e.step;
     }

@@ -10,7 +10,7 @@ use Rattle.mk_geom.specs.declared.pages.Page.{Page}
 use Rattle.mk_geom.specs.declared.pages.Place.{Place}
 use Rattle.mk_geom.specs.Classes.{class_for, class_words_of, cells_of, is_small_size, run_pages_of}
 use Rattle.mk_geom.specs.Headers.{word_of}
-use Rattle.mk_geom.specs.PageUses.{place_among}
+use Rattle.mk_geom.specs.PageUses.{place_on_uses}
 use Rattle.mk_geom.specs.PageWords.{uses_of_pages}
 use Rattle.mk_geom.specs.Storages.{block_header, run_header}
 use Rattle.mk_core.specs.declared.config.Config.{Config}
@@ -36,14 +36,14 @@ object_made c _ = object_of []
 
 -- where an object goes on pages by first fit, with so many of them resident at most
 abbrev pub place_on_pages : ℕ → List Page → Object → Option Place
-place_on_pages resident pages o = place_among resident o.words o.leaf (uses_of_pages pages)
+place_on_pages resident pages o = place_on_uses resident o.words o.leaf (uses_of_pages pages)
 
 -- A New has one place: the first fit, up to the first step that serves its object.
-abbrev pub place_in : ℕ → List Page → Object → Placing → Option Place
-place_in resident pages o Unplaced = place_on_pages resident pages o
-place_in resident pages o (Chosen place) = Some place
-place_in resident pages o (Used place) = Some place
-place_in resident pages o Granted = None
+abbrev pub place_by_placing : ℕ → List Page → Object → Placing → Option Place
+place_by_placing resident pages o Unplaced = place_on_pages resident pages o
+place_by_placing resident pages o (Chosen place) = Some place
+place_by_placing resident pages o (Used place) = Some place
+place_by_placing resident pages o Granted = None
 
 abbrev pub class_made : Object → ℕ
 class_made o = unwrap_or (class_for o.words) 0

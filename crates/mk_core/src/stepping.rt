@@ -73,7 +73,7 @@ impl Core {
             Step::Open(_) => self.is_run_gone(),
             Step::Mark { page, value } => self.may_mark(flight, page, value),
             Step::Wipe(word) => self.may_wipe(word),
-            Step::Full => self.is_full(flight),
+            Step::Full => self.may_answer_full(flight),
             Step::Begin => self.may_begin(),
             Step::Close => self.may_close(),
             Step::End => self.may_end(),

@@ -16,7 +16,7 @@ ghost use Rattle.mk_cycle.specs.TurnKeeps.{InTurn};
 use crate::bits::{FREED_END, without, words_under};
 use crate::finishing::Released;
 use crate::turn_steps;
-use mk_books::{Page, words_held};
+use mk_books::{Page, held_by_pages};
 use mk_core::Word;
 use mk_words::{Turn, Words};
 
@@ -123,6 +123,6 @@ pub(crate) fn held_on(turn: &mut Turn, words: &Words, page: u64) -> u64
         return 0;
     }
     let used = look(turn, words, Word::Used(page));
-    let held = words_held(&[Page { header, used }]);
+    let held = held_by_pages(&[Page { header, used }]);
     held as u64
 }

@@ -10,7 +10,7 @@ use Rattle.mk_geom.specs.declared.headers.Header.{Header}
 use Rattle.mk_geom.specs.declared.headers.Header.TheVariants.{Block, Run, Later, LeafBlock, LeafRun}
 use Rattle.mk_geom.specs.Classes.{class_for, class_words_of, cells_of, is_small_size}
 use Rattle.mk_geom.specs.Headers.{word_of}
-use Rattle.mk_geom.specs.PageUses.{PageUse, Nothing, Cells, PartOfRun, place_among, census_among}
+use Rattle.mk_geom.specs.PageUses.{PageUse, Nothing, Cells, PartOfRun, place_on_uses, census_among}
 
 -- An object's storage: its first heap word, how many words it takes, whether its pages are mapped, and whether it is
 -- leaf. A small object takes a cell, and a large one all the words of its pages.
@@ -60,11 +60,11 @@ abbrev pub uses_of_storages : ℕ → List Storage → List PageUse
 uses_of_storages pages storages = map (use_of_storages storages) (range_with_len 0 pages)
 
 -- Place, fits and census, of a heap of so many pages.
-abbrev pub place_of : ℕ → ℕ → ℕ → Bool → List Storage → Option Place
-place_of pages limit words leaf storages = place_among limit words leaf (uses_of_storages pages storages)
+abbrev pub place_among_storages : ℕ → ℕ → ℕ → Bool → List Storage → Option Place
+place_among_storages pages limit words leaf storages = place_on_uses limit words leaf (uses_of_storages pages storages)
 
 abbrev pub Fits : ℕ → ℕ → ℕ → Bool → List Storage → Type 0
-Fits pages limit words leaf storages = IsSome (place_of pages limit words leaf storages)
+Fits pages limit words leaf storages = IsSome (place_among_storages pages limit words leaf storages)
 
 abbrev pub census_of : ℕ → List Storage → Census
 census_of pages storages = census_among (uses_of_storages pages storages)

@@ -8,8 +8,8 @@ use Rattle.mk_core.specs.declared.events.Seat.TheVariants.{Host}
 use Rattle.mk_core.specs.declared.events.Step.TheVariants as step
 use Rattle.mk_core.specs.declared.events.Word.TheVariants as word
 use Rattle.mk_core.specs.declared.seats.Holding.{Holding}
-use Rattle.mk_core.specs.Allocations.{PlacedAllocation, held_words, fresh_words_of}
-use Rattle.mk_core.specs.Counts.{TalliesAreExact, TalliesAreTidy, fulls, in_a_word, releases}
+use Rattle.mk_core.specs.Allocations.{PlacedAllocation, held_by_allocations, fresh_words_of}
+use Rattle.mk_core.specs.Counts.{TalliesAreExact, TalliesAreTidy, full_answers, in_a_word, releases}
 use Rattle.mk_core.specs.Frames.{Steady}
 use Rattle.mk_core.specs.History.{IsHistory}
 use Rattle.mk_core.specs.Moments.{is_held, none_is_held}
@@ -109,8 +109,8 @@ exact_kept p q k x =
     record {
       held =
           ap (λ (s : Steady). s.held) k.steady ∙ x.held
-          ∙ sym (ap (λ (d : Config). held_words d xs) same
-          ∙ ap (λ (ys : List PlacedAllocation). held_words c ys) allocations);
+          ∙ sym (ap (λ (d : Config). held_by_allocations d xs) same
+          ∙ ap (λ (ys : List PlacedAllocation). held_by_allocations c ys) allocations);
       fresh =
           ap (λ (s : Steady). s.fresh) k.steady ∙ x.fresh
           ∙ sym (ap (λ (d : Config). in_a_word (fresh_words_of d xs)) same
@@ -128,7 +128,7 @@ tidy_kept p q k x =
           ∙ ap in_a_word (sym (ap (λ (s : Steady). releases s.allocations) k.steady));
       full =
           ap (λ (s : Steady). s.full) k.steady ∙ x.full ∙ ap in_a_word (sym k.counts.fulls)
-          ∙ ap (λ (d : Config). in_a_word (fulls d q.seen)) (sym same);
+          ∙ ap (λ (d : Config). in_a_word (full_answers d q.seen)) (sym same);
     }
 
 -- No gate is held where none was, by the same holder.

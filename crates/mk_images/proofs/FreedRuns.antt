@@ -63,9 +63,9 @@ use Rattle.mk_protocol.proofs.OrderlyLists.{not_astray, actor_of}
 use Rattle.mk_protocol.proofs.Stages.{turns_stand}
 use Rattle.mk_protocol.proofs.NextSteps.{of_turn}
 use Rattle.mk_protocol.proofs.Sorts.{moves}
-use Rattle.mk_images.specs.Images.{scene_of, CarriesOwn}
+use Rattle.mk_images.specs.Images.{image_scene_of, CarriesOwn}
 use Rattle.mk_images.specs.SafeSets.{IsSafe}
-use Rattle.mk_images.specs.OthersSay.{OthersSay}
+use Rattle.mk_images.specs.ImagePremises.{ImagePremises}
 use Rattle.mk_images.specs.Mirrors.{Mirrors, PointsAtRun, OwnsFreedRun}
 use Rattle.mk_images.proofs.KnownWorlds.{KnownWorld}
 use Rattle.mk_images.proofs.Bases.{IsLonger}
@@ -209,12 +209,12 @@ not_by : (j k : ℕ) (o : Op) (a : Option Answer) → j ≢ k → AreNotBy k (as
 not_by j k o None ne = tt
 not_by j k o (Some a) ne = (ne, tt)
 
-module _ (c : Config) (w : World) (n : NeverState) (known : KnownWorld c w) (others : OthersSay c w)
+module _ (c : Config) (w : World) (n : NeverState) (known : KnownWorld c w) (others : ImagePremises c w)
     (mirrors : Mirrors c w n) where
   st : Stands c w.now.words w.allocations
   st = stands_of c w known.limits others
 
-  ready : Ready c.globals mirrors.safe.0 (scene_of w) n
+  ready : Ready c.globals mirrors.safe.0 (image_scene_of w) n
   ready = ready_of c w n known mirrors st mirrors.safe.0 mirrors.safe.1
 
   -- who is in a decided Free holds the turn
@@ -425,7 +425,7 @@ module _ (c : Config) (w : World) (n : NeverState) (known : KnownWorld c w) (oth
           by x (Before old g) = old
           by x (Now p v heads) = absurd (no_run w.now.words (not (is_phase w.now.words 4)) run heads)
 
-pub freed_run_stays : (c : Config) (w : World) (n : NeverState) (e : Event) → KnownWorld c w → OthersSay c w
+pub freed_run_stays : (c : Config) (w : World) (n : NeverState) (e : Event) → KnownWorld c w → ImagePremises c w
     → Mirrors c w n → Meets c w.now e.seat e.step
     → IsLonger (bases_of w.allocations) (bases_of (world_behind c w e).allocations)
     → AreAdmitted c.globals n (asked (call_decided c w.now e))

@@ -1,6 +1,6 @@
 -- What holds of all histories.
 use Rattle.std.specs.Prelude.{◌≡◌, ℕ, false, List, [], ◌∷◌, ◌++◌, ◌≤◌, true}
-use Rattle.mk_never.specs.Reach.{IsReached}
+use Rattle.mk_never.specs.Reach.{IsReachable}
 use Rattle.mk_geom.specs.StorageWords.{IsWordOf}
 use Rattle.mk_geom.specs.Storages.{PagesStandFor}
 use Rattle.mk_core.specs.declared.config.Config.{Config}
@@ -41,7 +41,7 @@ KeepsTheInvariant c es = Invariant c (left c es) (never_behind c es)
 
 -- What a program can get to isn't released.
 abbrev pub KeepsTheReach : Config → List Event → Type 0
-KeepsTheReach c es = (number : ℕ) → IsReached (never_behind c es) number
+KeepsTheReach c es = (number : ℕ) → IsReachable (never_behind c es) number
     → (placed_at (left c es).allocations number).released ≡ false
 
 -- Each unreleased allocation stands on the heap, with its headers and its used bit,

@@ -17,8 +17,8 @@ use Rattle.mk_protocol.proofs.Known.{Known}
 use Rattle.mk_protocol.proofs.OthersMoves.{WorldBehind}
 use Rattle.mk_protocol.proofs.SameWords.{reg_keeps}
 use Rattle.mk_protocol.proofs.SameWords.{Keeps}
-use Rattle.mk_layout.specs.LayoutLaws.{OthersSay}
-use Rattle.mk_layout.specs.Scene.{Among, Claim, is_released_in}
+use Rattle.mk_layout.specs.LayoutLaws.{LayoutPremises}
+use Rattle.mk_layout.specs.LayoutScene.{Among, Claim, is_released_in}
 use Rattle.mk_protocol.specs.Ground.{Ground, ground_of}
 use Rattle.mk_layout.specs.Terrain.{claims_on, object_now}
 use Rattle.mk_layout.proofs.Serving.{Laid}
@@ -28,7 +28,7 @@ pub record Before (c : Config) (w : World) : Type 0 where
   pub limits : IsWithinLimits c
   pub lengths : AreOfPages c.pages w.now.words
   pub known : Known c w.now
-  pub others : OthersSay c w
+  pub others : LayoutPremises c w
   -- no claim's cell is released
   pub unreleased : is_phase w.now.words 4 ≡ true → (x : Claim)
       → Among x (claims_on c (object_now c w.now) (ground_of w))

@@ -10,7 +10,7 @@ use Rattle.mk_core.specs.declared.config.Config.{Config}
 use Rattle.mk_core.specs.declared.seats.Object.{Object}
 use Rattle.mk_core.specs.declared.seats.RunPages.{RunPages}
 use Rattle.mk_core.proofs.ChangedAllocations.{LeavesPlaces, changed_at}
-use Rattle.mk_layout.specs.Scene.{Among, AreApart, Claim, IsOfOneCell}
+use Rattle.mk_layout.specs.LayoutScene.{Among, AreApart, Claim, IsOfOneCell}
 use Rattle.mk_layout.specs.Terrain.{IsAtCell, claim_of, claims_of}
 
 -- the unreleased allocation whose claim it is

@@ -6,7 +6,7 @@ use Rattle.std.proofs.lemmas.Bool.{false_from_ne_true, true≢false}
 use Rattle.std.proofs.lemmas.List.{get_or_past, length-append, length-map}
 use Rattle.std.specs.List.{list_any}
 use Rattle.mk_geom.specs.declared.addresses.Cell.{Cell}
-use Rattle.mk_core.specs.Accesses.{access, reached}
+use Rattle.mk_core.specs.Accesses.{access, word_accessed}
 use Rattle.mk_core.specs.Allocations.{PlacedAllocation, freed_where_it_stands, granted, never_granted, no_longer_fresh}
 use Rattle.mk_core.specs.Allocations.{placed_at, stands_in, with_released}
 use Rattle.mk_core.specs.Bits.{has_bit}
@@ -29,7 +29,7 @@ use Rattle.mk_core.proofs.PlacesNow.{freed_cell}
 use Rattle.mk_protocol.proofs.Actors.{Meets}
 use Rattle.mk_protocol.proofs.Known.{Known, known_at_first, known_behind}
 use Rattle.mk_protocol.proofs.OthersMoves.{WorldBehind}
-use Rattle.mk_layout.specs.LayoutLaws.{OthersSayFrom, StandsInOrder}
+use Rattle.mk_layout.specs.LayoutLaws.{LayoutPremisesFrom, StandsInOrder}
 use Rattle.mk_layout.specs.Quarantine.{IsQuarantined}
 use Rattle.mk_layout.specs.Snapshots.{SnapshotsAreOfCycles}
 use Rattle.mk_layout.specs.Terrain.{IsLaidOut}
@@ -175,18 +175,18 @@ record Along (c : Config) (w : World) (es : List Event) : Type 0 where
   lengths : AreOfPages c.pages w.now.words
   known : Known c w.now
   enabled : AreEnabledFrom c w es
-  others : OthersSayFrom c w es
+  others : LayoutPremisesFrom c w es
   order : StandsInOrder c w
 
 along_next : (c : Config) (w : World) (e : Event) (es : List Event) → Along c w (e ∷ es)
     → Before c w × Meets c w.now e.seat e.step × Along c (world_behind c w e) es
-unfolding AreEnabledFrom OthersSayFrom
+unfolding AreEnabledFrom LayoutPremisesFrom
 along_next c w e es a = (
   known_before c w a.limits a.lengths a.known a.others.0 a.order.quarantined,
   enabled_meets c w.now e a.enabled.0,
   record {
     limits = a.limits;
-    lengths = accessed_lengths c.pages w.now.words (reached c w.now e) (access c w.now e) a.lengths;
+    lengths = accessed_lengths c.pages w.now.words (word_accessed c w.now e) (access c w.now e) a.lengths;
     known = known_behind c w.now e a.known a.enabled.0;
     enabled = a.enabled.1;
     others = a.others.1;

@@ -23,7 +23,7 @@ use Rattle.mk_protocol.proofs.Actors.{Meets}
 use Rattle.mk_protocol.proofs.Ground.{tally_ground}
 use Rattle.mk_protocol.proofs.OthersMoves.{WorldBehind}
 use Rattle.mk_layout.specs.Room.{HasHeaderWords}
-use Rattle.mk_layout.specs.Scene.{header_on}
+use Rattle.mk_layout.specs.LayoutScene.{header_on}
 use Rattle.mk_protocol.specs.Ground.{ground_of}
 use Rattle.mk_layout.specs.Terrain.{IsClaimedRun, IsLaidOut, RunStands, claims_of, object_now}
 use Rattle.mk_layout.proofs.Before.{Before, page_within, reg_leaves_ground}

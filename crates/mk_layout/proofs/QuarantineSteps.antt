@@ -22,7 +22,7 @@ use Rattle.mk_core.proofs.BitsWithout.{has_bit_without}
 use Rattle.mk_core.proofs.PageSteps.{Drops, left_bits}
 use Rattle.mk_core.proofs.WordBits.{fewer_bits, rest_bits}
 use Rattle.mk_layout.specs.Quarantine.{HasQuarantine, IsFreedCell}
-use Rattle.mk_layout.specs.Scene.{Among, Claim, is_released_in, used_on}
+use Rattle.mk_layout.specs.LayoutScene.{Among, Claim, is_released_in, used_on}
 use Rattle.mk_protocol.specs.Ground.{Ground, ground_of}
 use Rattle.mk_layout.specs.Terrain.{claims_of, claims_on, claims_placed}
 use Rattle.mk_layout.proofs.Claims.{claim_is}

@@ -18,7 +18,7 @@ use Rattle.mk_core.specs.declared.config.Config.{Config}
 use Rattle.mk_core.specs.declared.seats.Object.{Object}
 use Rattle.mk_core.specs.declared.seats.Placing.{Placing}
 use Rattle.mk_layout.specs.Room.{HasRoom, count_below, in_plot, is_taken_page}
-use Rattle.mk_layout.specs.Scene.{NoPlot, Plot, header_on, shows_on, used_on}
+use Rattle.mk_layout.specs.LayoutScene.{NoPlot, Plot, header_on, shows_on, used_on}
 use Rattle.mk_layout.specs.Terrain.{object_now, plot_of}
 use Rattle.mk_layout.proofs.Counts.{count_fewer, count_list}
 use Rattle.mk_layout.proofs.PageSets.{with_header_on, with_used_on}

@@ -37,7 +37,7 @@ use Rattle.mk_protocol.proofs.Actors.{Meets}
 use Rattle.mk_protocol.proofs.Ground.{tally_ground}
 use Rattle.mk_protocol.proofs.OthersMoves.{WorldBehind}
 use Rattle.mk_layout.specs.Room.{HasRoom, count_below, in_plot}
-use Rattle.mk_layout.specs.Scene.{Among, NoPlot, Plotted, used_on}
+use Rattle.mk_layout.specs.LayoutScene.{Among, NoPlot, Plotted, used_on}
 use Rattle.mk_protocol.specs.Ground.{ground_of}
 use Rattle.mk_layout.specs.Terrain.{IsClaimedRun, IsLaidOut, RunStands, claims_of, claims_placed, object_now}
 use Rattle.mk_layout.specs.Terrain.{place_claim, plot_of}

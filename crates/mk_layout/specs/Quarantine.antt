@@ -9,7 +9,7 @@ use Rattle.mk_core.specs.Moments.{is_phase}
 use Rattle.mk_core.specs.Words.{phase_of}
 use Rattle.mk_core.specs.declared.config.Config.{Config}
 use Rattle.mk_core.specs.declared.seats.Placing.TheVariants.{Used}
-use Rattle.mk_layout.specs.Scene.{is_released_in}
+use Rattle.mk_layout.specs.LayoutScene.{is_released_in}
 use Rattle.mk_protocol.specs.Ground.{Ground, ground_of}
 
 -- The cell is that of an unreleased allocation that is freed.

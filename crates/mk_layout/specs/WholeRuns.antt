@@ -6,7 +6,7 @@ use Rattle.mk_core.specs.declared.config.Config.{Config}
 use Rattle.mk_core.specs.Cells.{heads_run}
 use Rattle.mk_core.specs.Moments.{is_phase}
 use Rattle.mk_core.specs.History.{World}
-use Rattle.mk_layout.specs.Scene.{Plot, InPlot, header_on, used_on, shows_on, run_count}
+use Rattle.mk_layout.specs.LayoutScene.{Plot, InPlot, header_on, used_on, shows_on, run_count}
 use Rattle.mk_layout.specs.Terrain.{plot_of, object_now}
 
 -- The page so far behind the head is a later one of the run. Before a New has used it, and while the phase is

@@ -7,7 +7,7 @@ ghost use Rattle.mk_never.specs.Laws.{Continues, TypeStays, FreedStays, SameTell
 ghost use Rattle.mk_never.specs.Laws.{KeepsRegisters, UnstoredStays, StoreIsInside, StoreLeaves, LoadGivesStored};
 ghost use Rattle.mk_never.specs.Laws.{LeavesInParts, RepliesInParts, AdmittedInParts};
 ghost use Rattle.mk_never.specs.Typed.{IsTyped, KeepsTyped, StaysTyped};
-ghost use Rattle.mk_never.specs.Reach.{IsReached, IsClosedUnderPointers, ReachIsLeast, AccessIsToReached};
+ghost use Rattle.mk_never.specs.Reach.{IsReachable, IsClosedUnderPointers, ReachIsLeast, AccessIsToReached};
 ghost use Rattle.mk_never.specs.Reach.{ReachGrowsByGrants, UnreachedStays};
 
 use crate::{Kind, Op, Value};
@@ -86,7 +86,7 @@ pub fn a_load_gives_what_was_last_stored()
 /// freed large allocation leads on.
 #[tactic(auto, using(crate::proofs::Reached::reach_is_closed, crate::proofs::Reached::reach_is_least))]
 pub fn what_is_reached()
-    ensures closed { (n : NeverState) → IsClosedUnderPointers n (IsReached n) }
+    ensures closed { (n : NeverState) → IsClosedUnderPointers n (IsReachable n) }
     ensures least { (n : NeverState) (S : ℕ → Bool) → ReachIsLeast n S }
 {}
 

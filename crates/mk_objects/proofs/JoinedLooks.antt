@@ -15,12 +15,12 @@ use Rattle.mk_core.specs.declared.seats.Holding.{Holding}
 use Rattle.mk_core.specs.declared.seats.Placing.{Placing}
 use Rattle.mk_core.specs.declared.seats.Stage.TheVariants as stage
 use Rattle.mk_core.specs.Accesses.{caller_number}
-use Rattle.mk_core.specs.Allocations.{held_words}
+use Rattle.mk_core.specs.Allocations.{held_by_allocations}
 use Rattle.mk_core.specs.Calls.{d_of}
 use Rattle.mk_core.specs.Decided.{Decided, entry_of}
 use Rattle.mk_core.specs.Frames.{Steady, steady_of}
 use Rattle.mk_core.specs.Moments.{flight_of}
-use Rattle.mk_core.specs.NewPlaces.{base_made, is_undecided_new, object_made, place_in, place_on_pages}
+use Rattle.mk_core.specs.NewPlaces.{base_made, is_undecided_new, object_made, place_by_placing, place_on_pages}
 use Rattle.mk_core.specs.Words.{phase_of, register_word}
 use Rattle.mk_core.specs.Growing.{Finding}
 use Rattle.mk_core.specs.History.{World}
@@ -145,8 +145,8 @@ pub looks_exact : (p q : PassState) → OnlyLooks p q → HeldIsExact p → Held
 looks_exact p q a exact =
     let kept = looks_left p q a in
     ap (λ (x : Steady). x.held) kept.steady ∙ exact
-    ∙ ap (λ (x : Steady). held_words p.table.config x.allocations) (sym kept.steady)
-    ∙ ap (λ (t : WordsState). held_words t.config (world_of q).allocations) (sym (looks_table p q a))
+    ∙ ap (λ (x : Steady). held_by_allocations p.table.config x.allocations) (sym kept.steady)
+    ∙ ap (λ (t : WordsState). held_by_allocations t.config (world_of q).allocations) (sym (looks_table p q a))
 
 pub looks_object : (p q : PassState) → OnlyLooks p q → object_for q ≡ object_for p
 looks_object p q a =
@@ -163,6 +163,7 @@ pub goes_to : (p : PassState) (place : Place) → IsUnplaced p
 goes_to p place u fit =
     record {
       unplaced = u;
-      goes = rw u.new (ap (λ (x : Placing). place_in p.table.config.resident (now_of p).words.pages (object_for p) x)
+      goes = rw u.new (ap (λ (x : Placing). place_by_placing p.table.config.resident (now_of p).words.pages
+          (object_for p) x)
           u.placing ∙ fit);
     }

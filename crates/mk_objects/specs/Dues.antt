@@ -2,7 +2,7 @@
 use Rattle.std.specs.Prelude.{◌≡◌, ◌*◌, ◌<◌, Bool, true, List, [], ◌∷◌, ◌++◌}
 use Rattle.mk_core.specs.declared.config.Config.{Config}
 use Rattle.mk_core.specs.declared.events.Event.{Event}
-use Rattle.mk_core.specs.Allocations.{PlacedAllocation, fresh_words_of, held_words}
+use Rattle.mk_core.specs.Allocations.{PlacedAllocation, fresh_words_of, held_by_allocations}
 use Rattle.mk_core.specs.Counts.{decides_freed}
 use Rattle.mk_core.specs.History.{left}
 use Rattle.mk_core.specs.Moments.{flight_of}
@@ -10,7 +10,7 @@ use Rattle.mk_words.specs.States.{PassState, world_of}
 
 -- More than a quarter of the held words is fresh.
 abbrev pub IsOverQuarter : Config → List PlacedAllocation → Type 0
-IsOverQuarter c xs = held_words c xs < 4 * fresh_words_of c xs
+IsOverQuarter c xs = held_by_allocations c xs < 4 * fresh_words_of c xs
 
 -- The event decides that a Free has freed its object.
 abbrev pub event_frees : Config → List Event → Event → Bool

@@ -5,7 +5,7 @@ ghost use Rattle.std.specs.Prelude.{◌≡◌, ◌+◌, ◌<◌, ◌≤◌, ◌^
 ghost use Rattle.std.specs.Prelude.{option_map};
 ghost use Rattle.mk_geom.specs.Classes.{cells_of};
 ghost use Rattle.mk_geom.specs.Headers.{header_of, word_of};
-ghost use Rattle.mk_geom.specs.PageUses.{cells_taken, first_where, is_resident_page, place_among, small_place};
+ghost use Rattle.mk_geom.specs.PageUses.{cells_taken, first_where, is_resident_page, place_on_uses, small_place};
 ghost use Rattle.mk_geom.specs.PageUses.{large_place, carved, range_start, resident_pages};
 ghost use Rattle.mk_geom.specs.PageWords.{bits_of, use_of_page, use_under, uses_of_pages};
 ghost use Rattle.mk_geom.specs.Storages.{block_header};
@@ -225,7 +225,7 @@ pub(crate) fn seek(words: &Words, turn: &mut Turn, shape: Shape) -> Option<Place
     ensures op { turn.new.op ≡ turn.old.op }
     ensures looks { OnlyLooks turn.old.pass turn.new.pass }
     ensures place { result
-        ≡ place_among words.now.config.resident shape.words shape.leaf
+        ≡ place_on_uses words.now.config.resident shape.words shape.leaf
         (uses_of_pages (now_of turn.old.pass).words.pages) }
 {
     if shape.words <= SMALL_WORDS {

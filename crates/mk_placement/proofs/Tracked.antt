@@ -22,7 +22,7 @@ use Rattle.mk_core.specs.Cycles.{TurnOf, is_give}
 use Rattle.mk_core.specs.History.{IsHistory, World, first_world, left, left_from, world_behind}
 use Rattle.mk_core.specs.Moments.{flight_of, is_phase}
 use Rattle.mk_core.specs.NewPlaces.{is_run_gone, is_undecided_new, object_made, place_on_pages}
-use Rattle.mk_core.specs.Placement.{FirstServed, NoneServesFrom, before_served, event_serves, place_for}
+use Rattle.mk_core.specs.Placement.{FirstServed, NoneServesFrom, before_served, event_serves, place_after}
 use Rattle.mk_core.specs.Words.{phase_of}
 use Rattle.mk_core.proofs.Histories.{left_more}
 use Rattle.mk_core.proofs.PlacesNow.{undecided_new}
@@ -46,7 +46,7 @@ use Rattle.mk_placement.proofs.Undecided.{HasNew, IsTaken, NewCame, WasNew, new_
 pub record ServedFirst (c : Config) (s : Seat) {es : List Event} (t : TurnOf c s es) (o : Object) (place : Place)
     : Type 0 where
   pub first : FirstServed c t
-  pub fits : place_for c (before_served t first) o ≡ Some place
+  pub fits : place_after c (before_served t first) o ≡ Some place
 
 -- what is told of the turn's steps by the place that its New holds, or by none
 abbrev pub HasPlace : (c : Config) (s : Seat) {es : List Event} (t : TurnOf c s es) → Object → Option Place → Type 0
@@ -98,7 +98,7 @@ unplaced_settles c es k h lt new off at =
 abbrev FitsHere : Config → List Event → Object → Type 0
 FitsHere c es o =
     (place : Place) → is_phase (left c es).now.words 4 ≡ false → (left c es).now.seats.holding.placing ≡ Unplaced
-    → place_on_pages c.resident (left c es).now.words.pages o ≡ Some place → place_for c es o ≡ Some place
+    → place_on_pages c.resident (left c es).now.words.pages o ≡ Some place → place_after c es o ≡ Some place
 
 fits_here : (c : Config) (es : List Event) (k : ℕ) (o : Object) → IsHistory c es → k < c.callers → HasNew (left c es) k
     → FitsHere c es o
@@ -122,7 +122,7 @@ module _ (c : Config) (es : List Event) (e : Event) (k : ℕ) (o : Object) (t : 
       none_serves_more c _ t.behind e has (ap (λ (w : World). event_serves c w e) here ∙ none)
   stays none (Some place) has = goes_on place has
 
-  fixes : (place : Place) → event_serves c (left c es) e ≡ true → place_for c es o ≡ Some place
+  fixes : (place : Place) → event_serves c (left c es) e ≡ true → place_after c es o ≡ Some place
       → HasPlace c (Caller k) t o None → ServedFirst c (Caller k) (longer_turn t e on) o place
   fixes place is fits none =
       let here : left c (t.before ++ taken t ∷ t.behind) ≡ left c es = ap (λ (xs : List Event). left c xs) (sym t.is) in

@@ -24,7 +24,7 @@ use Rattle.mk_core.proofs.AllBelow.{all_below_more_is, all_below_zero_is}
 use Rattle.mk_core.proofs.ObjectHeaders.{header_shows, later_cells, part_not_free, part_words, shown_later}
 use Rattle.mk_core.proofs.Sizes.{small_cells, small_words}
 use Rattle.mk_core.proofs.StandingAllocations.{run_begins, typed_size}
-use Rattle.mk_layout.specs.Scene.{run_count}
+use Rattle.mk_layout.specs.LayoutScene.{run_count}
 use Rattle.mk_layout.proofs.StandingClaims.{ends_on_pages}
 use Rattle.mk_images.proofs.KnownWorlds.{KnownWorld}
 use Rattle.mk_invariant.specs.Invariant.{Invariant}

@@ -18,7 +18,7 @@ use Rattle.mk_core.proofs.CellsOfAllocations.{stands_in_its_cell}
 use Rattle.mk_core.proofs.PointedAllocations.{taken_cell_is}
 use Rattle.mk_core.proofs.StandingAllocations.{typed_size}
 use Rattle.mk_layout.specs.Quarantine.{IsFreedCell}
-use Rattle.mk_layout.specs.Scene.{HasItsHead, is_released_in, run_count}
+use Rattle.mk_layout.specs.LayoutScene.{HasItsHead, is_released_in, run_count}
 use Rattle.mk_images.proofs.KnownWorlds.{KnownWorld, known_world}
 use Rattle.mk_invariant.specs.Invariant.{Invariant}
 use Rattle.mk_invariant.specs.Theorems.{OfHistories}

@@ -1,6 +1,6 @@
 -- What a cycle's `release` releases: the allocations of its snapshot whose cells have no mark, and no others.
 use Rattle.std.specs.Prelude.{◌≡◌, ◌↔◌, ℕ, true, false, List, [], ◌∷◌, ◌++◌}
-use Rattle.mk_never.specs.Reach.{IsReached}
+use Rattle.mk_never.specs.Reach.{IsReachable}
 use Rattle.mk_core.specs.declared.config.Config.{Config}
 use Rattle.mk_core.specs.declared.events.Event.{Event}
 use Rattle.mk_core.specs.declared.events.Seat.{Seat}
@@ -29,7 +29,7 @@ ReleasesAreExact c es =
 -- and none that a program can get to.
 abbrev pub ReleasesNoneReached : Config → List Event → Type 0
 ReleasesNoneReached c es =
-    (r : Releasing es) (number : ℕ) → IsReached (never_behind c (before_release r)) number
+    (r : Releasing es) (number : ℕ) → IsReachable (never_behind c (before_release r)) number
     → (allocation_behind c r number).released ≡ false
 
 -- No other kind of event releases any.

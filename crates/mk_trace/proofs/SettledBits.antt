@@ -12,7 +12,7 @@ use Rattle.mk_core.specs.History.{IsHistory, left}
 use Rattle.mk_core.specs.Moments.{is_phase}
 use Rattle.mk_core.specs.Words.{Words, phase_of}
 use Rattle.mk_layout.specs.Quarantine.{IsFreedCell, IsQuarantined}
-use Rattle.mk_layout.specs.Scene.{is_released_in}
+use Rattle.mk_layout.specs.LayoutScene.{is_released_in}
 use Rattle.mk_layout.proofs.Settled.{unreleased_are_apart}
 use Rattle.mk_invariant.proofs.Histories.{histories_keep_the_invariant}
 use Rattle.mk_trace.specs.Freeing.{AreLater}

@@ -89,7 +89,7 @@ fn link_ops(alloc: Global, slot: u64) -> Result<Vec<Op>, NoMemory>
 }
 
 /// Whether nothing fits.
-pub(crate) fn is_full(answer: Answer) -> bool
+pub(crate) fn is_full_answer(answer: Answer) -> bool
     ensures { result ≡ is_full_answer answer }
 {
     matches!(answer, Answer::Full)

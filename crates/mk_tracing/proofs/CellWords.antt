@@ -24,7 +24,7 @@ use Rattle.mk_core.specs.declared.seats.Object.{Object}
 use Rattle.mk_protocol.specs.Ground.{ground_of}
 use Rattle.mk_protocol.proofs.InHeap.{in_heap_left}
 use Rattle.mk_protocol.proofs.RunsInHeap.{RunsFit}
-use Rattle.mk_layout.specs.Scene.{shows_on}
+use Rattle.mk_layout.specs.LayoutScene.{shows_on}
 use Rattle.mk_layout.specs.Terrain.{object_now}
 use Rattle.mk_layout.proofs.Readings.{claimed, claimed_head}
 use Rattle.mk_layout.proofs.Serving.{Laid}

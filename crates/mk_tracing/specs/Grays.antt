@@ -71,7 +71,7 @@ pub record IsInHand (p : PassState) (u : ℕ) : Type 0 where
   pub reached : is_unmarked hand.source ≡ false
 
 -- The hand points into the cell.
-pub record IsReached (p : PassState) (cell : Cell) : Type 0 where
+pub record HandPointsInto (p : PassState) (cell : Cell) : Type 0 where
   pub value : ℕ
   pub in_hand : IsInHand p value
   pub points : pointed_cell p.table.config.pages (still_words p).pages value ≡ Some cell

@@ -28,7 +28,7 @@ use Rattle.mk_words.specs.Seats.{Has}
 use Rattle.mk_words.specs.States.{PassState, now_of, event_of}
 use Rattle.mk_words.specs.Steps.{IsEnabledTo}
 use Rattle.mk_words.specs.TurnSteps.{IsTurn, world_at, Acts}
-use Rattle.mk_core.specs.Counts.{ends, fulls}
+use Rattle.mk_core.specs.Counts.{ends, full_answers}
 use Rattle.mk_core.specs.Effects.{answer_decided}
 use Rattle.mk_core.specs.Frames.{steady_of, CountsAreLeft}
 use Rattle.mk_core.specs.History.{left}
@@ -166,7 +166,8 @@ opens_more p q r k o a =
           ∙ a.own.flight ∙ o.call;
       counts = record {
         ends = ap ends seen_then ∙ sym (same_ends c fs last nothing) ∙ counts.ends ∙ o.counts.ends;
-        fulls = ap (λ (es : List Event). fulls c es) seen_then ∙ sym (same_fulls c fs last nothing) ∙ counts.fulls
+        fulls = ap (λ (es : List Event). full_answers c es) seen_then ∙ sym (same_fulls c fs last nothing)
+            ∙ counts.fulls
             ∙ o.counts.fulls;
       };
       more = more;

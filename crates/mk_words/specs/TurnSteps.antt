@@ -18,7 +18,7 @@ use Rattle.mk_core.specs.Calls.{at_rest, begun, d_of}
 use Rattle.mk_core.specs.Moments.{nothing_done, none_is_held, others_are_held}
 use Rattle.mk_core.specs.Words.{phase_of}
 use Rattle.mk_core.specs.Ranges.{has_phase}
-use Rattle.mk_core.specs.TurnConditions.{words_held}
+use Rattle.mk_core.specs.TurnConditions.{held_by_pages}
 use Rattle.mk_core.specs.Readings.{Holds}
 use Rattle.mk_core.specs.History.{World, world_behind, left}
 use Rattle.mk_core.specs.Frames.{OwnIsLeft, HoldsAll, TurnIsLeft, CountsAreLeft, written_of}
@@ -48,7 +48,7 @@ pub record IsFresh (p : PassState) (o : Option Op) : Type 0 where
   pub holding : (now_of p).seats.holding ≡ nothing_done
   pub gates : none_is_held p.table.config.callers (now_of p).words ≡ true
   pub phase : has_phase (phase_of (now_of p).words) step.Give ≡ true
-  pub held : (now_of p).words.held ≡ words_held (now_of p).words
+  pub held : (now_of p).words.held ≡ held_by_pages (now_of p).words
   pub fresh : (now_of p).words.fresh ≡ (now_of p).fresh_words
 
 -- A turn goes on behind every step but these.

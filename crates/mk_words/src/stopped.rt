@@ -1,7 +1,7 @@
 //! The turn while the gates of all other callers are held, and its steps.
 ghost use Rattle.std.specs.Prelude.{◌≡◌, true, false};
 ghost use Rattle.mk_core.specs.declared.events.Step.TheVariants as step;
-ghost use Rattle.mk_core.specs.Accesses.{reached, access};
+ghost use Rattle.mk_core.specs.Accesses.{word_accessed, access};
 ghost use Rattle.mk_core.specs.History.{IsHistory};
 ghost use Rattle.mk_core.specs.Moments.{others_are_held, none_is_held, is_number_of};
 ghost use Rattle.mk_words.specs.Opening.{OthersMayOpen, Opens};
@@ -73,7 +73,8 @@ impl Stopped {
         requires stays { gates_stay step ≡ true }
         requires takes_none { may_take_cell step ≡ false }
         requires may { May self.old.pass step }
-        requires word { word ≡ reached self.old.pass.table.config (now_of self.old.pass) (event_of self.old.pass step) }
+        requires word { word ≡ word_accessed self.old.pass.table.config (now_of self.old.pass)
+            (event_of self.old.pass step) }
         requires access { by ≡ access self.old.pass.table.config (now_of self.old.pass) (event_of self.old.pass step) }
         ensures told { Tells self.old.pass step result self.new.pass }
         ensures op { self.new.op ≡ self.old.op }
