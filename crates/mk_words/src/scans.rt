@@ -13,68 +13,11 @@ ghost use Rattle.mk_core.specs.Enabled.{marker_may};
 ghost use Rattle.mk_core.specs.Ranges.{is_in_range};
 
 use crate::passes::OUTSIDE;
-use mk_core::{Config, Marker, Presence, Scan, SeenHeader, Step, Word};
-use mk_geom::{Cell, Header, class_words, decode, lookup};
-
-const HEAP_START: u64 = 65536;
-
-const PAGE_WORDS: u64 = 64;
-
-const PAGE_BYTES: u64 = 512;
-
-/// The page that an address is in, counted from the heap's first.
-fn page_at(address: u64) -> u64
-    ensures { result ≡ page_at_address address }
-{
-    address.saturating_sub(HEAP_START) / PAGE_BYTES
-}
-
-/// Whether the word has the bit.
-#[tactic(auto, using(mk_core::proofs::Bits::has_bit_past))]
-pub(crate) fn has_bit(word: u64, index: u64) -> bool
-    ensures { result ≡ has_bit word index }
-{
-    index < 64 && (word >> index) & 1 == 1
-}
-
-/// The bit that stands for a cell, or 0 where a word has none for it.
-pub(crate) fn bit_for(index: u64) -> u64
-    ensures { result ≡ bit_for index }
-{
-    if index < 64 { 1 << index } else { 0 }
-}
-
-/// The words of a cell under a header word.
-fn words_under(header: u64) -> u64
-    ensures exact { result ≡ words_under (header_of header) }
-    ensures few { result ≤ 4096 }
-{
-    match decode(header) {
-        Some(Header::Block(class) | Header::LeafBlock(class)) => class_words(class),
-        Some(Header::Run { pages, .. } | Header::LeafRun { pages }) => PAGE_WORDS * pages,
-        _ => 0,
-    }
-}
-
-/// Whether the page is one of an unmapped run.
-fn is_unmapped(header: u64) -> bool
-    ensures { result ≡ is_unmapped_header (header_of header) }
-{
-    matches!(
-        decode(header),
-        Some(Header::Run { mapped: false, .. } | Header::Later { mapped: false, .. })
-    )
-}
-
-/// Whether the words of a cell under the header aren't scanned.
-fn has_no_pointers(header: u64) -> bool
-    ensures { result ≡ has_no_pointers (header_of header) }
-{
-    matches!(
-        decode(header),
-        Some(Header::LeafBlock(_) | Header::LeafRun { .. })
-    ) || is_unmapped(header)
-}
+use mk_core::{
+    Config, Marker, Phase, Presence, Scan, SeenHeader, Step, Word, has_bit, has_no_pointers,
+    words_under,
+};
+use mk_geom::{Cell, HEAP_START, PAGE_BYTES, PAGE_WORDS, lookup, page_at};
 
 /// The scan of a cell under the header word that was seen: no word of it, where it isn't scanned.
 fn scan_begun(page: u64, index: u64, header: u64) -> Scan
@@ -119,7 +62,7 @@ fn scan_onward(scan: Option<Scan>) -> Option<Scan>
 fn presence_behind_attend(found: u64) -> Presence
     ensures { result ≡ (if found % 8 == 1 then Presence.Attending else Presence.Visiting) }
 {
-    if found % 8 == 1 {
+    if Phase::Marking.is_in(found) {
         Presence::Attending
     } else {
         Presence::Visiting
