@@ -1,7 +1,7 @@
 mod Alone
 mod FoundRoom
-mod MadeCalls
+pub mod MadeCalls
 mod MadeNumbers
 mod OnePage
 mod Owned
-mod OwnedCalls
+pub mod OwnedCalls
