@@ -102,7 +102,7 @@ module _ (o : Object) (p q : PassState) (t : InTurn p) (seat : IsCallers p) (fre
       subst (λ (l : List Event). HasNoPlace p.table.config o l) (sym (seen_behind kinds p q d))
       (none_there d.more [] (sym (append-nil d.more)))
 
--- So it is up to the `close` of a cycle, and behind a `begin`.
+-- So it is up to the `close` of a cycle, and after a `begin`.
 
 clears_none : (x : Step) → clears x ≡ true → releases_none x ≡ true
 clears_none step.Release h = cc

@@ -1,4 +1,4 @@
--- What a probe tells of the heap that never reuses storage.
+-- What a probe says of the heap that never reuses storage.
 use Rattle.std.proofs.Common.{◌≡◌, ◌≢◌, ℕ, ◌+◌, ◌*◌, ◌<◌, Bool, true, false, List, [], ◌∷◌, ◌++◌, refl, sym, ◌∙◌, ap}
 use Rattle.std.proofs.Common.{subst}
 use Rattle.std.specs.Prelude.{if◌then◌else◌}
@@ -114,7 +114,7 @@ module _ (c : Config) (es : List Event) (k : ℕ) (h : IsHistory c es) (lt : k <
       (car.q has) (car.some_q some) (st.all.mirrors.typed.registers (8 * k + q_of f.op))
       (st.all.mirrors.safe.1.registers (8 * k + q_of f.op)) u)
 
--- a seat's, behind what others did
+-- a seat's, after what others did
 gets_to_for : (c : Config) (es : List Event) (t : Seat) (k : ℕ) → t ≡ Caller k → IsHistory c es → k < c.callers
     → (flight_of (left c es).now t).stage ≡ stage.Probe
     → Meets (never_behind c es) (register_at (never_behind c es) (caller_number t)

@@ -59,7 +59,7 @@ by_caller c caller own other =
     ⊎_elim (λ e. own (eqb-true c caller e)) (λ e. other (λ same. false≢true (sym e ∙ eq-eqb c caller same)))
     (cases_Bool (c == caller))
 
--- what holds of a caller's operations holds of the first call's, where it is the caller's, and of those behind it
+-- what holds of a caller's operations holds of the first call's, where it is the caller's, and of those after it
 split_ops : (P : Op → Type 0) (caller : ℕ) (x : Call) (xs : List Call) → All P (ops_of_caller caller (x ∷ xs))
     → (x.caller ≡ caller → P x.op) × All P (ops_of_caller caller xs)
 split_ops P caller x xs h = by_test (x.caller == caller) refl h

@@ -138,7 +138,7 @@ module _ (program : List Item) (script : List Item) where
       (offsets_fault (record { program = program; script = script }) words) h in
       All-cons (IsAmong (types_of program)) _ _ (inside_fault-IsAmong at both.0) (words_among words both.1)
 
--- the types that lines behind these declare
+-- the types that lines after these declare
 pub types-within : (program : List Item) (line : ℕ) (before items : List Item) → ArePassed before items
     → fault_from program line before items ≡ None
     → All (IsTypeAmong (types_of program)) (kinds_among (type_names program) items)
@@ -164,7 +164,7 @@ types-within program line before (item ∷ items) lines h =
     (at_line-None line (typing_fault (record { program = program; script = this_script before }) line items item)
     (fault_from program (line + 1) (before ++ item ∷ []) items) h).1
 
--- the globals that lines behind these declare
+-- the globals that lines after these declare
 pub globals-within : (program : List Item) (line : ℕ) (before items : List Item)
     → fault_from program line before items ≡ None
     → All (λ ty. ty < length (types_of program)) (globals_among (type_names program) items)

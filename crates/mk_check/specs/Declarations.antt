@@ -47,7 +47,7 @@ resident_of [] = 0
 resident_of (Heap pages resident ∷ items) = resident
 resident_of (item ∷ items) = resident_of items
 
--- the heap that a program's scripts share, with so many markers
+-- the heap that a program's scripts share, with this many markers
 abbrev pub config_of : List Item → ℕ → Config
 config_of program markers =
     record {

@@ -98,7 +98,7 @@ run_line scope fed (Sub number left right) =
 run_line scope fed (Print number) = record fed { text = fed.text ++ (decimal (number_in scope fed number) ++ newline) }
 run_line scope fed item = fed
 
--- what runs behind a part that may have stopped at an operation
+-- what runs after a part that may have stopped at an operation
 abbrev pub then_run : Fed → (Fed → Fed) → Blocks → Fed
 then_run fed go rest = if is_done fed.left then go fed else record fed { left = followed_by fed.left rest }
 

@@ -12,7 +12,7 @@ number_among name [] = None
 number_among name (other ∷ others) =
     if bytes_eq name other then Some 0 else option_map (λ place. place + 1) (number_among name others)
 
--- the map has the place of each name, and they are so many
+-- the map has the place of each name, and they are this many
 pub record AreNumbers {S : Type 0} (numbers : HashMap (Bor (List ℕ)) ℕ S) (count : ℕ) (names : List (List ℕ)) : Type
     0 where
   pub places : (name : List ℕ) → value_of numbers name ≡ number_among name names

@@ -167,7 +167,7 @@ after_line (Store q i number) kept = kept
 after_line (Load number o) kept = kept
 after_line (Show p) kept = kept
 
--- what runs behind a part that may have stopped at an operation
+-- what runs after a part that may have stopped at an operation
 abbrev pub stop_behind : Stopped → (Kept → Stopped) → Steps → Stopped
 stop_behind stopped go rest =
     if none_left stopped.left then go stopped.kept else record stopped { left = then_steps stopped.left rest }

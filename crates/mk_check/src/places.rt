@@ -6,7 +6,7 @@ ghost use Rattle.mk_check.specs.Typing.{base_of, moved_by, same_at, pointed_plac
 
 use mk_script::{At, Name, TypeWord};
 
-/// A word of a type, or one behind its end.
+/// A word of a type, or one after its end.
 #[derive(Clone, Copy)]
 pub struct Place<'a> {
     pub name: &'a Name,
@@ -23,7 +23,7 @@ impl<'a> Place<'a> {
         }
     }
 
-    /// So many words behind where the register points.
+    /// This many words after where the register points.
     pub fn behind(at: &'a At, index: u64) -> Place<'a>
         ensures { at_of result ≡ moved_by index at.now }
     {

@@ -29,21 +29,21 @@ pub counts_at_the_end : (held_by_allocations one_page (left one_page freed_after
 unfolding by c0 host all_below pointed_cell one_page freed_after_begin left_from unreleased_storage
 counts_at_the_end = (refl, refl)
 
--- Behind the event that frees the first object both are held, and it is fresh.
+-- After the event that frees the first object both are held, and it is fresh.
 pub counts_behind_first_free : (held_by_allocations one_page (left one_page (take 14 freed_after_begin)).allocations
     ≡ 64)
     × (fresh_words_of one_page (left one_page (take 14 freed_after_begin)).allocations ≡ 32)
 unfolding by c0 host all_below pointed_cell one_page freed_after_begin left_from unreleased_storage
 counts_behind_first_free = (refl, refl)
 
--- Behind the one that frees the second, behind the `begin`, the second alone is fresh.
+-- After the one that frees the second, after the `begin`, the second alone is fresh.
 pub counts_behind_second_free : (held_by_allocations one_page (left one_page (take 20 freed_after_begin)).allocations
     ≡ 64)
     × (fresh_words_of one_page (left one_page (take 20 freed_after_begin)).allocations ≡ 32)
 unfolding by c0 host all_below pointed_cell one_page freed_after_begin left_from unreleased_storage
 counts_behind_second_free = (refl, refl)
 
--- In the schedule with a marker each object has 2 words. The third is freed, and stays so behind the cycle that reaches
+-- In the schedule with a marker each object has 2 words. The third is freed, and stays so after the cycle that reaches
 -- it.
 pub allocations_blackened : (left pointer_page blackened_before_the_move).allocations
     ≡ record { base = 0; ty = 0; freed = false; fresh = false; released = false }
@@ -112,7 +112,7 @@ pub second_free_is_due : IsDue two_pages (take 19 a_quarter_and_all) (record { s
 unfolding by c0 all_below pointed_cell two_pages a_quarter_and_all left_from unreleased_storage
 second_free_is_due = record { decides = refl; quarter = omega arith }
 
--- The step that takes the snapshot frees nothing, though half of the held words is fresh behind it.
+-- The step that takes the snapshot frees nothing, though half of the held words is fresh after it.
 pub snapshot_is_not_due : IsDue one_page (take 14 freed_after_begin)
     (record { seat = c0; step = step.Quar 0 4294967297 }) → ⊥
 unfolding by c0 host all_below pointed_cell one_page freed_after_begin left_from unreleased_storage

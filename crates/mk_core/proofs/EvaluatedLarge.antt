@@ -69,7 +69,7 @@ pub large_free_is_not_due : IsDue three_pages (take 16 large_freed) (record { se
 unfolding by c0 all_below pointed_cell three_pages large_freed left_from unreleased_storage
 large_free_is_not_due h = let wrong : 0 < 0 = h.quarter in omega arith
 
--- The unmapped pages stay taken up to the release: one page is left, and an object of two fits only behind it.
+-- The unmapped pages stay taken up to the release: one page is left, and an object of two fits only after it.
 pub place_on_the_last : place_among_allocations three_pages 64 true (left three_pages (take 41 large_freed)).allocations
     ≡ Some (record { page = 2; index = 0; carve = true })
 unfolding by c0 all_below pointed_cell three_pages large_freed left_from unreleased_storage

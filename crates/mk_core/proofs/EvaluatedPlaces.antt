@@ -36,7 +36,7 @@ abbrev pub is_grant : Step → Bool
 is_grant step.Grant = true
 is_grant _ = false
 
--- The first object carves the page, and the second takes the cell beside it. The third is served only behind the cycle
+-- The first object carves the page, and the second takes the cell beside it. The third is served only after the cycle
 -- in its turn: the `used` and the `head` of the cycle serve nothing. So it stands where the first one stood.
 pub first_grant : StandsAtItsPlace one_page (take 3 freed_after_begin) c0
 unfolding by c0 host all_below pointed_cell one_page freed_after_begin left_from unreleased_storage events_from
@@ -121,7 +121,7 @@ grant_while_marking =
       base = refl;
     }
 
--- The refused New begins and ends a cycle in its turn. Both cells are still taken behind it, so it doesn't fit.
+-- The refused New begins and ends a cycle in its turn. Both cells are still taken after it, so it doesn't fit.
 pub full : FindsNoPlace one_page (take 31 full_then_reused) c0
 unfolding by c0 all_below pointed_cell may_turn_black one_page full_then_reused left_from unreleased_storage events_from
     event_number at_number turn_number

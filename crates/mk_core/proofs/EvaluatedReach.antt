@@ -1,4 +1,4 @@
--- What is reached behind a small history: by a register, by a word of another object, and not at all.
+-- What is reached after a small history: by a register, by a word of another object, and not at all.
 use Rattle.std.proofs.Common.{◌≡◌, ℕ, zero, suc, Bool, true, false, not, ◌&&◌, ◌||◌, [], ◌∷◌, replicate, refl, sym, ◌∙◌}
 use Rattle.std.proofs.Common.{ap, subst}
 use Rattle.std.specs.List.{list_all}
@@ -60,7 +60,7 @@ closed_by_test n S h =
           (list_all-at (leads_into S) (allocation_at n from).words Null all refl place) leads.1;
     }
 
--- behind a pointer that was written to the first object, and the second register cleared
+-- after a pointer that was written to the first object, and the second register cleared
 
 abbrev pub first_and_second : NeverState
 first_and_second = record {

@@ -24,7 +24,7 @@ use Rattle.mk_core.specs.TurnConditions.{cell_freed}
 use Rattle.mk_core.specs.Accesses.{granted_base}
 use Rattle.mk_core.specs.Moments.{Moment, flight_of}
 
--- The heap word whose address its grant stored, its type, whether it was freed, whether that was behind the last
+-- The heap word whose address its grant stored, its type, whether it was freed, whether that was after the last
 -- `begin`, and whether a `release` released it.
 pub record PlacedAllocation : Type 0 where
   pub base : ℕ
@@ -73,7 +73,7 @@ with_released c w a =
 abbrev pub no_longer_fresh : PlacedAllocation → PlacedAllocation
 no_longer_fresh a = record a { fresh = false }
 
--- the allocations behind a step of a seat whose call is f
+-- the allocations after a step of a seat whose call is f
 abbrev pub allocations_by : Config → Moment → Flight → Step → List PlacedAllocation → List PlacedAllocation
 allocations_by c m f step.Grant xs = xs ++ granted c m f ∷ []
 allocations_by c m f (step.Quar p v) xs = map (freed_where_it_stands m.words (cell_freed c.pages m.words f p v)) xs

@@ -71,7 +71,7 @@ first_word w cell = 64 * cell.page + cell.index * words_under (header_in w cell.
 abbrev pub cell_words : Words → Cell → ℕ
 cell_words w cell = words_under (header_in w cell.page)
 
--- What a value points into, by lookup, in a heap of so many pages, which these are.
+-- What a value points into, by lookup, in a heap of this many pages, which these are.
 unfoldable pub pointed_cell : ℕ → List Page → ℕ → Option Cell
 pointed_cell count pages value = cell_at count (slice_index_or pages (page_at_address value) free_page).header value
 

@@ -138,7 +138,7 @@ abbrev pub cycle_ended : OwnCycle → OwnCycle
 cycle_ended Begun = Ended
 cycle_ended cycle = cycle
 
--- What the holder of the turn has done behind its step; a seat that doesn't hold it leaves that alone.
+-- What the holder of the turn has done after its step; a seat that doesn't hold it leaves that alone.
 abbrev pub holding_behind : Config → Moment → Seat → Flight → ℕ → Step → Holding → Holding
 holding_behind c m s f found (step.Take o) h = if found == 0 then nothing_done else h
 holding_behind c m s f found step.Give h = nothing_done
@@ -197,7 +197,7 @@ abbrev pub scan_onward : Option Scan → Option Scan
 scan_onward (Some scan) = Some (record scan { next = scan.next + 1 })
 scan_onward None = None
 
--- a marker behind its step
+-- a marker after its step
 abbrev pub marker_behind : Config → ℕ → Step → Marker → Marker
 marker_behind c found step.Attend x =
     record { presence = if found % 8 == 1 then Attending else Visiting; scan = None; hand = None; seen = None }

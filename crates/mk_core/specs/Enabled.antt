@@ -132,7 +132,7 @@ failing c m e =
 abbrev pub IsEnabled : Config → Moment → Event → Type 0
 IsEnabled c m e = failing c m e ≡ 0
 
--- What an enabled event tells: it meets each of the seven conditions. The last is in two parts, of which one is true.
+-- What an enabled event says: it meets each of the seven conditions. The last is in two parts, of which one is true.
 pub record MeetsAll (c : Config) (m : Moment) (e : Event) : Type 0 where
   pub seat : seat_exists c e.seat ≡ true
   pub kind : is_open_to e.seat (group_of e.step) ≡ true

@@ -1,4 +1,4 @@
--- The law on longer lists: what a seat may do behind what it has seen, it may do behind what others did since.
+-- The law on longer lists: what a seat may do after what it has seen, it may do after what others did since.
 use Rattle.std.specs.Prelude.{◌≡◌, List, [], ◌∷◌, ◌++◌, is_some}
 use Rattle.mk_core.specs.declared.config.Config.{Config}
 use Rattle.mk_core.specs.declared.events.Event.{Event}
@@ -10,7 +10,7 @@ use Rattle.mk_core.specs.History.{left, IsHistory}
 use Rattle.mk_core.specs.Counts.{IsTidy}
 use Rattle.mk_core.specs.Growing.{AreOfOthers}
 
--- What the event is behind the one list, it is behind the other.
+-- What the event is after the one list, it is after the other.
 pub record IsStillTheSame (c : Config) (es fs : List Event) (e : Event) : Type 0 where
   pub word : word_accessed c (left c fs).now e ≡ word_accessed c (left c es).now e
   pub of_the_table : IsOfTable c.pages (word_accessed c (left c es).now e)

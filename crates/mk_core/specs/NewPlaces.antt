@@ -34,7 +34,7 @@ abbrev pub object_made : Config → Op → Object
 object_made c (op.New d ty full) = object_of (kinds_of c.types ty)
 object_made c _ = object_of []
 
--- where an object goes on pages by first fit, with so many of them resident at most
+-- where an object goes on pages by first fit, with this many of them resident at most
 abbrev pub place_on_pages : ℕ → List Page → Object → Option Place
 place_on_pages resident pages o = place_on_uses resident o.words o.leaf (uses_of_pages pages)
 
@@ -55,7 +55,7 @@ is_small_object o = is_small_size o.words
 abbrev pub pages_made : Object → ℕ
 pages_made o = if is_small_object o then 1 else run_pages_of o.words
 
--- the header word that the page so far behind the first of them gets
+-- the header word that the page so far after the first of them gets
 abbrev pub header_made : Object → ℕ → ℕ
 header_made o distance =
     if is_small_object o
@@ -71,11 +71,11 @@ abbrev pub base_made : Object → Place → ℕ
 base_made o place =
     64 * place.page + (if is_small_object o then place.index * class_words_of (class_made o) else 0)
 
--- the page so far behind a first one has the header word that is wanted there
+-- the page so far after a first one has the header word that is wanted there
 abbrev pub stands : Words → ℕ → (ℕ → ℕ) → ℕ → Bool
 stands w first wanted distance = header_at w (first + distance) == wanted distance
 
--- The page is the first of so many that hasn't the header word that is wanted there, and the value is that word.
+-- The page is the first of this many that hasn't the header word that is wanted there, and the value is that word.
 abbrev pub is_next_header : Words → ℕ → ℕ → (ℕ → ℕ) → ℕ → ℕ → Bool
 is_next_header w first count wanted page value =
     nat_le first page && nat_lt (page - first) count && not (header_at w page == wanted (page - first))

@@ -51,7 +51,7 @@ object_at c es s = object_made c (flight_of (left c es).now s).op
 abbrev pub place_after : Config → List Event → Object → Option Place
 place_after c es o = place_among_allocations c o.words o.leaf (left c es).allocations
 
--- A `grant` behind the list stands at the place of its object before the call's first step that serves it.
+-- A `grant` after the list stands at the place of its object before the call's first step that serves it.
 pub record StandsAtItsPlace (c : Config) (es : List Event) (s : Seat) : Type 0 where
   pub turn : TurnOf c s es
   pub first : FirstServed c turn
@@ -65,7 +65,7 @@ GrantsStandAtTheirPlaces c es =
     (before : List Event) (e : Event) (behind : List Event) → es ≡ before ++ e ∷ behind → e.step ≡ step.Grant
     → StandsAtItsPlace c before e.seat
 
--- A Full stands only where nothing fits, behind a cycle that was begun and ended in its call.
+-- A Full stands only where nothing fits, after a cycle that was begun and ended in its call.
 pub record FindsNoPlace (c : Config) (es : List Event) (s : Seat) : Type 0 where
   pub turn : TurnOf c s es
   pub cycle : BeginsAndEndsIn turn

@@ -63,7 +63,7 @@ may_head c m f page value =
     else carves m.words (object_made c f.op) (place_now c m f) page value
     || unmaps m.words m.seats.holding.freed page value
 
--- `used` (a): the cell of the place is taken, once, behind all its headers
+-- `used` (a): the cell of the place is taken, once, after all its headers
 abbrev pub takes_cell : Words → Object → Option Place → ℕ → ℕ → Bool
 takes_cell w o place page value =
     is_some_and

@@ -174,7 +174,7 @@ impl Table {
         words_under(self.header(cell.page))
     }
 
-    /// What a value points into, in a heap of so many pages.
+    /// What a value points into, in a heap of this many pages.
     #[tactic(auto, unfolding(crate::specs::Cells::pointed_cell))]
     pub(crate) fn pointed_cell(&self, pages: u64, value: u64) -> Option<Cell>
         ensures { result ≡ pointed_cell pages self.now.pages value }
@@ -231,7 +231,7 @@ impl Table {
         true
     }
 
-    /// Whether so many words from the first on are 0.
+    /// Whether this many words from the first on are 0.
     #[tactic(auto, using(crate::proofs::AllBelow::all_below_zero_is, crate::proofs::AllBelow::all_below_more_is, crate::proofs::AllBelow::all_below_not_is))]
     pub(crate) fn words_are_zero(&self, first: u128, count: u64) -> bool
         requires { first < 2 ^ 100 }

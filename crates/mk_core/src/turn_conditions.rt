@@ -147,7 +147,7 @@ impl Core {
         }
     }
 
-    /// Whether the cell of the place is taken, behind all its headers.
+    /// Whether the cell of the place is taken, after all its headers.
     fn takes_cell(&self, flight: Flight, page: u64, value: u64) -> bool
         ensures { result ≡ takes_cell self.now.now.words (object_made self.now.config flight.op)
             (place_now self.now.config self.now.now flight) page value }

@@ -129,7 +129,7 @@ module _ (p g e q : PassState) (r : Released) (gives : GivesAllBack p g) (free :
   done_e : done_of (now_of e) ≡ record (done_of (now_of g)) { cycle = cycle_ended (now_of g).seats.holding.cycle }
   done_e = ended_done g e t gives.phase u a
 
-  -- nothing is on its way behind the `end`
+  -- nothing is on its way after the `end`
   settled : IsSettled (world_of e)
   settled =
       record {
@@ -253,7 +253,7 @@ module _ (p g e q : PassState) (r : Released) (gives : GivesAllBack p g) (free :
   pub has_released : HasReleased p q r
   has_released = told_q
 
--- So the turn is free for a cycle behind a finish, as it is behind a begin.
+-- So the turn is free for a cycle after a finish, as it is after a begin.
 
 pub finished_free : (p q : PassState) → FinishesCycle p q → IsFreeForCycle p → IsFreeForCycle q
 finished_free p q k free =

@@ -184,7 +184,7 @@ still_unmapped_word p q n k h =
       unmapped = still_unmapped p q n k.keeps h.unmapped;
     }
 
--- the word is 0 behind its wipe
+-- the word is 0 after its wipe
 pub wiped : (p q : PassState) → InTurn p → InTurn q → (n : ℕ) → Acts p (step.Wipe n) q → IsZero q n
 wiped p q t u n a =
     ap (λ (x : World). slice_index x.now.words.heap n) a.world ∙ zero_here (world_at a.makes).now.words.heap n
@@ -195,7 +195,7 @@ wiped p q t u n a =
       | inr past ↦ ap (λ (ys : List ℕ). slice_index ys i) (set_past xs i 0 past) ∙ get_or_past xs i 0 past
     ]
 
--- the words of pages behind steps that store them
+-- the words of pages after steps that store them
 
 abbrev with_pages : World → ℕ → List Page → PageState
 with_pages w r pages = record {

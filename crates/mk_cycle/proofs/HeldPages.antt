@@ -48,7 +48,7 @@ pub free_holds : (w : Words) (page header : ℕ) → header ≡ header_at w page
     → 0 ≡ held_by_use (use_of_page (page_of w page))
 free_holds w page header is none = ap (λ n. held_by_use (use_under (header_of n) (used_at w page))) (sym none ∙ is)
 
--- The pages from one on hold what it holds, and what those behind it do.
+-- The pages from one on hold what it holds, and what those after it do.
 
 pub held_next : (pages : List Page) (n : ℕ) → n < length pages
     → held_by_uses (uses_of_pages (drop n pages))
@@ -58,7 +58,7 @@ held_next pages n within =
     at_drop_more (λ rest. held_by_uses (uses_of_pages rest)) pages n free_page within
     ∙ sum_by-cons held_by_use (use_of_page (slice_index_or pages n free_page)) (uses_of_pages (drop (n + 1) pages))
 
--- What two looks tell of a page.
+-- What two looks say of a page.
 pub page_seen : (a b : PassState) (page header used : ℕ) → FreesNone a b → header ≡ header_at (now_of a).words page
     → used ≡ used_at (now_of b).words page
     → ◌≡◌ {A = Page} (record { header = header; used = used }) (page_of (now_of b).words page)

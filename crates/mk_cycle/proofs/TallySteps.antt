@@ -1,4 +1,4 @@
--- Looks and tallies behind an `end`.
+-- Looks and tallies after an `end`.
 use Rattle.std.proofs.Common.{◌≡◌, ℕ, ◌+◌, refl, sym, ap, subst, ◌∙◌}
 use Rattle.mk_core.specs.declared.config.Config.{Config}
 use Rattle.mk_core.specs.declared.events.Tally.{Tally}

@@ -1,4 +1,4 @@
-//! The stop of a cycle, and what comes behind it up to the `end`.
+//! The stop of a cycle, and what comes after it up to the `end`.
 ghost use Rattle.std.specs.Prelude.{◌≡◌, true, false};
 ghost use Rattle.mk_core.specs.Moments.{none_is_held};
 ghost use Rattle.mk_core.specs.TurnConditions.{held_by_pages};

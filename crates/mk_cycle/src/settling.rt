@@ -18,7 +18,7 @@ use crate::turn_steps::{self, free_head};
 use mk_core::Word;
 use mk_words::{Turn, Words};
 
-/// What was released, and how many words are held behind that.
+/// What was released, and how many words are held after that.
 #[derive(Clone, Copy)]
 pub(crate) struct Settled {
     pub(crate) released: Released,

@@ -18,7 +18,7 @@ ghost use Rattle.mk_cycle.specs.TurnKeeps.{InTurn};
 use mk_core::{Tally, Word};
 use mk_words::{Turn, Words};
 
-/// Looks at a word that is no register, in a table of so many pages.
+/// Looks at a word that is no register, in a table of this many pages.
 #[inline(always)]
 pub(crate) fn look_among(turn: &mut Turn, words: &Words, pages: u64, x: Word) -> u64
     requires one_table { turn.old.pass.table ≡ words.now }

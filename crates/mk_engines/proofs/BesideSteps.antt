@@ -198,7 +198,7 @@ module _ (t u : TurnState) (was : InTurn t.pass) (is : InTurn u.pass) (b : IsBes
         well = stays_well t u (step.Look x) a was is b same refl;
       }
 
--- the hand behind a look
+-- the hand after a look
 
 module _ (p q : PassState) (x : Word) (a : Acts p (step.Look x) q) where
   hand_now : hand_of q ≡ or_else (hand_given p.table.config (world_at a.makes).now p.seat x

@@ -1,4 +1,4 @@
--- The call that an event decides behind a list, it decides behind what others did since, and it is admitted there.
+-- The call that an event decides after a list, it decides after what others did since, and it is admitted there.
 use Rattle.std.proofs.Common.{Bool, List, [], ap, inl, inr, refl, subst, sym, true, ℕ, ◌++◌, ◌<◌, ◌∙◌, ◌∷◌, ◌≡◌}
 use Rattle.std.specs.Prelude.{None, Some, if◌then◌else◌, is_some, not, ◌&&◌, ◌==◌}
 use Rattle.std.proofs.lemmas.Bool.{cases_Bool, ltb-true}

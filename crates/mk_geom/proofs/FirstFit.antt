@@ -171,7 +171,7 @@ free_in_range (u ∷ uses) zero d within = (first_is_free u uses zero within).0
 free_in_range (u ∷ uses) (suc k) d within =
     free_in_range uses k d (omega (arith, (first_is_free u uses (suc k) within).1))
 
--- so many uses from `start` on are there, and free
+-- this many uses from `start` on are there, and free
 record AreFreeUses (start count : ℕ) (uses : List PageUse) : Type 0 where
   within : start + count ≤ length uses
   free : AllWithin (λ u. is_free_page u ≡ true) uses start (start + count)

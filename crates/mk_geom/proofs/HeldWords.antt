@@ -41,7 +41,7 @@ words_off_page : (s : Storage) (page : ℕ) → (stands_on page s ≡ true → �
 words_off_page s page elsewhere =
     cond-false (stands_on page s) (words_there s) 0 (false_from_ne_true (stands_on page s) elsewhere)
 
--- a storage that stands on so many pages
+-- a storage that stands on this many pages
 sum_on_pages : (s : Storage) (n count : ℕ) → first_page s + count ≡ last_page s + 1 → first_page s + count ≤ n
     → sum_below (words_on s) n ≡ count * words_there s
 sum_on_pages s n count ends within =

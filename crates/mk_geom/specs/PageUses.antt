@@ -71,7 +71,7 @@ abbrev pub free_range : List PageUse → ℕ
 free_range [] = 0
 free_range (page ∷ pages) = if is_free_page page then free_range pages + 1 else 0
 
--- the lowest of so many neighbours that are free
+-- the lowest of this many neighbours that are free
 abbrev pub range_start : ℕ → List PageUse → Option ℕ
 range_start count [] = None
 range_start count (page ∷ pages) =
@@ -82,7 +82,7 @@ abbrev pub large_place : ℕ → ℕ → List PageUse → Option Place
 large_place limit count pages =
     if nat_le (resident_pages pages + count) limit then option_map carved (range_start count pages) else None
 
--- First fit: where an object of so many words goes, leaf or not, where so many pages may be resident.
+-- First fit: where an object of this many words goes, leaf or not, where this many pages may be resident.
 abbrev pub place_on_uses : ℕ → ℕ → Bool → List PageUse → Option Place
 place_on_uses limit words leaf pages =
     if is_small_size words

@@ -36,7 +36,7 @@ header_shown s page mapped =
 abbrev pub ShowsStorage : Storage → ℕ → ℕ → Type 0
 ShowsStorage s page header = (mapped : Bool) × (header ≡ header_shown s page mapped)
 
--- a page of these; behind the last a free one
+-- a page of these; after the last a free one
 abbrev pub page_in : List Page → ℕ → Page
 page_in pages page = slice_index_or pages page free_page
 

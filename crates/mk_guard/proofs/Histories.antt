@@ -1,4 +1,4 @@
--- What stands while a cycle marks and stops, behind every enabled list.
+-- What stands while a cycle marks and stops, after every enabled list.
 use Rattle.std.proofs.Common.{◌≡◌, ◌⊎◌, ℕ, List, [], ◌∷◌, inl, inr, arith}
 use Rattle.std.proofs.lemmas.Bool.{eqb-true}
 use Rattle.mk_core.specs.declared.config.Config.{Config}

@@ -1,4 +1,4 @@
--- One event, whatever it is: what stands while a cycle marks and stops, stands behind it.
+-- One event, whatever it is: what stands while a cycle marks and stops, stands after it.
 use Rattle.std.proofs.Common.{◌≡◌, ◌⊎◌, ℕ, ◌≤◌, true, false, refl, sym, ◌∙◌, subst, inl, inr, arith}
 use Rattle.std.specs.Prelude.{slice_index, ◌&&◌, ◌==◌}
 use Rattle.std.proofs.lemmas.Bool.{cases_lt, true≢false, eqb-true, and_parts}

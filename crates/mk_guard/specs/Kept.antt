@@ -77,7 +77,7 @@ EventsKeepTheMarks =
     (c : Config) (es : List Event) (e : Event) → IsWithinLimits c → AreEnabled c es → IsEnabledBehind c es e
     → GuardPremises c (left c es) → MarksStand c (left c es).now → MarksStand c (world_behind c (left c es) e).now
 
--- So it stands behind every enabled list.
+-- So it stands after every enabled list.
 abbrev pub MarksStandBehindLists : Type 0
 MarksStandBehindLists =
     (c : Config) (es : List Event) → IsWithinLimits c → AreEnabled c es → GuardPremisesFrom c (first_world c) es

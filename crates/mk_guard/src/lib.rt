@@ -10,7 +10,7 @@ pub fn events_keep_the_marks()
     ensures { EventsKeepTheMarks }
 {}
 
-/// So it stands behind every list along which the layout says so, as it does of the first world.
+/// So it stands after every list along which the layout says so, as it does of the first world.
 pub fn marks_stand_behind_lists()
     ensures at_first { GuardPremisesAtFirst }
     ensures along { MarksStandBehindLists }

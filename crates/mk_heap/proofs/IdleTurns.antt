@@ -1,4 +1,4 @@
--- The host's turn before an `over`: whether a cycle is on, and that none is behind the end of one.
+-- The host's turn before an `over`: whether a cycle is on, and that none is after the end of one.
 use Rattle.std.proofs.Common.{◌≡◌, ◌⊎◌, ℕ, zero, suc, ◌≤◌, ◌%◌, true, false, List, refl, sym, ap, subst, ◌∙◌, inl, inr}
 use Rattle.std.proofs.Common.{arith}
 use Rattle.std.specs.Prelude.{not, None}
@@ -38,7 +38,7 @@ at_most_one zero le = inl refl
 at_most_one (suc zero) le = inr refl
 at_most_one (suc (suc n)) le = absurd (omega arith)
 
--- Directly behind its `take` a turn has a cycle on or none, and is free for one.
+-- Directly after its `take` a turn has a cycle on or none, and is free for one.
 
 pub fresh_phase : (p : PassState) → IsFresh p None → IsHistory p.table.config p.seen → has_over p.seen ≡ false
     → (IsAtPhase p 0) ⊎ (IsAtPhase p 1)
@@ -67,7 +67,7 @@ pub look_keeps : (p q : PassState) → InTurn p → IsFreeForCycle p → IsHisto
     → Acts p (step.Look word.Phase) q → KeepsTurn whole p q
 look_keeps p q t free history a = calm_keeps p (step.Look word.Phase) q a t history refl free whole refl
 
--- So it tells whether a cycle is on, which is finished then.
+-- So it reports whether a cycle is on, which is finished then.
 
 pub none_is_on : (p q : PassState) (n : ℕ) → InTurn p → IsFresh p None → has_over p.seen ≡ false
     → IsHistory q.table.config q.seen → Finds p (step.Look word.Phase) n q → (n % 8 ≡ 1 → ⊥) → IsAtPhase p 0

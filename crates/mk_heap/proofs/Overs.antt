@@ -108,7 +108,7 @@ give_allowed p t may =
         × ((now_of p).words.fresh ≡ (now_of p).fresh_words)
     tallies = settled_tallies p.table.config p.seen t.history settled may.exact
 
--- An idle turn may be given back, and one behind the `over`.
+-- An idle turn may be given back, and one after the `over`.
 
 pub idle_may_give : (p : PassState) → IsIdleTurn p → MayGive p
 idle_may_give p idle =

@@ -1,4 +1,4 @@
--- What a report tells of the history of a heap that is closed.
+-- What a report says of the history of a heap that is closed.
 use Rattle.std.specs.Prelude.{◌≡◌, ℕ, true, List, count_by}
 use Rattle.mk_core.specs.declared.config.Config.{Config}
 use Rattle.mk_core.specs.declared.events.Event.{Event}

@@ -1,4 +1,4 @@
--- Bases are added behind the others, and stay.
+-- Bases are added after the others, and stay.
 use Rattle.std.proofs.Common.{◌≡◌, ℕ, Bool, List, [], ◌∷◌, ◌++◌, sym, ◌∙◌, append-nil}
 use Rattle.std.proofs.lemmas.List.{map-append}
 use Rattle.mk_never.specs.NeverHeap.{NeverState}

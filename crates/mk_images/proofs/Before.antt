@@ -95,7 +95,7 @@ module _ (c : Config) (w : World) (n : NeverState) (known : KnownWorld c w) (mir
             (known.limits.types ty [] (subst (λ (types : List (List Kind)). ty < length types) mirrors.types lt)).0.0;
       }
 
-  -- headers tell what is unmapped
+  -- headers say what is unmapped
   pub pages_show : Stands c w.now.words w.allocations
       → ((a i : ℕ) → (placed_at w.allocations a).released ≡ false → is_gone c (placed_at w.allocations a) ≡ true
       → i < storage_words c (placed_at w.allocations a)

@@ -53,7 +53,7 @@ access_meets n k (op.SetPtr q i p) a h = meets_some n (register_at n k q) i IsPo
 access_meets n k (op.CasPtr q i p r) a h = meets_some n (register_at n k q) i IsPointer h
 access_meets n k _ a h = absurd (false≢true a)
 
--- behind its `probe` an access carries what it did before
+-- after its `probe` an access carries what it did before
 record BehindProbe (s : Stage) (o : Op) : Type 0 where
   pub access : accesses o ≡ true
   pub put : is_put s ≡ false

@@ -95,7 +95,7 @@ read_admitted listed n k f o x out ad = admitted_call listed n k o (answer.Num x
 pub literal : (f : Flight) (st : Stage) → f.stage ≡ st → f ≡ flight st f.op f.q f.p f.r f.loaded
 literal f st e = ap (λ x. flight x f.op f.q f.p f.r f.loaded) e
 
--- the words behind `reg`
+-- the words after `reg`
 reg_registers : (w : Words) (k : ℕ) (f : Flight) (st : Stage)
     → (accessed w (Named (word.Reg k (register_met f st))) (reg_access f st)).registers
     ≡ registers_behind w.registers k f st

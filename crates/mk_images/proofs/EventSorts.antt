@@ -81,7 +81,7 @@ is_still (step.Quar p v) = false
 is_still step.Grant = false
 is_still x = true
 
--- what is behind it but for the flights
+-- what is after it but for the flights
 abbrev still_scene : Config → World → Seat → Step → ImageScene
 still_scene c w seat x =
     record (image_scene_of (world_behind c w (record { seat = seat; step = x }))) { flights = w.now.seats.flights }

@@ -26,7 +26,7 @@ is_bare stage.Leave = true
 is_bare stage.Give = true
 is_bare _ = false
 
--- the caller's call, of which nothing is owed, is over or decided behind the event
+-- the caller's call, of which nothing is owed, is over or decided after the event
 pub record Decides (s : ImageScene) (n : NeverState) (k : ℕ) (f : Flight) : Type 0 where
   pub there : k < length s.flights
   pub registers : 8 * k + 7 < length n.registers

@@ -1,4 +1,4 @@
--- One event: the world mirrors the heap that never reuses storage behind it, and the answer that it decides is right.
+-- One event: the world mirrors the heap that never reuses storage after it, and the answer that it decides is right.
 use Rattle.std.proofs.Common.{◌≡◌, ℕ, List, ◌++◌, ◌∙◌}
 use Rattle.mk_never.specs.NeverHeap.{NeverState, replies_of}
 use Rattle.mk_never.specs.Admitted.{AreAdmitted}

@@ -69,7 +69,7 @@ module _ (listed : List ℕ) (safe : ℕ → Bool) (s : ImageScene) (n : NeverSt
         kind = meets.1;
       }
 
-  -- what `probe` tells
+  -- what `probe` says
   pub unmapped_target : (header : ℕ → ℕ) → PagesShow header s n → (v : Value) (q i : ℕ) (P : Kind → Type 0)
       → q ≡ image_of (bases_of s.allocations) v → q ≢ 0 → IsSound n v
       → IsSafe safe v → Meets n v i P

@@ -36,7 +36,7 @@ abbrev pub is_word : Target → Bool
 is_word (WordOf a i) = true
 is_word _ = false
 
--- a flight that goes on, with nothing owed before or behind
+-- a flight that goes on, with nothing owed before or after
 pub goes_bare : (safe : ℕ → Bool) (s : ImageScene) (n : NeverState) (k : ℕ) (f : Flight)
     → is_put (flight_among s.flights k).stage ≡ false → is_bare f.stage ≡ true
     → Move safe s n (record s { flights = slice_set s.flights k f }) n

@@ -50,7 +50,7 @@ carries_q bs f a b d e ne p sp r = record {
   r = λ x. let y : false ≡ true = sym r ∙ x in cc;
 }
 
--- behind the load of q, an access carries q alone
+-- after the load of q, an access carries q alone
 record BehindLoadQ (s : Stage) (o : Op) : Type 0 where
   pub p : has_p s o ≡ false
   pub some_p : has_some_p s o ≡ false
@@ -267,7 +267,7 @@ module _ (listed : List ℕ) (safe : ℕ → Bool) (s : ImageScene) (n : NeverSt
       λ more. refl,
     )
 
--- the registers behind `reg`
+-- the registers after `reg`
 abbrev pub registers_behind : List ℕ → ℕ → Flight → Stage → List ℕ
 registers_behind xs k f stage.Store = slice_set xs (8 * k + d_of f.op) (value_for f f.op)
 registers_behind xs k f stage.Put = slice_set xs (8 * k + d_of f.op) f.loaded

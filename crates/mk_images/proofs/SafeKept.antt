@@ -1,4 +1,4 @@
--- There is a safe set behind each move, and the two lists of allocations still go together.
+-- There is a safe set after each move, and the two lists of allocations still go together.
 use Rattle.std.proofs.Common.{◌≡◌, ◌≢◌, ℕ, zero, suc, ◌+◌, ◌*◌, ◌<◌, Bool, true, false, List, [], ◌∷◌, ◌++◌, length}
 use Rattle.std.proofs.Common.{map, get_or, refl, sym, ap, subst, ◌∙◌, inl, inr, arith, length-set, length-append}
 use Rattle.std.specs.Prelude.{slice_index_or, slice_set, ◌||◌, ◌==◌}

@@ -44,7 +44,7 @@ pub record Stands (c : Config) (w : Words) (xs : List PlacedAllocation) : Type 0
   pub run : (a : ℕ) → (placed_at xs a).released ≡ false → is_large (kinds_of c.types (placed_at xs a).ty) ≡ true
       → heads_run (header_in w ((placed_at xs a).base / 64)) ≡ true
 
--- how far behind its first page a word of an allocation lies
+-- how far after its first page a word of an allocation lies
 pub record PageOfWord (c : Config) (a : PlacedAllocation) (i : ℕ) : Type 0 where
   pub distance : ℕ
   pub page : (a.base + i) / 64 ≡ a.base / 64 + distance

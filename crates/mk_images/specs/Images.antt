@@ -32,7 +32,7 @@ image_scene_of w =
       allocations = w.allocations;
     }
 
--- the call of a caller; behind the last caller there is none
+-- the call of a caller; after the last caller there is none
 abbrev pub flight_among : List Flight → ℕ → Flight
 flight_among fs k = slice_index_or fs k at_rest
 
@@ -49,7 +49,7 @@ owes _ d r = false
 abbrev pub shown : Flight → ℕ → ℕ → ℕ
 shown f r x = if owes f.stage (d_of f.op) r then f.loaded else x
 
--- Whether the stage is behind the load of q, p or r, and what was loaded is used there; and whether it isn't null.
+-- Whether the stage is after the load of q, p or r, and what was loaded is used there; and whether it isn't null.
 
 abbrev pub has_q : Stage → Op → Bool
 has_q stage.LoadP (op.SetPtr q i p) = true

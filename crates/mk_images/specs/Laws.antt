@@ -1,4 +1,4 @@
--- What holds of all histories, where the rest of the invariant holds behind each front of them.
+-- What holds of all histories, where the rest of the invariant holds after each front of them.
 use Rattle.std.specs.Prelude.{◌≡◌, ℕ, false, List, ◌++◌}
 use Rattle.mk_never.specs.Reach.{IsReachable}
 use Rattle.mk_core.specs.declared.config.Config.{Config}
@@ -10,7 +10,7 @@ use Rattle.mk_images.specs.ImagePremises.{ImagePremises}
 use Rattle.mk_images.specs.Mirrors.{Mirrors}
 use Rattle.mk_images.specs.ImagesSay.{ImagesSay}
 
--- The layout, the quarantine, the zero words and the marks are as they should be behind each front.
+-- The layout, the quarantine, the zero words and the marks are as they should be after each front.
 abbrev pub ImagePremisesAlong : Config → List Event → Type 0
 ImagePremisesAlong c es = (front rest : List Event) → front ++ rest ≡ es → ImagePremises c (left c front)
 

@@ -1,4 +1,4 @@
--- The theorems, from the invariant behind each front of a history.
+-- The theorems, from the invariant after each front of a history.
 use Rattle.std.proofs.Common.{List, subst, sym, ◌++◌, ◌∙◌, ◌∷◌, ◌≡◌}
 use Rattle.std.specs.Prelude.{Some}
 use Rattle.mk_core.specs.declared.config.Config.{Config}

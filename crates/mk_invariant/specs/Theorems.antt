@@ -88,7 +88,7 @@ MarksStayClosed c es = phase_of (left c es).now.words ≡ 3 → MarksAreClosed c
 abbrev pub PagesHaveHeaderWords : Config → List Event → Type 0
 PagesHaveHeaderWords c es = HasHeaderWords (left c es)
 
--- and at most so many pages are resident.
+-- and at most this many pages are resident.
 abbrev pub FewPagesAreResident : Config → List Event → Type 0
 FewPagesAreResident c es = resident_pages (uses_of_pages (left c es).now.words.pages) ≤ c.resident
 

@@ -1,4 +1,4 @@
--- What is known of a world before an event, and what is to show behind it.
+-- What is known of a world before an event, and what is to show after it.
 use Rattle.std.proofs.Common.{Bool, arith, false, length, true, ℕ, ◌<◌, ◌≡◌}
 use Rattle.std.specs.Prelude.{nat_lt}
 use Rattle.std.proofs.lemmas.Bool.{ltb-true}
@@ -38,7 +38,7 @@ pub record Before (c : Config) (w : World) : Type 0 where
 abbrev pub LaidNow : Config → World → Ground → Type 0
 LaidNow c w t = Laid c (object_now c w.now) (is_phase w.now.words 4) w t
 
--- whether released cells are there behind a step
+-- whether released cells are there after a step
 abbrev pub is_releasing_behind : Step → Bool → Bool
 is_releasing_behind step.Release b = true
 is_releasing_behind step.End b = false

@@ -41,11 +41,11 @@ use Rattle.mk_layout.proofs.QuarantineByKind.{frees_here}
 use Rattle.mk_layout.proofs.QuarantineChanges.{FreesHere, before_change}
 use Rattle.mk_layout.proofs.Released.{releasing_leaves}
 
--- freed, and not behind the last `begin`
+-- freed, and not after the last `begin`
 abbrev is_freed_before : PlacedAllocation → Bool
 is_freed_before a = a.freed && not a.fresh
 
--- what one event does to the flags of an allocation that is unreleased behind it
+-- what one event does to the flags of an allocation that is unreleased after it
 data FlagsStep (w v : World) (i : ℕ) : Type 0 where
   Stays : (placed_at w.allocations i).released ≡ false
       → is_freed_before (placed_at v.allocations i) ≡ is_freed_before (placed_at w.allocations i) → FlagsStep w v i
@@ -131,7 +131,7 @@ longer c w seat step.Grant = omega (arith, length-append w.allocations (granted 
 longer c w seat step.Release = let e = length-map w.allocations (with_released c w.now.words) in omega arith
 longer c w seat _ = omega arith
 
--- what these allocations had in quarantine, another world's flags tell
+-- what these allocations had in quarantine, another world's flags say
 record Tells (xs : List PlacedAllocation) (w : World) : Type 0 where
   longer : length xs ≤ length w.allocations
   flags : (i : ℕ) → (placed_at w.allocations i).released ≡ false
@@ -169,7 +169,7 @@ begin_is : (x : Step) → is_begin x ≡ true → x ≡ step.Begin
 begin_is step.Begin h = refl
 begin_is _ h = cc
 
--- what is known of a world, and of the events behind it
+-- what is known of a world, and of the events after it
 record Along (c : Config) (w : World) (es : List Event) : Type 0 where
   limits : IsWithinLimits c
   lengths : AreOfPages c.pages w.now.words

@@ -19,7 +19,7 @@ use Rattle.mk_layout.specs.Terrain.{place_claim, layout_scene_of}
 use Rattle.mk_layout.proofs.Joined.{among_back, among_front}
 use Rattle.mk_layout.proofs.StandingClaims.{place_index}
 
--- An allocation behind a `grant` is one from before, or the new one.
+-- An allocation after a `grant` is one from before, or the new one.
 pub pushed_at : (xs : List PlacedAllocation) (a : PlacedAllocation) (i : ℕ)
     → (placed_at (xs ++ a ∷ []) i).released ≡ false
     → (((placed_at xs i).released ≡ false) × (placed_at (xs ++ a ∷ []) i ≡ placed_at xs i))

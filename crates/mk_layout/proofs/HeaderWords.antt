@@ -1,4 +1,4 @@
--- Each page has a header word, behind each event.
+-- Each page has a header word, after each event.
 use Rattle.std.proofs.Common.{List, ap, arith, inl, inr, refl, subst, sym, true, ℕ, ◌-◌, ◌<◌, ◌∙◌, ◌≡◌}
 use Rattle.std.specs.Prelude.{IsSome, Option}
 use Rattle.std.proofs.lemmas.Bool.{cases_eq}

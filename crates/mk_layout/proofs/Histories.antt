@@ -1,4 +1,4 @@
--- All is in order behind every list of enabled events.
+-- All is in order after every list of enabled events.
 use Rattle.std.proofs.Common.{Bool, List, [], ap, arith, false, refl, subst, sym, true, ℕ, ◌∙◌, ◌∷◌, ◌≡◌}
 use Rattle.std.specs.Prelude.{Some, replicate, slice_index, slice_index_or, ◌||◌}
 use Rattle.std.proofs.lemmas.Bool.{true≢false}

@@ -1,4 +1,4 @@
--- Each freed bit is that of a cell of its page, behind each event.
+-- Each freed bit is that of a cell of its page, after each event.
 use Rattle.std.proofs.Common.{List, ap, arith, false, inl, inr, length, refl, subst, sym, true, ℕ, ◌%◌, ◌-◌, ◌/◌, ◌<◌}
 use Rattle.std.proofs.Common.{◌^◌, ◌∙◌, ◌≡◌}
 use Rattle.std.specs.Prelude.{Option, Some, not, slice_index, slice_set}

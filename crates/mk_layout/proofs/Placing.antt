@@ -165,7 +165,7 @@ layout_carved s first o d laid plotted off next =
               in omega arith)),
         )
 
--- `used` (a): the cell of the place is taken, behind all its headers
+-- `used` (a): the cell of the place is taken, after all its headers
 abbrev pub Taken : LayoutScene → Claim → ℕ → LayoutScene
 Taken s x n = record s { pages = with_used_on s.pages x.page n; claims = s.claims ++ x ∷ []; plot = NoPlot }
 

@@ -71,7 +71,7 @@ room_same c o pages others placing fewer room =
       | inr i ↦ or_right (is_resident pages q) (in_plot (plot_of o placing) q) i
     ]) room
 
--- whether a page is resident is told by its header
+-- whether a page is resident is said by its header
 pub resident_use : (x : Option Header) (u v : ℕ) → is_resident_page (use_under x u) ≡ is_resident_page (use_under x v)
 resident_use None u v = refl
 resident_use (Some Free) u v = refl

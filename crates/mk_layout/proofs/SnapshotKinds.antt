@@ -1,4 +1,4 @@
--- What is fresh and what is in the snapshot, behind each kind of event.
+-- What is fresh and what is in the snapshot, after each kind of event.
 use Rattle.std.proofs.Common.{Bool, List, [], ap, arith, false, inl, inr, length, map, refl, subst, sym, true, ℕ, ◌++◌}
 use Rattle.std.proofs.Common.{◌+◌, ◌/◌, ◌<◌, ◌∙◌, ◌∷◌, ◌≡◌, ◌≤◌, ◌⊎◌}
 use Rattle.std.specs.Prelude.{not, slice_index, ◌&&◌, ◌==◌}

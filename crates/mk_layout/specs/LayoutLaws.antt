@@ -1,4 +1,4 @@
--- What stands on the pages stays laid out behind each event, and the quarantine with it.
+-- What stands on the pages stays laid out after each event, and the quarantine with it.
 use Rattle.std.specs.Prelude.{List, Some, [], slice_index, true, ⊤, ◌∷◌, ◌≡◌, ◌≤◌}
 use Rattle.mk_geom.specs.PageUses.{resident_pages}
 use Rattle.mk_geom.specs.PageWords.{uses_of_pages}
@@ -48,13 +48,13 @@ unfoldable pub LayoutPremisesFrom : Config → World → List Event → Type 0
 LayoutPremisesFrom c w [] = ⊤
 LayoutPremisesFrom c w (e ∷ es) = LayoutPremises c w × LayoutPremisesFrom c (world_behind c w e) es
 
--- Then all is in order behind every list of enabled events.
+-- Then all is in order after every list of enabled events.
 abbrev pub HistoriesAreLaidOut : Type 0
 HistoriesAreLaidOut =
     (c : Config) (es : List Event) → IsWithinLimits c → AreEnabled c es → LayoutPremisesFrom c (first_world c) es
     → StandsInOrder c (left c es)
 
--- So each page has a header word, and at most so many pages are resident.
+-- So each page has a header word, and at most this many pages are resident.
 abbrev pub PagesHaveHeaderWords : Type 0
 PagesHaveHeaderWords =
     (c : Config) (es : List Event) → IsWithinLimits c → AreEnabled c es → LayoutPremisesFrom c (first_world c) es

@@ -24,11 +24,11 @@ pub record Claim : Type 0 where
   pub object : Object
   pub mode : Mode
 
--- the header word of an unmapped run's page, so far behind the first
+-- the header word of an unmapped run's page, so far after the first
 abbrev pub IsUnmappedHeaderOf : Object → ℕ → ℕ → Type 0
 IsUnmappedHeaderOf o distance header = (is_small_object o ≡ false) × (header ≡ unmapped_header (pages_made o) distance)
 
--- the header word of the page so far behind the claim's first. While a run is unmapped, each page may have either.
+-- the header word of the page so far after the claim's first. While a run is unmapped, each page may have either.
 abbrev pub HasHeader : Mode → Object → ℕ → ℕ → Type 0
 HasHeader Mapped o distance header = header ≡ header_made o distance
 HasHeader Unmapping o distance header = IsHeaderOf o distance header
@@ -123,7 +123,7 @@ PlotStands pages (Plotted first o) = IsPlotShown pages first o
 abbrev pub IsTakenCell : LayoutScene → ℕ → ℕ → Type 0
 IsTakenCell s p k = (k < cells_under (shows_on s.pages p)) × (IsClaimed s.claims p k ⊎ (is_released_on s p k ≡ true))
 
--- The page lies behind the head of its run, which may go before it while the phase is releasing.
+-- The page lies after the head of its run, which may go before it while the phase is releasing.
 abbrev pub HasItsHead : List Page → Bool → ℕ → ℕ → Type 0
 HasItsHead pages releasing p distance =
     (distance ≤ p)

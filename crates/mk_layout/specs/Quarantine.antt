@@ -54,7 +54,7 @@ FreedCellsAreKnown w = (p k : ℕ) → has_bit (slice_index w.now.words.freed p)
 abbrev pub is_cycling : ℕ → Bool
 is_cycling phase = nat_le 1 phase && nat_le phase 4
 
--- What is freed behind the last `begin` is fresh, and what was freed before it is the cycle's snapshot.
+-- What is freed after the last `begin` is fresh, and what was freed before it is the cycle's snapshot.
 pub record HasSnapshot (c : Config) (cycling : Bool) (snapshot : List ℕ) (xs : List PlacedAllocation) : Type 0 where
   -- A fresh allocation is freed, and not released.
   pub fresh : (i : ℕ) → (placed_at xs i).fresh ≡ true

@@ -152,7 +152,7 @@ module _ (c : Config) (w : World) (seat : Seat) (limits : IsWithinLimits c) (kno
       (place_now c w.now (flight_of w.now seat)) place is)
   stays_chosen _ h = inl is
 
--- So a mark that was of a cell is of one behind a step: headers go on.
+-- So a mark that was of a cell is of one after a step: headers go on.
 pub still_a_cell : (c : Config) (w : World) (seat : Seat) (x : Step) (p k : ℕ) → IsWithinLimits c → Known c w.now
     → IsMarking w.now.words → Meets c w.now seat x
     → GoesOn c.pages (header_at w.now.words p) (header_at (WorldBehind c w seat x).now.words p)

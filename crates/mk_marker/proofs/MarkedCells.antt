@@ -54,7 +54,7 @@ headers_go_on c w seat x limits known len early say h p = rest x refl
     rest y no_head = goes_equal c.pages (header_at w.now.words p) (header_at (WorldBehind c w seat y).now.words p)
         (headers_kind c w.now seat y no_head p)
 
--- behind a `begin` nothing is marked
+-- after a `begin` nothing is marked
 nothing_marked : (c : Config) (w : World) (seat : Seat) → AreOfPages c.pages w.now.words
     → Meets c w.now seat step.Begin → (p k : ℕ)
     → has_bit (slice_index w.now.words.marks p) k ≡ true → ⊥

@@ -134,7 +134,7 @@ module _ (n : NeverState) where
   free_adds_none (Num m) = λ number reached. reached
   free_adds_none (Ptr a ty offset) = freed_adds_none a
 
-  -- A New's allocation and what was reached have the pointers behind it.
+  -- A New's allocation and what was reached have the pointers after it.
   abbrev IsReachedOrNew : ℕ → Type 0
   IsReachedOrNew number = IsReachable n number ⊎ (number ≡ length n.allocations)
 

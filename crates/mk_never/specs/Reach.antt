@@ -39,13 +39,13 @@ ReachIsLeast n S = IsClosedUnderPointers n (λ number. IsTrue (S number)) → (n
 abbrev pub AccessIsToReached : NeverState → ℕ → ℕ → ℕ → ℕ → ℕ → Type 0
 AccessIsToReached n caller q i number place = Reaches n (register_at n caller q) i number place → IsReachable n number
 
--- Behind an operation nothing is reached but what was before, and what the operation grants.
+-- After an operation nothing is reached but what was before, and what the operation grants.
 abbrev pub ReachGrowsByGrants : NeverState → ℕ → Op → ℕ → Type 0
 ReachGrowsByGrants n caller op number =
     IsReachable (after_op n caller op) number
     → IsReachable n number ⊎ (IsTrue (is_granted op) × (number ≡ length n.allocations))
 
--- An old allocation that is reached behind the calls was reached before: what isn't reached never is again.
+-- An old allocation that is reached after the calls was reached before: what isn't reached never is again.
 abbrev pub UnreachedStays : NeverState → List Call → ℕ → Type 0
 UnreachedStays n calls number = number < length n.allocations → IsReachable (after_calls n calls) number
     → IsReachable n number

@@ -62,7 +62,7 @@ pub fn others_leave_registers()
         → AreNotBy caller calls → KeepsRegisters caller n (after_calls n calls) }
 {}
 
-/// A comparison tells whether two values are equal, so it tells two allocations apart.
+/// A comparison says whether two values are equal, so it tells two allocations apart.
 #[tactic(auto, using(crate::proofs::Sameness::same_compares, crate::proofs::Sameness::apart, crate::proofs::Sameness::same_tells))]
 pub fn same_compares_values()
     ensures values { (v w : Value) → IsTrue (is_same v w) ↔ (v ≡ w) }
@@ -99,7 +99,7 @@ pub fn the_unreached_stays_so()
     ensures stays { (n : NeverState) (calls : List Call) (number : ℕ) → UnreachedStays n calls number }
 {}
 
-/// Calls in two parts leave, reply and are admitted as the earlier ones and then, behind these, the later ones.
+/// Calls in two parts leave, reply and are admitted as the earlier ones and then, after these, the later ones.
 #[tactic(auto, using(crate::proofs::Parts::after_append, crate::proofs::Parts::replies_append, crate::proofs::Parts::admitted_append))]
 pub fn calls_in_two_parts()
     ensures left { (n : NeverState) (earlier later : List Call) → LeavesInParts n earlier later }

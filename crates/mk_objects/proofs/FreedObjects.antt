@@ -144,7 +144,7 @@ module _ (p : PassState) (r : ℕ) (cell : Cell) (h : IsHistory p.table.config p
       ≡ slice_set (world_of p).allocations x.number (freed_and_fresh own)
   it_is_freed = freed_one (now_of p).words cell (world_of p).allocations x.number granted stands alone
 
-  -- what is held behind it
+  -- what is held after it
 
   held_behind : held_by_allocations p.table.config (map (freed_where_it_stands (now_of p).words (Some cell))
       (world_of p).allocations) + held_part p.table.config own

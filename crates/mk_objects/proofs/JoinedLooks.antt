@@ -1,4 +1,4 @@
--- Looks one after the other, and a part of a turn behind looks.
+-- Looks one after the other, and a part of a turn after looks.
 use Rattle.std.proofs.Common.{◌≡◌, ◌^◌, ◌%◌, inl, inr, Bool, true, List, [], ◌∷◌, ◌++◌, refl, sym, ◌∙◌, ap, subst}
 use Rattle.std.proofs.Common.{append-nil}
 use Rattle.std.specs.Prelude.{Some}
@@ -61,7 +61,7 @@ looks_place _ h = cc
 pub looks_nothing : (p : PassState) → OnlyLooks p p
 looks_nothing p = reaches_nothing is_look p (IsAsLeft p.seat (world_of p)) (left_same p.seat (world_of p))
 
--- behind looks all is as it was
+-- after looks all is as it was
 pub looks_left : (p q : PassState) → OnlyLooks p q → IsAsLeft p.seat (world_of p) (world_of q)
 looks_left p q a = subst (λ (x : PassState). IsAsLeft p.seat (world_of p) (world_of x)) (sym a.same) a.world
 
@@ -84,7 +84,7 @@ looks_joined p q r a b = by (subst (λ (x : PassState). OnlyLooks x r) a.same b)
           counts = counts_then p.table.config p.seen q.seen r.seen a.counts b.counts;
         }
 
--- What is granted behind looks is granted.
+-- What is granted after looks is granted.
 granted_over : (c : Config) (s : Seat) (place : Place) (w u v : World) → IsAsLeft s w u → IsGrantedAt c s place u v
     → IsGrantedAt c s place w v
 granted_over c s place w u v a b =

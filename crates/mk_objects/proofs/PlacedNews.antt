@@ -1,4 +1,4 @@
--- What is asked of a New, and where it goes, by what its turn tells.
+-- What is asked of a New, and where it goes, by what its turn says.
 use Rattle.std.proofs.Common.{◌≡◌, ℕ, ◌<◌, true, List, length, refl, sym, ◌∙◌, ap, arith}
 use Rattle.std.specs.Prelude.{◌&&◌, nat_lt, Option, Some}
 use Rattle.std.proofs.lemmas.Bool.{and_parts}
@@ -86,7 +86,7 @@ fit_sought p w x y shape found table turn new same made is =
     fit_found p w (now_of p).words.pages w.config.resident shape found table refl refl
     (shape_asked p w x y shape table turn new same made) is
 
--- It is where the New goes, behind looks too,
+-- It is where the New goes, after looks too,
 pub goes_behind : (p q : PassState) (place : Place) → OnlyLooks p q → IsUnplaced p
     → place_on_pages p.table.config.resident (now_of p).words.pages (object_for p) ≡ Some place → GoesTo q place
 goes_behind p q place a u fit =

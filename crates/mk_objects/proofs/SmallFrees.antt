@@ -41,7 +41,7 @@ use Rattle.mk_objects.proofs.GoneRuns.{IsGoneIn, still_gone}
 use Rattle.mk_objects.proofs.JoinedLooks.{looks_left}
 use Rattle.mk_objects.proofs.ReachedParts.{reached_world, same_kinds}
 
--- Behind a `quar` the call is decided.
+-- After a `quar` the call is decided.
 pub freed_now : (p q : PassState) (cell : Cell) → HasFreed p cell q
     → IsFreedAt p.table.config p.seat cell (world_of p) (world_of q)
 freed_now p q cell a = reached_world is_freeing p q (IsFreedAt p.table.config p.seat cell (world_of p))
@@ -57,7 +57,7 @@ freed_call p q cell a = ap (λ (x : PassState). call_of x) a.same ∙ a.world.ca
 pub freed_acting : (p q : PassState) (cell : Cell) → HasFreed p cell q → is_acting (call_of q).stage ≡ true
 freed_acting p q cell a = ap (λ (f : Flight). is_acting f.stage) (freed_call p q cell a)
 
--- the tallies behind it
+-- the tallies after it
 
 pub over_quarter : (c : Config) (xs : List PlacedAllocation) (held fresh : ℕ) (due : Bool)
     → held ≡ held_by_allocations c xs

@@ -16,7 +16,7 @@ IsOverQuarter c xs = held_by_allocations c xs < 4 * fresh_words_of c xs
 abbrev pub event_frees : Config → List Event → Event → Bool
 event_frees c es e = decides_freed c (left c es).now (flight_of (left c es).now e.seat) e.step
 
--- Each event behind the first list that frees an object leaves these allocations.
+-- Each event after the first list that frees an object leaves these allocations.
 abbrev pub FreesOnly : Config → List Event → List PlacedAllocation → List Event → Type 0
 FreesOnly c seen xs es =
     (before : List Event) (e : Event) (behind : List Event) → es ≡ seen ++ before ++ e ∷ behind

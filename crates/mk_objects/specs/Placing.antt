@@ -132,7 +132,7 @@ pub record GoesTo (p : PassState) (place : Place) : Type 0 where
   pub unplaced : IsUnplaced p
   pub goes : place_now p.table.config (now_of p) (call_of p) ≡ Some place
 
--- So many pages of the place have their headers; its cell may be taken.
+-- This many pages of the place have their headers; its cell may be taken.
 
 abbrev pub HasCarved : PassState → Place → ℕ → PassState → Type 0
 HasCarved p place n q = Reaches is_placing p (λ w. Carving p.table.config p.seat (object_for p) place (world_of p) w n)

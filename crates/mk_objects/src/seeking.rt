@@ -162,7 +162,7 @@ fn seek_small(words: &Words, turn: &mut Turn, class: u64, leaf: bool) -> Option<
     free_place(first_free, resident, limit)
 }
 
-/// A range of so many free pages, as a place, where with it no more pages are resident than may be.
+/// A range of this many free pages, as a place, where with it no more pages are resident than may be.
 fn free_range(first: Option<u64>, resident: u64, count: u64, limit: u64) -> Option<Place>
     requires room { resident + count < 2 ^ 64 }
     ensures { result ≡ (if nat_le (resident + count) limit then option_map carved first else None) }
@@ -174,7 +174,7 @@ fn free_range(first: Option<u64>, resident: u64, count: u64, limit: u64) -> Opti
     }
 }
 
-/// Where the lowest range of so many free pages begins.
+/// Where the lowest range of this many free pages begins.
 fn first_range(words: &Words, turn: &mut Turn, count: u64) -> Option<u64>
     requires one_table { turn.old.pass.table ≡ words.now }
     requires acting { is_acting (call_of turn.old.pass).stage ≡ true }
@@ -197,7 +197,7 @@ fn first_range(words: &Words, turn: &mut Turn, count: u64) -> Option<u64>
     None
 }
 
-/// The place of a run of so many pages. Where all pages may be resident it doesn't matter how many are.
+/// The place of a run of this many pages. Where all pages may be resident it doesn't matter how many are.
 fn seek_large(words: &Words, turn: &mut Turn, count: u64) -> Option<Place>
     requires one_table { turn.old.pass.table ≡ words.now }
     requires acting { is_acting (call_of turn.old.pass).stage ≡ true }

@@ -48,7 +48,7 @@ use Rattle.mk_placement.proofs.Histories.{KeptByEvents, before_it, holds_of_hist
 use Rattle.mk_placement.proofs.TallySteps.{CountsNothing, Gives, Leaves, Takes, TurnStep, give_counts_nothing}
 use Rattle.mk_placement.proofs.TallySteps.{others_count_nothing, turn_step}
 
--- The fresh count of the moment is that of the allocations, behind every history.
+-- The fresh count of the moment is that of the allocations, after every history.
 
 abbrev pub FreshIsTold : Config → List Event → Type 0
 FreshIsTold c es = FreshTold c (left c es)

@@ -1,4 +1,4 @@
--- What is told of a turn while its New is undecided, behind every history.
+-- What is said of a turn while its New is undecided, after every history.
 use Rattle.std.proofs.Common.{◌≡◌, ℕ, ◌<◌, true, false, List, [], ◌∷◌, ◌++◌, refl, sym, ◌∙◌, ap, subst, arith}
 use Rattle.std.specs.Prelude.{None, Option, Some, ◌&&◌, ◌==◌}
 use Rattle.std.proofs.lemmas.Bool.{and_parts, eqb-true, false_from_ne_true, true≢false}
@@ -48,12 +48,12 @@ pub record ServedFirst (c : Config) (s : Seat) {es : List Event} (t : TurnOf c s
   pub first : FirstServed c t
   pub fits : place_after c (before_served t first) o ≡ Some place
 
--- what is told of the turn's steps by the place that its New holds, or by none
+-- what is said of the turn's steps by the place that its New holds, or by none
 abbrev pub HasPlace : (c : Config) (s : Seat) {es : List Event} (t : TurnOf c s es) → Object → Option Place → Type 0
 HasPlace c s t o None = NoneServesFrom c (left c (t.before ++ taken t ∷ [])) t.behind
 HasPlace c s t o (Some place) = ServedFirst c s t o place
 
--- The turn of a caller behind a list that leaves this world: where its New is, and how far a cycle of its own.
+-- The turn of a caller after a list that leaves this world: where its New is, and how far a cycle of its own.
 pub record Tracked (c : Config) (es : List Event) (w : World) (k : ℕ) : Type 0 where
   pub turn : TurnOf c (Caller k) es
   pub placed : HasPlace c (Caller k) turn (new_object c w k) (held_place w.now.seats.holding.placing)
@@ -62,7 +62,7 @@ pub record Tracked (c : Config) (es : List Event) (w : World) (k : ℕ) : Type 0
 abbrev pub NewsAreTracked : Config → List Event → Type 0
 NewsAreTracked c es = (k : ℕ) → k < c.callers → HasNew (left c es) k → Tracked c es (left c es) k
 
--- The event gives no turn back of a caller whose New is undecided behind it.
+-- The event gives no turn back of a caller whose New is undecided after it.
 gives_off : (c : Config) (w : World) (seat : Seat) (x : Step) (k : ℕ) → Known c w.now → k < c.callers
     → HasNew (WorldBehind c w seat x) k → gives_turn (Caller k) (record { seat = seat; step = x }) ≡ false
 gives_off c w (Marker j) x k known lt new = refl
@@ -105,7 +105,7 @@ fits_here : (c : Config) (es : List Event) (k : ℕ) (o : Object) → IsHistory 
 fits_here c es k o h lt new place off at found =
     sym (first_fit_finds_the_place c es h o (unplaced_settles c es k h lt new off at)) ∙ found
 
--- So what is told of the turn's steps is told with one more.
+-- So what is said of the turn's steps is told with one more.
 module _ (c : Config) (es : List Event) (e : Event) (k : ℕ) (o : Object) (t : TurnOf c (Caller k) es)
     (on : gives_turn (Caller k) e ≡ false) where
   to_place : (now place : Option Place) → now ≡ place → HasPlace c (Caller k) (longer_turn t e on) o place
@@ -148,7 +148,7 @@ module _ (c : Config) (es : List Event) (e : Event) (k : ℕ) (o : Object) (t : 
       to_place now (Some place) there
       (goes_on place (subst (λ (p : Option Place). HasPlace c (Caller k) t o p) here has))
 
--- One event: the `take` of the New, or one behind it.
+-- One event: the `take` of the New, or one after it.
 
 abbrev TrackedBehind : Config → List Event → Seat → Step → ℕ → Type 0
 TrackedBehind c es seat x k =

@@ -1,4 +1,4 @@
--- What a marker holds is touched, and what it scans has no leaf, behind each step.
+-- What a marker holds is touched, and what it scans has no leaf, after each step.
 use Rattle.std.proofs.Common.{Bool, ap, arith, false, inl, inr, refl, subst, sym, true, ℕ, ◌+◌, ◌<◌, ◌≤◌, ◌∙◌, ◌≡◌, ◌≢◌}
 use Rattle.std.specs.Prelude.{None, Option, Some, if◌then◌else◌, is_none, nat_lt, slice_index, ◌&&◌, ◌==◌}
 use Rattle.std.proofs.lemmas.Bool.{and_parts, eqb-true, ltb-true}
@@ -49,7 +49,7 @@ idle_is_precise c s T x idle =
       seen = λ z is. absurd (none-some _ (sym idle.seen ∙ is));
     }
 
--- what goes on behind a step of another, or of its own
+-- what goes on after a step of another, or of its own
 pub marker_kept : (c : Config) (w : World) (n : NeverState) (seat : Seat) (x : Step) (after : NeverState)
     (T : ℕ → Type 0) (y : MarkerState) → Steps c w n seat x after T
     → MarkerStands c w.now y → MarkerIsPrecise c (precision_scene_of w) T y

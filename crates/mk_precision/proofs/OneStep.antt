@@ -1,4 +1,4 @@
--- One step of a cycle, whatever it is: behind `begin` nothing is marked or held, and each step keeps it touched.
+-- One step of a cycle, whatever it is: after `begin` nothing is marked or held, and each step keeps it touched.
 use Rattle.std.proofs.Common.{arith, inl, inr, sym, true, ℕ, ◌∙◌, ◌≡◌}
 use Rattle.std.specs.Prelude.{slice_index, ◌&&◌, ◌==◌}
 use Rattle.std.proofs.lemmas.Bool.{and_parts, cases_Bool, cases_lt, eqb-true, true≢false}
@@ -58,7 +58,7 @@ precise_behind c w n seat x after T s precise =
       markers = markers_behind c w n seat x after T s precise stand;
     }
 
--- behind `begin`
+-- after `begin`
 pub precise_begun : (c : Config) (w : World) (seat : Seat) (T : ℕ → Type 0) → KnownWorld c w
     → Meets c w.now seat step.Begin
     → IsPrecise c (WorldBehind c w seat step.Begin) T

@@ -52,7 +52,7 @@ pub record PrecisionScene : Type 0 where
 abbrev pub precision_scene_of : World → PrecisionScene
 precision_scene_of w = record { pages = w.now.words.pages; allocations = w.allocations }
 
--- The page shows no leaf header, and no unreleased leaf begins there: an unmapped run doesn't tell whether it was one.
+-- The page shows no leaf header, and no unreleased leaf begins there: an unmapped run doesn't say whether it was one.
 pub record HasNoLeaf (c : Config) (s : PrecisionScene) (p : ℕ) : Type 0 where
   pub header : is_leaf_header (shows_on s.pages p) ≡ false
   pub allocations : (a : ℕ) → (placed_at s.allocations a).released ≡ false → (placed_at s.allocations a).base / 64 ≡ p
@@ -104,7 +104,7 @@ pub points_before : (c : Config) (a b : PlacedAllocation) (v : ℕ) → AreOfOne
     → PointsInto v (storage_of c a)
 points_before c a b v e into = (into.0, same_word c a b (heap_word_at v) e into.1)
 
--- An unreleased allocation behind a step came with it, or was there before.
+-- An unreleased allocation after a step came with it, or was there before.
 pub came_behind : (c : Config) (w : World) (seat : Seat) (x : Step) (i : ℕ)
     → (placed_at (WorldBehind c w seat x).allocations i).released ≡ false
     → Came w.allocations (WorldBehind c w seat x).allocations x i

@@ -1,4 +1,4 @@
--- Runs, places and scans lie in the heap, behind every enabled list.
+-- Runs, places and scans lie in the heap, after every enabled list.
 use Rattle.std.proofs.Common.{◌≡◌, ℕ, ◌<◌, true, List, [], ◌∷◌, refl, sym, subst}
 use Rattle.std.specs.Prelude.{nat_lt}
 use Rattle.std.proofs.lemmas.Bool.{ltb-true, and_parts}

@@ -14,7 +14,7 @@ EventsReachTheTable =
     (c : Config) (es : List Event) (e : Event) → IsWithinLimits c → AreEnabled c es → IsEnabledBehind c es e
     → IsOfTable c.pages (word_accessed c (left c es).now e)
 
--- What an event reaches behind the one list, it reaches behind the other, and in the same way.
+-- What an event reaches after the one list, it reaches after the other, and in the same way.
 pub record ReachesTheSame (c : Config) (es fs : List Event) (e : Event) : Type 0 where
   pub word : word_accessed c (left c fs).now e ≡ word_accessed c (left c es).now e
   pub access : access c (left c fs).now e ≡ access c (left c es).now e

@@ -119,7 +119,7 @@ module _ (c : Config) (w : World) (n : NeverState) (known : KnownWorld c w) (all
     | inr some ↦ let one = of_one_mapped quiet gone x some in absurd (none one.number one.mapped one.word)
   ]
 
--- Both of all histories; this is how the invariant is behind each.
+-- Both of all histories; this is how the invariant is after each.
 pub of_worlds : {claim : Config → World → Type 0}
     → ((c : Config) (w : World) (n : NeverState) → KnownWorld c w → Invariant c w n → claim c w)
     → OfHistories (Leaves claim)

@@ -1,4 +1,4 @@
--- What headers and freed bits tell of the allocations, behind each history.
+-- What headers and freed bits say of the allocations, after each history.
 use Rattle.std.proofs.Common.{◌≡◌, ◌≢◌, ◌⊎◌, ℕ, ◌<◌, ◌≤◌, Bool, true, false, refl, sym, ◌∙◌, ap, inl, inr, arith}
 use Rattle.std.specs.Prelude.{Option, Some, ◌-◌, ◌==◌, not}
 use Rattle.std.proofs.lemmas.Bool.{and_parts, ne_eqb, not-true, true≢false}

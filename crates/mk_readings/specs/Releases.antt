@@ -10,7 +10,7 @@ use Rattle.mk_core.specs.Allocations.{PlacedAllocation, placed_at, cell_of_alloc
 use Rattle.mk_core.specs.Cycles.{Releasing, IsInSnapshot, before_release, is_release}
 use Rattle.mk_core.specs.History.{left, never_behind}
 
--- an allocation before a cycle's `release`, and behind it
+-- an allocation before a cycle's `release`, and after it
 
 abbrev pub allocation_before : Config → {es : List Event} → Releasing es → ℕ → PlacedAllocation
 allocation_before c r i = placed_at (left c (before_release r)).allocations i

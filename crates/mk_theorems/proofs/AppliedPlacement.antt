@@ -60,7 +60,7 @@ pub third_fits_nowhere : FitsAmongAllocations one_page 32 true (left one_page (t
 unfolding by c0 all_below pointed_cell may_turn_black one_page full_then_reused left_from
 third_fits_nowhere = third_full.no_fit
 
--- Behind that cycle two objects are held and none is fresh, as the tallies have it at the `give`.
+-- After that cycle two objects are held and none is fresh, as the tallies have it at the `give`.
 
 third_give : TalliesAreExact one_page (take 33 full_then_reused)
 unfolding by c0 event_number one_page full_then_reused

@@ -127,7 +127,7 @@ module _ (w : WordsState) (h : HostState) (home : IsHome w h) (host : h.pass.sea
       subst (λ (y : WordsState). n ≡ held_behind y.config h.pass.seen) home.table
       (told_is_held h.pass k.pass x n tells own all history is)
 
--- A look behind a call is no call.
+-- A look after a call is no call.
 pub calls_looked : (c : Config) (es : List Event) (o : Op) (told : Answer) (fs gs : List Event) → Calls c es o told fs
     → SameCalls c fs gs → Calls c es o told gs
 calls_looked c es o told fs gs made same = record {

@@ -1,4 +1,4 @@
--- The host looks at the tally of held words: it tells what is held, and nothing is granted or let go meanwhile.
+-- The host looks at the tally of held words: it reports what is held, and nothing is granted or let go meanwhile.
 use Rattle.std.proofs.Common.{◌≡◌, ℕ, Bool, true, false, List, [], ◌∷◌, ◌++◌, refl, sym, ◌∙◌, ap, subst, append-nil}
 use Rattle.std.specs.Prelude.{◌||◌, None}
 use Rattle.mk_core.specs.declared.config.Config.{Config}
@@ -192,7 +192,7 @@ module _ (p q : PassState) (x : Word) (n : ℕ) (h : Tells p x n q) (own : Has p
       (mine_parts c [] looking giving mine.1).0).0
       (of_pass taken h.looks.makes.others taken_same h.looks.makes.of_others)
 
-  -- and the tally tells how much is held.
+  -- and the tally says how much is held.
   pub told_is_held : x ≡ word.Held → n ≡ held_by_allocations c (left c p.seen).allocations
   told_is_held is =
       h.looks.finds ∙ held_found taken x h.looks.makes.others is looks_alone ∙ exact

@@ -1,4 +1,4 @@
--- What the ledger keeps over a call, with the looks before it and behind it.
+-- What the ledger keeps over a call, with the looks before it and after it.
 use Rattle.std.proofs.Common.{◌≡◌, ◌⊎◌, inl, inr, ℕ, ◌+◌, ◌≤◌, ◌<◌, List, ◌++◌, sym, ◌∙◌, ap, subst, arith, max}
 use Rattle.std.specs.Prelude.{Option, Some, option_map}
 use Rattle.mk_never.specs.declared.operations.Op.{Op}

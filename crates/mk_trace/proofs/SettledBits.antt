@@ -61,7 +61,7 @@ module _ (c : Config) (es : List Event) (history : IsHistory c es) (out : phase_
         ∙ sym unfreed
   ]
 
--- What was unreleased before, and is freed behind a call: its bit says whether it is released by then.
+-- What was unreleased before, and is freed after a call: its bit says whether it is released by then.
 module _ (c : Config) (es fs : List Event) (before : IsHistory c es) (behind : IsHistory c fs)
     (later : AreLater (left c es).allocations (left c fs).allocations)
     (old : (j : ℕ) → (placed_at (left c fs).allocations j).freed ≡ true → j < length (left c es).allocations)

@@ -98,7 +98,7 @@ abbrev pub MayBePlayed : Config → List Event → TraceEvent → Type 0
 MayBePlayed c es event =
     (full : Bool) → AreAdmitted c.globals (never_behind c es) (calls_of_caller (ops_of full event))
 
--- The operations so far are those of these events, and so many events were refused. Between them all registers are
+-- The operations so far are those of these events, and this many events were refused. Between them all registers are
 -- null.
 pub record HasPlayed (trace : Contents) (events : List TraceEvent) (refused : ℕ) (es : List Event) : Type 0 where
   pub ops : asked (calls (config_of trace) es)

@@ -99,7 +99,7 @@ fn answer<E: Engine, R: Threads + Wait + Sync>(
     Ok(told)
 }
 
-/// Carries out the operations of an event, and tells whether one of them is refused.
+/// Carries out the operations of an event, and reports whether one of them is refused.
 pub(crate) fn refuses<E: Engine, R: Threads + Wait + Sync>(
     rt: &R,
     alloc: Global,

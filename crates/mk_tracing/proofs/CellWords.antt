@@ -34,7 +34,7 @@ use Rattle.mk_zeros.proofs.TellGuard.{later_pages}
 use Rattle.mk_invariant.specs.Invariant.{Invariant}
 use Rattle.mk_invariant.proofs.Histories.{histories_keep_the_invariant}
 
--- the page is behind its head as its header says
+-- the page is after its head as its header says
 abbrev LiesBehind : Words → ℕ → ℕ → Type 0
 LiesBehind w p page = (page ≡ p) ⊎ ((distance : ℕ) × (mapped : Bool) ×
     (header_in w page ≡ Some (Later distance mapped)) × (p + distance ≡ page))

@@ -97,7 +97,7 @@ registers_before p s q m own history k is r lt = (made p s q m own history).fram
 number_is : (s : Seat) (k : ℕ) → s ≡ Caller k → caller_number s ≡ k
 number_is s k is = ap (λ (t : Seat). caller_number t) is
 
--- What a register is behind the step, from what the access makes of the registers.
+-- What a register is after the step, from what the access makes of the registers.
 pub register_behind : (p : PassState) (s : Step) (q : PassState) (m : Makes p s q) → Has p.seats p.seat
     → IsHistory q.table.config q.seen
     → (r : ℕ) → register_of q r ≡ register_word (moment_behind p.table.config (moment_of m) (event_of p s)).words
@@ -119,7 +119,7 @@ keeps_registers p s q m own history k is same r lt =
     ∙ registers_before p s q m own history k is r lt
     ∙ sym (ap (λ (j : ℕ). register_word (now_of p).words j r) (number_is p.seat k is))
 
--- The same, from what a call tells.
+-- The same, from what a call says.
 module _ (p : PassState) (s : Step) (n : ℕ) (q : PassState) (t : Tells p s n q) (own : Has p.seats p.seat)
     (history : IsHistory q.table.config q.seen)
     (kind : group_of s ≡ group.Callers) where

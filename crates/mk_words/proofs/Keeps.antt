@@ -91,7 +91,7 @@ apart_stays vs id v w at sub apart i j d e x p q hd he =
     let b = origin vs id v w at sub j x e q he in
     apart i j a.0 b.0 x a.1 b.1 a.2 b.2
 
--- the words as one list, behind an access
+-- the words as one list, after an access
 
 changed : (pages : ℕ) (w : Words) (x y : TableWord) (a b : Access) (ws : List ℕ) → AreOfPages pages w
     → IsOfTable pages x → y ≡ x → b ≡ a → ws ≡ in_order w

@@ -24,7 +24,7 @@ use Rattle.mk_words.specs.Laws.{StepsStandBehindOthers}
 use Rattle.mk_frames.proofs.Frames.{admitted_others_leave}
 use Rattle.mk_words.proofs.Seats.{others_own}
 
--- The events of others leave the seat its own; the event met its conditions behind them, and the new list leaves what
+-- The events of others leave the seat its own; the event met its conditions after them, and the new list leaves what
 -- it leaves there.
 pub record Made (p : PassState) (s : Step) (q : PassState) (m : Makes p s q) : Type 0 where
   pub others : AreOfOthers (p.seat ∷ []) m.others

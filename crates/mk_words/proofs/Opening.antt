@@ -206,7 +206,7 @@ still_may p q k a own before behind j other on =
     let there : IsEnabled c (now_of q) e = subst (λ (w : World). IsEnabled c w.now e) (sym a.world) now in
     subst (λ (r : PassState). IsEnabled r.table.config (now_of q) (event_of r (step.Open j))) (sym a.makes.is) there
 
--- the gates behind it
+-- the gates after it
 gates_behind : (p q : PassState) (k : ℕ) (a : Acts p (step.Open k) q)
     → (now_of q).words.gates ≡ slice_set (world_at a.makes).now.words.gates k 0
 gates_behind p q k a = ap (λ (w : World). w.now.words.gates) a.world

@@ -88,7 +88,7 @@ event_call config key tid words slots id me seat s i x a picked order config_is 
           (sym same_key) at_event,
     )
 
--- what a step tells, and that the pass is in order behind it
+-- what a step says, and that the pass is in order after it
 
 in_order_still : (me n : Mine) (seat : Seat) (e : Event) (answer : ℕ) → IsInOrder me seat → adds e no_step me answer n
     → IsInOrder n seat
@@ -157,7 +157,7 @@ copy_call config key words id me key_is words_are = (
       (splits config id me.0 me.0 (copy_of me.0) (remembers me.0)),
 )
 
--- a join, and the look behind it
+-- a join, and the look after it
 
 pub join_call : (config key : Config) (words id : ℕ) (me : Mine) (other : ℕ) (from : Mine) (seat there : Seat)
     → IsInOrder me seat → IsInOrder from there → key ≡ config
@@ -288,7 +288,7 @@ first_in_order c me limits is =
       before_over = λ k lt h over. cc;
     })
 
--- behind a split
+-- after a split
 
 pub kept_by_split : (me n : Mine) (seat x picked : Seat) → IsInOrder me seat → picked ≡ x → is_same_seat x seat ≡ false
     → is_same_seat x Host ≡ false → n ≡ (stays_with picked me.0, me.1) → IsInOrder n seat
@@ -319,7 +319,7 @@ made_by_split me n seat x picked order picked_is early is =
           let both : true ≡ false = sym over ∙ early caller in cc;
     })
 
--- behind a join
+-- after a join
 
 pub record Joined (tid : TableId) (me from n : Mine) (seat : Seat) : Type 0 where
   pub pass : state_of tid n seat ≡ record (state_of tid me seat) {

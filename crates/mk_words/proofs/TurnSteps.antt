@@ -80,7 +80,7 @@ holder_is_no_marker c m (Caller k) h = refl
 holder_is_no_marker c m (Marker k) h = absurd h
 holder_is_no_marker c m Host h = refl
 
--- The turn word is another only behind `take` and `give`.
+-- The turn word is another only after `take` and `give`.
 turn_word_stays : (c : Config) (m : Moment) (seat : Seat) (s : Step) → turn_stays s ≡ true
     → (Behind c m seat s).words.turn ≡ m.words.turn
 turn_word_stays c m seat (step.Take o) h = cc

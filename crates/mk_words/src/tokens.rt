@@ -37,8 +37,8 @@ impl Model for SeatToken {
     ghost invariant = { λ t. IsInOrder t.token.me t.seat };
 }
 
-/// Makes a step of any kind: the access that the event makes behind what the pass has seen, to the word that it
-/// reaches there. Behind all that others did since it is the same one.
+/// Makes a step of any kind: the access that the event makes after what the pass has seen, to the word that it
+/// reaches there. After all that others did since it is the same one.
 #[inline(always)]
 fn perform_as<J: Making>(
     words: &Words,
@@ -126,7 +126,7 @@ impl SeatToken {
         }
     }
 
-    /// Makes a step of any kind, in a table of so many pages.
+    /// Makes a step of any kind, in a table of this many pages.
     #[inline(always)]
     pub(crate) fn perform_among(
         &mut self,

@@ -132,7 +132,7 @@ impl Turn {
         self.pass.is_in_order();
     }
 
-    /// Makes a step behind which the turn goes on.
+    /// Makes a step after which the turn goes on.
     #[inline(always)]
     pub(crate) fn perform(&mut self, words: &Words, step: Step, word: TableWord, by: Access) -> u64
         requires one_table { self.old.pass.table ≡ words.now }

@@ -42,7 +42,7 @@ pub record MayGiveBack (p : PassState) : Type 0 where
   pub held : (now_of p).words.held ≡ held_by_pages (now_of p).words
   pub fresh : (now_of p).words.fresh ≡ (now_of p).fresh_words
 
--- The operation is admitted, whatever comes behind what the pass has seen.
+-- The operation is admitted, whatever comes after what the pass has seen.
 abbrev pub StaysAdmitted : PassState → Op → Type 0
 StaysAdmitted p o =
     (more : List Event) → IsHistory p.table.config (p.seen ++ more)

@@ -1,4 +1,4 @@
--- Only words that may hold values aren't 0, behind every list of enabled events.
+-- Only words that may hold values aren't 0, after every list of enabled events.
 use Rattle.std.proofs.Common.{◌≡◌, ℕ, ◌*◌, Bool, true, false, List, [], ◌∷◌, refl, sym, ◌∙◌, ap, subst}
 use Rattle.std.specs.Prelude.{Some, None}
 use Rattle.std.proofs.lemmas.Bool.{true≢false}

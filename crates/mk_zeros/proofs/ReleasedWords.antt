@@ -1,4 +1,4 @@
--- Words of released cells, behind the steps of releasing.
+-- Words of released cells, after the steps of releasing.
 use Rattle.std.proofs.Common.{◌≡◌, ◌≢◌, ℕ, ◌+◌, ◌-◌, ◌*◌, ◌<◌, ◌≤◌, Bool, true, false, List, refl, sym, ◌∙◌, ap, inl}
 use Rattle.std.proofs.Common.{inr, arith}
 use Rattle.std.specs.Prelude.{not, ◌==◌, slice_index, slice_set, Option, Some}

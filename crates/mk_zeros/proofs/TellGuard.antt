@@ -55,7 +55,7 @@ use Rattle.mk_zeros.specs.ZerosTell.{ZerosTellTheGuard}
 use Rattle.mk_zeros.proofs.MappedWords.{mapped_stays}
 use Rattle.mk_zeros.proofs.BarePages.{Unreleasing, shown_there, bare_page, plot_page}
 
--- The pages of a run behind its head
+-- The pages of a run after its head
 
 -- what shows a run's head is the first page of its object, and has its pages
 run_part : (o : Object) (distance count : ℕ) (mapped : Bool) (x : Option Header) → ShowsPart o distance x

@@ -1,4 +1,4 @@
--- The words of the heap that may not hold values are 0 behind each event.
+-- The words of the heap that may not hold values are 0 after each event.
 use Rattle.std.specs.Prelude.{◌≡◌, Bool, true, false, List, [], ◌∷◌, ⊤, Some}
 use Rattle.mk_geom.specs.declared.addresses.Cell.{Cell}
 use Rattle.mk_core.specs.declared.config.Config.{Config}
@@ -40,7 +40,7 @@ unfoldable pub ZeroPremisesFrom : Config → World → List Event → Type 0
 ZeroPremisesFrom c w [] = ⊤
 ZeroPremisesFrom c w (e ∷ es) = ZeroPremises c w e × ZeroPremisesFrom c (world_behind c w e) es
 
--- Then they are 0 behind every list of enabled events.
+-- Then they are 0 after every list of enabled events.
 abbrev pub ZerosStandBehindLists : Type 0
 ZerosStandBehindLists =
     (c : Config) (es : List Event) → IsWithinLimits c → AreEnabled c es → ZeroPremisesFrom c (first_world c) es

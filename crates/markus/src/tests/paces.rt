@@ -135,12 +135,12 @@ fn at_instruction(script: u64, instruction: u64) -> Place {
     }
 }
 
-/// Three scripts of two instructions each, and behind ` -> ` what they print.
+/// Three scripts of two instructions each, and after ` -> ` what they print.
 const THREE: &str =
     "heap 1 1/type A n/script a/ptr p A/new p A/show p/script b/ptr p A/new p A/show p/\
     script c/ptr p A/new p A/show p/ -> script a/ptr/script b/ptr/script c/ptr/";
 
-/// A load of a global behind a store to it, and before it.
+/// A load of a global after a store to it, and before it.
 const LOAD_BEHIND: &str = "heap 1 1/type A n/global g A/script a/ptr p A/new p A/storeg p g/\
     script b/ptr q A/loadg q g/show q/ -> script a/script b/ptr/";
 
@@ -191,7 +191,7 @@ fn scripts_run_beside_each_other(rt: HostRuntime) -> Result<(), Fail> {
     Ok(())
 }
 
-/// A load that comes behind a store, or before it, is answered so.
+/// A load that comes after a store, or before it, is answered so.
 #[test]
 fn loads_are_answered_in_their_order(rt: HostRuntime) -> Result<(), Fail> {
     let load_later = Hold::new(at_instruction(1, 0), Moment::Answered, at_instruction(0, 1));
@@ -201,7 +201,7 @@ fn loads_are_answered_in_their_order(rt: HostRuntime) -> Result<(), Fail> {
     Ok(())
 }
 
-/// The free begins a cycle that goes on behind it, and what comes next waits until a marker scanned a cell.
+/// The free begins a cycle that goes on after it, and what comes next waits until a marker scanned a cell.
 #[test]
 fn a_marker_marks_beside_a_script(rt: HostRuntime) -> Result<(), Fail> {
     let scanned = Hold::new(at_instruction(0, 2), Moment::Marked, at_instruction(0, 2));
