@@ -181,7 +181,6 @@ place_behind_told_by_words =
     sym (theorems.first_fit_finds_the_place three_pages (take 19 large_freed) unmapped_is_history
     (record { words = 64; leaf = true }) unmapped_is_settled)
 
-
 -- A word of a black object points to an unmarked one, and its page isn't dirty: so a call owes the page its dirty mark.
 
 beside_begins : IsHistory small written_beside
