@@ -53,7 +53,7 @@ use Rattle.mk_invariant.specs.RunGates.{HoldsRunGates}
 use Rattle.mk_zeros.proofs.TellImages.{zeros_tell_the_images}
 
 -- A large allocation that is freed isn't mapped.
-gone_is : (c : Config) (a : PlacedAllocation) → a.released ≡ false
+pub gone_is : (c : Config) (a : PlacedAllocation) → a.released ≡ false
     → is_mapped c a ≡ not (a.freed && not (is_small_object (object_placed c a)))
 gone_is c a u =
     ap (λ b. not b && not (a.freed && is_large (kinds_of c.types a.ty))) u

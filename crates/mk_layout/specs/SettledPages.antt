@@ -44,7 +44,8 @@ UnreleasedAreApart =
 abbrev pub is_freed_unmapped : Words → Option RunPages → Bool
 is_freed_unmapped w freed = is_none_or (is_run_unmapped w) freed
 
--- No header is on its way: no cell is released, no New has a place, and no Free is unmapping its run.
+-- Nothing is on its way: no cell is released, no New has a place, and no Free is unmapping its run. One may still be
+-- wiping it.
 pub record IsSettled (w : World) : Type 0 where
   pub releasing : is_phase w.now.words 4 ≡ false
   pub placing : has_place w.now.seats.holding.placing ≡ false

@@ -85,9 +85,7 @@ second_is_unmapped =
       number = 0;
       unreleased = refl;
       freed = refl;
-      large = refl;
-      from = leb-true 0 1 refl;
-      to = ltb-true 1 2 refl;
+      page = (leb-true 0 64 refl, ltb-true 64 128 refl);
       unmapped = λ run is at. unmapped_run (left three_pages (take 19 large_freed)) unmapped_is_settled.unmapped run is;
     }
 

@@ -171,8 +171,8 @@ pub head_told_by_storage : words_of_storages (unreleased_storage three_pages unm
     ≡ record { header = 43; used = 1 }
 unfolding by c0 all_below pointed_cell may_turn_black three_pages large_freed left_from
 head_told_by_storage =
-    sym ((theorems.pages_show_the_storage three_pages (take 19 large_freed) unmapped_is_history unmapped_is_settled).words
-    0 free_page (ltb-true 0 3 refl))
+    sym ((theorems.pages_show_the_storage three_pages (take 19 large_freed) unmapped_is_history
+    unmapped_is_settled).words 0 free_page (ltb-true 0 3 refl))
 
 pub place_behind_told_by_words : place_among_allocations three_pages 64 true unmapped.allocations
     ≡ Some (record { page = 2; index = 0; carve = true })

@@ -1,10 +1,10 @@
 -- The pages of a freed large allocation aren't resident, until they get other headers.
-use Rattle.std.proofs.Common.{◌≡◌, ℕ, ◌+◌, ◌-◌, ◌/◌, ◌<◌, Bool, true, false, List, [], ◌∷◌, length, refl}
+use Rattle.std.proofs.Common.{◌≡◌, ℕ, ◌+◌, ◌-◌, ◌*◌, ◌/◌, ◌<◌, Bool, true, false, List, [], ◌∷◌, length, refl}
 use Rattle.std.proofs.Common.{sym, ◌∙◌, ap, subst, inl, inr, arith}
 use Rattle.std.specs.Prelude.{◌&&◌, ◌==◌, not, Option, Some, None}
 use Rattle.std.specs.List.{list_any}
-use Rattle.std.proofs.lemmas.Bool.{and_from, cases_Bool, cases_eq, cases_lt, eq-eqb, eqb-true, false_from_ne_true}
-use Rattle.std.proofs.lemmas.Bool.{ne_eqb, or_parts, true≢false}
+use Rattle.std.proofs.lemmas.Bool.{and_from, and_parts, cases_Bool, cases_eq, cases_lt, eq-eqb, eqb-true}
+use Rattle.std.proofs.lemmas.Bool.{false_from_ne_true, ne_eqb, not-true, or_parts, true≢false}
 use Rattle.std.proofs.lemmas.List.{set_past}
 use Rattle.mk_never.specs.NeverHeap.{NeverState}
 use Rattle.mk_geom.specs.declared.pages.Page.{Page}
@@ -18,7 +18,7 @@ use Rattle.mk_core.specs.declared.events.Step.{Step}
 use Rattle.mk_core.specs.declared.events.Step.TheVariants as step
 use Rattle.mk_core.specs.declared.seats.Object.{Object}
 use Rattle.mk_core.specs.declared.seats.RunPages.{RunPages}
-use Rattle.mk_core.specs.Allocations.{PlacedAllocation, placed_at}
+use Rattle.mk_core.specs.Allocations.{PlacedAllocation, placed_at, storage_words}
 use Rattle.mk_core.specs.Cells.{is_unmapped_header}
 use Rattle.mk_core.specs.History.{IsHistory, World, first_world, left, left_from, never_behind, world_behind}
 use Rattle.mk_core.specs.Moments.{Moment, is_phase}
@@ -28,7 +28,8 @@ use Rattle.mk_core.specs.Words.{header_at}
 use Rattle.mk_core.proofs.Histories.{left_append}
 use Rattle.mk_core.proofs.HistoryParts.{earlier_part_is_history}
 use Rattle.mk_core.proofs.ObjectHeaders.{unmapped_is_unmapped}
-use Rattle.mk_core.proofs.Sizes.{large_count}
+use Rattle.mk_core.proofs.Sizes.{large_count, large_words}
+use Rattle.mk_core.proofs.StandingAllocations.{run_begins}
 use Rattle.mk_protocol.specs.Ground.{ground_of}
 use Rattle.mk_protocol.proofs.SameWords.{Behind}
 use Rattle.mk_guard.proofs.Changes.{Table, reg_table, tally_table}
@@ -41,7 +42,7 @@ use Rattle.mk_layout.proofs.Serving.{Laid, own_claim}
 use Rattle.mk_images.proofs.KnownWorlds.{KnownWorld, known_world}
 use Rattle.mk_invariant.specs.Invariant.{Invariant}
 use Rattle.mk_invariant.specs.Theorems.{OfHistories}
-use Rattle.mk_invariant.proofs.ForImages.{shown_claim}
+use Rattle.mk_invariant.proofs.ForImages.{gone_is, shown_claim, standing}
 use Rattle.mk_invariant.proofs.Histories.{histories_keep_the_invariant}
 use Rattle.mk_readings.specs.UnmappedRuns.{IsOfUnmappedRun, UnmappedRunsTakeNoMemory, gives_header, is_resident_in}
 
@@ -98,6 +99,10 @@ unmapped_mode true false o d h is out has = has.1
 unmapped_mode true true o d h is out has = cc
 unmapped_mode false going o d h is out has = cc
 
+not_false : (b : Bool) → not b ≡ false → b ≡ true
+not_false true h = refl
+not_false false h = cc
+
 module _ (c : Config) (w : World) (n : NeverState) (known : KnownWorld c w) (all : Invariant c w n) (p : ℕ)
     (x : IsOfUnmappedRun c w p) where
   abbrev a : PlacedAllocation
@@ -108,17 +113,33 @@ module _ (c : Config) (w : World) (n : NeverState) (known : KnownWorld c w) (all
 
   gone : ((placed_at w.allocations x.number).freed && not (is_small_object (object_placed c
       (placed_at w.allocations x.number)))) ≡ true
-  gone = and_from a.freed (not (is_small_object o)) x.freed (ap not x.large)
+  gone = not_false (a.freed && not (is_small_object o)) (sym (gone_is c a x.unreleased) ∙ x.freed)
+
+  large : is_small_object (object_placed c (placed_at w.allocations x.number)) ≡ false
+  large = not-true (is_small_object o) (and_parts a.freed (not (is_small_object o)) gone).1
+
+  -- how far the page is after the first one
+  record OnRun : Type 0 where
+    distance : ℕ
+    near : distance < pages_made (object_placed c (placed_at w.allocations x.number))
+    there : (placed_at w.allocations x.number).base / 64 + distance ≡ p
+
+  on_run : OnRun
+  on_run =
+      let s = standing c w known all.order.laid x.number x.unreleased in
+      let aligned = (run_begins o a.base large s.stands.begins).1 in
+      let words : storage_words c a ≡ 64 * pages_made o = large_words o large in
+      let page = x.page in
+      record { distance = p - a.base / 64; near = omega arith; there = omega arith }
 
   sized_shown : IsShown w.now.words.pages (claim_of c w.now.seats.holding.freed (placed_at w.allocations x.number))
   sized_shown = shown_claim c w known all.order.laid x.number x.unreleased
 
   -- by the call under way, or by an earlier one
   header_there : header_at w.now.words p
-      ≡ unmapped_header (pages_made (object_placed c (placed_at w.allocations x.number)))
-      (p - (placed_at w.allocations x.number).base / 64)
+      ≡ unmapped_header (pages_made (object_placed c (placed_at w.allocations x.number))) on_run.distance
   header_there = elim (cases_Bool (is_unmapping w.now.seats.holding.freed (a.base / 64))) [
-    | inr other ↦ by w.now.seats.holding.freed other (sized_shown.headers (p - a.base / 64) near)
+    | inr other ↦ by w.now.seats.holding.freed other (sized_shown.headers on_run.distance on_run.near)
     | inl going ↦
         let rested : Laid c (object_now c w.now) (is_phase w.now.words 4) w (record (ground_of w) { run = None }) =
         gone_terrain c (object_now c w.now) (is_phase w.now.words 4) w
@@ -126,16 +147,9 @@ module _ (c : Config) (w : World) (n : NeverState) (known : KnownWorld c w) (all
         let shown = rested.scene.shown (claim_of c None a)
         (own_claim c (object_now c w.now) (record (ground_of w) { run = None }) (claim_of c None a)
         (claim_among c None w.allocations x.number x.unreleased)) in
-        by None refl (shown.headers (p - a.base / 64) near)
+        by None refl (shown.headers on_run.distance on_run.near)
   ]
     where
-      near : p - (placed_at w.allocations x.number).base / 64
-          < pages_made (object_placed c (placed_at w.allocations x.number))
-      near = let from = x.from in let to = x.to in omega arith
-
-      there : (placed_at w.allocations x.number).base / 64 + (p - (placed_at w.allocations x.number).base / 64) ≡ p
-      there = let from = x.from in omega arith
-
       page_of_run : (freed : Option RunPages) (run : RunPages) → freed ≡ Some run
           → is_unmapping freed ((placed_at w.allocations x.number).base / 64) ≡ true
           → run.page ≡ (placed_at w.allocations x.number).base / 64
@@ -144,23 +158,19 @@ module _ (c : Config) (w : World) (n : NeverState) (known : KnownWorld c w) (all
 
       by : (freed : Option RunPages) → is_unmapping freed ((placed_at w.allocations x.number).base / 64) ≡ false
           → HasHeader (claim_of c freed (placed_at w.allocations x.number)).mode
-          (object_placed c (placed_at w.allocations x.number)) (p - (placed_at w.allocations x.number).base / 64)
-          (header_at w.now.words ((placed_at w.allocations x.number).base / 64
-          + (p - (placed_at w.allocations x.number).base / 64)))
+          (object_placed c (placed_at w.allocations x.number)) on_run.distance
+          (header_at w.now.words ((placed_at w.allocations x.number).base / 64 + on_run.distance))
           → header_at w.now.words p
-          ≡ unmapped_header (pages_made (object_placed c (placed_at w.allocations x.number)))
-          (p - (placed_at w.allocations x.number).base / 64)
+          ≡ unmapped_header (pages_made (object_placed c (placed_at w.allocations x.number))) on_run.distance
       by freed other has =
-          ap (λ q. header_at w.now.words q) (sym there)
-          ∙ unmapped_mode (a.freed && not (is_small_object o)) _ o (p - a.base / 64) _ gone other has
+          ap (λ q. header_at w.now.words q) (sym on_run.there)
+          ∙ unmapped_mode (a.freed && not (is_small_object o)) _ o on_run.distance _ gone other has
 
   not_resident : is_resident_in w p ≡ false
   not_resident =
-      let from = x.from in
-      let to = x.to in
       unmapped_use (header_of (header_at w.now.words p)) (used_on w.now.words.pages p)
       (ap (λ h. is_unmapped_header (header_of h)) header_there
-      ∙ unmapped_is_unmapped (pages_made o) (p - a.base / 64) (large_count o sized_shown.sized x.large) (omega arith))
+      ∙ unmapped_is_unmapped (pages_made o) on_run.distance (large_count o sized_shown.sized large) on_run.near)
 
 pub unmapped_runs_take_no_memory : OfHistories UnmappedRunsTakeNoMemory
 unmapped_runs_take_no_memory c es h front more p is x none =

@@ -1,32 +1,30 @@
 -- The pages of a freed large allocation take no memory, from the last `head` that unmaps them on.
-use Rattle.std.specs.Prelude.{◌≡◌, ℕ, ◌+◌, ◌/◌, ◌<◌, ◌≤◌, Bool, true, false, ◌&&◌, not, ◌==◌, List, ◌++◌, Some}
+use Rattle.std.specs.Prelude.{◌≡◌, ℕ, ◌*◌, ◌/◌, Bool, true, false, ◌&&◌, not, ◌==◌, List, ◌++◌, Some}
 use Rattle.std.specs.List.{list_any}
 use Rattle.mk_geom.specs.PageUses.{is_resident_page}
 use Rattle.mk_geom.specs.PageWords.{use_of_page}
+use Rattle.mk_geom.specs.StorageWords.{IsWordOf}
 use Rattle.mk_core.specs.declared.config.Config.{Config}
 use Rattle.mk_core.specs.declared.events.Event.{Event}
 use Rattle.mk_core.specs.declared.events.Step.{Step}
 use Rattle.mk_core.specs.declared.events.Step.TheVariants as step
 use Rattle.mk_core.specs.declared.seats.RunPages.{RunPages}
-use Rattle.mk_core.specs.Allocations.{placed_at}
+use Rattle.mk_core.specs.Allocations.{is_mapped, placed_at, storage_of}
 use Rattle.mk_core.specs.History.{World, left}
-use Rattle.mk_core.specs.NewPlaces.{is_run_unmapped, is_small_object, pages_made}
-use Rattle.mk_core.specs.StandingAllocations.{object_placed}
+use Rattle.mk_core.specs.NewPlaces.{is_run_unmapped}
 use Rattle.mk_core.specs.Words.{page_of}
 
 -- whether the page takes memory, as `first_fit` counts it
 abbrev pub is_resident_in : World → ℕ → Bool
 is_resident_in w p = is_resident_page (use_of_page (page_of w.now.words p))
 
--- The page is one of a large allocation that is freed and unreleased. Where the call under way freed it, it has unmapped
--- all its pages.
+-- The page is one of a freed large allocation that is unreleased. Where the call under way freed it, all its pages are
+-- unmapped.
 pub record IsOfUnmappedRun (c : Config) (w : World) (p : ℕ) : Type 0 where
   pub number : ℕ
   pub unreleased : (placed_at w.allocations number).released ≡ false
-  pub freed : (placed_at w.allocations number).freed ≡ true
-  pub large : is_small_object (object_placed c (placed_at w.allocations number)) ≡ false
-  pub from : (placed_at w.allocations number).base / 64 ≤ p
-  pub to : p < (placed_at w.allocations number).base / 64 + pages_made (object_placed c (placed_at w.allocations number))
+  pub freed : is_mapped c (placed_at w.allocations number) ≡ false
+  pub page : IsWordOf (storage_of c (placed_at w.allocations number)) (64 * p)
   pub unmapped : (run : RunPages) → w.now.seats.holding.freed ≡ Some run
       → run.page ≡ (placed_at w.allocations number).base / 64 → is_run_unmapped w.now.words run ≡ true
 
