@@ -1,19 +1,25 @@
 //! Tests of the running heap, with real threads.
 #![tactic(auto)]
 
+#[cfg(test)]
 mod callers;
 #[cfg(test)]
 mod cores;
 #[cfg(test)]
 mod frees;
+#[cfg(test)]
 mod gates;
+#[cfg(test)]
 mod late_markers;
 #[cfg(test)]
 mod lists;
+#[cfg(test)]
 mod objects;
+#[cfg(test)]
 mod retiring;
 #[cfg(test)]
 mod rows;
 #[cfg(test)]
 mod runs;
+#[cfg(test)]
 mod turns;
