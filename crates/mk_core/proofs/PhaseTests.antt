@@ -1,4 +1,4 @@
--- What a test of a phase word tells of it.
+-- What a test of a phase word says of it.
 use Rattle.std.proofs.Common.{◌≡◌, ℕ, Bool, true, false, sym, ◌∙◌}
 use Rattle.std.specs.Prelude.{◌==◌, ◌%◌}
 use Rattle.std.proofs.lemmas.Bool.{eqb-true, eqb-false}

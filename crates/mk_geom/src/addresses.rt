@@ -1,4 +1,4 @@
-//! What an address points into. The heap's words stand one behind the other from the heap's start on.
+//! What an address points into. The heap's words stand one after the other from the heap's start on.
 ghost use Rattle.std.specs.Prelude.{◌≡◌, ◌<◌, ◌≤◌, true, false, IfSome, IfNone};
 ghost use Rattle.mk_geom.specs.Addresses.{cell_at, cell_of_block, head_page_under, is_heap_address, page_at_address};
 ghost use Rattle.mk_geom.specs.Headers.{header_of};
@@ -27,7 +27,7 @@ pub fn page_at(address: u64) -> u64
     address.saturating_sub(HEAP_START) / PAGE_BYTES
 }
 
-/// The page that an address is in, in a heap of so many pages. None where the address is outside the heap.
+/// The page that an address is in, in a heap of this many pages. None where the address is outside the heap.
 pub fn heap_page(pages: u64, address: u64) -> Option<u64>
     ensures page { IfSome result (λ page. page ≡ page_at_address address) }
     ensures within { IfSome result (λ page. page < pages) }
@@ -50,7 +50,7 @@ pub fn head_page_under(header: u64, page: u64) -> u64
     }
 }
 
-/// The cell or run that an address points into, used or not, in a heap of so many pages, where
+/// The cell or run that an address points into, used or not, in a heap of this many pages, where
 /// `header` is the header word of the address's page. None where the address is outside the heap, in
 /// a block's tail or on a free page, where the word is no header word, and where its distance
 /// leads to before the heap.

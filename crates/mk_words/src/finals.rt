@@ -34,7 +34,7 @@ pub(crate) fn last_word(closed: &Closed<(), Global>, pages: u64, name: Word) -> 
     closed.word(index_of(pages, TableWord::Named(name)))
 }
 
-/// The freed bits of the quarantine words of so many pages.
+/// The freed bits of the quarantine words of this many pages.
 pub(crate) fn freed_bits(closed: &Closed<(), Global>, pages: u64) -> u64
     requires pages { pages ≤ 4096 }
     requires full { IsFull closed.now.words }

@@ -4,7 +4,7 @@ ghost use Rattle.mk_core.specs.Layout.{count_of_words, index_of, index_of_named,
 
 use mk_core::{TableWord, Word};
 
-/// How many words a table of so many pages has.
+/// How many words a table of this many pages has.
 pub(crate) fn count_of_words(pages: u64) -> usize
     requires { pages ≤ 4096 }
     ensures { result ≡ count_of_words pages }
@@ -12,7 +12,7 @@ pub(crate) fn count_of_words(pages: u64) -> usize
     (656 + 85 * pages) as usize
 }
 
-/// The index of a word that has a name, in a table of so many pages.
+/// The index of a word that has a name, in a table of this many pages.
 #[inline(always)]
 fn index_of_named(pages: u64, word: Word) -> usize
     requires pages { pages ≤ 4096 }
@@ -39,7 +39,7 @@ fn index_of_named(pages: u64, word: Word) -> usize
     }) as usize
 }
 
-/// The index of a word, in a table of so many pages.
+/// The index of a word, in a table of this many pages.
 #[inline(always)]
 pub(crate) fn index_of(pages: u64, word: TableWord) -> usize
     requires pages { pages ≤ 4096 }
