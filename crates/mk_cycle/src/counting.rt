@@ -13,11 +13,11 @@ ghost use Rattle.mk_cycle.specs.EngineLaw.{IsFreeForCycle, IsAtPhase, is_registe
 ghost use Rattle.mk_cycle.specs.Freeing.{FreesNone};
 ghost use Rattle.mk_cycle.specs.TurnKeeps.{InTurn};
 
-use crate::bits::{FREED_END, without, words_under};
+use crate::bits::FREED_END;
 use crate::finishing::Released;
 use crate::turn_steps;
 use mk_books::{Page, held_by_pages};
-use mk_core::Word;
+use mk_core::{Word, without, words_under};
 use mk_words::{Turn, Words};
 
 /// What the words of a page say: its released cells, their words, and its marked cells of the snapshot.

@@ -6,10 +6,10 @@ ghost use Rattle.mk_words.specs.States.{now_of};
 ghost use Rattle.mk_cycle.specs.EngineLaw.{IsFreeForCycle, IsAtPhase};
 ghost use Rattle.mk_cycle.specs.Freeing.{GivesBack, HasFreeCells, IsQuarantineWord};
 
-use crate::bits::{FREED_END, without};
+use crate::bits::FREED_END;
 use crate::turn_steps::{drop_cells, give_cells, look};
 use crate::wiping::wipe_released;
-use mk_core::Word;
+use mk_core::{Word, without};
 use mk_words::{Turn, Words};
 
 /// Gives back the released cells of a page: those of the snapshot that have no mark.

@@ -10,12 +10,12 @@ ghost use Rattle.mk_cycle.specs.Freeing.{Frees, FreesPage, HasFreeCells, IsSettl
 ghost use Rattle.mk_cycle.specs.HeldPages.{held_at};
 ghost use Rattle.mk_cycle.specs.ReleasedPages.{IsOfOnePage, released_below, released_on};
 
-use crate::bits::head_of;
 use crate::counting::{held_on, look_among, released_on};
 use crate::finishing::Released;
 use crate::freeing::release_cells;
 use crate::turn_steps::{self, free_head};
 use mk_core::Word;
+use mk_geom::head_page_under;
 use mk_words::{Turn, Words};
 
 /// What was released, and how many words are held after that.
@@ -65,7 +65,7 @@ fn settle_taken(turn: &mut Turn, words: &Words, page: u64, header: u64) -> Settl
 {
     let released = released_on(turn, words, page);
     release_cells(turn, words, page, header);
-    free_unused(turn, words, page, head_of(header, page));
+    free_unused(turn, words, page, head_page_under(header, page));
     let held = held_on(turn, words, page);
     Settled { released, held }
 }

@@ -8,9 +8,8 @@ ghost use Rattle.mk_words.specs.States.{now_of};
 ghost use Rattle.mk_cycle.specs.EngineLaw.{IsFreeForCycle, IsAtPhase};
 ghost use Rattle.mk_cycle.specs.Freeing.{FreesNone, HasFreeCells, IsUnmapped, IsZero, IsUnmappedWord};
 
-use crate::bits::{has_bit, is_unmapped, words_under};
 use crate::turn_steps::{look, wipe};
-use mk_core::Word;
+use mk_core::{Word, has_bit, is_unmapped, words_under};
 use mk_words::{Turn, Words};
 
 /// Makes a word of no mapped allocation 0.

@@ -28,7 +28,7 @@ free_unused-requires-clause-free c =
 pub free_unused-requires-clause-head : goal.free_unused-requires-clause-head
 free_unused-requires-clause-head c =
     let first = c.released_on-released.ensures.frees in
-    c.head_of.ensures
+    c.head_page_under.ensures.exact
     ∙ ap (λ (n : ℕ). head_page_under (header_of n) c.args.page)
     (c.requires.header ∙ sym
     (same_header c.args.turn.now.pass c.released_on-released.new.turn.pass c.args.page (first.same c.args.page))
@@ -37,9 +37,10 @@ free_unused-requires-clause-head c =
 pub free_unused-requires-clause-none_at_head : goal.free_unused-requires-clause-none_at_head
 free_unused-requires-clause-none_at_head c =
     none_at c.args.turn.now.pass c.released_on-released.new.turn.pass c.release_cells.new.turn.pass c.args.page
-    c.head_of.result
+    c.head_page_under.result
     c.released_on-released.ensures.frees c.release_cells.ensures.gives
-    (subst (λ (n : ℕ). n ≤ c.args.page) (sym c.head_of.ensures) (head_before (header_of c.args.header) c.args.page))
+    (subst (λ (n : ℕ). n ≤ c.args.page) (sym c.head_page_under.ensures.exact)
+    (head_before (header_of c.args.header) c.args.page))
     c.requires.settled
 
 pub held_on-held-requires-clause-free : goal.held_on-held-requires-clause-free
