@@ -27,6 +27,7 @@ use Rattle.mk_core.specs.Frames.{Steady}
 use Rattle.mk_core.specs.History.{IsHistory, World}
 use Rattle.mk_core.specs.NewPlaces.{is_run_gone, is_undecided_new, object_made}
 use Rattle.mk_core.proofs.Lengths.{histories_keep_lengths}
+use Rattle.mk_layout.proofs.Settled.{gone_is_unmapped}
 use Rattle.mk_invariant.proofs.Theorems.{pages_show_the_storage}
 use Rattle.mk_objects.proofs.MayAct.{off_four}
 use Rattle.mk_protocol.specs.Protocol.{has_place}
@@ -156,7 +157,7 @@ census_told p book census t quiet shows is =
     let shown = pages_show_the_storage c p.seen t.history (record {
       releasing = off_four (now_of p) quiet.phase;
       placing = quiet.free.unplaced;
-      gone = quiet.free.gone;
+      unmapped = gone_is_unmapped (now_of p).words (now_of p).seats.holding.freed quiet.free.gone;
     }) in
     is ∙ ap (λ (xs : List Page). census_among (uses_of_pages xs)) shows
     ∙ same_census pages (unreleased_storage c (world_of p).allocations) shown

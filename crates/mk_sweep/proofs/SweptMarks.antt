@@ -25,6 +25,7 @@ use Rattle.mk_tracing.specs.Grays.{TracesReached}
 use Rattle.mk_tracing.specs.Stops.{IsWanted, still_words}
 use Rattle.mk_tracing.specs.Tracing.{Counted, Untouched, is_marking, is_tracing, is_waiting, is_want}
 use Rattle.mk_tracing.proofs.Closes.{marks_closed_now, may_close_now}
+use Rattle.mk_layout.proofs.Settled.{gone_is_unmapped}
 use Rattle.mk_tracing.proofs.NoGrays.{no_gray}
 use Rattle.mk_tracing.proofs.Parts.{counted_by_kinds, counted_wider, traces_alike}
 use Rattle.mk_tracing.proofs.Wants.{wanted_once_then}
@@ -91,7 +92,7 @@ sweeping_behind p q waited wanted free one =
           waited.traces.untouched wanted.phase (record {
             releasing = ne_eqb (phase_of (now_of p).words) 4 (λ e. omega arith);
             placing = free.unplaced;
-            gone = free.gone;
+            unmapped = gone_is_unmapped (now_of p).words (now_of p).seats.holding.freed free.gone;
           });
     }
 
