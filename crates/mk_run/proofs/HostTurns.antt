@@ -129,8 +129,8 @@ cycle_begins p q own host callers m history =
 
 -- The host's last turns, without a cycle of its own and with one.
 
-pub over_begins : (p q : PassState) → p.seat ≡ Host → Has p.seats Host → HasCallers p.table.config p.seats → SaysOver p q
-    → IsHistory q.table.config q.seen → BeginsAsAsked false p.seen q.seen
+pub over_begins : (p q : PassState) → p.seat ≡ Host → Has p.seats Host → HasCallers p.table.config p.seats
+    → SaysOver p q → IsHistory q.table.config q.seen → BeginsAsAsked false p.seen q.seen
 over_begins p q seat host callers over history =
     let own : Has p.seats p.seat = subst (λ (s : Seat). Has p.seats s) (sym seat) host in
     let u = over_unbegun p q own host callers over history in

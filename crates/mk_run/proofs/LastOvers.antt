@@ -102,8 +102,8 @@ ends_unbegun taken idle t ends history = elim ends.phase [
     look there = unbegun_made taken ends.looked (step.Look word.Phase) t refl ends.looks there
 
 -- While the host waits for the turn nobody begins one, and it takes the turn.
-pub wait_unbegun : (p taken : PassState) → Has p.seats Host → HasCallers p.table.config p.seats → TakesTurn p None taken
-    → IsHistory taken.table.config taken.seen → Unbegun p taken
+pub wait_unbegun : (p taken : PassState) → Has p.seats Host → HasCallers p.table.config p.seats
+    → TakesTurn p None taken → IsHistory taken.table.config taken.seen → Unbegun p taken
 wait_unbegun p taken host callers takes history =
     let c : Config = p.table.config in
     let w : Waits p taken = waits_more p takes.waited taken None takes.waits takes.takes.makes in

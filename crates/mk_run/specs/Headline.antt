@@ -33,8 +33,7 @@ pub record RunsToItsEnd (program : List Item) (k : ℕ) (answers : List Answer) 
   pub none_left : length (feed program k answers).ops ≡ length answers
 
 -- Whatever the interleaving of callers and markers, the replies of a program's scripts stand in one history of a heap
--- that never reuses storage, each script's operations there once and in order. The bytes are what is told of it. The
--- host makes a last cycle, where it is asked for.
+-- that never reuses storage, each script's operations there once and in order. The bytes are what is told of it.
 pub record StandsInOneHistory (program : List Item) (markers : ℕ) (sweep last_cycle : Bool)
     (tell : Config → List Event → List ℕ) (bytes : List ℕ) : Type 0 where
   -- There is a list of events.
@@ -57,7 +56,8 @@ pub record StandsInOneHistory (program : List Item) (markers : ℕ) (sweep last_
   pub cycles :
       (k : ℕ) → IsScript program k
       → TurnsOfAreExact (cycles_go_on markers) (config_of program markers) (Caller k) history
-  -- No step of a script stands after one of the host, which begins the last cycle and no other.
+  -- No step of a script stands after one of the host. The host begins one cycle where a last one is asked for, and else
+  -- none.
   pub host : HostComesLast (config_of program markers).callers last_cycle history
   -- Unless a sweep makes the marks, each cycle releases all of its snapshot that no pointer led to from the `begin` to
   -- the `close`, and behind its `end` that storage counts as free.

@@ -1,5 +1,5 @@
--- What the host does in the history of a run: nothing before the last step of every script, and then no cycle of its own,
--- or one where it is asked for.
+-- What the host does in the history of a run: nothing before the last step of every script, and then one cycle of its
+-- own where it is asked for, and else none.
 use Rattle.std.specs.Prelude.{◌≡◌, ℕ, ◌<◌, Bool, true, false, List, [], ◌∷◌, ◌++◌, count_by}
 use Rattle.mk_core.specs.declared.events.Event.{Event}
 use Rattle.mk_core.specs.declared.events.Seat.TheVariants.{Caller, Host}
