@@ -15,7 +15,7 @@ use Rattle.mk_core.specs.Growing.{AreOfOthers, Grows}
 use Rattle.mk_core.specs.History.{IsHistory, left}
 use Rattle.mk_core.proofs.HistoryParts.{earlier_part_is_history, enabled_in_parts}
 use Rattle.mk_words.specs.Seats.{Has, HasCallers}
-use Rattle.mk_words.specs.States.{PassState, WordsState}
+use Rattle.mk_words.specs.States.{PassState}
 use Rattle.mk_words.specs.TurnSteps.{turn_stays}
 use Rattle.mk_words.proofs.Seats.{others_append, others_none, others_own}
 use Rattle.mk_heap.specs.Ending.{MakesCycle, SaysOver}
