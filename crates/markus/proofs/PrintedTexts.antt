@@ -39,17 +39,17 @@ texts_are_printed program es texts are =
 
 -- The texts of a run are what its scripts print of one history.
 pub run_is_printed : (program : List Item) (markers : ℕ) (sweep : Bool) (outcome : Outcome) (bytes : List ℕ)
-    → IsRunOf (cycles_go_on markers) program markers outcome
+    → IsRunOf (cycles_go_on markers) false program markers outcome
     → (sweep ≡ false → IsUnswept (config_of program markers) (report.history_of outcome.report))
     → bytes ≡ flat_map (λ (text : Text). text.bytes.items) outcome.texts.items
-    → StandsInOneHistory program markers sweep (output program) bytes
+    → StandsInOneHistory program markers sweep false (output program) bytes
 run_is_printed program markers sweep outcome bytes runs unswept are =
-    runs_stand_in_one_history program markers sweep outcome (output program) bytes runs unswept
-    (are ∙ runs_print_their_texts (cycles_go_on markers) program markers outcome runs)
+    runs_stand_in_one_history program markers sweep false outcome (output program) bytes runs unswept
+    (are ∙ runs_print_their_texts (cycles_go_on markers) false program markers outcome runs)
 
 -- With the lines of the entries after them they report what was kept in that history's last cycle.
 pub run_is_explained : (program : List Item) (markers : ℕ) (sweep : Bool) (outcome : Outcome) (texts bytes : List ℕ)
-    (entries : List Kept) → IsRunOf (cycles_go_on markers) program markers outcome
+    (entries : List Kept) → IsRunOf (cycles_go_on markers) true program markers outcome
     → (sweep ≡ false → IsUnswept (config_of program markers) (report.history_of outcome.report))
     → EndsWithCycle (λ c w. AreKept c w entries) (config_of program markers) (report.history_of outcome.report)
     → texts ≡ flat_map (λ (text : Text). text.bytes.items) outcome.texts.items
@@ -58,11 +58,11 @@ pub run_is_explained : (program : List Item) (markers : ℕ) (sweep : Bool) (out
 unfolding runs_stand_in_one_history
 run_is_explained program markers sweep outcome texts bytes entries runs unswept ends are is =
     let lines = kept_text program entries in
-    let front = are ∙ runs_print_their_texts (cycles_go_on markers) program markers outcome runs in
+    let front = are ∙ runs_print_their_texts (cycles_go_on markers) true program markers outcome runs in
     record {
       entries = entries;
       stands =
-          runs_stand_in_one_history program markers sweep outcome (λ c es. output program c es ++ lines) bytes runs
-          unswept (is ∙ ap (λ (text : List ℕ). text ++ lines) front);
+          runs_stand_in_one_history program markers sweep true outcome (λ c es. output program c es ++ lines) bytes
+          runs unswept (is ∙ ap (λ (text : List ℕ). text ++ lines) front);
       ends_with_cycle = ends;
     }

@@ -88,7 +88,7 @@ name_is (suc (suc (suc zero))) h = rw (decimal_digit 3 (omega arith)) refl
 name_is (suc (suc (suc (suc k)))) h = absurd (omega arith)
 
 module _ (start count markers : ℕ) (outcome : Outcome)
-    (runs : IsRunOf (cycles_go_on markers) (generated_program start count) markers outcome) where
+    (runs : IsRunOf (cycles_go_on markers) false (generated_program start count) markers outcome) where
   abbrev program : List Item
   program = generated_program start count
 
@@ -113,7 +113,7 @@ module _ (start count markers : ℕ) (outcome : Outcome)
   pub are_few : count ≤ 3000000 → AreFew outcome.texts.items
   are_few most k text is =
       let script = is_script k text is in
-      let ends = runs_to_its_end (cycles_go_on markers) program markers outcome k runs script in
+      let ends = runs_to_its_end (cycles_go_on markers) false program markers outcome k runs script in
       let left = ends.none_left in
       let made = (generated_makes_turns start count k script).calls (answers_in c k es) ends.ended in
       let ops = (runs.texts k text is).ops in
@@ -147,7 +147,7 @@ module _ (start count markers : ℕ) (outcome : Outcome)
       ++ total_line (sum_by (calls_made c es) (range_with_len 0 n))) counted
 
   pub run_is_summed : IsUnswept c es → (bytes : List ℕ) → bytes ≡ summary_of_texts outcome.texts.items
-      → StandsInOneHistory program markers false (summary program) bytes
+      → StandsInOneHistory program markers false false (summary program) bytes
   run_is_summed unswept bytes is =
-      runs_stand_in_one_history program markers false outcome (summary program) bytes runs (λ none. unswept)
+      runs_stand_in_one_history program markers false false outcome (summary program) bytes runs (λ none. unswept)
       (is ∙ summary_is)

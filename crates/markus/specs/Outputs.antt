@@ -118,7 +118,8 @@ status_on command input = status_of_text command (program_of input)
 pub record TellsWhatIsKept (program : List Item) (markers : ℕ) (sweep : Bool) (output : List ℕ) : Type 0 where
   pub entries : List Kept
   pub stands :
-      StandsInOneHistory program markers sweep (λ c es. output_behind program c es ++ kept_text program entries) output
+      StandsInOneHistory program markers sweep true (λ c es. output_behind program c es ++ kept_text program entries)
+      output
   pub ends_with_cycle : EndsWithCycle (λ c w. AreKept c w entries) (config_of program markers) stands.history
 
 -- What a run prints, asked why objects are kept or not: without that, its program's replies stand in one history of its
@@ -126,7 +127,7 @@ pub record TellsWhatIsKept (program : List Item) (markers : ℕ) (sweep : Bool) 
 abbrev pub IsOutputOfRun : Bool → List Item → ℕ → Bool → List ℕ → Type 0
 IsOutputOfRun true program markers sweep output = TellsWhatIsKept program markers sweep output
 IsOutputOfRun false program markers sweep output =
-    StandsInOneHistory program markers sweep (output_behind program) output
+    StandsInOneHistory program markers sweep false (output_behind program) output
 
 abbrev pub IsOutputOf : TextCommand → List Item → List ℕ → Type 0
 IsOutputOf (Run options) program output =
@@ -186,7 +187,7 @@ pub record IsOutputOfRequest (request : Request) (old new : Option (List ℕ)) (
   pub unread : new ≡ old
   pub output_is :
       let program = generated_program request.start request.count in
-      StandsInOneHistory program request.markers false (summary program) output
+      StandsInOneHistory program request.markers false false (summary program) output
 
 abbrev pub Answers : Command → Option (List ℕ) → Option (List ℕ) → List ℕ → Type 0
 Answers (asked.OnText on_text) old new output = IsOutputOnSource on_text old new output

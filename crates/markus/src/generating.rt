@@ -26,7 +26,7 @@ pub fn summed<P: Pace + Sync, R: Threads + Wait + Sync>(
 ) -> Result<Vec<u8>, NoMemory>
     requires { IsWithin (Command.Gen request) }
     ensures { IfOk result (λ bytes. StandsInOneHistory (generated_program request.start request.count)
-        request.markers false (summary (generated_program request.start request.count)) bytes.items) }
+        request.markers false false (summary (generated_program request.start request.count)) bytes.items) }
 {
     let program = generate(alloc, request.start, request.count)?;
     let outcome = outcome_of(rt, alloc, &program, request.markers, false, pace)?;

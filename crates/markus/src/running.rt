@@ -35,7 +35,7 @@ pub fn outcome_of<P: Pace + Sync, R: Threads + Wait + Sync>(
     pace: &P,
 ) -> Result<Outcome, NoMemory>
     requires { markers ≤ 8 }
-    ensures runs { IfOk result (IsRunOf (cycles_go_on markers) program.now markers) }
+    ensures runs { IfOk result (IsRunOf (cycles_go_on markers) false program.now markers) }
     ensures reached { IfOk result (λ outcome. sweep ≡ false
         → IsUnswept (config_of program.now markers) (history_of outcome.report)) }
 {
@@ -58,7 +58,8 @@ fn printed<P: Pace + Sync, R: Threads + Wait + Sync>(
     pace: &P,
 ) -> Result<Vec<u8>, NoMemory>
     requires { markers ≤ 8 }
-    ensures { IfOk result (λ bytes. StandsInOneHistory program.now markers sweep (output program.now) bytes.items) }
+    ensures { IfOk result (λ bytes. StandsInOneHistory program.now markers sweep false (output program.now)
+        bytes.items) }
 {
     let outcome = outcome_of(rt, alloc, program, markers, sweep, pace)?;
     joined(alloc, &outcome.texts)
@@ -74,7 +75,7 @@ fn why_of<P: Pace + Sync, R: Threads + Wait + Sync>(
     pace: &P,
 ) -> Result<(Outcome, Vec<Kept>), NoMemory>
     requires { markers ≤ 8 }
-    ensures runs { IfOk result (λ ran. IsRunOf (cycles_go_on markers) program.now markers ran.0) }
+    ensures runs { IfOk result (λ ran. IsRunOf (cycles_go_on markers) true program.now markers ran.0) }
     ensures reached { IfOk result (λ ran. sweep ≡ false
         → IsUnswept (config_of program.now markers) (history_of ran.0.report)) }
     ensures kept { IfOk result (λ ran. EndsWithCycle (λ c w. AreKept c w ran.1.items)

@@ -25,9 +25,10 @@ const FIRST_RUN: &[u8] = b"heap 1 1\ntype A n*32\nscript s\nptr p A\nnum n\nnew 
 
 /// Commands, the lines of a text with `/` for a newline, and what is written, or the line that is reported. They are: the
 /// first script; a refused load; a full heap; a loop of two rounds and a branch; a dangling load; a load from a freed
-/// run; a second free; scripts without instructions; options; a freed object that a register keeps; a script of as many
-/// instructions as one may execute; a canonical text; a schedule with a load of a global before the store and one
-/// after, that ends within a call of `s`; and the smallest generated program.
+/// run; a second free; scripts without instructions; options; a freed object that a register keeps; two that point to
+/// each other, which nothing keeps but a sweep; a script of as many instructions as one may execute; a canonical text;
+/// a schedule with a load of a global before the store and one after, that ends within a call of `s`; and the smallest
+/// generated program.
 const RUNS: &str = "\
 run | heap 1 1/type A n*32/script s/ptr p A/num n/new p A/const n 7/setn p 1 n/const n 0/\
     getn n p 1/print n/ -> script s/7/
@@ -46,6 +47,10 @@ run --sweep | heap 1 1/script s/ -> script s/
 run --markers=0 -- | heap 1 1/script s/ -> script s/
 run --why | heap 1 1/type A n*31 p:A/script s/ptr x A/ptr y A/new x A/new y A/setp x 31 y/free y/ -> \
     script s/kept 65792 32/register s y/
+run --why | heap 1 1/type A p:A n*31/script s/ptr p A/ptr q A/new p A/new q A/setp p 0 q/setp q 0 p/\
+    free p/free q/clear p/clear q/ -> script s/
+run --sweep --why | heap 1 1/type A p:A n*31/script s/ptr p A/ptr q A/new p A/new q A/setp p 0 q/setp q 0 p/\
+    free p/free q/clear p/clear q/ -> script s/kept 65536 32/floating/kept 65792 32/floating/
 check | heap 1 1/type A n/script s/ptr p A/num n/const n 3/new p A/repeat 2/setn p 0 n/const n 0/\
     getn n p 0/if n/print n/else/new p A/end/end/ -> ok/
 check | heap 1 1/script s/num n/print n/repeat 499999/print n/end/ -> ok/

@@ -64,11 +64,11 @@ pieces f g a (x ∷ xs) each =
     ap (λ piece. piece ++ flat_map f xs) first ∙ ap (λ more. g a ++ more) rest
 
 -- A script of a run has used all its answers.
-pub runs_to_its_end : (on : Bool) (program : List Item) (markers : ℕ) (outcome : Outcome) (k : ℕ)
-    → IsRunOf on program markers outcome
+pub runs_to_its_end : (on with_cycle : Bool) (program : List Item) (markers : ℕ) (outcome : Outcome) (k : ℕ)
+    → IsRunOf on with_cycle program markers outcome
     → IsScript program k
     → RunsToItsEnd program k (answers_in (config_of program markers) k (report.history_of outcome.report))
-runs_to_its_end on program markers outcome k runs is = record {
+runs_to_its_end on with_cycle program markers outcome k runs is = record {
   ended = runs.ends k is;
   none_left =
       ap length (sym (runs.follows k is).noted)
@@ -76,7 +76,7 @@ runs_to_its_end on program markers outcome k runs is = record {
 }
 
 unfoldable pub runs_stand_in_one_history : RunsStandInOneHistory
-runs_stand_in_one_history program markers sweep outcome tell bytes runs unswept told =
+runs_stand_in_one_history program markers sweep last_cycle outcome tell bytes runs unswept told =
     let c = config_of program markers in
     let es = report.history_of outcome.report in
     let kept = histories_keep_all_promises c es runs.whole.history in
@@ -85,14 +85,15 @@ runs_stand_in_one_history program markers sweep outcome tell bytes runs unswept 
       whole = runs.whole;
       promises = kept;
       operations = λ k is. (runs.follows k is).noted;
-      ends = λ k is. runs_to_its_end (cycles_go_on markers) program markers outcome k runs is;
+      ends = λ k is. runs_to_its_end (cycles_go_on markers) last_cycle program markers outcome k runs is;
       cycles = λ k is. (runs.follows k is).exact;
+      host = runs.host;
       precise = λ none. unswept_is_precise c es kept (unswept none);
       told = told;
     }
 
 pub runs_print_their_texts : RunsPrintTheirTexts
-runs_print_their_texts on program markers outcome runs =
+runs_print_their_texts on with_cycle program markers outcome runs =
     let c = config_of program markers in
     let es = report.history_of outcome.report in
     let text_of = text_behind program c es in

@@ -1,19 +1,19 @@
 -- The host makes the scripts' callers, and joins them.
 use Rattle.std.proofs.Common.{◌≡◌, ◌≢◌, ◌⊎◌, ℕ, zero, suc, ◌+◌, ◌<◌, ◌≤◌, Bool, List, [], ◌∷◌, ◌++◌, length}
-use Rattle.std.proofs.Common.{sym, ◌∙◌, ap, subst, arith, inl, inr, ⊎_elim}
+use Rattle.std.proofs.Common.{refl, sym, ◌∙◌, ap, subst, arith, inl, inr, ⊎_elim}
 use Rattle.std.specs.Prelude.{Some, slice_get, Result, Ok, Err, IfOk, OnOk, IsOk}
 use Rattle.std.proofs.lemmas.Bool.{cases_eq}
 use Rattle.std.proofs.lemmas.Option.{slice_get_within}
 use Rattle.mk_core.specs.declared.config.Config.{Config}
 use Rattle.mk_core.specs.declared.events.Event.{Event}
 use Rattle.mk_core.specs.declared.events.Seat.{Seat}
-use Rattle.mk_core.specs.declared.events.Seat.TheVariants.{Caller}
+use Rattle.mk_core.specs.declared.events.Seat.TheVariants.{Caller, Host}
 use Rattle.mk_core.specs.Growing.{Grows}
 use Rattle.mk_core.specs.History.{calls_from}
 use Rattle.mk_never.specs.declared.never_heap.NoMemory.{NoMemory}
 use Rattle.mk_words.specs.Seats.{Has}
 use Rattle.mk_words.specs.States.{WordsState, PassState}
-use Rattle.mk_words.proofs.Seats.{has_first, has_left, has_right}
+use Rattle.mk_words.proofs.Seats.{has_first, has_left, has_right, without_keeps}
 use Rattle.mk_caller.specs.States.{CallerState, at_home, IsIdleCaller}
 use Rattle.mk_heap.specs.Hosts.{HostState, pass_for, with_caller_made, with_joined}
 use Rattle.mk_script.specs.declared.items.Item.{Item}
@@ -53,6 +53,7 @@ pub next_made : (w : WordsState) (k : ℕ) (h : HostState) → HasMade w k h →
 next_made w k h made = record {
   table = made.table;
   seat = made.seat;
+  own = without_keeps (Caller h.callers) h.pass.seats Host refl made.own;
   seen = made.seen;
   count = ap (λ (n : ℕ). n + 1) made.count;
 }

@@ -23,7 +23,7 @@ use Rattle.mk_words.specs.Steps.{Makes}
 use Rattle.mk_words.specs.TurnSteps.{turn_stays}
 use Rattle.mk_words.proofs.Seats.{others_append, others_own}
 use Rattle.mk_turns.specs.Doing.{Does}
-use Rattle.mk_waiting.specs.Taking.{Waits}
+use Rattle.mk_waiting.specs.Taking.{TakesTurn, Waits}
 use Rattle.mk_waiting.proofs.Waiting.{waits_more}
 use Rattle.mk_cycle.specs.TurnKeeps.{InTurn}
 use Rattle.mk_heap.specs.Ending.{EndsCycle, SaysOver}
@@ -43,7 +43,7 @@ use Rattle.mk_run.proofs.LastCycles.{before_made, ends_does, last_cycle, turn_ta
 use Rattle.mk_run.proofs.LastTurns.{cycle_moves, over_moves, still_behind_over}
 
 -- From what the one pass had seen to what the other has seen no cycle is begun.
-record Unbegun (p q : PassState) : Type 0 where
+pub record Unbegun (p q : PassState) : Type 0 where
   pub more : List Event
   pub is : q.seen ≡ p.seen ++ more
   pub none : Lacks is_begin more
@@ -55,7 +55,7 @@ unbegun_then p q r one two = record {
   none = lacks_append is_begin one.more two.more one.none two.none;
 }
 
-unbegun_made : (p q : PassState) (s : Step) → InTurn p → is_begin s ≡ false → Makes p s q
+pub unbegun_made : (p q : PassState) (s : Step) → InTurn p → is_begin s ≡ false → Makes p s q
     → IsHistory q.table.config q.seen → Unbegun p q
 unbegun_made p q s t other m history = record {
   more = m.others ++ event_of p s ∷ [];
@@ -66,17 +66,17 @@ unbegun_made p q s t other m history = record {
 }
 
 -- Where no holder steps nobody begins one.
-unheld_unbegun : (es : List Event) → HoldersStepNone es → Lacks is_begin es
+pub unheld_unbegun : (es : List Event) → HoldersStepNone es → Lacks is_begin es
 unheld_unbegun [] h = refl
 unheld_unbegun (e ∷ es) h =
     let parts = or_parts (is_holders e.step) (list_any (λ (x : Event). is_holders x.step) es) h in
     or_from (is_begin e.step) (has_step is_begin es) (begins_held e.step parts.0) (unheld_unbegun es parts.1)
 
-stays : (x : Step) → turn_stays x ≡ true → turn_stays x ≡ true
+pub stays : (x : Step) → turn_stays x ≡ true → turn_stays x ≡ true
 stays x h = h
 
 -- A cycle that is on may be finished.
-ends_unbegun : (taken idle : PassState) → InTurn taken → EndsCycle taken idle → IsHistory idle.table.config idle.seen
+pub ends_unbegun : (taken idle : PassState) → InTurn taken → EndsCycle taken idle → IsHistory idle.table.config idle.seen
     → Unbegun taken idle
 ends_unbegun taken idle t ends history = elim ends.phase [
   | inl none ↦
@@ -101,11 +101,25 @@ ends_unbegun taken idle t ends history = elim ends.phase [
     look : IsHistory ends.looked.table.config ends.looked.seen → Unbegun taken ends.looked
     look there = unbegun_made taken ends.looked (step.Look word.Phase) t refl ends.looks there
 
+-- While the host waits for the turn nobody begins one, and it takes the turn.
+pub wait_unbegun : (p taken : PassState) → Has p.seats Host → HasCallers p.table.config p.seats
+    → TakesTurn p None taken → IsHistory taken.table.config taken.seen → Unbegun p taken
+wait_unbegun p taken host callers takes history =
+    let c : Config = p.table.config in
+    let w : Waits p taken = waits_more p takes.waited taken None takes.waits takes.takes.makes in
+    let long : IsHistory c (p.seen ++ w.more) =
+    subst (λ (r : PassState). IsHistory r.table.config r.seen) w.is history in
+    let on = ((enabled_in_parts c p.seen w.more).0 long.enabled).1 in
+    record {
+      more = w.more;
+      is = ap (λ (r : PassState). r.seen) w.is;
+      none = unheld_unbegun w.more (waiting_holds_none p c host callers (left c p.seen) w.more w.only on);
+    }
+
 -- The host says that all is over.
-over_unbegun : (p q : PassState) → Has p.seats p.seat → Has p.seats Host → HasCallers p.table.config p.seats
+pub over_unbegun : (p q : PassState) → Has p.seats p.seat → Has p.seats Host → HasCallers p.table.config p.seats
     → SaysOver p q → IsHistory q.table.config q.seen → Unbegun p q
 over_unbegun p q own host callers o history =
-    let c : Config = p.table.config in
     let said = before_made o.said q step.Give o.gives history in
     let idle = before_made o.idle o.said step.Over o.says said in
     let taken_own : Has o.taken.seats o.taken.seat =
@@ -116,16 +130,7 @@ over_unbegun p q own host callers o history =
     let t_idle = in_turn_then turn_stays o.taken o.idle stays t_taken ends idle in
     let t_said = in_turn_then turn_stays o.idle o.said stays t_idle
     (made_as turn_stays o.idle o.said step.Over t_idle.own o.says refl) said in
-    let w : Waits p o.taken = waits_more p o.takes.waited o.taken None o.takes.waits o.takes.takes.makes in
-    let long : IsHistory c (p.seen ++ w.more) =
-    subst (λ (r : PassState). IsHistory r.table.config r.seen) w.is taken in
-    let on = ((enabled_in_parts c p.seen w.more).0 long.enabled).1 in
-    unbegun_then p o.taken q
-    (record {
-      more = w.more;
-      is = ap (λ (r : PassState). r.seen) w.is;
-      none = unheld_unbegun w.more (waiting_holds_none p c host callers (left c p.seen) w.more w.only on);
-    })
+    unbegun_then p o.taken q (wait_unbegun p o.taken host callers o.takes taken)
     (unbegun_then o.taken o.idle q (ends_unbegun o.taken o.idle t_taken o.ends idle)
     (unbegun_then o.idle o.said q (unbegun_made o.idle o.said step.Over t_idle refl o.says said)
     (unbegun_made o.said q step.Give t_said refl o.gives history)))

@@ -1,5 +1,6 @@
 mod BesideTurns
 mod FedScripts
+mod HostTurns
 mod JoinedScripts
 mod LaterLists
 mod MarkersBeside

@@ -1,29 +1,31 @@
 -- Markers beside the scripts: their passes, and the host that joins them.
 use Rattle.std.proofs.Common.{◌≡◌, ℕ, ◌+◌, ◌<◌, ◌≤◌, Bool, true, List, [], ◌∷◌, ◌++◌, sym, ◌∙◌}
-use Rattle.std.proofs.Common.{ap, subst, arith, ⊎_elim}
+use Rattle.std.proofs.Common.{refl, ap, subst, arith, ⊎_elim}
 use Rattle.std.proofs.lemmas.List.{get_or-replicate}
 use Rattle.std.specs.Prelude.{IfOk}
 use Rattle.std.proofs.lemmas.Result.{IfOk-weaker}
 use Rattle.mk_core.specs.declared.events.Event.{Event}
 use Rattle.mk_core.specs.declared.events.Seat.{Seat}
-use Rattle.mk_core.specs.declared.events.Seat.TheVariants.{Caller, Marker}
+use Rattle.mk_core.specs.declared.events.Seat.TheVariants.{Caller, Marker, Host}
 use Rattle.mk_core.specs.declared.config.Config.{Config}
 use Rattle.mk_core.specs.Growing.{Grows}
-use Rattle.mk_core.specs.History.{left, left_from}
+use Rattle.mk_core.specs.History.{IsHistory, left, left_from}
 use Rattle.mk_core.specs.MarkerConditions.{is_out}
 use Rattle.mk_core.specs.Moments.{marker_at, outside}
 use Rattle.mk_words.specs.Seats.{Has}
 use Rattle.mk_words.specs.States.{WordsState, PassState}
-use Rattle.mk_words.proofs.Seats.{has_first, has_left, has_right}
+use Rattle.mk_words.proofs.Seats.{has_first, has_left, has_right, without_keeps}
 use Rattle.mk_heap.specs.Hosts.{HostState, pass_for, with_marker_made, with_joined}
 use Rattle.mk_script.specs.declared.items.Item.{Item}
+use Rattle.mk_check.specs.Declarations.{config_of}
 use Rattle.mk_run.specs.declared.joining.Joined.{Joined}
 use Rattle.mk_run.specs.Joining.{HasMade, HasJoined, AreTextsFrom}
 use Rattle.mk_run.specs.LastTurns.{CallersAreStill}
 use Rattle.mk_run.specs.Marking.{IsMarkersPass, IsOver}
 use Rattle.mk_run.proofs.JoinedScripts.{same_or_later}
 use Rattle.mk_run.proofs.LaterLists.{of_one}
-use Rattle.mk_run.proofs.WholeRuns.{still_joined, still_texts}
+use Rattle.mk_run.proofs.HostTurns.{still_last}
+use Rattle.mk_run.proofs.WholeRuns.{all_callers_home, still_joined, still_texts}
 
 -- A marker that has done nothing is out.
 
@@ -49,15 +51,24 @@ first_marker w j h m p made count few is same =
     })
 
 pub marker_made : (w : WordsState) (h : HostState) → HasMade w 0 h → HasMade w 0 (with_marker_made h)
-marker_made w h made = record { table = made.table; seat = made.seat; seen = made.seen; count = made.count }
+marker_made w h made = record {
+  table = made.table;
+  seat = made.seat;
+  own = without_keeps (Marker h.markers) h.pass.seats Host refl made.own;
+  seen = made.seen;
+  count = made.count;
+}
 
 -- One marker more is joined.
 
-pub marker_joined : (on : Bool) (program : List Item) (w : WordsState) (j : ℕ) (p : PassState) (before after : Joined)
-    → IsOver on program w (j + 1) before → after.host ≡ with_joined before.host p after.host.pass.seen
+pub marker_joined : (on with_cycle : Bool) (program : List Item) (w : WordsState) (j : ℕ) (p : PassState)
+    (before after : Joined)
+    → w.config ≡ config_of program w.config.markers → IsOver on with_cycle program w (j + 1) before
+    → after.host ≡ with_joined before.host p after.host.pass.seen
     → Grows before.host.pass.seats before.host.pass.seen after.host.pass.seen → p.seats ≡ Marker j ∷ []
-    → after.texts ≡ before.texts → IsOver on program w j after
-marker_joined on program w j p before after over is own alone same =
+    → IsHistory after.host.pass.table.config after.host.pass.seen → after.texts ≡ before.texts
+    → IsOver on with_cycle program w j after
+marker_joined on with_cycle program w j p before after made over is own alone history same =
     let h = before.host in
     let fs = after.host.pass.seen in
     let still : CallersAreStill h.pass fs = λ k has. of_one h.pass.seats (Caller k) h.pass.seen fs has own in
@@ -65,7 +76,13 @@ marker_joined on program w j p before after over is own alone same =
     let mine : Has p.seats (Marker j) =
     subst (λ (l : List Seat). Has l (Marker j)) (sym alone) (has_first (Marker j) []) in
     let count : after.host.markers ≡ h.markers = ap (λ (x : HostState). x.markers) is in
+    let table : after.host.pass.table ≡ w = ap (λ (x : HostState). x.pass.table) is ∙ over.is_host.table in
     record {
+      own =
+          subst (λ (l : List Seat). Has l Host) (sym seats) (has_left h.pass.seats p.seats Host over.own);
+      last =
+          still_last w.config with_cycle h.pass fs over.own (all_callers_home on program w h made over.is_host) own
+          (subst (λ (t : WordsState). IsHistory t.config fs) table history) over.last;
       is_host =
           subst (λ (x : HostState). HasJoined on program w 0 x) (sym is)
           (still_joined on program w h fs over.is_host still (h.pass.seats ++ p.seats)

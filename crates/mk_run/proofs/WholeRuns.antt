@@ -18,6 +18,7 @@ use Rattle.mk_check.specs.Laws.{IsScript}
 use Rattle.mk_check.specs.declared.text.Text.{Text}
 use Rattle.mk_run.specs.declared.outcomes.Outcome.{Outcome}
 use Rattle.mk_run.specs.declared.joining.Joined.{Joined}
+use Rattle.mk_run.specs.HostTurns.{HostComesLast}
 use Rattle.mk_run.specs.Joining.{HasJoined, AreTextsFrom}
 use Rattle.mk_run.specs.LastTurns.{CallersAreStill}
 use Rattle.mk_run.specs.Marking.{IsOver}
@@ -67,22 +68,24 @@ module _ (on : Bool) (program : List Item) (w : WordsState) (h : HostState) (fs 
 
 -- When the heap is closed.
 
-pub all_joined : (on : Bool) (program : List Item) (w : WordsState) (joined : Joined) → IsOver on program w 0 joined
-    → AllAreJoined joined.host
-all_joined on program w joined over =
+pub all_joined : (on with_cycle : Bool) (program : List Item) (w : WordsState) (joined : Joined)
+    → IsOver on with_cycle program w 0 joined → AllAreJoined joined.host
+all_joined on with_cycle program w joined over =
     record {
       callers = all_callers_joined on program w joined.host over.is_host;
       markers = λ i lt. over.markers i (omega arith) lt;
     }
 
-pub is_run : (on : Bool) (program : List Item) (markers : ℕ) (w : WordsState) (h : HostState) (outcome : Outcome)
+pub is_run : (on with_cycle : Bool) (program : List Item) (markers : ℕ) (w : WordsState) (h : HostState)
+    (outcome : Outcome)
     → w.config ≡ config_of program markers → HasJoined on program w 0 h
+    → HostComesLast w.config.callers with_cycle h.pass.seen
     → AreTextsFrom program 0 w.config h.pass.seen outcome.texts.items → report.history_of outcome.report ≡ h.pass.seen
     → report.config_of outcome.report ≡ w.config
     → IsWhole (report.config_of outcome.report) (report.history_of outcome.report)
     → HasCounts (report.config_of outcome.report) (report.history_of outcome.report) outcome.report
-    → IsRunOf on program markers outcome
-is_run on program markers w h outcome made joined texts history config whole counts =
+    → IsRunOf on with_cycle program markers outcome
+is_run on with_cycle program markers w h outcome made joined last texts history config whole counts =
     let c = config_of program markers in
     let es = report.history_of outcome.report in
     let same : report.config_of outcome.report ≡ c = config ∙ made in
@@ -97,6 +100,9 @@ is_run on program markers w h outcome made joined texts history config whole cou
       ends = λ k is.
           subst (λ (l : List Event). EndsScript program k c l) (sym history)
           (subst (λ (d : Config). EndsScript program k d h.pass.seen) made (texts.ends k (omega arith) is));
+      host =
+          subst (λ (l : List Event). HostComesLast c.callers with_cycle l) (sym history)
+          (subst (λ (d : Config). HostComesLast d.callers with_cycle h.pass.seen) made last);
       count = omega arith;
       texts = λ k text at.
           subst (λ (l : List Event). IsTextOf program k c l text) (sym history)

@@ -19,6 +19,7 @@ use Rattle.mk_alloc.specs.TurnCycles.{TurnsOfAreExact}
 use Rattle.mk_precision.specs.Precision.{CyclesArePrecise}
 use Rattle.mk_theorems.specs.Promises.{KeepsAllPromises}
 use Rattle.mk_run.specs.declared.outcomes.Outcome.{Outcome}
+use Rattle.mk_run.specs.HostTurns.{HostComesLast}
 use Rattle.mk_run.specs.Running.{answers_in, IsRunOf}
 use Rattle.mk_run.specs.Unswept.{IsUnswept}
 
@@ -33,7 +34,7 @@ pub record RunsToItsEnd (program : List Item) (k : ℕ) (answers : List Answer) 
 
 -- Whatever the interleaving of callers and markers, the replies of a program's scripts stand in one history of a heap
 -- that never reuses storage, each script's operations there once and in order. The bytes are what is said of it.
-pub record StandsInOneHistory (program : List Item) (markers : ℕ) (sweep : Bool)
+pub record StandsInOneHistory (program : List Item) (markers : ℕ) (sweep last_cycle : Bool)
     (tell : Config → List Event → List ℕ) (bytes : List ℕ) : Type 0 where
   -- There is a list of events.
   pub history : List Event
@@ -55,6 +56,9 @@ pub record StandsInOneHistory (program : List Item) (markers : ℕ) (sweep : Boo
   pub cycles :
       (k : ℕ) → IsScript program k
       → TurnsOfAreExact (cycles_go_on markers) (config_of program markers) (Caller k) history
+  -- No step of a script stands after one of the host. The host begins one cycle where a last one is asked for, and else
+  -- none.
+  pub host : HostComesLast (config_of program markers).callers last_cycle history
   -- Unless a sweep makes the marks, each cycle releases all of its snapshot that no pointer led to from the `begin` to
   -- the `close`, and after its `end` that storage counts as free.
   pub precise : sweep ≡ false → CyclesArePrecise (config_of program markers) history
@@ -68,15 +72,16 @@ printed outcome = flat_map (λ (text : Text). text.bytes.items) outcome.texts.it
 -- The history of a run is such a history, whatever is said of it.
 abbrev pub RunsStandInOneHistory : Type 0
 RunsStandInOneHistory =
-    (program : List Item) (markers : ℕ) (sweep : Bool) (outcome : Outcome) (tell : Config → List Event → List ℕ)
-    (bytes : List ℕ)
-    → IsRunOf (cycles_go_on markers) program markers outcome
+    (program : List Item) (markers : ℕ) (sweep last_cycle : Bool) (outcome : Outcome)
+    (tell : Config → List Event → List ℕ) (bytes : List ℕ)
+    → IsRunOf (cycles_go_on markers) last_cycle program markers outcome
     → (sweep ≡ false → IsUnswept (config_of program markers) (report.history_of outcome.report))
     → bytes ≡ tell (config_of program markers) (report.history_of outcome.report)
-    → StandsInOneHistory program markers sweep tell bytes
+    → StandsInOneHistory program markers sweep last_cycle tell bytes
 
 -- What the scripts print of it are the texts of the outcome, whole.
 abbrev pub RunsPrintTheirTexts : Type 0
 RunsPrintTheirTexts =
-    (on : Bool) (program : List Item) (markers : ℕ) (outcome : Outcome) → IsRunOf on program markers outcome
+    (on with_cycle : Bool) (program : List Item) (markers : ℕ) (outcome : Outcome)
+    → IsRunOf on with_cycle program markers outcome
     → printed outcome ≡ output program (config_of program markers) (report.history_of outcome.report)

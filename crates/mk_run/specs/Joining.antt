@@ -4,6 +4,7 @@ use Rattle.std.specs.Prelude.{◌≡◌, ℕ, ◌+◌, ◌≤◌, Bool, false, L
 use Rattle.mk_core.specs.declared.events.Event.{Event}
 use Rattle.mk_core.specs.declared.events.Seat.TheVariants.{Caller, Host}
 use Rattle.mk_core.specs.declared.config.Config.{Config}
+use Rattle.mk_core.specs.Growing.{AreOfOthers}
 use Rattle.mk_words.specs.Seats.{Has, has_over}
 use Rattle.mk_words.specs.States.{WordsState, PassState}
 use Rattle.mk_caller.specs.States.{IsIdleCaller}
@@ -43,6 +44,7 @@ pub record HasRun (on : Bool) (program : List Item) (w : WordsState) (k : ℕ) (
 pub record HasMade (w : WordsState) (k : ℕ) (h : HostState) : Type 0 where
   pub table : h.pass.table ≡ w
   pub seat : h.pass.seat ≡ Host
+  pub own : Has h.pass.seats Host
   pub seen : h.pass.seen ≡ []
   pub count : h.callers ≡ k
 
@@ -60,8 +62,11 @@ pub record HasJoined (on : Bool) (program : List Item) (w : WordsState) (k : ℕ
   pub seats : (j : ℕ) → k ≤ j → IsScript program j → Has h.pass.seats (Caller j)
   pub follow : (j : ℕ) → k ≤ j → IsScript program j → FollowsScript on program j w.config h.pass.seen
 
+-- The scripts from k on ran and are joined, and the host has made no step yet.
 pub record AreJoined (on : Bool) (program : List Item) (w : WordsState) (k markers : ℕ) (joined : Joined) : Type 0 where
   pub is_host : HasJoined on program w k joined.host
+  pub own : Has joined.host.pass.seats Host
+  pub without_host : AreOfOthers (Host ∷ []) joined.host.pass.seen
   pub before_over : has_over joined.host.pass.seen ≡ false
   pub same_markers : joined.host.markers ≡ markers
   pub texts : IfOk joined.texts (λ texts. AreTextsFrom program k w.config joined.host.pass.seen texts.items)

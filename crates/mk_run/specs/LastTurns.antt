@@ -1,5 +1,5 @@
 -- The host's last turns, when the scripts are joined. Private functions alone cite these words.
-use Rattle.std.specs.Prelude.{◌≡◌, ℕ, List, [], ◌∷◌}
+use Rattle.std.specs.Prelude.{◌≡◌, ℕ, Bool, List, [], ◌∷◌, ◌++◌}
 use Rattle.mk_core.specs.declared.config.Config.{Config}
 use Rattle.mk_core.specs.declared.events.Event.{Event}
 use Rattle.mk_core.specs.declared.events.Seat.{Seat}
@@ -9,10 +9,17 @@ use Rattle.mk_core.specs.History.{World}
 use Rattle.mk_words.specs.Seats.{Has, HasCallers}
 use Rattle.mk_words.specs.States.{WordsState, PassState}
 use Rattle.mk_heap.specs.Ending.{MakesToldCycle, SaysOver}
+use Rattle.mk_run.specs.HostTurns.{cycles_begun, cycles_asked}
 
 -- The callers whose seats are home make no step.
 abbrev pub CallersAreStill : PassState → List Event → Type 0
 CallersAreStill p es = (k : ℕ) → Has p.seats (Caller k) → Grows (Caller k ∷ []) p.seen es
+
+-- Since this was seen the host made its last turns, where asked with a last cycle: no other is begun there.
+pub record BeginsAsAsked (with_cycle : Bool) (seen es : List Event) : Type 0 where
+  pub more : List Event
+  pub is : es ≡ seen ++ more
+  pub cycles : cycles_begun more ≡ cycles_asked with_cycle
 
 -- With all callers home the host made a cycle of which this is said, and said that all is over. Since then it has seen
 -- no step of the seats that were home, which still are.

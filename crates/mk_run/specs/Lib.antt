@@ -5,5 +5,6 @@ pub mod Running
 pub mod Scripts
 pub mod LastCycle
 pub mod LastTurns
+pub mod HostTurns
 pub mod Unswept
 pub mod UnsweptSeats

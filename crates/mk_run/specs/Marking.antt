@@ -1,10 +1,11 @@
 -- Markers on threads of their own, beside the scripts. Private functions alone cite these words.
 use Rattle.std.specs.Prelude.{◌≡◌, ℕ, ◌<◌, ◌≤◌, Bool, List, [], ◌∷◌, IfOk}
-use Rattle.mk_core.specs.declared.events.Seat.TheVariants.{Marker}
+use Rattle.mk_core.specs.declared.events.Seat.TheVariants.{Marker, Host}
 use Rattle.mk_words.specs.Seats.{Has}
 use Rattle.mk_words.specs.States.{WordsState, PassState}
 use Rattle.mk_marker.specs.Markers.{IsOut}
 use Rattle.mk_script.specs.declared.items.Item.{Item}
+use Rattle.mk_run.specs.HostTurns.{HostComesLast}
 use Rattle.mk_run.specs.Joining.{HasJoined, AreTextsFrom}
 use Rattle.mk_run.specs.declared.joining.Joined.{Joined}
 
@@ -16,8 +17,12 @@ pub record IsMarkersPass (w : WordsState) (j : ℕ) (p : PassState) : Type 0 whe
   pub alone : p.seats ≡ Marker j ∷ []
   pub out : IsOut p
 
--- All scripts ran and are joined, all was said to be over, and the markers from j on are joined.
-pub record IsOver (on : Bool) (program : List Item) (w : WordsState) (j : ℕ) (joined : Joined) : Type 0 where
+-- All scripts ran and are joined, the host said that all is over, where asked after a last cycle, and the markers from
+-- j on are joined.
+pub record IsOver (on with_cycle : Bool) (program : List Item) (w : WordsState) (j : ℕ) (joined : Joined)
+    : Type 0 where
   pub is_host : HasJoined on program w 0 joined.host
+  pub own : Has joined.host.pass.seats Host
+  pub last : HostComesLast w.config.callers with_cycle joined.host.pass.seen
   pub markers : (i : ℕ) → j ≤ i → i < joined.host.markers → Has joined.host.pass.seats (Marker i)
   pub texts : IfOk joined.texts (λ texts. AreTextsFrom program 0 w.config joined.host.pass.seen texts.items)

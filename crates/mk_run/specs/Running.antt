@@ -17,6 +17,7 @@ use Rattle.mk_heap.specs.Reports as report
 use Rattle.mk_heap.specs.Reports.{IsWhole, HasCounts}
 use Rattle.mk_alloc.specs.TurnCycles.{TurnsOfAreExact}
 use Rattle.mk_run.specs.declared.outcomes.Outcome.{Outcome}
+use Rattle.mk_run.specs.HostTurns.{HostComesLast}
 
 -- the answers of caller k's calls of a history
 abbrev pub answers_in : Config → ℕ → List Event → List Answer
@@ -38,8 +39,9 @@ pub record IsTextOf (program : List Item) (k : ℕ) (c : Config) (es : List Even
   pub ops : text.ops ≡ length (answers_in c k es)
   pub refused : text.refused ≡ count_by is_refusal (answers_in c k es)
 
--- All scripts of the program ran to their ends on a heap of its configuration, and these are their texts.
-pub record IsRunOf (on : Bool) (program : List Item) (markers : ℕ) (outcome : Outcome) : Type 0 where
+-- All scripts of the program ran to their ends on a heap of its configuration, and these are their texts. The host came
+-- after them, where asked with a last cycle.
+pub record IsRunOf (on with_cycle : Bool) (program : List Item) (markers : ℕ) (outcome : Outcome) : Type 0 where
   pub config : report.config_of outcome.report ≡ config_of program markers
   pub whole : IsWhole (config_of program markers) (report.history_of outcome.report)
   pub counts : HasCounts (config_of program markers) (report.history_of outcome.report) outcome.report
@@ -47,6 +49,8 @@ pub record IsRunOf (on : Bool) (program : List Item) (markers : ℕ) (outcome : 
       → FollowsScript on program k (config_of program markers) (report.history_of outcome.report)
   pub ends : (k : ℕ) → IsScript program k
       → EndsScript program k (config_of program markers) (report.history_of outcome.report)
+  pub host :
+      HostComesLast (config_of program markers).callers with_cycle (report.history_of outcome.report)
   pub count : length outcome.texts.items ≡ length (script_names program)
   pub texts : (k : ℕ) (text : Text) → slice_get outcome.texts.items k ≡ Some text
       → IsTextOf program k (config_of program markers) (report.history_of outcome.report) text

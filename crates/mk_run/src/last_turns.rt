@@ -1,11 +1,11 @@
 //! The host's last turns, when the scripts are joined.
 ghost use Rattle.std.specs.Prelude.{◌≡◌, length, true, false};
 ghost use Rattle.mk_core.specs.declared.events.Seat.TheVariants as seat;
-ghost use Rattle.mk_words.specs.Seats.{HasCallers, has_over};
+ghost use Rattle.mk_words.specs.Seats.{Has, HasCallers, has_over};
 ghost use Rattle.mk_turns.specs.Sweeping.{SweepsNothing};
 ghost use Rattle.mk_heap.specs.Ending.{CallersAreJoined};
 ghost use Rattle.mk_heap.specs.Hosts.{with_seen};
-ghost use Rattle.mk_run.specs.LastTurns.{CallersAreStill, TakesLastTurns};
+ghost use Rattle.mk_run.specs.LastTurns.{BeginsAsAsked, CallersAreStill, TakesLastTurns};
 
 use mk_cycle::{Bench, Engine};
 use mk_heap::{Heap, Host};
@@ -23,6 +23,7 @@ fn cycle_and_over<E: Engine, R: Threads + Wait + Sync>(
     requires made_for { E.made_for bench.old.engine ≡ heap.now.config.pages }
     requires book { length bench.old.book ≡ heap.now.config.pages }
     requires seat { host.old.pass.seat ≡ seat.Host }
+    requires own { Has host.old.pass.seats seat.Host }
     requires joined { CallersAreJoined host.old }
     requires callers { HasCallers heap.now.config host.old.pass.seats }
     requires before_over { has_over host.old.pass.seen ≡ false }
@@ -30,9 +31,11 @@ fn cycle_and_over<E: Engine, R: Threads + Wait + Sync>(
     ensures still { CallersAreStill host.old.pass host.new.pass.seen }
     ensures reached { E.sweeps ≡ false → SweepsNothing host.old.pass host.new.pass }
     ensures turns { TakesLastTurns (E.tells bench.new.engine) heap.now host.new.pass }
+    ensures cycles { BeginsAsAsked true host.old.pass.seen host.new.pass.seen }
 {
     host.cycle(rt, heap, bench);
     host.over(rt, heap, bench);
+    host.is_in_order();
 }
 
 /// Says to the markers that all is over, where asked after a last cycle.
@@ -47,6 +50,7 @@ pub(crate) fn take_last_turns<E: Engine, R: Threads + Wait + Sync>(
     requires made_for { E.made_for bench.old.engine ≡ heap.now.config.pages }
     requires book { length bench.old.book ≡ heap.now.config.pages }
     requires seat { host.old.pass.seat ≡ seat.Host }
+    requires own { Has host.old.pass.seats seat.Host }
     requires joined { CallersAreJoined host.old }
     requires callers { HasCallers heap.now.config host.old.pass.seats }
     requires before_over { has_over host.old.pass.seen ≡ false }
@@ -54,10 +58,12 @@ pub(crate) fn take_last_turns<E: Engine, R: Threads + Wait + Sync>(
     ensures still { CallersAreStill host.old.pass host.new.pass.seen }
     ensures reached { E.sweeps ≡ false → SweepsNothing host.old.pass host.new.pass }
     ensures turns { with_cycle ≡ true → TakesLastTurns (E.tells bench.new.engine) heap.now host.new.pass }
+    ensures cycles { BeginsAsAsked with_cycle host.old.pass.seen host.new.pass.seen }
 {
     if with_cycle {
         cycle_and_over(rt, heap, host, bench);
     } else {
         host.over(rt, heap, bench);
+        host.is_in_order();
     }
 }

@@ -5,7 +5,6 @@ mod answers;
 mod joining;
 mod last_turns;
 pub mod laws;
-mod lines;
 mod marking;
 mod outcomes;
 mod paces;

@@ -83,7 +83,7 @@ fn run_scripts<E: Engine + Send, P: Pace + Sync, R: Threads + Wait + Sync>(
     requires books { All (λ bench. length bench.book ≡ heap.now.config.pages) benches.items }
     requires own_made_for { E.made_for bench.engine ≡ heap.now.config.pages }
     requires own_book { length bench.book ≡ heap.now.config.pages }
-    ensures over { IsOver E.on program.now heap.now host.markers result.joined }
+    ensures over { IsOver E.on with_cycle program.now heap.now host.markers result.joined }
     ensures turns { with_cycle ≡ true
         → TakesLastTurns (E.tells result.bench.engine) heap.now result.joined.host.pass }
     ensures reached { E.sweeps ≡ false
@@ -124,7 +124,7 @@ pub(crate) fn run_beside<E: Engine + Send, P: Pace + Sync, R: Threads + Wait + S
     requires books { All (λ bench. length bench.book ≡ heap.now.config.pages) benches.items }
     requires own_made_for { E.made_for bench.engine ≡ heap.now.config.pages }
     requires own_book { length bench.book ≡ heap.now.config.pages }
-    ensures over { IsOver E.on program.now heap.now number result.joined }
+    ensures over { IsOver E.on with_cycle program.now heap.now number result.joined }
     ensures turns { with_cycle ≡ true
         → TakesLastTurns (E.tells result.bench.engine) heap.now result.joined.host.pass }
     ensures reached { E.sweeps ≡ false
@@ -155,7 +155,7 @@ pub(crate) fn run_beside<E: Engine + Send, P: Pace + Sync, R: Threads + Wait + S
             requires books { All (λ bench. length bench.book ≡ heap.now.config.pages) benches.items }
             requires own_made_for { E.made_for bench.engine ≡ heap.now.config.pages }
             requires own_book { length bench.book ≡ heap.now.config.pages }
-            ensures over { IsOver E.on program.entry.now heap.entry.now (number + 1) result.joined }
+            ensures over { IsOver E.on with_cycle program.entry.now heap.entry.now (number + 1) result.joined }
             ensures turns { with_cycle ≡ true
                 → TakesLastTurns (E.tells result.bench.engine) heap.entry.now result.joined.host.pass }
             ensures reached { E.sweeps ≡ false
@@ -179,6 +179,7 @@ pub(crate) fn run_beside<E: Engine + Send, P: Pace + Sync, R: Threads + Wait + S
     let Ended { joined, bench } = ended;
     let Joined { mut host, texts } = joined;
     host.join_marker(heap, pass);
+    host.is_in_order();
     Ended {
         joined: Joined { host, texts },
         bench,

@@ -11,12 +11,6 @@ pub trait Pace {
 
     /// When a marker scanned a cell.
     fn marked(&self, marker: u64);
-
-    /// Whether a script may have to wait in these calls for what others do. If so it keeps no place in the line of those
-    /// that want the turn.
-    fn may_wait(&self) -> bool {
-        true
-    }
 }
 
 /// Does nothing.
@@ -29,8 +23,4 @@ impl Pace for NoPace {
     fn answered(&self, script: u64, instruction: u64) {}
 
     fn marked(&self, marker: u64) {}
-
-    fn may_wait(&self) -> bool {
-        false
-    }
 }

@@ -42,7 +42,7 @@ fn run<E: Engine + Send, P: Pace + Sync, R: Threads + Wait + Sync>(
     with_cycle: bool,
 ) -> Result<(Outcome, Bench<E>), NoMemory>
     requires markers { markers ≤ 8 }
-    ensures runs { IfOk result (λ ran. IsRunOf E.on program.now markers ran.0) }
+    ensures runs { IfOk result (λ ran. IsRunOf E.on with_cycle program.now markers ran.0) }
     ensures cycle { with_cycle ≡ true
         → IfOk result (λ ran. EndsWithCycle (E.tells ran.1.engine) (config_of program.now markers)
         (history_of ran.0.report)) }
@@ -77,7 +77,7 @@ pub fn run_all<E: Engine + Send, P: Pace + Sync, R: Threads + Wait + Sync>(
     pace: &P,
 ) -> Result<Outcome, NoMemory>
     requires markers { markers ≤ 8 }
-    ensures runs { IfOk result (IsRunOf E.on program.now markers) }
+    ensures runs { IfOk result (IsRunOf E.on false program.now markers) }
     ensures reached { IfOk result (λ outcome. E.sweeps ≡ false
         → IsUnswept (config_of program.now markers) (history_of outcome.report)) }
 {
@@ -95,7 +95,7 @@ pub fn run_with_cycle<E: Engine + Send, P: Pace + Sync, R: Threads + Wait + Sync
     pace: &P,
 ) -> Result<(Outcome, Bench<E>), NoMemory>
     requires markers { markers ≤ 8 }
-    ensures runs { IfOk result (λ ran. IsRunOf E.on program.now markers ran.0) }
+    ensures runs { IfOk result (λ ran. IsRunOf E.on true program.now markers ran.0) }
     ensures cycle { IfOk result (λ ran. EndsWithCycle (E.tells ran.1.engine) (config_of program.now markers)
         (history_of ran.0.report)) }
     ensures reached { IfOk result (λ ran. E.sweeps ≡ false

@@ -9,7 +9,6 @@ ghost use Rattle.mk_run.specs.Running.{answers_in, FollowsScript, EndsScript, Is
 ghost use Rattle.mk_run.specs.Scripts.{HasRoom, IsFedWith, TakesAnswer};
 
 use crate::answers::answer_to;
-use crate::lines::Line;
 use crate::paces::Pace;
 use mk_caller::Caller;
 use mk_check::{Checked, Feed, Text, is_refusal};
@@ -113,7 +112,6 @@ pub fn run_script<E: Engine, P: Pace, R: Threads + Wait + Sync>(
     // The program is well typed, so its scripts ask for nothing that isn't admitted.
     let _well_typed = program.program();
     let mut script = Script::start(alloc, program, k)?;
-    let mut line = Line::new();
     'instructions: for _ in rt.forever() {
         caller.is_idle();
         let Some(op) = script.feed.op() else {
@@ -121,11 +119,7 @@ pub fn run_script<E: Engine, P: Pace, R: Threads + Wait + Sync>(
         };
         let instruction = script.ops;
         pace.before(k, instruction);
-        line.before(rt, caller.words(), op);
         let answer = answer_to(rt, caller, bench, op);
-        if pace.may_wait() {
-            line.leave();
-        }
         pace.answered(k, instruction);
         script.answer(alloc, answer)?;
     }

@@ -28,7 +28,7 @@ pub fn run_why<E: Engine + Send, P: Pace + Sync, R: Threads + Wait + Sync>(
     pace: &P,
 ) -> Result<(Outcome, Vec<Kept>), NoMemory>
     requires markers { markers ≤ 8 }
-    ensures runs { IfOk result (λ ran. IsRunOf E.on program.now markers ran.0) }
+    ensures runs { IfOk result (λ ran. IsRunOf E.on true program.now markers ran.0) }
     ensures kept { IfOk result (λ ran. EndsWithCycle (λ c w. AreKept c w ran.1.items) (config_of program.now markers)
         (history_of ran.0.report)) }
     ensures reached { IfOk result (λ ran. E.sweeps ≡ false

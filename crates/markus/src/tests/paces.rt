@@ -7,7 +7,7 @@ use crate::statuses::Status;
 use mk_run::Pace;
 use std::alloc::Global;
 use std::sync::Wait;
-use std::sync::atomic::{AtomicBool, Ordering};
+use std::sync::atomic::{AtomicBool, AtomicU64, Ordering};
 use std::test::Fail;
 use std::thread::{Threads, yield_now};
 
@@ -29,14 +29,15 @@ struct Place {
     instruction: u64,
 }
 
-/// Holds an instruction back until the moment came, of the other instruction. Whether it came, and whether it was
-/// waited for in vain.
+/// Holds an instruction back until the moment came, of the other instruction. Whether it came, whether the instruction
+/// was held, and whether it was in vain.
 #[derive(Drop)]
 struct Hold {
     held: Place,
     until: Moment,
     other: Place,
     came: AtomicBool,
+    was_held: AtomicBool,
     in_vain: AtomicBool,
 }
 
@@ -58,6 +59,7 @@ impl Hold {
             until,
             other,
             came: AtomicBool::new(false),
+            was_held: AtomicBool::new(false),
             in_vain: AtomicBool::new(false),
         }
     }
@@ -73,16 +75,17 @@ impl Hold {
     }
 
     fn hold_back(&self, script: u64, instruction: u64) {
-        if script == self.held.script
-            && instruction == self.held.instruction
-            && !is_awaited(&self.came)
-        {
-            self.in_vain.store(true, Ordering::SeqCst);
+        if script == self.held.script && instruction == self.held.instruction {
+            self.was_held.store(true, Ordering::SeqCst);
+            if !is_awaited(&self.came) {
+                self.in_vain.store(true, Ordering::SeqCst);
+            }
         }
     }
 
-    fn was_in_vain(&self) -> bool {
-        self.in_vain.load(Ordering::SeqCst)
+    /// Whether the instruction was held back, and the moment came.
+    fn has_held(&self) -> bool {
+        self.was_held.load(Ordering::SeqCst) && !self.in_vain.load(Ordering::SeqCst)
     }
 }
 
@@ -174,7 +177,7 @@ fn writes_held<R: Threads + Wait + Sync>(
     row: &str,
     hold: &Hold,
 ) -> Result<bool, Fail> {
-    Ok(writes(rt, alloc, words, row, hold)? && !hold.was_in_vain())
+    Ok(writes(rt, alloc, words, row, hold)? && hold.has_held())
 }
 
 /// No order of whole scripts and no single thread ends these.
@@ -187,7 +190,7 @@ fn scripts_run_beside_each_other(rt: HostRuntime) -> Result<(), Fail> {
         other: Hold::new(at_instruction(2, 1), Moment::Before, at_instruction(1, 1)),
     };
     assert!(rt; writes(&rt, rt.alloc(), &["run"], THREE, &both)?);
-    assert!(rt; !both.one.was_in_vain() && !both.other.was_in_vain());
+    assert!(rt; both.one.has_held() && both.other.has_held());
     Ok(())
 }
 
@@ -206,5 +209,125 @@ fn loads_are_answered_in_their_order(rt: HostRuntime) -> Result<(), Fail> {
 fn a_marker_marks_beside_a_script(rt: HostRuntime) -> Result<(), Fail> {
     let scanned = Hold::new(at_instruction(0, 2), Moment::Marked, at_instruction(0, 2));
     assert!(rt; writes_held(&rt, rt.alloc(), &["run", "--markers", "1"], DUE, &scanned)?);
+    Ok(())
+}
+
+/// Counts the calls of each method.
+#[derive(Drop)]
+struct Counts {
+    before: AtomicU64,
+    answered: AtomicU64,
+    marked: AtomicU64,
+}
+
+impl Counts {
+    fn new() -> Counts {
+        Counts {
+            before: AtomicU64::new(0),
+            answered: AtomicU64::new(0),
+            marked: AtomicU64::new(0),
+        }
+    }
+}
+
+impl Pace for Counts {
+    fn before(&self, _script: u64, _instruction: u64) {
+        self.before.fetch_add(1, Ordering::SeqCst);
+    }
+
+    fn answered(&self, _script: u64, _instruction: u64) {
+        self.answered.fetch_add(1, Ordering::SeqCst);
+    }
+
+    fn marked(&self, _marker: u64) {
+        self.marked.fetch_add(1, Ordering::SeqCst);
+    }
+}
+
+/// A program runs once: there is one `before` and one `answered` for each of the six instructions.
+#[test]
+fn each_instruction_is_paced_once(rt: HostRuntime) -> Result<(), Fail> {
+    let counts = Counts::new();
+    assert!(rt; writes(&rt, rt.alloc(), &["run"], THREE, &counts)?);
+    assert_eq!(rt; counts.before.load(Ordering::SeqCst), 6);
+    assert_eq!(rt; counts.answered.load(Ordering::SeqCst), 6);
+    assert_eq!(rt; counts.marked.load(Ordering::SeqCst), 0);
+    Ok(())
+}
+
+/// How long a marker is left alone with a cycle: it finds then that there is nothing to do.
+const YIELDS_ALONE: u64 = 100_000;
+
+/// Two frees that are due. In the first cycle a register holds one object, and in the second one register each holds
+/// one of two.
+const TWO_CYCLES: &str =
+    "heap 1 1/type A n*32/script s/ptr p A/ptr q A/new p A/free p/new q A/free q/show q/ -> \
+    script s/ptr/";
+
+/// Holds the script back after each free until the markers have scanned all cells that registers hold, and then leaves
+/// them alone. How many cells were scanned by the end of each hold.
+#[derive(Drop)]
+struct Cycles {
+    marked: AtomicU64,
+    in_first: AtomicU64,
+    in_both: AtomicU64,
+}
+
+impl Cycles {
+    fn new() -> Cycles {
+        Cycles {
+            marked: AtomicU64::new(0),
+            in_first: AtomicU64::new(0),
+            in_both: AtomicU64::new(0),
+        }
+    }
+
+    /// How many cells are scanned when these many are awaited.
+    fn marked_behind(&self, cells: u64) -> u64 {
+        for _yield in 0..MOST_YIELDS {
+            if self.marked.load(Ordering::SeqCst) >= cells {
+                break;
+            }
+            yield_now();
+        }
+        for _yield in 0..YIELDS_ALONE {
+            yield_now();
+        }
+        self.marked.load(Ordering::SeqCst)
+    }
+}
+
+impl Pace for Cycles {
+    fn before(&self, _script: u64, instruction: u64) {
+        if instruction == 2 {
+            self.in_first.store(self.marked_behind(1), Ordering::SeqCst);
+        } else if instruction == 4 {
+            self.in_both.store(self.marked_behind(3), Ordering::SeqCst);
+        }
+    }
+
+    fn answered(&self, _script: u64, _instruction: u64) {}
+
+    fn marked(&self, _marker: u64) {
+        self.marked.fetch_add(1, Ordering::SeqCst);
+    }
+}
+
+/// There is one `marked` for each cell that a marker scanned, and no other; and the marker goes on in the next cycle,
+/// though it found nothing to do before.
+#[test]
+fn a_marker_marks_in_each_cycle(rt: HostRuntime) -> Result<(), Fail> {
+    let cycles = Cycles::new();
+    assert!(rt;
+        writes(
+            &rt,
+            rt.alloc(),
+            &["run", "--markers", "1"],
+            TWO_CYCLES,
+            &cycles
+        )?
+    );
+    assert_eq!(rt; cycles.in_first.load(Ordering::SeqCst), 1);
+    assert_eq!(rt; cycles.in_both.load(Ordering::SeqCst), 3);
     Ok(())
 }

@@ -14,7 +14,8 @@ use Rattle.markus.proofs.generating.summed.Goals as goal
 pub summary_of-requires : goal.summary_of-requires
 summary_of-requires g c =
     let outcome = c.in_ok-outcome.outcome in
-    let runs = subst (λ (p : List Item). IsRunOf (cycles_go_on c.args.request.markers) p c.args.request.markers outcome)
+    let runs = subst (λ (p : List Item).
+    IsRunOf (cycles_go_on c.args.request.markers) false p c.args.request.markers outcome)
     c.in_ok-program.ensures
     c.in_ok-outcome.ensures.runs in
     let texts = c.deref.ensures.value in
@@ -30,7 +31,8 @@ summary_of-requires g c =
 pub returns : goal.returns
 returns g c =
     let outcome = c.in_ok-outcome.outcome in
-    let runs = subst (λ (p : List Item). IsRunOf (cycles_go_on c.args.request.markers) p c.args.request.markers outcome)
+    let runs = subst (λ (p : List Item).
+    IsRunOf (cycles_go_on c.args.request.markers) false p c.args.request.markers outcome)
     c.in_ok-program.ensures
     c.in_ok-outcome.ensures.runs in
     let is = ap (λ (v : Vec ℕ Global). v.items) c.into_bytes.ensures.value

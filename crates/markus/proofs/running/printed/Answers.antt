@@ -12,7 +12,7 @@ returns g c =
     let ran = c.in_ok-outcome.ensures in
     let texts = ap (λ texts. flat_map (λ (text : Text). text.bytes.items) texts) c.deref.ensures.value in
     IfOk-weaker c.joined.result _
-    (λ bytes. StandsInOneHistory c.args.program.now c.args.markers c.args.sweep (output c.args.program.now)
+    (λ bytes. StandsInOneHistory c.args.program.now c.args.markers c.args.sweep false (output c.args.program.now)
     bytes.items)
     (λ bytes are. run_is_printed c.args.program.now c.args.markers c.args.sweep c.in_ok-outcome.outcome bytes.items
     ran.runs

@@ -2,12 +2,15 @@ use Rattle.std.proofs.Common.{◌≡◌, ◌∙◌, ◌+◌, ◌<◌, length, sy
 use Rattle.std.specs.Prelude.{Some}
 use Rattle.std.proofs.lemmas.List.Elements.{All-pop}
 use Rattle.mk_script.specs.Scopes.{script_names}
-use Rattle.mk_core.specs.declared.events.Seat.TheVariants.{Caller}
+use Rattle.mk_core.specs.declared.events.Seat.TheVariants.{Caller, Host}
+use Rattle.mk_words.specs.Seats.{Has}
+use Rattle.mk_words.proofs.Seats.{has_left}
 use Rattle.mk_core.specs.Growing.{Grows}
 use Rattle.mk_heap.specs.Hosts.{HostState, with_joined}
 use Rattle.mk_check.specs.Laws.{IsScript}
 use Rattle.mk_run.specs.Joining.{IsFirstPass, HasMade, HasRun, HasJoined, AreJoined}
 use Rattle.mk_run.proofs.LaterLists.{of_one}
+use Rattle.mk_run.proofs.HostTurns.{host_is_still}
 use Rattle.mk_run.proofs.JoinedScripts.{next_made, first_pass, one_joined, texts_joined}
 use Rattle.mk_run.proofs.UnsweptScripts.{none_joined, script_joined, scripts_on}
 use Rattle.mk_run.proofs.joining.+fn-run_from-join+arg3+run_from.Goals as goal
@@ -55,6 +58,10 @@ returns-clause-joined g t c =
       is_host =
           subst (λ (h : HostState). HasJoined on program w k h) (sym is)
           (one_joined on program w k old pass new.pass.seen joined.is_host own ran.alone came ran.follows);
+      own =
+          subst (λ (h : HostState). Has h.pass.seats Host) (sym is)
+          (has_left old.pass.seats pass.seats Host joined.own);
+      without_host = host_is_still old.pass.seats old.pass.seen new.pass.seen joined.own own joined.without_host;
       before_over = c.join_caller.ensures.overs ∙ joined.before_over;
       same_markers =
           ap (λ (h : HostState). h.markers) is ∙ joined.same_markers ∙ ap (λ (h : HostState). h.markers)

@@ -3,6 +3,9 @@ use Rattle.mk_turns.proofs.Sweeping.{sweeps_then}
 use Rattle.mk_heap.specs.Ending.{CallersAreJoined}
 use Rattle.mk_heap.specs.Hosts.{HostState}
 use Rattle.mk_run.specs.LastTurns.{TakesLastTurns}
+use Rattle.mk_words.specs.Seats.{HasCallers}
+use Rattle.mk_words.specs.States.{WordsState}
+use Rattle.mk_run.proofs.HostTurns.{both_begin}
 use Rattle.mk_run.proofs.LastTurns.{last_turns, still_behind_both}
 use Rattle.mk_run.proofs.last_turns.cycle_and_over.Goals as goal
 
@@ -27,3 +30,11 @@ pub returns-clause-reached : goal.returns-clause-reached
 returns-clause-reached g c none =
     sweeps_then c.args.host.now.pass c.cycle.new.self.pass c.over.new.self.pass
     (ap (λ (h : HostState). h.pass) c.cycle.ensures.host) (c.cycle.ensures.reached none) (c.over.ensures.reached none)
+
+pub returns-clause-cycles : goal.returns-clause-cycles
+returns-clause-cycles g c =
+    both_begin c.args.host.now c.cycle.new.self c.over.new.self c.requires.seat c.requires.own
+    (subst (λ (w : WordsState). HasCallers w.config c.args.host.now.pass.seats) (sym c.requires.one_table)
+    c.requires.callers)
+    c.cycle.ensures.host c.over.ensures.host c.cycle.ensures.cycle.makes c.over.ensures.over
+    c.is_in_order.ensures.history

@@ -1,6 +1,17 @@
+use Rattle.std.proofs.Common.{subst, sym}
+use Rattle.mk_words.specs.Seats.{HasCallers}
+use Rattle.mk_words.specs.States.{WordsState}
+use Rattle.mk_run.proofs.HostTurns.{over_begins}
 use Rattle.mk_run.proofs.LastTurns.{still_behind_over}
 use Rattle.mk_run.proofs.last_turns.take_last_turns.Goals as goal
 
 pub returns-else-with_cycle-clause-still : goal.returns-else-with_cycle-clause-still
 returns-else-with_cycle-clause-still g c =
     still_behind_over c.args.host.now.pass c.over.new.self.pass c.requires.seat c.over.ensures.over
+
+pub returns-else-with_cycle-clause-cycles : goal.returns-else-with_cycle-clause-cycles
+returns-else-with_cycle-clause-cycles g c =
+    over_begins c.args.host.now.pass c.over.new.self.pass c.requires.seat c.requires.own
+    (subst (λ (w : WordsState). HasCallers w.config c.args.host.now.pass.seats) (sym c.requires.one_table)
+    c.requires.callers)
+    c.over.ensures.over c.is_in_order.ensures.history

@@ -32,12 +32,13 @@ returns-clause-over g t c =
     let w = c.args.heap.now in
     let number = c.args.number in
     let pass : IsMarkersPass w number c.join-pass.result.0 = c.join-pass.ensures.first in
-    let before : IsOver g.E.Engine.on c.args.program.now w (number + 1)
+    let before : IsOver g.E.Engine.on c.args.with_cycle c.args.program.now w (number + 1)
     c.join-pass.result.1.joined = c.join-pass.ensures.second.0 in
-    marker_joined g.E.Engine.on c.args.program.now w number c.join-pass.result.0 c.join-pass.result.1.joined
-    (record { host = c.join_marker.new.self; texts = c.join-pass.result.1.joined.texts }) before
+    marker_joined g.E.Engine.on c.args.with_cycle c.args.program.now w number c.join-pass.result.0
+    c.join-pass.result.1.joined
+    (record { host = c.join_marker.new.self; texts = c.join-pass.result.1.joined.texts }) c.requires.heap before
     c.join_marker.ensures.host
-    c.join_marker.ensures.own pass.alone refl
+    c.join_marker.ensures.own pass.alone c.is_in_order.ensures.history refl
 
 pub returns-clause-turns : goal.returns-clause-turns
 returns-clause-turns g t c asked =
@@ -48,7 +49,7 @@ returns-clause-turns g t c asked =
 pub returns-clause-reached : goal.returns-clause-reached
 returns-clause-reached g t c =
     let w = c.args.heap.now in
-    let before : IsOver g.E.Engine.on c.args.program.now w (c.args.number + 1)
+    let before : IsOver g.E.Engine.on c.args.with_cycle c.args.program.now w (c.args.number + 1)
     c.join-pass.result.1.joined = c.join-pass.ensures.second.0 in
     let old = c.join-pass.result.1.joined.host in
     let new = c.join_marker.new.self in

@@ -2,6 +2,9 @@ use Rattle.std.proofs.Common.{◌≡◌, ◌∙◌, ap, arith, sym, subst}
 use Rattle.std.proofs.lemmas.Result.{IfOk-weaker}
 use Rattle.mk_heap.specs.Hosts.{HostState}
 use Rattle.mk_run.specs.Joining.{AreTextsFrom, HasJoined}
+use Rattle.mk_core.specs.declared.events.Seat.TheVariants.{Host}
+use Rattle.mk_words.specs.Seats.{Has}
+use Rattle.mk_run.proofs.HostTurns.{comes_last}
 use Rattle.mk_run.proofs.WholeRuns.{all_callers_home, all_callers_joined, still_joined, still_texts}
 use Rattle.mk_run.proofs.UnsweptScripts.{scripts_on}
 use Rattle.mk_run.proofs.marking.run_scripts.Goals as goal
@@ -31,6 +34,11 @@ returns-clause-over g c =
       is_host =
           subst (λ (x : HostState). HasJoined on program w 0 x) (sym is)
           (still_joined on program w h new.pass.seen joined.is_host still h.pass.seats (λ k has. has));
+      own = subst (λ (x : HostState). Has x.pass.seats Host) (sym is) joined.own;
+      last =
+          comes_last w.config c.args.with_cycle h.pass new.pass.seen
+          (all_callers_home on program w h c.requires.heap joined.is_host) joined.without_host still
+          c.take_last_turns.ensures.cycles;
       markers = λ i le lt. absurd (omega arith);
       texts =
           IfOk-weaker c.run_from-host.result.texts (λ texts. AreTextsFrom program 0 w.config h.pass.seen texts.items)

@@ -14,7 +14,7 @@ use Rattle.mk_run.proofs.running.run.Goals as goal
 
 pub close-report-requires-clause-joined : goal.close-report-requires-clause-joined
 close-report-requires-clause-joined g c =
-    all_joined g.E.Engine.on c.args.program.now c.in_ok-heap.heap c.run_beside-joined.result.joined
+    all_joined g.E.Engine.on c.args.with_cycle c.args.program.now c.in_ok-heap.heap c.run_beside-joined.result.joined
     c.run_beside-joined.ensures.over
 
 pub returns-clause-runs : goal.returns-clause-runs
@@ -27,13 +27,13 @@ returns-clause-runs g c =
     let texts : AreTextsFrom program 0 w.config h.pass.seen c.in_ok-texts.field-0.items =
     subst (λ r. IfOk r (λ texts. AreTextsFrom program 0 w.config h.pass.seen texts.items)) c.in_ok-texts.was
     c.run_beside-joined.ensures.over.texts in
-    is_run g.E.Engine.on program c.args.markers w h (record {
+    is_run g.E.Engine.on c.args.with_cycle program c.args.markers w h (record {
       texts =
           c.in_ok-texts.field-0;
       report = c.close-report.result;
     })
-    made c.run_beside-joined.ensures.over.is_host texts c.close-report.ensures.history c.close-report.ensures.config
-    c.close-report.ensures.whole c.close-report.ensures.counts
+    made c.run_beside-joined.ensures.over.is_host c.run_beside-joined.ensures.over.last texts
+    c.close-report.ensures.history c.close-report.ensures.config c.close-report.ensures.whole c.close-report.ensures.counts
 
 pub returns-clause-cycle : goal.returns-clause-cycle
 returns-clause-cycle g c asked =

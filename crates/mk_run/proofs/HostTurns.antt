@@ -1,0 +1,195 @@
+-- What the host does in a run: it makes no step before the scripts are joined, and then begins the last cycle alone.
+use Rattle.std.proofs.Common.{◌≡◌, ℕ, ◌+◌, Bool, true, false, List, [], ◌∷◌, ◌++◌, refl, sym, ◌∙◌, ap, subst}
+use Rattle.std.proofs.Common.{arith, append_assoc}
+use Rattle.std.proofs.Math.Bool.{cond}
+use Rattle.std.proofs.lemmas.Bool.{or_parts}
+use Rattle.std.proofs.lemmas.List.{append_cancel_left}
+use Rattle.std.proofs.lemmas.List.Sums.{sum_by-append, sum_by-cons}
+use Rattle.mk_core.specs.declared.config.Config.{Config}
+use Rattle.mk_core.specs.declared.events.Event.{Event}
+use Rattle.mk_core.specs.declared.events.Seat.{Seat}
+use Rattle.mk_core.specs.declared.events.Seat.TheVariants.{Caller, Host}
+use Rattle.mk_core.specs.declared.events.Step.TheVariants as step
+use Rattle.mk_core.specs.Cycles.{is_begin}
+use Rattle.mk_core.specs.Growing.{AreOfOthers, Grows}
+use Rattle.mk_core.specs.History.{IsHistory, left}
+use Rattle.mk_core.proofs.HistoryParts.{earlier_part_is_history, enabled_in_parts}
+use Rattle.mk_words.specs.Seats.{Has, HasCallers}
+use Rattle.mk_words.specs.States.{PassState}
+use Rattle.mk_words.specs.TurnSteps.{turn_stays}
+use Rattle.mk_words.proofs.Seats.{others_append, others_none, others_own}
+use Rattle.mk_heap.specs.Ending.{MakesCycle, SaysOver}
+use Rattle.mk_heap.specs.Hosts.{HostState, with_seen}
+use Rattle.mk_heap.proofs.HomeCallers.{others_hold_none}
+use Rattle.mk_heap.proofs.MovedHosts.{turn_moves}
+use Rattle.mk_alloc.specs.TurnCycles.{has_step}
+use Rattle.mk_alloc.proofs.CalmStretches.{cycles_in_turn, is_of_cycles}
+use Rattle.mk_alloc.proofs.CycleParts.{BeginIn, begin_does, begin_in, finish_does, finish_in}
+use Rattle.mk_alloc.proofs.ListParts.{Lacks}
+use Rattle.mk_alloc.proofs.Parts.{has_then, history_before, in_turn_then, seen_then}
+use Rattle.mk_run.specs.HostTurns.{HostComesLast, cycles_begun}
+use Rattle.mk_run.specs.LastTurns.{BeginsAsAsked, CallersAreStill}
+use Rattle.mk_run.proofs.LastCycles.{before_made, ends_does, turn_taken}
+use Rattle.mk_run.proofs.LastOvers.{Unbegun, ends_unbegun, over_unbegun, stays, unbegun_made, unheld_unbegun}
+use Rattle.mk_run.proofs.LastOvers.{wait_unbegun}
+
+-- Before the scripts are joined the host makes no step.
+
+pub unseen_by_host : (es : List Event) → es ≡ [] → AreOfOthers (Host ∷ []) es
+unseen_by_host es is = subst (λ (l : List Event). AreOfOthers (Host ∷ []) l) (sym is) (others_none (Host ∷ []))
+
+pub host_is_still : (seats : List Seat) (es fs : List Event) → Has seats Host → Grows seats es fs
+    → AreOfOthers (Host ∷ []) es → AreOfOthers (Host ∷ []) fs
+host_is_still seats es fs own g before =
+    subst (λ (l : List Event). AreOfOthers (Host ∷ []) l) (sym g.is)
+    (others_append (Host ∷ []) es g.more before (others_own seats Host g.more own g.of_others))
+
+-- the cycles that are begun in a list
+
+abbrev begins : Event → ℕ
+begins e = cond (is_begin e.step) 1 0
+
+begun_append : (xs ys : List Event) → cycles_begun (xs ++ ys) ≡ cycles_begun xs + cycles_begun ys
+begun_append xs ys = sum_by-append begins xs ys
+
+by_none : (b : Bool) (n : ℕ) → b ≡ false → n ≡ 0 → cond b 1 0 + n ≡ 0
+by_none true n is none = cc
+by_none false n is none = omega arith
+
+by_one : (b : Bool) (n : ℕ) → b ≡ true → n ≡ 0 → cond b 1 0 + n ≡ 1
+by_one true n is none = omega arith
+by_one false n is none = cc
+
+none_begun : (es : List Event) → Lacks is_begin es → cycles_begun es ≡ 0
+none_begun [] h = refl
+none_begun (e ∷ es) h =
+    let parts = or_parts (is_begin e.step) (has_step is_begin es) h in
+    sum_by-cons begins e es ∙ by_none (is_begin e.step) (cycles_begun es) parts.0 (none_begun es parts.1)
+
+one_begun : (e : Event) (es : List Event) → is_begin e.step ≡ true → Lacks is_begin es → cycles_begun (e ∷ es) ≡ 1
+one_begun e es is none =
+    sum_by-cons begins e es ∙ by_one (is_begin e.step) (cycles_begun es) is (none_begun es none)
+
+-- From what the one pass had seen to what the other has seen this many cycles are begun.
+record Begins (n : ℕ) (p q : PassState) : Type 0 where
+  pub more : List Event
+  pub is : q.seen ≡ p.seen ++ more
+  pub count : cycles_begun more ≡ n
+
+begins_then : (m n : ℕ) (p q r : PassState) → Begins m p q → Begins n q r → Begins (m + n) p r
+begins_then m n p q r one two =
+    let a = one.count in
+    let b = two.count in
+    record {
+      more = one.more ++ two.more;
+      is = seen_then p.seen q.seen r.seen one.more two.more one.is two.is;
+      count = begun_append one.more two.more ∙ omega arith;
+    }
+
+begins_none : (p q : PassState) → Unbegun p q → Begins 0 p q
+begins_none p q u = record { more = u.more; is = u.is; count = none_begun u.more u.none }
+
+begins_one : (p q : PassState) → BeginIn p q → Begins 1 p q
+begins_one p q b =
+    let before = none_begun b.before b.none_before in
+    let one = one_begun b.begin b.behind b.begins b.none_behind in
+    record {
+      more = b.before ++ b.begin ∷ b.behind;
+      is = b.is;
+      count = begun_append b.before (b.begin ∷ b.behind) ∙ omega arith;
+    }
+
+-- The host makes one cycle.
+cycle_begins : (p q : PassState) → Has p.seats p.seat → Has p.seats Host → HasCallers p.table.config p.seats
+    → MakesCycle p q → IsHistory q.table.config q.seen → Begins 1 p q
+cycle_begins p q own host callers m history =
+    let taken_own : Has m.taken.seats m.taken.seat =
+    subst (λ (r : PassState). Has r.seats r.seat) (sym (turn_moves p m.taken m.takes).is) own in
+    let to_idle = ends_does m.taken m.idle taken_own m.ends in
+    let idle_own = has_then turn_stays m.taken m.idle to_idle taken_own in
+    let to_begun = begin_does m.idle m.begun idle_own m.begins in
+    let begun_own = has_then is_of_cycles m.idle m.begun to_begun idle_own in
+    let to_ended = finish_does m.begun m.ended begun_own m.finishes in
+    let ended = before_made m.ended q step.Give m.gives history in
+    let begun = history_before is_of_cycles m.begun m.ended to_ended ended in
+    let idle = history_before is_of_cycles m.idle m.begun to_begun begun in
+    let taken = history_before turn_stays m.taken m.idle to_idle idle in
+    let t_taken = turn_taken p m.taken own m.takes taken in
+    let t_idle = in_turn_then turn_stays m.taken m.idle stays t_taken to_idle idle in
+    let t_begun = in_turn_then is_of_cycles m.idle m.begun cycles_in_turn t_idle to_begun begun in
+    let t_ended = in_turn_then is_of_cycles m.begun m.ended cycles_in_turn t_begun to_ended ended in
+    let finish = finish_in m.begun m.ended begun_own m.finishes t_begun ended in
+    begins_then 0 1 p m.taken q (begins_none p m.taken (wait_unbegun p m.taken host callers m.takes taken))
+    (begins_then 0 1 m.taken m.idle q (begins_none m.taken m.idle (ends_unbegun m.taken m.idle t_taken m.ends idle))
+    (begins_then 1 0 m.idle m.begun q
+    (begins_one m.idle m.begun (begin_in m.idle m.begun idle_own m.begins t_idle begun))
+    (begins_then 0 0 m.begun m.ended q
+    (begins_none m.begun m.ended (record { more = finish.more; is = finish.is; none = finish.begins_none }))
+    (begins_none m.ended q (unbegun_made m.ended q step.Give t_ended refl m.gives history)))))
+
+-- The host's last turns, without a cycle of its own and with one.
+
+pub over_begins : (p q : PassState) → p.seat ≡ Host → Has p.seats Host → HasCallers p.table.config p.seats
+    → SaysOver p q → IsHistory q.table.config q.seen → BeginsAsAsked false p.seen q.seen
+over_begins p q seat host callers over history =
+    let own : Has p.seats p.seat = subst (λ (s : Seat). Has p.seats s) (sym seat) host in
+    let u = over_unbegun p q own host callers over history in
+    record { more = u.more; is = u.is; cycles = none_begun u.more u.none }
+
+pub both_begin : (h g i : HostState) → h.pass.seat ≡ Host → Has h.pass.seats Host
+    → HasCallers h.pass.table.config h.pass.seats → g ≡ with_seen h g.pass.seen → i ≡ with_seen g i.pass.seen
+    → MakesCycle h.pass g.pass → SaysOver g.pass i.pass → IsHistory i.pass.table.config i.pass.seen
+    → BeginsAsAsked true h.pass.seen i.pass.seen
+both_begin h g i seat host callers is is' cycle over history =
+    let own : Has h.pass.seats h.pass.seat = subst (λ (s : Seat). Has h.pass.seats s) (sym seat) host in
+    let g_seat : g.pass.seat ≡ Host = ap (λ (x : HostState). x.pass.seat) is ∙ seat in
+    let g_host : Has g.pass.seats Host = subst (λ (x : HostState). Has x.pass.seats Host) (sym is) host in
+    let g_callers : HasCallers g.pass.table.config g.pass.seats =
+    subst (λ (x : HostState). HasCallers x.pass.table.config x.pass.seats) (sym is) callers in
+    let after = over_begins g.pass i.pass g_seat g_host g_callers over history in
+    let same : i.pass.table.config ≡ g.pass.table.config = ap (λ (x : HostState). x.pass.table.config) is' in
+    let whole : IsHistory g.pass.table.config (g.pass.seen ++ after.more) =
+    subst (λ (l : List Event). IsHistory g.pass.table.config l) after.is
+    (subst (λ (c : Config). IsHistory c i.pass.seen) same history) in
+    let g_history = earlier_part_is_history g.pass.table.config g.pass.seen after.more whole in
+    let both = begins_then 1 0 h.pass g.pass i.pass (cycle_begins h.pass g.pass own host callers cycle g_history)
+    (record { more = after.more; is = after.is; count = after.cycles }) in
+    record { more = both.more; is = both.is; cycles = both.count }
+
+-- So the host comes last,
+
+pub comes_last : (c : Config) (with_cycle : Bool) (p : PassState) (fs : List Event) → HasCallers c p.seats
+    → AreOfOthers (Host ∷ []) p.seen → CallersAreStill p fs → BeginsAsAsked with_cycle p.seen fs
+    → HostComesLast c.callers with_cycle fs
+comes_last c with_cycle p fs callers before still begins = record {
+  scripts = p.seen;
+  last = begins.more;
+  is = begins.is;
+  without_host = before;
+  without_callers = λ k lt.
+      let s = still k (callers k lt) in
+      subst (λ (l : List Event). AreOfOthers (Caller k ∷ []) l)
+      (append_cancel_left p.seen s.more begins.more (sym s.is ∙ begins.is)) s.of_others;
+  cycles = begins.cycles;
+}
+
+-- and still does as a marker is joined.
+pub still_last : (c : Config) (with_cycle : Bool) (p : PassState) (fs : List Event) → Has p.seats Host
+    → HasCallers c p.seats → Grows p.seats p.seen fs → IsHistory c fs → HostComesLast c.callers with_cycle p.seen
+    → HostComesLast c.callers with_cycle fs
+still_last c with_cycle p fs host callers g history l =
+    let long : IsHistory c (p.seen ++ g.more) = subst (λ (es : List Event). IsHistory c es) g.is history in
+    let on = ((enabled_in_parts c p.seen g.more).0 long.enabled).1 in
+    let none = none_begun g.more
+    (unheld_unbegun g.more (others_hold_none p c host callers (left c p.seen) g.more g.of_others on)) in
+    let before = l.cycles in
+    record {
+      scripts = l.scripts;
+      last = l.last ++ g.more;
+      is = g.is ∙ ap (λ (es : List Event). es ++ g.more) l.is ∙ append_assoc l.scripts l.last g.more;
+      without_host = l.without_host;
+      without_callers = λ k lt.
+          others_append (Caller k ∷ []) l.last g.more (l.without_callers k lt)
+          (others_own p.seats (Caller k) g.more (callers k lt) g.of_others);
+      cycles = begun_append l.last g.more ∙ omega arith;
+    }
