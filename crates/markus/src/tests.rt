@@ -27,8 +27,9 @@ const FIRST_RUN: &[u8] = b"heap 1 1\ntype A n*32\nscript s\nptr p A\nnum n\nnew 
 /// first script; a refused load; a full heap; a loop of two rounds and a branch; a dangling load; a load from a freed
 /// run; a second free; scripts without instructions; options; a freed object that a register keeps; two that point to
 /// each other, which nothing keeps but a sweep; a script of as many instructions as one may execute; a canonical text;
-/// a schedule with a load of a global before the store and one after, that ends within a call of `s`; and the smallest
-/// generated program.
+/// a schedule with a load of a global before the store and one after, that ends within a call of `s`; traces, in the
+/// last of which a freed object points to another one, and one cycle releases both (a sweep would keep the other); and
+/// the smallest generated program.
 const RUNS: &str = "\
 run | heap 1 1/type A n*32/script s/ptr p A/num n/new p A/const n 7/setn p 1 n/const n 0/\
     getn n p 1/print n/ -> script s/7/
@@ -63,6 +64,8 @@ replay | heap 1 1/type A n*2/global g A/script s/ptr p A/new p A/storeg p g/show
 trace | trace 1 1/slot x 32/a x/f x/c x/a x/a x/ -> events 5/refused 0/held 64/quarantined 32/reserved 0/cycles 2/\
     age 2 1/
 trace | trace 4 2/slot b 65/a b/f b/c b/a b/ -> events 4/refused 0/held 128/quarantined 128/reserved 128/cycles 0/
+trace | trace 1 1/slot x 32/a x/f x/k x/f x/c x/a x/ -> events 6/refused 0/held 64/quarantined 64/reserved 0/cycles 3/\
+    age 2 1/age 3 1/
 gen 0 48 |  -> script s0 ops 12 refused 0/script s1 ops 12 refused 0/script s2 ops 12 refused 0/\
     script s3 ops 12 refused 0/total 48/
 gen 0 --markers 1 48 |  -> script s0 ops 12 refused 0/script s1 ops 12 refused 0/script s2 ops 12 refused 0/\

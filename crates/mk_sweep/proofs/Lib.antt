@@ -3,6 +3,7 @@ pub mod Closed
 pub mod CountedWords
 pub mod Done
 pub mod EachOnce
+pub mod EvaluatedSwept
 pub mod Kept
 pub mod ScannedCells
 pub mod SweepSteps

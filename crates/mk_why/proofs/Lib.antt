@@ -1,6 +1,7 @@
 mod Alike
 mod Closing
 mod Counts
+mod EvaluatedChains
 mod Explored
 mod Lists
 mod Looks
