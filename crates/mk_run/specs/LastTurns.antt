@@ -21,7 +21,7 @@ pub record BeginsAsAsked (with_cycle : Bool) (seen es : List Event) : Type 0 whe
   pub is : es ≡ seen ++ more
   pub cycles : cycles_begun more ≡ cycles_asked with_cycle
 
--- With all callers home the host made a cycle of which this is told, and said that all is over. Since then it has seen
+-- With all callers home the host made a cycle of which this is said, and said that all is over. Since then it has seen
 -- no step of the seats that were home, which still are.
 pub record TakesLastTurns (tells : Config → World → Type 0) (w : WordsState) (p : PassState) : Type 0 where
   pub joined : PassState
