@@ -3,7 +3,6 @@ ghost use Rattle.mk_run.specs.Headline.{RunsStandInOneHistory, RunsPrintTheirTex
 
 /// The replies of a run stand in one history of a heap that never reuses storage, each script's operations there once
 /// and in order.
-#[tactic(auto, using(crate::proofs::Headline::runs_stand_in_one_history))]
 pub fn runs_stand_in_one_history()
     ensures { RunsStandInOneHistory }
 {}

@@ -1,5 +1,5 @@
 //! The run of a program with a last cycle, and what that cycle keeps.
-ghost use Rattle.std.specs.Prelude.{◌≡◌, ◌≤◌, IfOk, false};
+ghost use Rattle.std.specs.Prelude.{◌≡◌, ◌≤◌, IfOk, true, false};
 ghost use Rattle.mk_check.specs.Declarations.{config_of};
 ghost use Rattle.mk_heap.specs.Reports.{history_of};
 ghost use Rattle.mk_why.specs.Chains.{AreKept};

@@ -10,7 +10,7 @@ use Rattle.mk_heap.specs.Hosts.{HostState, with_joined}
 use Rattle.mk_check.specs.Laws.{IsScript}
 use Rattle.mk_run.specs.Joining.{IsFirstPass, HasMade, HasRun, HasJoined, AreJoined}
 use Rattle.mk_run.proofs.LaterLists.{of_one}
-use Rattle.mk_run.proofs.HostTurns.{host_is_still}
+use Rattle.mk_run.proofs.HostTurns.{host_is_still, unseen_by_host}
 use Rattle.mk_run.proofs.JoinedScripts.{next_made, first_pass, one_joined, texts_joined}
 use Rattle.mk_run.proofs.UnsweptScripts.{none_joined, script_joined, scripts_on}
 use Rattle.mk_run.proofs.joining.+fn-run_from-join+arg3+run_from.Goals as goal
@@ -72,6 +72,11 @@ returns-clause-joined g t c =
           c.with_first.ensures.first c.with_first.ensures.others c.with_first.ensures.items
           ran.ends ran.is_text joined.texts few;
     }
+
+pub returns-in_default-clause-joined : goal.returns-in_default-clause-joined
+returns-in_default-clause-joined g t c =
+    let without_host = unseen_by_host c.args.host.pass.seen c.requires.host.seen in
+    search rules
 
 pub returns-in_default-clause-reached : goal.returns-in_default-clause-reached
 returns-in_default-clause-reached g t c =

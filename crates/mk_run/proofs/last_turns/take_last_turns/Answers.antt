@@ -1,6 +1,7 @@
-use Rattle.std.proofs.Common.{subst, sym}
+use Rattle.std.proofs.Common.{◌≡◌, Bool, false, subst, sym, rules}
 use Rattle.mk_words.specs.Seats.{HasCallers}
 use Rattle.mk_words.specs.States.{WordsState}
+use Rattle.mk_run.specs.LastTurns.{BeginsAsAsked}
 use Rattle.mk_run.proofs.HostTurns.{over_begins}
 use Rattle.mk_run.proofs.LastTurns.{still_behind_over}
 use Rattle.mk_run.proofs.last_turns.take_last_turns.Goals as goal
@@ -11,7 +12,9 @@ returns-else-with_cycle-clause-still g c =
 
 pub returns-else-with_cycle-clause-cycles : goal.returns-else-with_cycle-clause-cycles
 returns-else-with_cycle-clause-cycles g c =
-    over_begins c.args.host.now.pass c.over.new.self.pass c.requires.seat c.requires.own
+    let unasked : c.args.with_cycle ≡ false = search rules in
+    subst (λ (asked : Bool). BeginsAsAsked asked c.args.host.now.pass.seen c.over.new.self.pass.seen) (sym unasked)
+    (over_begins c.args.host.now.pass c.over.new.self.pass c.requires.seat c.requires.own
     (subst (λ (w : WordsState). HasCallers w.config c.args.host.now.pass.seats) (sym c.requires.one_table)
     c.requires.callers)
-    c.over.ensures.over c.is_in_order.ensures.history
+    c.over.ensures.over c.is_in_order.ensures.history)
