@@ -11,7 +11,7 @@ use Rattle.mk_turns.specs.Doing.{Does}
 use Rattle.mk_cycle.specs.Kinds.{clears, begins_marking}
 use Rattle.mk_cycle.specs.TurnKeeps.{done_of, IsGone, KeepsGates}
 
--- One `begin`: what is cleared before it, and what the engine does behind it.
+-- One `begin`: what is cleared before it, and what the engine does after it.
 pub record MakesBegin (p q : PassState) : Type 0 where
   pub cleared : PassState
   pub begun : PassState

@@ -27,10 +27,10 @@ use Rattle.mk_core.specs.History.{AreEnabledFrom}
 use Rattle.mk_core.proofs.Conditions.{enabled_meets}
 use Rattle.mk_core.proofs.HistoryParts.{enabled_in_parts, admitted_in_parts, earlier_part_is_history}
 use Rattle.mk_protocol.proofs.NextSteps.{at_its_stage}
-use Rattle.mk_images.specs.Images.{scene_of, CarriesOwn, ProbedOwn}
-use Rattle.mk_images.specs.OthersSay.{OthersSay}
+use Rattle.mk_images.specs.Images.{image_scene_of, CarriesOwn, ProbedOwn}
+use Rattle.mk_images.specs.ImagePremises.{ImagePremises}
 use Rattle.mk_images.specs.Mirrors.{Mirrors}
-use Rattle.mk_images.specs.Laws.{OthersSayAlong, HistoriesCompareValues}
+use Rattle.mk_images.specs.Laws.{ImagePremisesAlong, HistoriesCompareValues}
 use Rattle.mk_images.proofs.KnownWorlds.{KnownWorld, known_world}
 use Rattle.mk_images.proofs.Stands.{stands_of}
 use Rattle.mk_images.proofs.Before.{ready_of}
@@ -63,7 +63,7 @@ record Compares (c : Config) (w : World) (n : NeverState) (k q i p : ℕ) : Type
       ↔ (word_at n number place ≡ register_at n k p)
 
 compares_values : (c : Config) (w : World) (n : NeverState) (k q i p r : ℕ) → KnownWorld c w
-    → OthersSay c w → Mirrors c w n → MeetsAll c w.now (cas_of k)
+    → ImagePremises c w → Mirrors c w n → MeetsAll c w.now (cas_of k)
     → (flight_of w.now (Caller k)).op ≡ op.CasPtr q i p r
     → AreAdmitted c.globals n (asked (call_decided c w.now (cas_of k)))
     → Compares c w n k q i p
@@ -80,7 +80,8 @@ compares_values c w n k q i p r known others mirrors h is ad =
     let admitted : IsAdmitted c.globals n k o =
     subst (λ (y : Op). IsAdmitted c.globals n k y) is (admitted_call c.globals n k f.op _ (ap is_under_turn is) ad)
     in
-    let compared = cas_compares c.globals safe.0 (scene_of w) n k ready (there_is c w n known mirrors safe.0 ready k lt)
+    let compared = cas_compares c.globals safe.0 (image_scene_of w) n k ready
+    (there_is c w n known mirrors safe.0 ready k lt)
     (own_registers c w n known mirrors safe.0 ready k lt) q i p r f.q f.p f.r f.loaded x
     (subst (λ (g : Flight). CarriesOwn (bases_of w.allocations) n k g) lit (ready.images.carried k))
     (subst (λ (g : Flight). ProbedOwn n k g) lit (ready.images.probed k))
@@ -96,8 +97,8 @@ pub histories_compare : HistoriesCompareValues
 unfolding AreEnabledFrom calls_from
 histories_compare c es h others before behind k q i p r whole is =
     let parts : IsHistory c (before ++ cas_of k ∷ behind) = subst (λ (xs : List Event). IsHistory c xs) whole h in
-    let say : OthersSayAlong c (before ++ cas_of k ∷ behind) =
-    subst (λ (xs : List Event). OthersSayAlong c xs) whole others in
+    let say : ImagePremisesAlong c (before ++ cas_of k ∷ behind) =
+    subst (λ (xs : List Event). ImagePremisesAlong c xs) whole others in
     let earlier = earlier_part_is_history c before (cas_of k ∷ behind) parts in
     let mirrors = histories_mirror c before earlier (say_along c before (cas_of k ∷ behind) say) in
     let on = ((enabled_in_parts c before (cas_of k ∷ behind)).0 parts.enabled).1.0 in

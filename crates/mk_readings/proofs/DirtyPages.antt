@@ -107,7 +107,7 @@ none_owes c m known three k at = elim (cases_lt k c.callers) [
       absurd (omega arith)
 ]
 
--- A page that is dirty behind a step was so before, or the step is its dirty mark.
+-- A page that is dirty after a step was so before, or the step is its dirty mark.
 dirty_since : (c : Config) (m : Moment) (seat : Seat) (x : Step) (p : ℕ)
     → slice_index (Behind c m seat x).words.dirty p ≢ 0
     → (slice_index m.words.dirty p ≢ 0) ⊎ ((is_dirty x ≡ true) × (page_met (flight_of m seat) ≡ p))
@@ -137,7 +137,7 @@ owes_now c m (Marker k) step.Dirty h is = let kind = h.kind in cc
 owes_now c m Host step.Dirty h is = let kind = h.kind in cc
 owes_now c m seat _ h is = cc
 
--- A call that owes a mark behind a step owed it before, or the step is its store.
+-- A call that owes a mark after a step owed it before, or the step is its store.
 mark_since : (c : Config) (m : Moment) (seat : Seat) (x : Step) → Known c m → Meets c m seat x → (k : ℕ)
     → (flight_of (Behind c m seat x) (Caller k)).stage ≡ stage.Dirty
     → (flight_of (Behind c m seat x) (Caller k) ≡ flight_of m (Caller k))
@@ -160,7 +160,7 @@ mark_since c m (Caller j) x known h k at = elim (cases_eq k j) [
     flight : Flight
     flight = (progress c m (flight_of m (Caller j)) (found c m (record { seat = Caller j; step = x })) x).flight
 
--- Where the marks are closed behind a step, no page was dirty before it.
+-- Where the marks are closed after a step, no page was dirty before it.
 was_clean : (c : Config) (w : World) (seat : Seat) (x : Step) → KnownWorld c w → Meets c w.now seat x
     → DirtyStands c w → phase_behind x (phase_of w.now.words) ≡ 3 → (p : ℕ) → slice_index w.now.words.dirty p ≡ 0
 was_clean c w seat step.Close known h d three p = elim (cases_lt p c.pages) [

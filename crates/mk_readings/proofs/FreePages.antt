@@ -13,7 +13,7 @@ use Rattle.mk_core.specs.Moments.{is_phase}
 use Rattle.mk_core.specs.ObjectHeaders.{words_made}
 use Rattle.mk_core.specs.StandingAllocations.{object_placed}
 use Rattle.mk_core.specs.Words.{header_at}
-use Rattle.mk_layout.specs.Terrain.{claim_of, object_now, scene_of}
+use Rattle.mk_layout.specs.Terrain.{claim_of, object_now, layout_scene_of}
 use Rattle.mk_protocol.specs.Ground.{ground_of}
 use Rattle.mk_layout.proofs.Readings.{claimed_some, free_unused, zero_where_none}
 use Rattle.mk_layout.proofs.StandingClaims.{ends_on_pages}
@@ -55,7 +55,8 @@ module _ (c : Config) (w : World) (n : NeverState) (known : KnownWorld c w) (all
   free_page dirty p z =
       record {
         used =
-            free_unused (scene_of c (object_now c w.now) (is_phase w.now.words 4) w.now.words.marks (ground_of w)) p
+            free_unused (layout_scene_of c (object_now c w.now) (is_phase w.now.words 4) w.now.words.marks
+            (ground_of w)) p
             all.order.laid.scene z;
         freed = zero_where_none (slice_index w.now.words.freed p) (none_freed p z);
         snapshot = zero_where_none (slice_index w.now.words.snapshot p)

@@ -111,7 +111,7 @@ freed_stays : (f : Flight) (cell : Option Cell) → (progress_freed f cell).flig
 freed_stays f (Some cell) h = cc
 freed_stays f None h = refl
 
--- A call that owes a mark behind a step owed it before, or this step has stored.
+-- A call that owes a mark after a step owed it before, or this step has stored.
 abbrev pub OwesSince : Flight → Step → Flight → Type 0
 OwesSince f x g = (g ≡ f) ⊎ ((stores x ≡ true) × (page_met g ≡ page_met f))
 

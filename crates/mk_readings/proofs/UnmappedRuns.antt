@@ -33,7 +33,7 @@ use Rattle.mk_core.proofs.StandingAllocations.{run_begins}
 use Rattle.mk_protocol.specs.Ground.{ground_of}
 use Rattle.mk_protocol.proofs.SameWords.{Behind}
 use Rattle.mk_guard.proofs.Changes.{Table, reg_table, tally_table}
-use Rattle.mk_layout.specs.Scene.{HasHeader, IsShown, used_on}
+use Rattle.mk_layout.specs.LayoutScene.{HasHeader, IsShown, used_on}
 use Rattle.mk_layout.specs.Terrain.{claim_of, is_unmapping, mode_of, object_now}
 use Rattle.mk_layout.proofs.Claims.{claim_among}
 use Rattle.mk_layout.proofs.Freed.{gone_terrain}
@@ -118,7 +118,7 @@ module _ (c : Config) (w : World) (n : NeverState) (known : KnownWorld c w) (all
   large : is_small_object (object_placed c (placed_at w.allocations x.number)) ≡ false
   large = not-true (is_small_object o) (and_parts a.freed (not (is_small_object o)) gone).1
 
-  -- how far the page is behind the first one
+  -- how far the page is after the first one
   record OnRun : Type 0 where
     distance : ℕ
     near : distance < pages_made (object_placed c (placed_at w.allocations x.number))

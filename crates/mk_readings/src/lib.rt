@@ -1,4 +1,4 @@
-//! What looks at the table's words tell, what a cycle releases, and which words are 0, in all histories: facts
+//! What looks at the table's words say, what a cycle releases, and which words are 0, in all histories: facts
 //! alone, with no code.
 #![tactic(auto)]
 
@@ -13,7 +13,7 @@ ghost use Rattle.mk_readings.specs.Releases.{ReleasesNoneReached};
 ghost use Rattle.mk_readings.specs.UnmappedRuns.{UnmappedRunsTakeNoMemory};
 ghost use Rattle.mk_readings.specs.UnsetWords.{RegistersOfNoCallerAreZero, UnsetGlobalsAreZero};
 
-/// What a look at a header word and at the freed bits of a quarantine word tells.
+/// What a look at a header word and at the freed bits of a quarantine word says.
 pub fn words_tell_what_stands()
     ensures { OfHistories HeadersAndQuarantineTell }
 {}
@@ -32,7 +32,7 @@ pub fn releases_are_exact()
     ensures of_cycles { OfHistories ReleasesAreOfCycles }
 {}
 
-/// While the phase isn't releasing, words are 0 in cells without an allocation, behind the cells of a page, and on
+/// While the phase isn't releasing, words are 0 in cells without an allocation, after the cells of a page, and on
 /// free pages.
 pub fn free_cells_are_zero()
     ensures of_none { OfHistories (Leaves WordsOfNoneAreZero) }
