@@ -184,7 +184,14 @@ module _ (begins : Config → Seat → List Event → List Event → Type 0) whe
         let same : does.more ≡ part.more =
         append_cancel_left d.seen does.more part.more (sym (ap (λ (x : PassState). x.seen) does.is) ∙ part.is) in
         kinds_begin_none begins_marking d.table.config d.seat (left d.table.config d.seen) does.more marking_begins_none
-        does.of_kinds (record { before = b.before; event = b.event; behind = b.behind; is = same ∙ b.is; of_kind = b.of_kind })
+        does.of_kinds
+        (record {
+          before = b.before;
+          event = b.event;
+          behind = b.behind;
+          is = same ∙ b.is;
+          of_kind = b.of_kind;
+        })
         (is ∙ sym (ap (λ (x : PassState). x.seat) m.is))
 
     done : begins c p.seat (p.seen ++ (m.others ++ e ∷ [])) part.more
@@ -248,7 +255,8 @@ module _ (begins : Config → Seat → List Event → List Event → Type 0) whe
       let own_released = has_on r.closed m.released released own_closed in
       let own_freed = has_on m.released m.freed freed own_released in
       begun_then p m.held q held (does_begin_none holds_gates p m.held holding_begins_none m.holds)
-      (begun_then m.held r.closing q closing (does_begin_none closes_marks m.held r.closing closing_begins_none r.marks.does)
+      (begun_then m.held r.closing q closing
+      (does_begin_none closes_marks m.held r.closing closing_begins_none r.marks.does)
       (begun_then r.closing r.closed q closed (step_begins_none r.closing r.closed step.Close own_closing r.close refl)
       (begun_then r.closed m.released q released
       (step_begins_none r.closed m.released step.Release own_closed r.release refl)

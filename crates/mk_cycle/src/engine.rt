@@ -16,8 +16,8 @@ use std::sync::Wait;
 use std::thread::Threads;
 
 /// What makes the marks of a cycle, for a heap of so many pages. What it answers to `keeps_on` is the same for all
-/// values of its type, and so are whether it makes sweeping marks, and what it does as a cycle begins. Of the marks that
-/// it closed last it tells something.
+/// values of its type, and so are whether it makes sweeping marks, and what it does as a cycle begins. Of the marks
+/// that it closed last it tells something.
 pub trait Engine: Drop {
     ghost on: { Bool };
 
