@@ -1,4 +1,4 @@
--- The texts of the scripts, one behind the other, are all that a run prints.
+-- The texts of the scripts, one after the other, are all that a run prints.
 use Rattle.std.proofs.Common.{◌≡◌, ℕ, ◌+◌, ◌<◌, suc, List, [], ◌∷◌, ◌++◌, length, Bool, false, refl, ap, ◌∙◌, arith}
 use Rattle.std.specs.List.{flat_map, range_with_len}
 use Rattle.std.specs.Prelude.{slice_index_or}
@@ -47,7 +47,7 @@ run_is_printed program markers sweep outcome bytes runs unswept are =
     runs_stand_in_one_history program markers sweep outcome (output program) bytes runs unswept
     (are ∙ runs_print_their_texts (cycles_go_on markers) program markers outcome runs)
 
--- With the lines of the entries behind them they tell what was kept in that history's last cycle.
+-- With the lines of the entries after them they report what was kept in that history's last cycle.
 pub run_is_explained : (program : List Item) (markers : ℕ) (sweep : Bool) (outcome : Outcome) (texts bytes : List ℕ)
     (entries : List Kept) → IsRunOf (cycles_go_on markers) program markers outcome
     → (sweep ≡ false → IsUnswept (config_of program markers) (report.history_of outcome.report))

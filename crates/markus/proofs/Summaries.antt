@@ -70,7 +70,7 @@ pub ops_more : (texts : List Text) (i : ℕ) (text : Text) → i < length texts 
 ops_more texts i text inside is =
     ap all_ops (drop_next texts i text inside is) ∙ sum_by-cons (λ (t : Text). t.ops) text (drop (i + 1) texts)
 
--- Behind the last text.
+-- After the last text.
 
 pub lines_done : (texts : List Text) (i : ℕ) (front : List ℕ) → length texts ≤ i
     → front ++ lines_from i (drop i texts) ≡ front

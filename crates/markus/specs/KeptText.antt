@@ -1,4 +1,4 @@
--- The lines that tell what the last cycle kept, and why: an object's address in bytes and its storage in words, the
+-- The lines that report what the last cycle kept, and why: an object's address in bytes and its storage in words, the
 -- register or the global from which it is reached, and the addresses of the words through which.
 use Rattle.std.specs.Prelude.{ℕ, List, [], ◌∷◌, ◌++◌, slice_index_or, Option, Some, None}
 use Rattle.std.specs.List.{flat_map}

@@ -110,9 +110,9 @@ status_on Replay input = status_of_replay (replay_of input)
 status_on Trace input = status_of_trace (trace_of input)
 status_on command input = status_of_text command (program_of input)
 
--- What a run prints that tells why objects are kept. The program's replies stand in one history of its heap, and what
--- its scripts print of it is written, whole, and behind that the lines of the entries. In this history a cycle is begun
--- and ended behind the last step of every script, in one turn of the host. The entries are those of its `close`, the
+-- What a run prints that says why objects are kept. The program's replies stand in one history of its heap, and what
+-- its scripts print of it is written, whole, and after that the lines of the entries. In this history a cycle is begun
+-- and ended after the last step of every script, in one turn of the host. The entries are those of its `close`, the
 -- last one of all: each object that was freed before this cycle and is marked, with a shortest chain from a register or
 -- a global to it.
 pub record TellsWhatIsKept (program : List Item) (markers : ℕ) (sweep : Bool) (output : List ℕ) : Type 0 where

@@ -1,4 +1,4 @@
-//! The lines that tell what the last cycle kept, and why.
+//! The lines that report what the last cycle kept, and why.
 ghost use Rattle.std.specs.Prelude.{◌≡◌, ◌++◌, [], ◌∷◌, List, OnOk};
 ghost use Rattle.std.specs.List.{flat_map};
 ghost use Rattle.std.specs.Fmt.{decimal};
@@ -73,7 +73,7 @@ fn push_root(text: &mut Vec<u8>, items: &[Item], root: Option<Root>) -> Result<(
     }
 }
 
-/// Appends pieces, one behind the other.
+/// Appends pieces, one after the other.
 fn push_pieces(text: &mut Vec<u8>, pieces: &[&[u8]]) -> Result<(), NoMemory>
     ensures { OnOk result (text.new.items ≡ text.old.items ++ flat_map (λ piece. piece.now) pieces.now) }
 {

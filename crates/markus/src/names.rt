@@ -27,7 +27,7 @@ fn declared(sort: Sort, item: &Item) -> Option<&Name>
     }
 }
 
-/// The name of this number among those of a sort, or no byte where there are not so many.
+/// The name of this number among those of a sort, or no byte where there are not this many.
 fn name_among(sort: Sort, items: &[Item], number: u64) -> &[u8]
     ensures { result.now ≡ slice_index_or (names_of sort items.now) number [] }
 {
@@ -55,7 +55,7 @@ fn before_script(items: &[Item]) -> &[Item]
     items
 }
 
-/// The lines of a script, from 0 on, behind its first; none where there are not so many scripts.
+/// The lines of a script, from 0 on, after its first; none where there are not this many scripts.
 fn lines_of_script(items: &[Item], script: u64) -> &[Item]
     ensures { result.now ≡ (script_of items.now script).items }
 {

@@ -117,7 +117,7 @@ fn accept(alloc: Global, program: Program) -> Result<Vec<u8>, Status>
     Ok(b"ok\n".to_vec(alloc)?)
 }
 
-/// What a program's scripts print, and behind it, where this is asked, what the last cycle kept and why.
+/// What a program's scripts print, and after it, where this is asked, what the last cycle kept and why.
 fn run<P: Pace + Sync, R: Threads + Wait + Sync>(
     rt: &R,
     alloc: Global,

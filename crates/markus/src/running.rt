@@ -64,7 +64,7 @@ fn printed<P: Pace + Sync, R: Threads + Wait + Sync>(
     joined(alloc, &outcome.texts)
 }
 
-/// The same with one more cycle, by the host, behind the scripts: what it kept, and why.
+/// The same with one more cycle, by the host, after the scripts: what it kept, and why.
 fn why_of<P: Pace + Sync, R: Threads + Wait + Sync>(
     rt: &R,
     alloc: Global,
@@ -89,7 +89,7 @@ fn why_of<P: Pace + Sync, R: Threads + Wait + Sync>(
     }
 }
 
-/// What a program's scripts print, each run to its end, and behind it what the last cycle kept and why.
+/// What a program's scripts print, each run to its end, and after it what the last cycle kept and why.
 fn explained<P: Pace + Sync, R: Threads + Wait + Sync>(
     rt: &R,
     alloc: Global,

@@ -6,7 +6,7 @@ use mk_check::Text;
 use mk_never::NoMemory;
 use std::alloc::Global;
 
-/// The texts, one behind the other.
+/// The texts, one after the other.
 pub fn joined(alloc: Global, texts: &[Text]) -> Result<Vec<u8>, NoMemory>
     ensures { IfOk result (λ bytes. bytes.items ≡ flat_map (λ text. text.bytes.items) texts.now) }
 {

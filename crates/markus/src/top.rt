@@ -17,7 +17,7 @@ use std::thread::Threads;
 
 /// Does all that the program does. With the word `run`, `check`, `print`, `replay` or `trace` it reads a text from the
 /// source, and writes to the sink what its scripts print, the line `ok`, its canonical text, what its scripts have
-/// printed when the schedule behind it ends, or the peaks of its trace. Behind what the scripts print `run --why` tells
+/// printed when the schedule after it ends, or the peaks of its trace. After what the scripts print `run --why` says
 /// which freed objects are kept, and by which pointers. With `gen START COUNT` it reads nothing, runs the program that
 /// is generated, and sums up. The whole output is made before the first write.
 ///

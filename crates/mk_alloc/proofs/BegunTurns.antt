@@ -1,4 +1,4 @@
--- What the engine does behind each `begin` of a call under the turn.
+-- What the engine does after each `begin` of a call under the turn.
 use Rattle.std.proofs.Common.{◌≡◌, ⊎_elim, List, refl, sym, subst}
 use Rattle.std.specs.Prelude.{Some}
 use Rattle.mk_never.specs.declared.operations.Op.{Op}

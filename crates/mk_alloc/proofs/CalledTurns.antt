@@ -223,7 +223,7 @@ module _ (p taken : PassState) (o : Op) (seat : IsCallers p) (own : Has p.seats 
         (subst (λ (x : PassState). GivesNone x.seat gives.others) done_same
         (others_give done.seat done.seats gives.others own_done gives.of_others))
 
-    -- what the turn has seen behind its `take`
+    -- what the turn has seen after its `take`
     pub within_is : (part : List Event)
         → taken.seen ++ part ≡ (waited.seen ++ taking.others) ++ record
         { seat = p.seat; step = step.Take (Some o) } ∷ part
@@ -244,7 +244,7 @@ module _ (p taken : PassState) (o : Op) (seat : IsCallers p) (own : Has p.seats 
         sym (ap (λ (w : World). phase_of w.now.words) (made waited (step.Take (Some o)) taken taking own_waited h).world
         ∙ ap (λ (x : PassState). phase_of (left x.table.config (waited.seen ++ taking.others)).now.words) waited_same)
 
-    -- the turn behind its last event
+    -- the turn after its last event
     abbrev pub turn_of : TurnOf p.table.config p.seat (done.seen ++ gives.others)
     turn_of =
         record {

@@ -18,8 +18,8 @@ use Rattle.mk_core.specs.declared.seats.OwnCycle.TheVariants.{Ended}
 use Rattle.mk_core.specs.declared.seats.Placing.{Placing}
 use Rattle.mk_core.specs.declared.seats.RunPages.{RunPages}
 use Rattle.mk_core.specs.declared.seats.Stage.TheVariants as stage
-use Rattle.mk_core.specs.Allocations.{PlacedAllocation, fresh_words_of, held_words}
-use Rattle.mk_core.specs.Counts.{ends, fulls, in_a_word, releases}
+use Rattle.mk_core.specs.Allocations.{PlacedAllocation, fresh_words_of, held_by_allocations}
+use Rattle.mk_core.specs.Counts.{ends, full_answers, in_a_word, releases}
 use Rattle.mk_core.specs.Cycles.{is_begin, is_end}
 use Rattle.mk_core.specs.Decided.{Decided, entry_of}
 use Rattle.mk_core.specs.Effects.{answer_decided}
@@ -202,19 +202,20 @@ module _ (p p1 p2 : PassState) (n v : ℕ) (t : InTurn p) (quiet : IsQuiet p) (u
         ap ends seen_q ∙ (let same : ends (es ++ e ∷ []) ≡ ends es = omega arith in same)
         ∙ full.counts.ends ∙ k2.counts.ends ∙ k1.counts.ends
 
-    fulls_q : fulls p.table.config q.seen ≡ fulls p.table.config p.seen + 1
+    fulls_q : full_answers p.table.config q.seen ≡ full_answers p.table.config p.seen + 1
     fulls_q =
         let ds : List Decided = call_decided p2.table.config (left p2.table.config es).now e in
         let last : fulls_of ds ≡ 1 = ap (λ (xs : List Decided). fulls_of xs) decides in
-        let pushed : fulls p2.table.config (es ++ e ∷ []) ≡ fulls p2.table.config es + fulls_of ds =
+        let pushed : full_answers p2.table.config (es ++ e ∷ []) ≡ full_answers p2.table.config es + fulls_of ds =
         ap (λ (xs : List Decided). fulls_of xs) (calls_more p2.table.config (first_world p2.table.config) es e)
         ∙ fulls_append (calls p2.table.config es) ds in
-        let before : fulls p2.table.config es ≡ fulls p2.table.config p2.seen = full.counts.fulls in
-        let two : fulls p2.table.config p2.seen ≡ fulls p.table.config p.seen =
-        ap (λ (c : Config). fulls c p2.seen) (same_config p1 p2 k2.call.pass) ∙ k2.counts.fulls
-        ∙ ap (λ (c : Config). fulls c p1.seen) (same_config p p1 k1.call.pass) ∙ k1.counts.fulls in
-        let whole : fulls p.table.config q.seen ≡ fulls p2.table.config (es ++ e ∷ []) =
-        ap (λ (c : Config). fulls c q.seen) (sym config2) ∙ ap (λ (l : List Event). fulls p2.table.config l) seen_q in
+        let before : full_answers p2.table.config es ≡ full_answers p2.table.config p2.seen = full.counts.fulls in
+        let two : full_answers p2.table.config p2.seen ≡ full_answers p.table.config p.seen =
+        ap (λ (c : Config). full_answers c p2.seen) (same_config p1 p2 k2.call.pass) ∙ k2.counts.fulls
+        ∙ ap (λ (c : Config). full_answers c p1.seen) (same_config p p1 k1.call.pass) ∙ k1.counts.fulls in
+        let whole : full_answers p.table.config q.seen ≡ full_answers p2.table.config (es ++ e ∷ []) =
+        ap (λ (c : Config). full_answers c q.seen) (sym config2)
+        ∙ ap (λ (l : List Event). full_answers p2.table.config l) seen_q in
         omega arith
 
     entry : own_calls p q.seen ≡ own_calls p p.seen ++ entry_of (number_of p) (call_of p).op (Some answer.Full)
@@ -273,8 +274,8 @@ module _ (p p1 p2 : PassState) (n v : ℕ) (t : InTurn p) (quiet : IsQuiet p) (u
           exact = record {
             held =
                 ap (λ (s : Steady). s.held) all_steady ∙ quiet.exact.held
-                ∙ sym (ap (λ (c : Config). held_words c (world_of q).allocations) config_q
-                ∙ ap (λ (xs : List PlacedAllocation). held_words p.table.config xs) allocations_q);
+                ∙ sym (ap (λ (c : Config). held_by_allocations c (world_of q).allocations) config_q
+                ∙ ap (λ (xs : List PlacedAllocation). held_by_allocations p.table.config xs) allocations_q);
             fresh =
                 ap (λ (s : Steady). s.fresh) all_steady ∙ quiet.exact.fresh
                 ∙ sym (ap (λ (c : Config). in_a_word (fresh_words_of c (world_of q).allocations)) config_q
@@ -287,9 +288,9 @@ module _ (p p1 p2 : PassState) (n v : ℕ) (t : InTurn p) (quiet : IsQuiet p) (u
                 ∙ ap in_a_word (sym (ap releases allocations_q));
             full =
                 ap (λ (s : Steady). s.full) steady_q ∙ tally_is
-                ∙ raised_so n v (fulls p.table.config p.seen) (fulls p.table.config q.seen)
+                ∙ raised_so n v (full_answers p.table.config p.seen) (full_answers p.table.config q.seen)
                 (found ∙ quiet.tidy.full) raised fulls_q
-                ∙ ap (λ (c : Config). in_a_word (fulls c q.seen)) (sym config_q);
+                ∙ ap (λ (c : Config). in_a_word (full_answers c q.seen)) (sym config_q);
           };
         }
 

@@ -98,7 +98,7 @@ finishes_held step.Release h = cc
 finishes_held step.End h = cc
 finishes_held _ h = refl
 
--- A cycle's close, release and end stand in a list one behind the other.
+-- A cycle's close, release and end stand in a list one after the other.
 pub record EndsIn (es : List Event) : Type 0 where
   pub to_close : List Event
   pub close : Event

@@ -1,4 +1,4 @@
--- The events of the cycle that a due Free begins, behind one that was on.
+-- The events of the cycle that a due Free begins, after one that was on.
 use Rattle.std.proofs.Common.{◌≡◌, ◌⊎◌, inl, inr, Bool, true, false, List, [], ◌∷◌, ◌++◌, refl, sym, ◌∙◌, ap, subst}
 use Rattle.std.proofs.Common.{append_assoc, arith}
 use Rattle.std.specs.Prelude.{None}
@@ -159,7 +159,7 @@ older_in p q t seat quiet e history = by quiet.phase
           ended = λ here. at_behind is_end e.looks.does.more f.more (end_at f.more f.ends);
         }
 
--- One `begin`, with what stands before it and behind.
+-- One `begin`, with what stands before it and after.
 pub record RunIn (on : Bool) (p q : PassState) : Type 0 where
   pub goes : GoesOn None p q
   pub first : List Event

@@ -25,7 +25,7 @@ stay_exact_where_held on p o q own held exact =
     (none_more on p.table.config p.seat p.seen (m.others ++ event_of p (step.Enter o) ∷ [])
     (one_gives p (step.Enter o) q m own refl) exact))
 
--- behind more that a pass has seen, in which its seat gave nothing back
+-- after more that a pass has seen, in which its seat gave nothing back
 goes_on : (on : Bool) (p q : PassState) (more : List Event) → q ≡ record p { seen = p.seen ++ more }
     → GivesNone p.seat more
     → OwnAreExact on p → OwnAreExact on q

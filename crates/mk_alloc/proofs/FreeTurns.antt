@@ -1,4 +1,4 @@
--- What the turn of a Free does with cycles, by the events behind its `take`.
+-- What the turn of a Free does with cycles, by the events after its `take`.
 use Rattle.std.proofs.Common.{◌≡◌, Bool, true, false, List, [], ◌∷◌, ◌++◌, refl, sym, ◌∙◌, ap, subst}
 use Rattle.std.proofs.lemmas.Bool.{or_from, or_parts}
 use Rattle.mk_core.specs.declared.config.Config.{Config}

@@ -228,7 +228,7 @@ waits_own p w (e ∷ es) has all =
       waits_own p (world_behind p.table.config w e) es has parts.1,
     )
 
--- one behind what was seen
+-- one after what was seen
 last_own : (c : Config) (s : Seat) (es xs : List Event) (e : Event) → OwnLeaveFrom c s (left c es) xs
     → LeavesAllButReleased c (left c (es ++ xs)) (world_behind c (left c (es ++ xs)) e)
     → OwnLeaveFrom c s (left c es) (xs ++ e ∷ [])

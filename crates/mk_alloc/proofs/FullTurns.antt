@@ -33,7 +33,7 @@ use Rattle.mk_core.specs.History.{IsAdmittedBehind, IsHistory, calls, first_worl
 use Rattle.mk_core.specs.Moments.{Moment, flight_of}
 use Rattle.mk_core.specs.NewPlaces.{is_new_at, is_undecided_new, object_made, place_on_pages}
 use Rattle.mk_core.specs.Order.{comes_next}
-use Rattle.mk_core.specs.TurnConditions.{is_full}
+use Rattle.mk_core.specs.TurnConditions.{may_answer_full}
 use Rattle.mk_core.specs.Words.{phase_of}
 use Rattle.mk_core.proofs.Conditions.{meets_enabled}
 use Rattle.mk_core.proofs.Histories.{calls_more}
@@ -77,8 +77,8 @@ full_for c m k lt new idle placing ended none =
       phase = eq-eqb (phase_of m.words) 0 idle;
       marker = refl;
       holder =
-          ap (λ (x : Placing). is_full c.resident m.words.pages o x m.seats.holding.cycle) placing
-          ∙ ap (λ (x : OwnCycle). is_full c.resident m.words.pages o Unplaced x) ended
+          ap (λ (x : Placing). may_answer_full c.resident m.words.pages o x m.seats.holding.cycle) placing
+          ∙ ap (λ (x : OwnCycle). may_answer_full c.resident m.words.pages o Unplaced x) ended
           ∙ ap (λ (x : Option Place). is_none x) none;
     })
 

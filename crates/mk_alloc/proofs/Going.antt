@@ -82,7 +82,7 @@ pub finished_on : (p q : PassState) → InTurn p → IsCallers p → IsQuiet p �
 finished_on p q t seat quiet f history =
     undecided_part p q t seat quiet (quiet_finished p q quiet f) (finish_does p q t.own f) history f.call
 
--- one part behind the other
+-- one part after the other
 
 pub nothing_on : (p : PassState) → IsQuiet p → GoesOn None p p
 nothing_on p quiet =
@@ -113,7 +113,7 @@ on_then a p q r x y =
       undecided = λ none. y.undecided none ∙ x.undecided refl;
     }
 
--- or nothing behind
+-- or nothing after
 pub then_on : (a : Answer) (p q r : PassState) → GoesOn (Some a) p q → GoesOn None q r → GoesOn (Some a) p r
 then_on a p q r x y =
     let d : Does turn_stays p q = x.does in

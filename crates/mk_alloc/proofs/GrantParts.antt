@@ -1,4 +1,4 @@
--- Parts of a New's turn: what was granted in them, and what is let go behind that.
+-- Parts of a New's turn: what was granted in them, and what is let go after that.
 use Rattle.std.proofs.Common.{◌≡◌, ⊎_elim, List, [], ◌∷◌, ◌++◌, refl, sym, ◌∙◌, ap, subst, append_assoc}
 use Rattle.mk_core.specs.declared.events.Event.{Event}
 use Rattle.mk_core.specs.declared.events.Step.TheVariants as step
@@ -39,7 +39,7 @@ places_let_none_go _ h = refl
 
 -- lists
 
--- Behind each grant nothing is let go.
+-- After each grant nothing is let go.
 abbrev pub LastIn : List Event → Type 0
 LastIn es = (g : At is_grant es) → Lacks lets_go g.behind
 
@@ -51,7 +51,7 @@ last_of_calm es calm g =
     behind_lacks g.event g.behind
     (lacks_second lets_go g.before (g.event ∷ g.behind) (ap (λ (l : List Event). has_step lets_go l) (sym g.is) ∙ calm))
 
--- what stands behind an event of the first part
+-- what stands after an event of the first part
 pub first_behind : (xs ys before : List Event) (e : Event) (behind rest : List Event) → xs ++ ys ≡ before ++ e ∷ behind
     → xs ≡ before ++ e ∷ rest → behind ≡ rest ++ ys
 first_behind xs ys before e behind rest is first =
@@ -68,7 +68,7 @@ last_then xs ys none last g =
     last (record { before = x.rest; event = g.event; behind = g.behind; is = x.is; of_kind = g.of_kind }))
     (stands xs ys g.before g.event g.behind g.is)
 
--- Behind the last part none is granted, and nothing is let go.
+-- After the last part none is granted, and nothing is let go.
 pub last_before : (xs ys : List Event) → LastIn xs → Lacks is_grant ys → Lacks lets_go ys → (g : At is_grant (xs ++ ys))
     → Lacks lets_go g.behind
 last_before xs ys last none calm g =

@@ -57,7 +57,7 @@ use Rattle.mk_alloc.proofs.RetiredTurns.{same_rest}
 use Rattle.mk_alloc.proofs.RoomParts.{rooms_held}
 use Rattle.mk_alloc.proofs.SeekingTurns.{seeks_then}
 
--- Directly behind its `take` the turn of a New is quiet, and its object has no place yet.
+-- Directly after its `take` the turn of a New is quiet, and its object has no place yet.
 
 pub begun_quiet : (p : PassState) (d ty : ℕ) (full : Bool) → BeginsTurn (op.New d ty full) p → IsQuiet p
 begun_quiet p d ty full b =

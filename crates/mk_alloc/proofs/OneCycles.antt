@@ -92,7 +92,7 @@ nowhere_begins_none p q t f history = begins_none_by is_look p q look_stays look
 pub look_begins_none : (p q : PassState) → InTurn p → Looks p q → IsHistory q.table.config q.seen → BeginsNone p q
 look_begins_none p q t k history = begins_none_by is_look p q look_stays look_no_begin t k.does history
 
--- one behind the other
+-- one after the other
 
 pub none_then_none : (p q r : PassState) → BeginsNone p q → BeginsNone q r → BeginsNone p r
 none_then_none p q r x y =

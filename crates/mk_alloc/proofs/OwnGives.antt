@@ -1,4 +1,4 @@
--- Lists in which a seat gives no turn back: its turns stay exact behind them.
+-- Lists in which a seat gives no turn back: its turns stay exact after them.
 use Rattle.std.proofs.Common.{◌≡◌, ⊎_elim, Bool, true, false, List, [], ◌∷◌, ◌++◌, map, refl, sym, ◌∙◌, ap, subst}
 use Rattle.std.proofs.Common.{append-nil}
 use Rattle.std.specs.Prelude.{◌&&◌, ◌||◌, not, if◌then◌else◌}
@@ -119,7 +119,7 @@ waits_give p (e ∷ es) has all =
 pub waiting_gives : (p q : PassState) (w : Waits p q) → Has p.seats p.seat → GivesNone p.seat w.more
 waiting_gives p q w has = waits_give p w.more has w.only
 
--- what its own steps tell
+-- what its own steps say
 
 own_finds : (c : Config) (s : Seat) (w : World) (es : List Event)
     → list_any (λ (x : Finding). is_give x.event.step) (own_from c s w es) ≡ list_any (own_give s) es

@@ -1,4 +1,4 @@
--- Parts of a turn, one behind the other: each pass knows whose turn it is, and what its part lacks.
+-- Parts of a turn, one after the other: each pass knows whose turn it is, and what its part lacks.
 use Rattle.std.proofs.Common.{◌≡◌, true, List, [], ◌∷◌, ◌++◌, sym, ◌∙◌, ap, subst, append_assoc}
 use Rattle.mk_core.specs.declared.events.Event.{Event}
 use Rattle.mk_core.specs.declared.events.Step.{Step}
@@ -16,7 +16,7 @@ use Rattle.mk_alloc.proofs.StepKinds.{AreApart, IsHolders, lacks}
 use Rattle.mk_alloc.proofs.Stretches.{AreOfTurn, SomeKinds, Stretch, does_stretch, holds_behind, no_kinds}
 use Rattle.mk_alloc.proofs.Stretches.{others_stretch}
 
--- what a pass has seen behind parts
+-- what a pass has seen after parts
 
 pub seen_behind : (kinds : SomeKinds) (p q : PassState) (d : Does kinds p q) → q.seen ≡ p.seen ++ d.more
 seen_behind kinds p q d = ap (λ (x : PassState). x.seen) d.is
@@ -27,7 +27,7 @@ seen_made p q s m = ap (λ (x : PassState). x.seen) m.is ∙ append_assoc p.seen
 pub seen_then : (es fs gs xs ys : List Event) → fs ≡ es ++ xs → gs ≡ fs ++ ys → gs ≡ es ++ (xs ++ ys)
 seen_then es fs gs xs ys a b = b ∙ ap (λ (l : List Event). l ++ ys) a ∙ append_assoc es xs ys
 
--- One step is done behind events of others.
+-- One step is done after events of others.
 pub made_as : (kinds : SomeKinds) (p q : PassState) (s : Step) → Has p.seats p.seat → Makes p s q → kinds s ≡ true
     → Does kinds p q
 made_as kinds p q s own m allowed = does_step kinds p q s own m allowed
@@ -43,7 +43,7 @@ history_before kinds p q d history =
 pub has_then : (kinds : SomeKinds) (p q : PassState) → Does kinds p q → Has p.seats p.seat → Has q.seats q.seat
 has_then kinds p q d own = subst (λ (x : PassState). Has x.seats x.seat) (sym d.is) own
 
--- and what it knows behind
+-- and what it knows after
 pub in_turn_then : (kinds : SomeKinds) (p q : PassState) → AreOfTurn kinds → InTurn p → Does kinds p q
     → IsHistory q.table.config q.seen → InTurn q
 in_turn_then kinds p q stays t d history =

@@ -14,7 +14,7 @@ use Rattle.mk_core.specs.declared.seats.RunPages.{RunPages}
 use Rattle.mk_core.specs.declared.seats.Stage.{Stage}
 use Rattle.mk_core.specs.declared.seats.Stage.TheVariants as stage
 use Rattle.mk_core.specs.Allocations.{PlacedAllocation, fresh_words_of}
-use Rattle.mk_core.specs.Counts.{fulls, in_a_word, releases}
+use Rattle.mk_core.specs.Counts.{full_answers, in_a_word, releases}
 use Rattle.mk_core.specs.Frames.{CountsAreLeft, Steady, steady_of}
 use Rattle.mk_core.specs.History.{IsHistory, World, left}
 use Rattle.mk_core.specs.Moments.{is_held}
@@ -193,7 +193,7 @@ module _ (p q : PassState) (t : InTurn p) (u : IsUnplaced p) (quiet : IsQuiet p)
           released = ap (λ (s : Steady). s.released) steady ∙ quiet.tidy.released ∙ ap in_a_word (sym releases_same);
           full =
               ap (λ (s : Steady). s.full) steady ∙ quiet.tidy.full ∙ ap in_a_word (sym counts.fulls)
-              ∙ ap (λ (c : Config). in_a_word (fulls c q.seen)) (sym (same_config p q placed.granted.same));
+              ∙ ap (λ (c : Config). in_a_word (full_answers c q.seen)) (sym (same_config p q placed.granted.same));
         };
       }
 

@@ -15,7 +15,7 @@ use Rattle.mk_core.specs.declared.seats.Holding.{Holding}
 use Rattle.mk_core.specs.declared.seats.Progress.{Progress}
 use Rattle.mk_core.specs.Accesses.{caller_number, found}
 use Rattle.mk_core.specs.Calls.{still}
-use Rattle.mk_core.specs.Counts.{ends, fulls}
+use Rattle.mk_core.specs.Counts.{ends, full_answers}
 use Rattle.mk_core.specs.Cycles.{is_end}
 use Rattle.mk_core.specs.Decided.{Decided}
 use Rattle.mk_core.specs.declared.events.Answer.TheVariants as answer
@@ -102,12 +102,12 @@ counts_on c es e no_end no_full =
           let pushed : ends (es ++ e ∷ []) ≡ ends es + cond {A = ℕ} (is_end e.step) 1 0 =
           sum_by_push (λ (x : Event). cond {A = ℕ} (is_end x.step) 1 0) es e in
           omega arith;
-      fulls =
+      full_answers =
           let m : Moment = (left c es).now in
           let ds : List Decided = call_decided c m e in
           let last : fulls_of ds ≡ 0 =
           entry_fulls (caller_number e.seat) (flight_of m e.seat).op (answer_decided c m e) no_full in
-          let pushed : fulls c (es ++ e ∷ []) ≡ fulls c es + fulls_of ds =
+          let pushed : full_answers c (es ++ e ∷ []) ≡ full_answers c es + fulls_of ds =
           ap (λ (xs : List Decided). fulls_of xs) (calls_more c (first_world c) es e) ∙ fulls_append (calls c es) ds in
           omega arith;
     }

@@ -7,13 +7,13 @@ use Rattle.mk_core.specs.declared.events.Step.TheVariants as step
 use Rattle.mk_core.specs.declared.events.Word.TheVariants as word
 use Rattle.mk_core.specs.declared.seats.Stage.{Stage}
 use Rattle.mk_core.specs.declared.seats.Stage.TheVariants as stage
-use Rattle.mk_core.specs.Allocations.{PlacedAllocation, fresh_words_of, held_words}
-use Rattle.mk_core.specs.Counts.{TalliesAreExact, TalliesAreTidy, fulls, in_a_word, releases}
+use Rattle.mk_core.specs.Allocations.{PlacedAllocation, fresh_words_of, held_by_allocations}
+use Rattle.mk_core.specs.Counts.{TalliesAreExact, TalliesAreTidy, full_answers, in_a_word, releases}
 use Rattle.mk_core.specs.Frames.{CountsAreLeft, Steady, steady_of}
 use Rattle.mk_core.specs.History.{IsHistory}
 use Rattle.mk_core.specs.Moments.{Moment, is_held, none_is_held}
 use Rattle.mk_core.specs.NewPlaces.{is_run_gone}
-use Rattle.mk_core.specs.TurnConditions.{is_decided, words_held}
+use Rattle.mk_core.specs.TurnConditions.{is_decided, held_by_pages}
 use Rattle.mk_core.specs.Words.{phase_of}
 use Rattle.mk_core.proofs.AllBelow.{all_below-at}
 use Rattle.mk_layout.specs.SettledPages.{IsSettled}
@@ -63,8 +63,8 @@ exact_kept p q is steady x =
     record {
       held =
           ap (λ (s : Steady). s.held) steady ∙ x.held
-          ∙ sym (ap (λ (d : Config). held_words d xs) same
-          ∙ ap (λ (ys : List PlacedAllocation). held_words c ys) allocations);
+          ∙ sym (ap (λ (d : Config). held_by_allocations d xs) same
+          ∙ ap (λ (ys : List PlacedAllocation). held_by_allocations c ys) allocations);
       fresh =
           ap (λ (s : Steady). s.fresh) steady ∙ x.fresh
           ∙ sym (ap (λ (d : Config). in_a_word (fresh_words_of d xs)) same
@@ -82,7 +82,7 @@ tidy_kept p q is steady counts x =
           ∙ ap in_a_word (sym (ap (λ (s : Steady). releases s.allocations) steady));
       full =
           ap (λ (s : Steady). s.full) steady ∙ x.full ∙ ap in_a_word (sym counts.fulls)
-          ∙ ap (λ (d : Config). in_a_word (fulls d q.seen)) (sym (same_config p q is));
+          ∙ ap (λ (d : Config). in_a_word (full_answers d q.seen)) (sym (same_config p q is));
     }
 
 -- No gate is held where none was, by the same holder.
@@ -164,11 +164,11 @@ give_allowed p t quiet decided =
     may_act p step.Give (protocol p t quiet.free) t.holds quiet.free.decided refl refl quiet.gates
     (give_phase (phase_of m.words) quiet.phase)
     (and_from (is_decided (call_of p).stage && is_run_gone m.words m.seats.holding.freed &&
-    (m.words.held == words_held m.words))
+    (m.words.held == held_by_pages m.words))
     (m.words.fresh == m.fresh_words)
     (and_from (is_decided (call_of p).stage && is_run_gone m.words m.seats.holding.freed)
-    (m.words.held == words_held m.words)
+    (m.words.held == held_by_pages m.words)
     (and_from (is_decided (call_of p).stage) (is_run_gone m.words m.seats.holding.freed)
     (ap (λ (s : Stage). is_decided s) decided) quiet.free.gone)
-    (eq-eqb m.words.held (words_held m.words) told.0))
+    (eq-eqb m.words.held (held_by_pages m.words) told.0))
     (eq-eqb m.words.fresh m.fresh_words told.1))

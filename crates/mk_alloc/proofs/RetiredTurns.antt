@@ -94,7 +94,7 @@ module _ (taken : PassState) (r : ℕ) (fresh : IsFresh taken (Some (op.Free r))
         undecided = λ none. cc;
       }
 
--- Behind a Free that is decided a cycle runs, if it is due.
+-- After a Free that is decided a cycle runs, if it is due.
 pub run_or_rest : (flag due : Bool) (a : Answer) (taken p q : PassState) → GoesOn (Some a) taken p → InTurn p
     → IsCallers p
     → RunsIfDue flag due p q → IsHistory q.table.config q.seen → GoesOn (Some a) taken q
@@ -123,7 +123,7 @@ module _ (p taken decided done q : PassState) (r : ℕ) (a : Answer) (seat : IsC
   abbrev pub turn : TurnOf p.table.config p.seat (done.seen ++ gives.others)
   turn = turn_of p taken (op.Free r) seat own takes done q a fresh on gives rests history
 
-  -- what the turn did, by what was done up to the decision and behind it
+  -- what the turn did, by what was done up to the decision and after it
   behind_is : (xs ys : List Event) → decided.seen ≡ taken.seen ++ xs → done.seen ≡ decided.seen ++ ys
       → turn.behind ≡ (xs ++ ys) ++ gives.others
   behind_is xs ys first second =
@@ -195,7 +195,7 @@ module _ (p taken decided done q : PassState) (r : ℕ) (a : Answer) (seat : IsC
     lacks_by_others : Lacks is_quar gives.others
     lacks_by_others = others_lack is_quar done q step.Give quars_held t_done gives history
 
-    -- and only there, where nothing is done behind the decision.
+    -- and only there, where nothing is done after the decision.
     pub due_since : done ≡ decided → IsDueIn turn → IsDueSince taken decided
     due_since same due =
         let rest : done.seen ≡ decided.seen ++ [] =

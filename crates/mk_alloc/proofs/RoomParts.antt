@@ -12,7 +12,7 @@ use Rattle.mk_core.specs.declared.events.Step.TheVariants as step
 use Rattle.mk_core.specs.declared.seats.Object.{Object}
 use Rattle.mk_core.specs.Cycles.{is_begin}
 use Rattle.mk_core.specs.History.{IsHistory}
-use Rattle.mk_core.specs.Placement.{place_for}
+use Rattle.mk_core.specs.Placement.{place_after}
 use Rattle.mk_words.specs.States.{PassState, call_of, event_of}
 use Rattle.mk_turns.specs.Doing.{Does}
 use Rattle.mk_turns.proofs.Doing.{does_then, does_step}
@@ -52,11 +52,11 @@ fits_none : (x : Option Place) → (IsSome x → ⊥) → x ≡ None
 fits_none None h = refl
 fits_none (Some p) h = absurd (h refl)
 
-pub no_place : (c : Config) (es : List Event) (o : Object) → place_for c es o ≡ None → HasNoPlace c o es
-no_place c es o none fits = none_fits (place_for c es o) none fits
+pub no_place : (c : Config) (es : List Event) (o : Object) → place_after c es o ≡ None → HasNoPlace c o es
+no_place c es o none fits = none_fits (place_after c es o) none fits
 
-pub nowhere_then : (c : Config) (es : List Event) (o : Object) → HasNoPlace c o es → place_for c es o ≡ None
-nowhere_then c es o none = fits_none (place_for c es o) none
+pub nowhere_then : (c : Config) (es : List Event) (o : Object) → HasNoPlace c o es → place_after c es o ≡ None
+nowhere_then c es o none = fits_none (place_after c es o) none
 
 -- Where all that was seen since asks for no room, or the object has no place at each of it.
 
@@ -102,7 +102,7 @@ module _ (o : Object) (p q : PassState) (t : InTurn p) (seat : IsCallers p) (fre
       subst (λ (l : List Event). HasNoPlace p.table.config o l) (sym (seen_behind kinds p q d))
       (none_there d.more [] (sym (append-nil d.more)))
 
--- So it is up to the `close` of a cycle, and behind a `begin`.
+-- So it is up to the `close` of a cycle, and after a `begin`.
 
 clears_none : (x : Step) → clears x ≡ true → releases_none x ≡ true
 clears_none step.Release h = cc

@@ -1,4 +1,4 @@
--- A New seeks room: the parts of its turn one behind the other.
+-- A New seeks room: the parts of its turn one after the other.
 use Rattle.std.proofs.Common.{◌≡◌, inl, inr, false, List, refl, ◌∙◌, ap, subst}
 use Rattle.std.specs.Prelude.{Option, Some, None, ◌==◌}
 use Rattle.std.proofs.lemmas.Bool.{eqb-false}
@@ -13,7 +13,7 @@ use Rattle.mk_core.specs.Allocations.{PlacedAllocation, place_among_allocations}
 use Rattle.mk_core.specs.Frames.{Steady}
 use Rattle.mk_core.specs.History.{IsHistory}
 use Rattle.mk_core.specs.NewPlaces.{is_undecided_new, object_made}
-use Rattle.mk_core.specs.Placement.{place_for}
+use Rattle.mk_core.specs.Placement.{place_after}
 use Rattle.mk_core.specs.Words.{phase_of}
 use Rattle.mk_words.specs.States.{PassState, call_of, now_of, world_of}
 use Rattle.mk_words.specs.TurnSteps.{turn_stays}
@@ -59,7 +59,7 @@ same_object a p q on =
     ap (λ (x : PassState). object_made x.table.config (call_of q).op) on.does.is
     ∙ ap (λ (o : Op). object_made p.table.config o) on.op
 
--- one part behind another that decided nothing
+-- one part after another that decided nothing
 pub seeks_then : (a : Option Answer) (p q r : PassState) → Seeks None p q → Seeks a q r → Seeks a p r
 seeks_then a p q r x y =
     record {
@@ -191,19 +191,19 @@ unplaced_finished p q u f =
       phase = inl f.phase;
     }
 
--- Behind the begin of a cycle it has no place either.
+-- After the begin of a cycle it has no place either.
 pub nowhere_begun : (p q : PassState) → InTurn p → IsUnplaced p → IsQuiet p → place_now_for p ≡ None → BeginsCycle p q
     → IsHistory q.table.config q.seen → place_now_for q ≡ None
 nowhere_begun p q t u quiet none b history =
-    ap (λ (c : Config). place_for c q.seen (object_for q)) (ap (λ (x : PassState). x.table.config) b.pass)
-    ∙ ap (λ (o : Object). place_for p.table.config q.seen o)
+    ap (λ (c : Config). place_after c q.seen (object_for q)) (ap (λ (x : PassState). x.table.config) b.pass)
+    ∙ ap (λ (o : Object). place_after p.table.config q.seen o)
     (ap (λ (x : PassState). object_made x.table.config (call_of q).op) b.pass
     ∙ ap (λ (f : Flight). object_made p.table.config f.op) b.call)
     ∙ nowhere_then p.table.config q.seen (object_for p)
     (begin_none (object_for p) p q t (new_callers p u) quiet.free.decided history
     (no_place p.table.config p.seen (object_for p) none) b)
 
--- A try behind one part
+-- A try after one part
 pub misfits_then : (p q r : PassState) → Seeks None p q → Misfits q r → Misfits p r
 misfits_then p q r x m = record { seeks = seeks_then None p q r x m.seeks; unplaced = m.unplaced; nowhere = m.nowhere }
 
@@ -215,7 +215,7 @@ idle_looked p q l n at = ap (λ (s : Steady). s.phase) (looks_left p q l).steady
 pub cycle_looked : (p q : PassState) → OnlyLooks p q → (now_of q).seats.holding.cycle ≡ (now_of p).seats.holding.cycle
 cycle_looked p q l = ap (λ (h : Holding). h.cycle) (looks_left p q l).holding
 
--- behind the end of a cycle
+-- after the end of a cycle
 pub misfits_finished : (p q r : PassState) → InTurn p → IsUnplaced p → IsQuiet p → place_now_for p ≡ None
     → FinishesCycle p q
     → IsHistory q.table.config q.seen → Misfits q r → OnlyLooks q r → MisfitsIdly p r

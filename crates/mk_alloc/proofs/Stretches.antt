@@ -45,7 +45,7 @@ SomeKinds = Step → Bool
 abbrev pub AreOfTurn : SomeKinds → Type 0
 AreOfTurn kinds = (x : Step) → kinds x ≡ true → turn_stays x ≡ true
 
--- Behind the first list, where the pass's seat holds the turn, come these events: its own are of these kinds.
+-- After the first list, where the pass's seat holds the turn, come these events: its own are of these kinds.
 pub record Stretch (p : PassState) (kinds : SomeKinds) (es more : List Event) : Type 0 where
   pub history : IsHistory p.table.config (es ++ more)
   pub holds : Holds p.table.config (left p.table.config es).now p.seat
@@ -105,7 +105,7 @@ holds_other p es e h ne =
     subst (λ (w : World). Holds p.table.config w.now p.seat) (sym h.behind)
     ((left_after p.table.config (left p.table.config es) e.seat p.seat e.step h.known h.meets ne).own.holding h.holds).0
 
--- the first event, and the stretch behind it
+-- the first event, and the stretch after it
 pub record First (p : PassState) (kinds : SomeKinds) (es : List Event) (e : Event) (rest : List Event) : Type 0 where
   pub at : Here p es e
   pub who : IsOwn p kinds e ⊎ (e.seat ≢ p.seat)
@@ -156,7 +156,7 @@ first_of p kinds es e rest stays own s = by (is_same_seat p.seat e.seat) refl s.
         true≢false (sym (subst (λ (t : Seat). is_same_seat p.seat t ≡ true) (sym same) (same_self p.seat)) ∙ is) in
         record { at = at; who = inr ne; on = on all (holds_other p es e at ne) }
 
--- What each event keeps: of the events so far behind the first list.
+-- What each event keeps: of the events so far after the first list.
 pub record Keeps (p : PassState) (kinds : SomeKinds) (es : List Event) (R : List Event → Type 0) : Type 0 where
   pub own : (done : List Event) (x : Step) → Here p (es ++ done) (event_of p x) → kinds x ≡ true → R done
       → R (done ++ event_of p x ∷ [])
@@ -184,7 +184,7 @@ module _ (p : PassState) (kinds : SomeKinds) (stays : AreOfTurn kinds) (own : Ha
     pub along : (more : List Event) → Stretch p kinds es more → R [] → R more
     along more s r = along_from [] more (subst (λ (l : List Event). Stretch p kinds l more) (sym (append-nil es)) s) r
 
-  -- the turn is held behind it
+  -- the turn is held after it
   pub holds_behind : (es more : List Event) → Stretch p kinds es more
       → Holds p.table.config (left p.table.config (es ++ more)).now p.seat
   holds_behind es [] s = subst (λ (l : List Event). Holds p.table.config (left p.table.config l).now p.seat)

@@ -30,7 +30,7 @@ AsksRoom o p q =
 abbrev pub GrantsNone : PassState → PassState → Type 0
 GrantsNone p q = (more : List Event) → q.seen ≡ p.seen ++ more → has_step is_grant more ≡ false
 
--- Behind each grant that was seen since nothing lets storage go.
+-- After each grant that was seen since nothing lets storage go.
 abbrev pub GrantsLast : PassState → PassState → Type 0
 GrantsLast p q =
     (more : List Event) → q.seen ≡ p.seen ++ more → (g : At is_grant more) → has_step lets_go g.behind ≡ false

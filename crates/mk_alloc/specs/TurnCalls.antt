@@ -9,7 +9,7 @@ use Rattle.mk_core.specs.declared.events.Step.TheVariants as step
 use Rattle.mk_core.specs.Allocations.{census_of_allocations}
 use Rattle.mk_core.specs.Calls.{at_rest}
 use Rattle.mk_core.specs.Decided.{entry_of, flagged}
-use Rattle.mk_core.specs.Placement.{IsFull}
+use Rattle.mk_core.specs.Placement.{FindsNoPlace}
 use Rattle.mk_geom.specs.declared.pages.Census.{Census}
 use Rattle.mk_words.specs.States.{PassState, world_of, call_of, event_of}
 use Rattle.mk_words.specs.Steps.{Makes}
@@ -47,7 +47,7 @@ pub record IsAnsweredFull (on : Bool) (p : PassState) (o : Op) (census : Census)
   pub before : List Event
   pub behind : List Event
   pub is : q.seen ≡ before ++ event_of p step.Full ∷ behind
-  pub full : IsFull p.table.config before p.seat
+  pub full : FindsNoPlace p.table.config before p.seat
   pub counts : census ≡ census_of_allocations p.table.config (world_of q).allocations
   pub leaves : OwnLeaveAllButReleased p q
 

@@ -70,7 +70,7 @@ pub record FreesFirst {c : Config} {s : Seat} {es : List Event} (t : TurnOf c s 
 abbrev pub RunsOneCycle : List Event → Type 0
 RunsOneCycle es = (b : At is_begin es) → (has_step is_begin b.behind ≡ false) × At is_end b.behind
 
--- A Free begins a cycle exactly where it is due, behind the event that frees, and else does nothing with cycles. An
+-- A Free begins a cycle exactly where it is due, after the event that frees, and else does nothing with cycles. An
 -- engine that keeps on leaves that cycle on, and has ended the one that was on before; one that doesn't ends it in the
 -- call, and begins no other.
 pub record FreeIsExact (on : Bool) {c : Config} {s : Seat} {es : List Event} (t : TurnOf c s es) : Type 0 where
@@ -82,11 +82,11 @@ pub record FreeIsExact (on : Bool) {c : Config} {s : Seat} {es : List Event} (t 
   pub goes_on : on ≡ true → (b : BeginsIn t) → has_step finishes b.behind ≡ false
   pub older : on ≡ true → CycleIsOn t → (b : BeginsIn t) → At is_end b.before
 
--- The object has no place behind this list.
+-- The object has no place after this list.
 abbrev pub HasNoPlace : Config → Object → List Event → Type 0
 HasNoPlace c o es = FitsAmongAllocations c o.words o.leaf (left c es).allocations → ⊥
 
--- A New begins a cycle, and ends one, only where its object has no place. It begins one at most, and ends it. Behind
+-- A New begins a cycle, and ends one, only where its object has no place. It begins one at most, and ends it. After
 -- the grant of its object it lets nothing go.
 pub record NewIsExact {c : Config} {s : Seat} {es : List Event} (t : TurnOf c s es) (o : Object) : Type 0 where
   pub begins : (b : BeginsIn t) → HasNoPlace c o (within_turn t b.before)
@@ -99,7 +99,7 @@ CallIsExact on {c = c} t (Some (op.New d ty full)) = NewIsExact t (object_made c
 CallIsExact on t (Some (op.Free p)) = FreeIsExact on t
 CallIsExact on t _ = ⊤
 
--- Behind the list the seat is in a turn, which has done with cycles what its operation asks.
+-- After the list the seat is in a turn, which has done with cycles what its operation asks.
 pub record EndsExactly (on : Bool) (c : Config) (s : Seat) (es : List Event) : Type 0 where
   pub turn : TurnOf c s es
   pub exact : CallIsExact on turn turn.op

@@ -23,7 +23,7 @@ pub record IsQuiet (p : PassState) : Type 0 where
   pub exact : TalliesAreExact p.table.config p.seen
   pub tidy : TalliesAreTidy p.table.config p.seen
 
--- Directly behind its `take` for this operation.
+-- Directly after its `take` for this operation.
 pub record BeginsTurn (o : Op) (p : PassState) : Type 0 where
   pub fresh : IsFresh p (Some o)
   pub phase : IsOutOfStop (now_of p)

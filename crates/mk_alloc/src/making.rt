@@ -25,7 +25,7 @@ pub struct Full {
 }
 
 /// Sets a register to a new object of a type, whose words are 0. Where nothing fits, a cycle that is on is finished,
-/// and then one more is begun and finished, before the answer is `Full`. Directly behind a `begin` the engine does its
+/// and then one more is begun and finished, before the answer is `Full`. Directly after a `begin` the engine does its
 /// part.
 pub fn new_object<E: Engine, R: Threads + Wait + Sync>(
     rt: &R,

@@ -74,7 +74,7 @@ fn finish_and_place<E: Engine, R: Threads + Wait + Sync>(
     (turn, placed)
 }
 
-/// Grants the object, which fits nowhere, where it fits behind the cycle that is on.
+/// Grants the object, which fits nowhere, where it fits after the cycle that is on.
 fn place_behind_older<E: Engine, R: Threads + Wait + Sync>(
     rt: &R,
     words: &Words,

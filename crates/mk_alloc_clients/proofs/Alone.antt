@@ -44,7 +44,7 @@ target_leads n (Ptr a ty offset) i number place reaches =
     if_by (λ t. t ≡ WordOf number place → a ≡ number) (is_unmapped (allocation_at n a)) Unmapped (WordOf a (offset + i))
     (λ e reached. absurd (cc)) (λ e reached. cc) reaches
 
--- Behind an operation only the caller knows of the allocation, and that is as it was.
+-- After an operation only the caller knows of the allocation, and that is as it was.
 pub record StaysAlone (n : NeverState) (k number : ℕ) (m : NeverState) : Type 0 where
   pub alone : IsKnownToAlone m k number
   pub same : allocation_at m number ≡ allocation_at n number

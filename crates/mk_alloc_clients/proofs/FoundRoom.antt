@@ -1,4 +1,4 @@
--- The place of a number, from what a look round tells, and what comes of it.
+-- The place of a number, from what a look round says, and what comes of it.
 use Rattle.std.proofs.Common.{◌≡◌, sym, ◌∙◌, ap, arith}
 use Rattle.std.specs.Prelude.{Option, Some, None}
 use Rattle.mk_never.specs.declared.operations.Op.{Op}

@@ -1,4 +1,4 @@
--- A turn that puts a number on the only page: what its looks tell, and that its call is that of a New.
+-- A turn that puts a number on the only page: what its looks say, and that its call is that of a New.
 use Rattle.std.proofs.Common.{◌≡◌, ℕ, ◌<◌, ◌≤◌, true, false, List, [], ◌∷◌, length}
 use Rattle.std.proofs.Common.{append-nil, refl, sym, ◌∙◌, ap, inl, inr, arith}
 use Rattle.std.specs.Prelude.{nat_lt, Option, Some, slice_index_or}

@@ -62,7 +62,7 @@ only_one a [] [] e h = (refl, refl)
 only_one a [] (b ∷ y) e h = let lengths = ap length h in absurd (grind (arith, length-append, lengths))
 only_one a (b ∷ z) y e h = let lengths = ap length h in absurd (grind (arith, length-append, lengths))
 
--- A call of the pass's caller: what comes before the event that decides it, and behind it, is of others.
+-- A call of the pass's caller: what comes before the event that decides it, and after it, is of others.
 module _ (p : PassState) (o : Op) (a : Answer) (more : List Event) (once : flagged o a ≡ o)
     (history : IsHistory p.table.config (p.seen ++ more))
     (entry : own_calls p (p.seen ++ more)
@@ -143,7 +143,7 @@ module _ (p : PassState) (o : Op) (a : Answer) (more : List Event) (once : flagg
     pub kept_before : OwnsNumber p d → KeepsNumber (never_of p) k d (never_behind c before)
     kept_before owns = kept c p.seen decided.before k d before_history none.0 owns
 
-    -- and behind it.
+    -- and after it.
     kept_later : OwnsNumberIn (never_behind c through) k d
         → KeepsNumber (never_behind c through) k d (never_behind c (through ++ decided.behind))
     kept_later owns = kept c through decided.behind k d whole none.1 owns
@@ -290,12 +290,12 @@ owned_numbers_stay p more d h others owns =
     let keeps = kept c p.seen more (number_of p) d h none owns in
     record { owns = keeps.owns; is = keeps.same }
 
--- One entry more, told of the pass as it is now
+-- One entry more, said of the pass as it is now
 pub entry_now : (p q : PassState) (more : List Event) (x : Decided) → q ≡ record p { seen = p.seen ++ more }
     → own_calls p (p.seen ++ more) ≡ own_calls p p.seen ++ x ∷ [] → own_calls q q.seen ≡ own_calls p p.seen ++ x ∷ []
 entry_now p q more x is entry = ap (λ (r : PassState). own_calls r r.seen) is ∙ entry
 
--- A store, and a load behind it
+-- A store, and a load after it
 
 pub loads_stored : (b : PassState) (d n : ℕ) (r : Result ℕ Held) → HasNumber b d n → IfOk r (λ x. x ≡ number_owned b d)
     → IfOk r (λ x. x ≡ n)
@@ -318,7 +318,7 @@ both_done p b q d n (Ok x) set is get =
     (record { caller = number_of p; op = op.SetNum d 0 n; answer = answer.Done } ∷ [])
     (record { caller = number_of p; op = op.GetNum d 0; answer = answer.Num n } ∷ [])
 
--- behind what was done before
+-- after what was done before
 pub done_behind : (l l1 l2 : List Decided) (x : Decided) (xs : List Decided) → l1 ≡ l ++ x ∷ [] → l2 ≡ l1 ++ xs
     → l2 ≡ l ++ x ∷ xs
 done_behind l l1 l2 x xs first more =

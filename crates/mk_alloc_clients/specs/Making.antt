@@ -44,7 +44,7 @@ abbrev pub IsUnmade : PassState → Op → Unmade → CallerState → Type 0
 IsUnmade p o (TurnTaken busy) s = (s.home ≡ true) × Finds p (step.Take (Some o)) (1 + busy.holder) s.pass
 IsUnmade p o (NoRoom turn) s = FindsNoRoom p o turn
 
--- Or a gate was held behind the New, whose number is owned still.
+-- Or a gate was held after the New, whose number is owned still.
 abbrev pub EndsEarly : PassState → ℕ → ℕ → Unfinished → CallerState → Type 0
 EndsEarly p d ty (unfinished.NotMade e) s = IsUnmade p (op.New d ty false) e s
 EndsEarly p d ty unfinished.Held s = (s.home ≡ true) × OwnsNumber s.pass d

@@ -39,7 +39,7 @@ abbrev pub number_behind : NeverState → Value → ℕ
 number_behind n (Ptr number ty offset) = number_in (word_at n number offset)
 number_behind n _ = 0
 
--- Behind all that the pass has seen its caller owns a number, by this register; and which number that is.
+-- After all that the pass has seen its caller owns a number, by this register; and which number that is.
 
 abbrev pub OwnsNumber : PassState → ℕ → Type 0
 OwnsNumber p d = OwnsNumberIn (never_of p) (number_of p) d

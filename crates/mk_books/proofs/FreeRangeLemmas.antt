@@ -8,7 +8,7 @@ use Rattle.mk_geom.specs.declared.pages.Page.{Page}
 use Rattle.mk_geom.specs.PageUses.{PageUse, is_free_page, free_range, range_start, longest_free_range}
 use Rattle.mk_geom.specs.PageWords.{use_of_page, uses_of_pages}
 
--- the longest range, where so many free pages stand before these and the longest of before is known
+-- the longest range, where this many free pages stand before these and the longest of before is known
 abbrev pub longest_with : ℕ → ℕ → List PageUse → ℕ
 longest_with longest range rest = max longest (max (range + free_range rest) (longest_free_range rest))
 
@@ -71,7 +71,7 @@ shifted_twice : (n : ℕ) (first : Option ℕ)
 shifted_twice n None = refl
 shifted_twice n (Some first) = let same : first + n + 1 ≡ first + suc n = omega arith in ap Some same
 
--- a range that is too short, and the page behind it
+-- a range that is too short, and the page after it
 range_start-skip : (count n : ℕ) (pages : List PageUse) → free_range pages ≡ n → n < count → n < length pages
     → range_start count pages ≡ option_map (λ m. m + suc n) (range_start count (drop (suc n) pages))
 range_start-skip count n [] ends short within = absurd (omega arith)

@@ -32,7 +32,7 @@ impl Model for Book {
 }
 
 impl Book {
-    /// So many free pages.
+    /// This many free pages.
     pub fn new(alloc: Global, pages: u64) -> Result<Book, NoMemory>
         ensures { IfOk result (λ book. book ≡ replicate pages free_page) }
     {

@@ -1,6 +1,6 @@
 //! Counts of what stands on the pages.
 ghost use Rattle.std.specs.Prelude.{◌≡◌, ◌<◌, count_by};
-ghost use Rattle.mk_geom.specs.PageUses.{is_free_page, resident_pages, longest_free_range, words_held_among};
+ghost use Rattle.mk_geom.specs.PageUses.{is_free_page, resident_pages, longest_free_range, held_by_uses};
 ghost use Rattle.mk_geom.specs.PageUses.{census_among};
 ghost use Rattle.mk_geom.specs.PageWords.{uses_of_pages};
 ghost use Rattle.mk_books.specs.FreeCells.{free_cells_by_class, class_place};
@@ -30,8 +30,8 @@ pub fn free_pages(pages: &[Page]) -> u64
 }
 
 /// How much is held, in words: those of the cells that are taken, and of the pages of mapped runs.
-pub fn words_held(pages: &[Page]) -> u128
-    ensures { result ≡ words_held_among (uses_of_pages pages.now) }
+pub fn held_by_pages(pages: &[Page]) -> u128
+    ensures { result ≡ held_by_uses (uses_of_pages pages.now) }
 {
     pages.iter().map(|page| u128::from(words_on(*page))).sum()
 }
@@ -62,13 +62,13 @@ fn free_cells(pages: &[Page]) -> [u64; 16]
     let mut counts = [0; 2 * CLASSES];
     for page in pages {
         if let Some(kind) = block_of(*page) {
-            counts[place_of(kind)] += count_clear(page.used, cells(kind.class));
+            counts[class_place(kind)] += count_clear(page.used, cells(kind.class));
         }
     }
     counts
 }
 
-fn place_of(kind: BlockKind) -> usize
+fn class_place(kind: BlockKind) -> usize
     requires { kind.class < 8 }
     ensures place { result ≡ class_place kind.class kind.leaf }
     ensures in_range { result < 16 }

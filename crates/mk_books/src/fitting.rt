@@ -1,6 +1,6 @@
 //! Where an object goes, by first fit.
 ghost use Rattle.std.specs.Prelude.{◌≡◌, ◌<◌, ◌≤◌, ◌^◌};
-ghost use Rattle.mk_geom.specs.PageUses.{place_among, small_place, large_place, carved};
+ghost use Rattle.mk_geom.specs.PageUses.{place_on_uses, small_place, large_place, carved};
 ghost use Rattle.mk_geom.specs.PageWords.{uses_of_pages};
 
 use crate::page_uses::{free_cell, is_free, is_resident};
@@ -9,12 +9,12 @@ use mk_geom::{Page, Place, class_of, run_pages};
 /// The largest object that takes a cell, in words.
 const SMALL_WORDS: u64 = 32;
 
-/// Where an object of so many words goes: a cell of a block of its class and sort, or else free pages, where
+/// Where an object of this many words goes: a cell of a block of its class and sort, or else free pages, where
 /// with them no more than `resident_limit` pages are resident. None where there is no such place, and
 /// for an object of no words. A call walks over the pages once, and for a small object only to the
 /// first block that has a free cell.
 pub fn first_fit(pages: &[Page], resident_limit: u64, words: u64, leaf: bool) -> Option<Place>
-    ensures { result ≡ place_among resident_limit words leaf (uses_of_pages pages.now) }
+    ensures { result ≡ place_on_uses resident_limit words leaf (uses_of_pages pages.now) }
 {
     if words <= SMALL_WORDS {
         small_fit(pages, resident_limit, class_of(words)?, leaf)
@@ -52,7 +52,7 @@ fn small_fit(pages: &[Page], resident_limit: u64, class: u64, leaf: bool) -> Opt
     }
 }
 
-/// The place of a run of so many pages.
+/// The place of a run of this many pages.
 fn large_fit(pages: &[Page], resident_limit: u64, count: u64) -> Option<Place>
     requires some { 1 ≤ count }
     requires short { count ≤ 2 ^ 58 }

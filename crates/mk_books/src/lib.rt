@@ -9,7 +9,7 @@ mod page_uses;
 mod trigger;
 
 pub use books::{Book, NoMemory};
-pub use counting::{census, free_pages, words_held};
+pub use counting::{census, free_pages, held_by_pages};
 pub use fitting::first_fit;
 pub use mk_geom::{Census, Page, Place};
 pub use trigger::{due, freeable};

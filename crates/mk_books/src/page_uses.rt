@@ -1,7 +1,7 @@
 //! What stands on one page.
 ghost use Rattle.std.specs.Prelude.{◌≡◌, ◌<◌, ◌≤◌, not, count_by, IfSome, IfNone};
 ghost use Rattle.mk_geom.specs.PageUses.{Cells, is_free_page, is_resident_page, cells_taken, first_where};
-ghost use Rattle.mk_geom.specs.PageUses.{words_held_by};
+ghost use Rattle.mk_geom.specs.PageUses.{held_by_use};
 ghost use Rattle.mk_geom.specs.PageWords.{use_of_page, bits_of};
 ghost use Rattle.mk_geom.specs.Classes.{cells_of};
 ghost use Rattle.mk_books.specs.FreeCells.{HasNoCells};
@@ -71,7 +71,7 @@ fn lowest_clear(word: u64, bits: u64) -> Option<u64>
 
 /// The words of the cells that are taken, or of a page of a mapped run.
 pub(crate) fn words_on(page: Page) -> u64
-    ensures { result ≡ words_held_by (use_of_page page) }
+    ensures { result ≡ held_by_use (use_of_page page) }
 {
     match decode(page.header) {
         Some(Header::Block(class) | Header::LeafBlock(class)) => {

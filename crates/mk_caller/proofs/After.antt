@@ -83,7 +83,7 @@ leaves n k (op.SetGlobal g p) r ne = refl
 leaves n k (op.Same p q) r ne = refl
 leaves n k (op.IsNull p) r ne = refl
 
--- A register behind a call is what the operation leaves at its place.
+-- A register after a call is what the operation leaves at its place.
 pub value_left : {p q : PassState} {o : Op} {a : Answer} → (c : Called p o a q) → (r : ℕ) → r < 8
     → value_of q r ≡ register_at (after_op (never_behind p.table.config (p.seen ++ c.decided.before)) (number_of p) o)
     (number_of p) r

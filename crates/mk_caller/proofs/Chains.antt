@@ -28,7 +28,7 @@ use Rattle.mk_caller.specs.Causes.{Probes, ProbesAWord}
 use Rattle.mk_caller.specs.Moves.{loads, IsReady, Makes, At, is_access, refused_register, refused_steps}
 use Rattle.mk_caller.proofs.Joined.{joined, joined_on}
 
--- Further steps of a call that isn't decided; how they go on is told by the call before them.
+-- Further steps of a call that isn't decided; how they go on is said by the call before them.
 pub go : {p q r : PassState} {o : Op} {ss ts : List Step} {f : Flight} → At p o ss None f q → (X : Flight → Progress)
     → f.op ≡ o
     → At q (call_of q).op ts (X (call_of q)).answer (X (call_of q)).flight r

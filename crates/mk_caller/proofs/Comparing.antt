@@ -15,7 +15,7 @@ use Rattle.mk_caller.specs.States.{number_of, never_then, value_of, Admits}
 use Rattle.mk_caller.specs.Called.{Says}
 use Rattle.mk_caller.specs.Comparing.{ComparesValues}
 
--- the word that an access gets to which is answered by a number, and what that tells
+-- the word that an access gets to which is answered by a number, and what that says
 record Reached (n : NeverState) (v w : Value) (i : ℕ) (said : Bool) : Type 0 where
   pub number : ℕ
   pub place : ℕ

@@ -1,4 +1,4 @@
--- Steps of a call, one behind the other.
+-- Steps of a call, one after the other.
 use Rattle.std.proofs.Common.{◌≡◌, List, [], ◌∷◌, ◌++◌, sym, ◌∙◌, ap, subst, append-nil, append_assoc}
 use Rattle.std.specs.Prelude.{Option, Some, None}
 use Rattle.mk_never.specs.declared.operations.Op.{Op}

@@ -1,4 +1,4 @@
--- How a call goes on behind a step, of whatever kind: the operation stays, and what is undecided goes on undecided.
+-- How a call goes on after a step, of whatever kind: the operation stays, and what is undecided goes on undecided.
 use Rattle.std.proofs.Common.{◌≡◌, ℕ, Bool, true, false, refl, sym, ◌∙◌, ap, subst}
 use Rattle.std.specs.Prelude.{Some, None, if◌then◌else◌, ◌==◌}
 use Rattle.mk_never.specs.declared.operations.Op.{Op}
@@ -49,12 +49,12 @@ moves p s x q u own before history g next =
 abbrev flight : Stage → Op → ℕ → ℕ → ℕ → ℕ → Flight
 flight s o q p r l = record { stage = s; op = o; q = q; p = p; r = r; loaded = l }
 
--- to a stage that isn't behind the deciding step
+-- to a stage that isn't after the deciding step
 on : (c : Config) (f : Flight) (x : Progress) → x.flight.op ≡ f.op → x.answer ≡ None → is_decided f.stage ≡ false
     → (x.flight.stage ≡ stage.Dirty → ⊥) → Next c f x
 on c f x o a d n = record { op = o; undecided = λ h. (a, d); page = λ h. absurd (n h) }
 
--- or to one behind it
+-- or to one after it
 off : (c : Config) (f : Flight) (x : Progress) → x.flight.op ≡ f.op → is_decided x.flight.stage ≡ true
     → (x.flight.stage ≡ stage.Dirty → ⊥) → Next c f x
 off c f x o d n = record { op = o; undecided = λ h. (let e : true ≡ false = sym d ∙ h in cc); page = λ h. absurd (n h) }
@@ -170,7 +170,7 @@ read_on : (c : Config) (o : Op) (q p r l found : ℕ) → Next c (flight stage.R
 read_on c (op.Clear d) q p r l found = off c _ _ refl refl (λ h. cc)
 read_on c _ q p r l found = off c _ _ refl refl (λ h. cc)
 
--- behind a write the page is still to be marked
+-- after a write the page is still to be marked
 written : (c : Config) (s : Stage) (o : Op) (q p r l : ℕ) (a : Answer) → is_written s ≡ true
     → is_word_met c (flight s o q p r l) ≡ true
     → Next c (flight s o q p r l) (onward (flight s o q p r l) (Some a))

@@ -71,7 +71,7 @@ one_own c s w x =
     (if b then record { event = e; found = found c w.now e } ∷ [] else []))
     (same_self s)
 
--- one own step behind what others did
+-- one own step after what others did
 pub own_step : (c : Config) (s : Seat) (w : World) (others : List Event) (x : Step) → AreOfOthers (s ∷ []) others
     → steps_from c s w (others ++ record { seat = s; step = x } ∷ []) ≡ x ∷ []
 own_step c s w others x of_others =

@@ -1,4 +1,4 @@
--- What a probe tells of the heap that never reuses storage.
+-- What a probe says of the heap that never reuses storage.
 use Rattle.std.proofs.Common.{◌≡◌, ◌≢◌, ℕ, ◌+◌, ◌*◌, ◌<◌, Bool, true, false, List, [], ◌∷◌, ◌++◌, refl, sym, ◌∙◌, ap}
 use Rattle.std.proofs.Common.{subst}
 use Rattle.std.specs.Prelude.{if◌then◌else◌}
@@ -28,7 +28,7 @@ use Rattle.mk_core.specs.Words.{header_at}
 use Rattle.mk_protocol.proofs.OrderlyLists.{not_astray}
 use Rattle.mk_protocol.proofs.Stages.{calls_stand, is_call_stage}
 use Rattle.mk_protocol.proofs.Standings.{InCall, standing}
-use Rattle.mk_images.specs.Images.{CarriesOwn, IsMet, has_q, has_some_q, scene_of}
+use Rattle.mk_images.specs.Images.{CarriesOwn, IsMet, has_q, has_some_q, image_scene_of}
 use Rattle.mk_images.proofs.Reached.{mapped_met, unmapped_target}
 use Rattle.mk_frames.proofs.AdmittedStill.{meets_register}
 use Rattle.mk_frames.proofs.LastEvents.{Stands, stands}
@@ -101,19 +101,20 @@ module _ (c : Config) (es : List Event) (k : ℕ) (h : IsHistory c es) (lt : k <
 
   pub gets_to : (b : Bool) → is_unmapped_header (header_in w.now.words (page_met f)) ≡ b → GetsTo b n v (i_of f.op)
   gets_to true u =
-      unmapped_target c.globals st.all.mirrors.safe.0 (scene_of w) n (ready c w n st.known st.all)
+      unmapped_target c.globals st.all.mirrors.safe.0 (image_scene_of w) n (ready c w n st.known st.all)
       (header_at w.now.words)
       (pages_tell c w n st.known st.all k lt in_call) v f.q (i_of f.op) (λ kind. Unit {0})
       (car.q has) (car.some_q some) (st.all.mirrors.typed.registers (8 * k + q_of f.op))
       (st.all.mirrors.safe.1.registers (8 * k + q_of f.op)) meets u
   gets_to false u =
       mapped_word n v (i_of f.op) not_null (st.all.mirrors.typed.registers (8 * k + q_of f.op)) meets
-      (mapped_met c.globals st.all.mirrors.safe.0 (scene_of w) n (ready c w n st.known st.all) (header_at w.now.words)
+      (mapped_met c.globals st.all.mirrors.safe.0 (image_scene_of w) n (ready c w n st.known st.all)
+      (header_at w.now.words)
       (pages_tell c w n st.known st.all k lt in_call) v f.q (i_of f.op)
       (car.q has) (car.some_q some) (st.all.mirrors.typed.registers (8 * k + q_of f.op))
       (st.all.mirrors.safe.1.registers (8 * k + q_of f.op)) u)
 
--- a seat's, behind what others did
+-- a seat's, after what others did
 gets_to_for : (c : Config) (es : List Event) (t : Seat) (k : ℕ) → t ≡ Caller k → IsHistory c es → k < c.callers
     → (flight_of (left c es).now t).stage ≡ stage.Probe
     → Meets (never_behind c es) (register_at (never_behind c es) (caller_number t)

@@ -35,7 +35,7 @@ abbrev pub up_to : Stage → List Stage → List Stage
 up_to s [] = []
 up_to s (x ∷ xs) = x ∷ (if is_same_stage x s then [] else up_to s xs)
 
--- the stages behind a refusal, from the first one on
+-- the stages after a refusal, from the first one on
 abbrev pub refused_from : Stage → List Stage
 refused_from stage.Put = stage.Put ∷ stage.Leave ∷ []
 refused_from _ = stage.Leave ∷ []
@@ -49,7 +49,7 @@ stages_made o _ = steps_of o
 abbrev pub steps_made : Op → Answer → List Step
 steps_made o a = step.Enter o ∷ map step_at (stages_made o a)
 
--- the steps of the pass's seat among the events that came behind what it had seen
+-- the steps of the pass's seat among the events that came after what it had seen
 abbrev pub own_steps : PassState → List Event → List Step
 own_steps p more = map (λ (x : Finding). x.event.step) (in_this_call p.table.config p.seat p.seen more)
 
@@ -58,7 +58,7 @@ abbrev pub own_calls : PassState → List Event → List Decided
 own_calls p es = filter (λ (x : Decided). x.caller == number_of p) (calls p.table.config es)
 
 -- The event among these that decides the call. Its answer is the image of the reply of the heap that never reuses
--- storage, at its place. There the caller's registers have the values that they had before the call, and behind the
+-- storage, at its place. There the caller's registers have the values that they had before the call, and after the
 -- call those that the operation leaves there.
 pub record IsDecidedIn (p : PassState) (o : Op) (a : Answer) (more : List Event) : Type 0 where
   pub before : List Event

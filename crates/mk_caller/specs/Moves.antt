@@ -22,7 +22,7 @@ use Rattle.mk_words.specs.States.{PassState, call_of}
 use Rattle.mk_caller.specs.States.{number_of, never_of, Admits}
 use Rattle.mk_caller.specs.Called.{step_at, refused_from, own_steps, own_calls, IsDecidedIn}
 
--- what is behind the deciding step
+-- what is after the deciding step
 abbrev pub is_decided : Stage → Bool
 is_decided stage.Put = true
 is_decided stage.Dirty = true
@@ -145,10 +145,10 @@ Ends p ss a q = At p (call_of p).op ss a at_rest q
 abbrev pub refused_steps : Op → List Step
 refused_steps o = map step_at (refused_from (stage_refused o))
 
--- and behind a probe that finds the page unmapped
+-- and after a probe that finds the page unmapped
 abbrev pub fault_steps : Op → List Step
 fault_steps o = step.Probe ∷ refused_steps o
 
--- the call behind the load of q
+-- the call after the load of q
 abbrev pub behind_q : Op → ℕ → Flight
 behind_q o u = (onward (record (begun o) { q = u }) None).flight

@@ -25,15 +25,15 @@ at_home p = record { pass = p; home = true }
 abbrev pub number_of : PassState → ℕ
 number_of p = caller_number p.seat
 
--- the heap that never reuses storage, behind what the pass has seen
+-- the heap that never reuses storage, after what the pass has seen
 abbrev pub never_of : PassState → NeverState
 never_of p = never_behind p.table.config p.seen
 
--- and behind events that came since
+-- and after events that came since
 abbrev pub never_then : PassState → List Event → NeverState
 never_then p more = never_behind p.table.config (p.seen ++ more)
 
--- the value of one of the caller's registers behind what the pass has seen
+-- the value of one of the caller's registers after what the pass has seen
 abbrev pub value_of : PassState → ℕ → Value
 value_of p r = register_at (never_of p) (number_of p) r
 

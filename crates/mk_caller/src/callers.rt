@@ -120,7 +120,7 @@ impl<'h> Caller<'h> {
         }
     }
 
-    /// The number in the word `i` words behind the pointer in `q`.
+    /// The number in the word `i` words after the pointer in `q`.
     pub fn get_num(&mut self, q: u8, i: u64) -> Result<u64, Refusal>
         requires home { self.old.home ≡ true }
         requires admitted { Admits self.old.pass (op.GetNum q i) }
@@ -135,7 +135,7 @@ impl<'h> Caller<'h> {
         }
     }
 
-    /// Writes a number to the word `i` words behind the pointer in `q`.
+    /// Writes a number to the word `i` words after the pointer in `q`.
     pub fn set_num(&mut self, q: u8, i: u64, n: u64) -> Result<(), Refusal>
         requires home { self.old.home ≡ true }
         requires admitted { Admits self.old.pass (op.SetNum q i n) }
@@ -150,7 +150,7 @@ impl<'h> Caller<'h> {
         }
     }
 
-    /// Sets `d` to the pointer in the word `i` words behind the pointer in `q`, or to null where it is refused.
+    /// Sets `d` to the pointer in the word `i` words after the pointer in `q`, or to null where it is refused.
     pub fn get_ptr(&mut self, d: u8, q: u8, i: u64) -> Result<(), Refusal>
         requires home { self.old.home ≡ true }
         requires admitted { Admits self.old.pass (op.GetPtr d q i) }
@@ -165,7 +165,7 @@ impl<'h> Caller<'h> {
         }
     }
 
-    /// Writes the pointer in `p`, or null, to the word `i` words behind the pointer in `q`.
+    /// Writes the pointer in `p`, or null, to the word `i` words after the pointer in `q`.
     pub fn set_ptr(&mut self, q: u8, i: u64, p: u8) -> Result<(), Refusal>
         requires home { self.old.home ≡ true }
         requires admitted { Admits self.old.pass (op.SetPtr q i p) }
@@ -180,7 +180,7 @@ impl<'h> Caller<'h> {
         }
     }
 
-    /// Writes the pointer in `r` to the word `i` words behind the pointer in `q`, where that is the pointer in `p`, and
+    /// Writes the pointer in `r` to the word `i` words after the pointer in `q`, where that is the pointer in `p`, and
     /// says whether it was.
     pub fn cas_ptr(&mut self, q: u8, i: u64, p: u8, r: u8) -> Result<bool, Refusal>
         requires home { self.old.home ≡ true }
@@ -197,7 +197,7 @@ impl<'h> Caller<'h> {
         }
     }
 
-    /// Sets `d` to the pointer `i` words behind that in `q`, or to null where it is refused.
+    /// Sets `d` to the pointer `i` words after that in `q`, or to null where it is refused.
     pub fn lea(&mut self, d: u8, q: u8, i: u64) -> Result<(), Refusal>
         requires home { self.old.home ≡ true }
         requires admitted { Admits self.old.pass (op.Lea d q i) }

@@ -1,4 +1,4 @@
-//! The steps of a call, each with what is known of the call behind it.
+//! The steps of a call, each with what is known of the call after it.
 ghost use Rattle.std.specs.Prelude.{◌≡◌, ◌↔◌, OnOk, OnErr, IfSome, IfNone, Some, None, true, ◌+◌, ◌-◌, ◌*◌, ◌/◌, ◌%◌};
 ghost use Rattle.std.specs.Prelude.{◌^◌, if◌then◌else◌};
 ghost use Rattle.mk_never.specs.declared.values.Value.TheVariants.{Null};
@@ -220,7 +220,7 @@ pub(crate) fn probe(words: &Words, pass: &mut Pass, u: u64, i: u64) -> Option<u6
     }
 }
 
-/// The value `i` words behind the value that the call has loaded.
+/// The value `i` words after the value that the call has loaded.
 #[inline(always)]
 pub(crate) fn moved_on(words: &Words, pass: &Pass, u: u64, i: u64) -> u64
     requires one_table { pass.now.table ≡ words.now }

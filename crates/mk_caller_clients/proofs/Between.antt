@@ -1,4 +1,4 @@
--- Two calls, of one caller or of two, one behind the other, and the calls between the events that decide them.
+-- Two calls, of one caller or of two, one after the other, and the calls between the events that decide them.
 use Rattle.std.proofs.Common.{◌≡◌, Bool, true, List, [], ◌∷◌, ◌++◌, length, refl, sym, ◌∙◌, ap, append_assoc}
 use Rattle.std.proofs.Common.{append-nil, length-append, arith, cond}
 use Rattle.std.specs.Prelude.{filter}

@@ -1,4 +1,4 @@
--- What is loaded behind a store.
+-- What is loaded after a store.
 use Rattle.std.proofs.Common.{◌≡◌, ℕ, ◌+◌, ◌<◌, Bool, true, false, List, [], ◌∷◌, ◌++◌, refl, sym, ◌∙◌, ap, subst}
 use Rattle.std.proofs.Common.{append_assoc, append-nil, cond}
 use Rattle.std.specs.Prelude.{if◌then◌else◌}
@@ -85,7 +85,7 @@ pointer_word n a t o i x = by (is_unmapped (allocation_at n a)) refl x.is
     by false is e = refl
     by true is e = cc
 
--- It is the same word behind other calls.
+-- It is the same word after other calls.
 same_word : (n m : NeverState) (v : Value) (i : ℕ) (x : Word n v i) → Word m v i
     → target_of m v i ≡ WordOf x.number x.at
 same_word n m Null i x y = let e = x.is in cc

@@ -1,4 +1,4 @@
--- What the registers of the clients hold behind their calls.
+-- What the registers of the clients hold after their calls.
 use Rattle.std.proofs.Common.{◌≡◌, ◌≢◌, ℕ, ◌<◌, Bool, true, List, ◌++◌, length, refl, sym, ◌∙◌, ap, subst, inl, inr}
 use Rattle.std.specs.Prelude.{Result, Ok, Err, IfOk}
 use Rattle.mk_words.specs.declared.call_steps.Held.{Held}

@@ -18,7 +18,7 @@ is_set_of g _ = false
 abbrev pub setters : PassState → ℕ → List Event → List Decided
 setters p g es = filter (λ (x : Decided). is_set_of g x.op) (calls p.table.config es)
 
--- Behind what the pass had seen its caller's own call is the only one that set the global.
+-- After what the pass had seen its caller's own call is the only one that set the global.
 abbrev pub IsOnlySetter : PassState → ℕ → ℕ → PassState → Type 0
 IsOnlySetter p g r q =
     setters p g q.seen ≡ setters p g p.seen
@@ -47,7 +47,7 @@ is_store _ = false
 abbrev pub stores : PassState → List Event → List Decided
 stores p es = filter (λ (x : Decided). is_store x.op) (calls p.table.config es)
 
--- Behind what the pass had seen its caller's own `set_num` is the only call that may have stored.
+-- After what the pass had seen its caller's own `set_num` is the only call that may have stored.
 abbrev pub IsOnlyStore : PassState → ℕ → ℕ → ℕ → PassState → Type 0
 IsOnlyStore p x i n q =
     stores p q.seen ≡ stores p p.seen ++ record { caller = number_of p; op = op.SetNum x i n; answer = Done } ∷ []

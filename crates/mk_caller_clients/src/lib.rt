@@ -39,7 +39,7 @@ pub fn moves_through_global(caller: &mut Caller, d: u8, g: u8, p: u8) -> Result<
 }
 
 /// A pointer that one caller puts into a global and this one takes out is the same, where this one had seen that call,
-/// and nobody has set the global since. A register tells what it is to be the same as.
+/// and nobody has set the global since. A register says what it is to be the same as.
 pub fn takes_out_of_global(caller: &mut Caller, d: u8, g: u8, x: u8) -> Result<bool, Held>
     requires home { caller.old.home ≡ true }
     requires admitted { Admits caller.old.pass (op.GetGlobal d g) }

@@ -21,7 +21,7 @@ use Rattle.mk_script.specs.declared.items.Item.TheVariants.{New, Free, Getn, Set
 use Rattle.mk_script.specs.declared.items.Item.TheVariants.{Loadg, Storeg, Same, Isnull, Show}
 use Rattle.mk_script.specs.Scopes.{type_names, global_names, pointer_names}
 use Rattle.mk_check.specs.Typing.{pointer_at, global_type, moved_by, base_of}
-use Rattle.mk_check.specs.Declarations.{place_of, kind_of, globals_of}
+use Rattle.mk_check.specs.Declarations.{number_of_name, kind_of, globals_of}
 use Rattle.mk_check.specs.Feed.{Fed, op_of, scope_of}
 use Rattle.mk_check.specs.NamesInScope.{HasFew}
 use Rattle.mk_check.proofs.DeclaredPlaces.{pointer_within, type_place, global_place, global_within}
@@ -50,18 +50,19 @@ meets_both n (Ptr number ty offset) i P Q first second = (first.0, (first.1, sec
 
 module _ (program script : List Item) (few : HasFew (scope_of program script)) (n : NeverState) (caller : ℕ)
     (fits : FitsScript program script n caller) where
-  pointers : (name : List ℕ) (at : At) → pointer_at name script ≡ Some at → place_of name (pointer_names script) < 8
+  pointers : (name : List ℕ) (at : At) → pointer_at name script ≡ Some at
+      → number_of_name name (pointer_names script) < 8
   pointers name at is = let within = pointer_within name script at is in let most = few.pointers in omega arith
 
   globals : (name ty : List ℕ) → global_type name program ≡ Some ty
-      → place_of name (global_names program) < length n.globals
+      → number_of_name name (global_names program) < length n.globals
   globals name ty is = let within = global_within name program ty is in let most = few.globals in let count =
       fits.globals in omega arith
 
   types : (pointer ty : List ℕ) → PointsToType program script pointer ty
-      → place_of ty (type_names program) < length n.types
+      → number_of_name ty (type_names program) < length n.types
   types pointer ty s =
-      subst (λ (ts : List (List Kind)). place_of ty (type_names program) < length ts) (sym fits.types)
+      subst (λ (ts : List (List Kind)). number_of_name ty (type_names program) < length ts) (sym fits.types)
       (type_place (type_names program) ty program s.words s.is).0
 
   -- Accesses.
@@ -100,7 +101,7 @@ module _ (program script : List Item) (few : HasFew (scope_of program script)) (
       (meets_before program script n caller fits pointer i s.word s.before)
 
   global_store : (stored global : List ℕ) → (s : PointsToGlobal program script stored global)
-      → IfSome (slice_get (globals_of program) (place_of global (global_names program)))
+      → IfSome (slice_get (globals_of program) (number_of_name global (global_names program)))
       (λ ty. IsOfKind (register_of script n caller stored) (To ty 0))
   global_store stored global s =
       subst (λ (o : Option ℕ). IfSome o (λ ty. IsOfKind (register_of script n caller stored) (To ty 0)))
@@ -221,12 +222,12 @@ module _ (program script : List Item) (few : HasFew (scope_of program script)) (
   free_keeps (Ptr number ty offset) = fits.declared
 
   sets : (name : List ℕ) (at : At) (v : Value) → pointer_at name script ≡ Some at → IsOfKind v (kind_at program at)
-      → Keeps (with_register n caller (place_of name (pointer_names script)) v)
+      → Keeps (with_register n caller (number_of_name name (pointer_names script)) v)
   sets name at v is of_kind = set_register program script n caller name at v fits.declared is of_kind
 
   load_keeps : (loaded pointer : List ℕ) (i : ℕ) → PointsBeforeOne program script pointer i loaded
       → Keeps (after_op n caller
-      (op.GetPtr (place_of loaded (pointer_names script)) (place_of pointer (pointer_names script)) i))
+      (op.GetPtr (number_of_name loaded (pointer_names script)) (number_of_name pointer (pointer_names script)) i))
   load_keeps loaded pointer i s =
       left_at_by Keeps (target_of n (register_of script n caller pointer) i) _ _ (sets loaded s.at Null s.declared tt)
       (λ number place e. sets loaded s.at (word_at n number place) s.declared
@@ -238,7 +239,7 @@ module _ (program script : List Item) (few : HasFew (scope_of program script)) (
       → IfSome (op_of (scope_of program script) fed item) (λ o. (a : Answer) → Keeps (after_op n caller (flagged o a)))
   line_keeps fed (New pointer ty) s = flagged_new (λ o. Keeps (after_op n caller o)) _ _ (λ full.
       if_by Keeps full _ _ (λ e. fits.declared)
-      (λ e. set_register program script (with_new n (place_of ty (type_names program))) caller pointer
+      (λ e. set_register program script (with_new n (number_of_name ty (type_names program))) caller pointer
       (base_of ty) _ fits.declared s.declared (refl, refl)))
   line_keeps fed (Free pointer) s = λ a. free_keeps (register_of script n caller pointer)
   line_keeps fed (Getn number pointer index) s = λ a. fits.declared

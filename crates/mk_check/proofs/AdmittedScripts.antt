@@ -21,7 +21,7 @@ use Rattle.mk_script.specs.declared.items.Item.{Item}
 use Rattle.mk_script.specs.declared.items.Item.TheVariants.{New}
 use Rattle.mk_script.specs.Scopes.{pointer_names, script_names}
 use Rattle.mk_check.specs.Blocks.{Blocks, Done, Line, Rounds, Choice, AllPlaced, blocks_from, script_of}
-use Rattle.mk_check.specs.Declarations.{place_of, types_of, globals_of}
+use Rattle.mk_check.specs.Declarations.{number_of_name, types_of, globals_of}
 use Rattle.mk_check.specs.Feed.{Scope, Fed, op_of, note, with_answer, run, take_answer, take_answers, fed_before_lines}
 use Rattle.mk_check.specs.Feed.{fed_before_answers, scope_of, feed}
 use Rattle.mk_check.specs.Feeding.{script_scope, next_op}
@@ -59,7 +59,7 @@ by_caller c caller own other =
     ⊎_elim (λ e. own (eqb-true c caller e)) (λ e. other (λ same. false≢true (sym e ∙ eq-eqb c caller same)))
     (cases_Bool (c == caller))
 
--- what holds of a caller's operations holds of the first call's, where it is the caller's, and of those behind it
+-- what holds of a caller's operations holds of the first call's, where it is the caller's, and of those after it
 split_ops : (P : Op → Type 0) (caller : ℕ) (x : Call) (xs : List Call) → All P (ops_of_caller caller (x ∷ xs))
     → (x.caller ≡ caller → P x.op) × All P (ops_of_caller caller xs)
 split_ops P caller x xs h = by_test (x.caller == caller) refl h
@@ -133,8 +133,9 @@ module _ (program script : List Item) (few : HasFew (scope_of program script)) w
   others_keep n caller before m same = λ name at is.
       let within = pointer_within name script at is in
       let most = few.pointers in
-      let below : place_of name (pointer_names script) < 8 = omega arith in
-      subst (λ (v : Value). IsOfKind v (kind_at program at)) (sym (same (place_of name (pointer_names script)) below))
+      let below : number_of_name name (pointer_names script) < 8 = omega arith in
+      subst (λ (v : Value). IsOfKind v (kind_at program at)) (sym (same (number_of_name name
+      (pointer_names script)) below))
       (before name at is)
 
   -- a call that is admitted, and is asked for by the script where it is the caller's
@@ -177,9 +178,9 @@ module _ (program script : List Item) (few : HasFew (scope_of program script)) w
     declared = λ name at is'.
         let within = pointer_within name script at is' in
         let most = few.pointers in
-        let below : 8 * k + place_of name (pointer_names script) < 8 * callers = omega arith in
+        let below : 8 * k + number_of_name name (pointer_names script) < 8 * callers = omega arith in
         subst (λ (v : Value). IsOfKind v (kind_at program at))
-        (sym (get_or-replicate (8 * callers) (8 * k + place_of name (pointer_names script)) Null Null below)) tt;
+        (sym (get_or-replicate (8 * callers) (8 * k + number_of_name name (pointer_names script)) Null Null below)) tt;
   }
 
 -- Scripts of a program.

@@ -41,7 +41,7 @@ stopped_here nodes p (node.Line line instruction next) tree w e h = asks_at node
 stopped_here nodes p (node.Rounds rounds body next) tree w e h = cc
 stopped_here nodes p (node.Choice number first second next) tree w e h = cc
 
--- The place is where the steps stop behind an answer to the first.
+-- The place is where the steps stop after an answer to the first.
 pub record StopsBehind (nodes : List Node) (p : Place) (a : Answer) (t : Place) : Type 0 where
   pub within : IsWithin (length nodes) t
   pub at : StopsAt (node_at nodes t.at) t

@@ -20,7 +20,8 @@ use Rattle.mk_script.specs.Lines.{at_most}
 use Rattle.mk_script.specs.declared.faults.Which.TheVariants as which
 use Rattle.mk_check.specs.declared.typing_faults.TypeKind.{TypeKind}
 use Rattle.mk_check.specs.declared.typing_faults.TypeKind.TheVariants as kind
-use Rattle.mk_check.specs.Declarations.{config_of, place_of, kind_of, kinds_among, types_of, globals_among, globals_of}
+use Rattle.mk_check.specs.Declarations.{config_of, number_of_name, kind_of, kinds_among, types_of, globals_among}
+use Rattle.mk_check.specs.Declarations.{globals_of}
 use Rattle.mk_check.specs.Declarations.{pages_of, resident_of}
 use Rattle.mk_check.specs.Typing.{Around, TypingFault, ◌or◌, unless, at_line, typing_fault, fault_from, type_words}
 use Rattle.mk_check.specs.Typing.{word_among, word_at, type_fault, inside_fault, pointers_fault, offsets_fault}
@@ -81,11 +82,11 @@ module _ (names : List (List ℕ)) where
   -- the type of a name
   pub type_words-IsAt : (name : List ℕ) (items : List Item) (sought : List TypeWord)
       → type_words name items ≡ Some sought
-      → IsAt (kinds_among names items) (place_of name (type_names items)) (map (kind_of names) sought)
+      → IsAt (kinds_among names items) (number_of_name name (type_names items)) (map (kind_of names) sought)
   type_words-IsAt name [] sought h = absurd (Some≢None sought (sym h))
   type_words-IsAt name (TypeLine other words ∷ items) sought h =
       chosen (bytes_eq name other) words sought (type_words name items) (kinds_among names items)
-      (place_of name (type_names items)) (type_words-IsAt name items sought) h
+      (number_of_name name (type_names items)) (type_words-IsAt name items sought) h
   type_words-IsAt name (item ∷ items) sought h = type_words-IsAt name items sought h
 
 -- a value, by its test
@@ -100,7 +101,7 @@ has_value (Some x) h = record { value = x; is = refl }
 module _ (program : List Item) (script : List Item) where
   -- the place of a type that is declared
   pub type_fault-within : (name : List ℕ) → type_fault (record { program = program; script = script }) name ≡ None
-      → place_of name (type_names program) < length (types_of program)
+      → number_of_name name (type_names program) < length (types_of program)
   type_fault-within name h =
       let found = has_value (type_words name program) (unless-None (is_some (type_words name program)) kind.NoType h) in
       (type_words-IsAt (type_names program) name program found.value found.is).within
@@ -137,7 +138,7 @@ module _ (program : List Item) (script : List Item) where
       (offsets_fault (record { program = program; script = script }) words) h in
       All-cons (IsAmong (types_of program)) _ _ (inside_fault-IsAmong at both.0) (words_among words both.1)
 
--- the types that lines behind these declare
+-- the types that lines after these declare
 pub types-within : (program : List Item) (line : ℕ) (before items : List Item) → ArePassed before items
     → fault_from program line before items ≡ None
     → All (IsTypeAmong (types_of program)) (kinds_among (type_names program) items)
@@ -163,7 +164,7 @@ types-within program line before (item ∷ items) lines h =
     (at_line-None line (typing_fault (record { program = program; script = this_script before }) line items item)
     (fault_from program (line + 1) (before ++ item ∷ []) items) h).1
 
--- the globals that lines behind these declare
+-- the globals that lines after these declare
 pub globals-within : (program : List Item) (line : ℕ) (before items : List Item)
     → fault_from program line before items ≡ None
     → All (λ ty. ty < length (types_of program)) (globals_among (type_names program) items)

@@ -145,7 +145,7 @@ p_goes (op.Free p') q p r l found h =
     (onward_goes stage.LoadP (op.Free p') q p r l q found r l None refl h refl)
 p_goes o q p r l found h = onward_goes stage.LoadP o q p r l q found r l None refl h refl
 
--- behind a `put` comes `leave`
+-- after a `put` comes `leave`
 leave_stage : (o : Op) → has_stage o stage.Put ≡ true → has_stage o stage.Leave ≡ true
 leave_stage (op.Free p) h = cc
 leave_stage _ h = cc

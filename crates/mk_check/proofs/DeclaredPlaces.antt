@@ -12,38 +12,40 @@ use Rattle.mk_script.specs.declared.items.Item.{Item}
 use Rattle.mk_script.specs.declared.items.Item.TheVariants.{TypeLine, Global, Ptr}
 use Rattle.mk_script.specs.Scopes.{type_names, global_names, pointer_names}
 use Rattle.mk_check.specs.Typing.{type_words, global_type, pointer_at}
-use Rattle.mk_check.specs.Declarations.{place_of, kind_of, kinds_among, globals_among}
+use Rattle.mk_check.specs.Declarations.{number_of_name, kind_of, kinds_among, globals_among}
 
 -- the name at its place
-at_place : (name : List ℕ) (names : List (List ℕ)) → place_of name names < length names
-    → get_or names (place_of name names) [] ≡ name
+at_place : (name : List ℕ) (names : List (List ℕ)) → number_of_name name names < length names
+    → get_or names (number_of_name name names) [] ≡ name
 at_place name [] h = absurd (omega arith)
 at_place name (other ∷ others) h = by_test (at_place name others) (bytes_eq name other) refl h
   where
-    by_test : (place_of name others < length others → get_or others (place_of name others) [] ≡ name) → (same : Bool)
-        → bytes_eq name other ≡ same → (if same then 0 else place_of name others + 1) < suc (length others)
-        → get_or (other ∷ others) (if same then 0 else place_of name others + 1) [] ≡ name
+    by_test : (number_of_name name others < length others → get_or others (number_of_name name others) [] ≡ name)
+        → (same : Bool)
+        → bytes_eq name other ≡ same → (if same then 0 else number_of_name name others + 1) < suc (length others)
+        → get_or (other ∷ others) (if same then 0 else number_of_name name others + 1) [] ≡ name
     by_test rest true e h = sym ((bytes_eq-Decides name other).0 e)
     by_test rest false e h =
-        let within : place_of name others < length others = omega arith in
-        let next : place_of name others + 1 ≡ suc (place_of name others) = omega arith in
+        let within : number_of_name name others < length others = omega arith in
+        let next : number_of_name name others + 1 ≡ suc (number_of_name name others) = omega arith in
         rw next (rest within)
 
 -- names at one place are equal
-pub same_place : (name other : List ℕ) (names : List (List ℕ)) → place_of name names < length names
-    → place_of other names < length names
-    → place_of name names ≡ place_of other names → name ≡ other
+pub same_place : (name other : List ℕ) (names : List (List ℕ)) → number_of_name name names < length names
+    → number_of_name other names < length names
+    → number_of_name name names ≡ number_of_name other names → name ≡ other
 same_place name other names h h' e = sym (at_place name names h) ∙ ap (λ (k : ℕ). get_or names k []) e
     ∙ at_place other names h'
 
 pub pointer_within : (name : List ℕ) (lines : List Item) (at : At) → pointer_at name lines ≡ Some at
-    → place_of name (pointer_names lines) < length (pointer_names lines)
+    → number_of_name name (pointer_names lines) < length (pointer_names lines)
 pointer_within name [] at e = cc
 pointer_within name (Ptr other place ∷ lines) at e = by_test (pointer_within name lines at) (bytes_eq name other) e
   where
-    by_test : (pointer_at name lines ≡ Some at → place_of name (pointer_names lines) < length (pointer_names lines))
+    by_test : (pointer_at name lines ≡ Some at
+        → number_of_name name (pointer_names lines) < length (pointer_names lines))
         → (same : Bool) → (if same then Some place else pointer_at name lines) ≡ Some at
-        → (if same then 0 else place_of name (pointer_names lines) + 1) < suc (length (pointer_names lines))
+        → (if same then 0 else number_of_name name (pointer_names lines) + 1) < suc (length (pointer_names lines))
     by_test rest true f = omega arith
     by_test rest false f = let within = rest f in omega arith
 pointer_within name (item ∷ lines) at e = pointer_within name lines at e
@@ -51,51 +53,56 @@ pointer_within name (item ∷ lines) at e = pointer_within name lines at e
 module _ (types : List (List ℕ)) where
   -- the kinds of a type are those of its words
   pub type_place : (name : List ℕ) (items : List Item) (words : List TypeWord) → type_words name items ≡ Some words
-      → (place_of name (type_names items) < length (kinds_among types items))
-      × (kinds_of (kinds_among types items) (place_of name (type_names items)) ≡ map (kind_of types) words)
+      → (number_of_name name (type_names items) < length (kinds_among types items))
+      × (kinds_of (kinds_among types items) (number_of_name name (type_names items)) ≡ map (kind_of types) words)
   type_place name [] words e = cc
   type_place name (TypeLine other words' ∷ items) words e =
       by_test (type_place name items words) (bytes_eq name other) e
     where
       by_test : (type_words name items ≡ Some words
-          → (place_of name (type_names items) < length (kinds_among types items))
-          × (kinds_of (kinds_among types items) (place_of name (type_names items)) ≡ map (kind_of types) words))
+          → (number_of_name name (type_names items) < length (kinds_among types items))
+          × (kinds_of (kinds_among types items) (number_of_name name (type_names items)) ≡ map (kind_of types) words))
           → (same : Bool) → (if same then Some words' else type_words name items) ≡ Some words
-          → ((if same then 0 else place_of name (type_names items) + 1) < suc (length (kinds_among types items)))
+          → ((if same then 0 else number_of_name name (type_names items) + 1) < suc (length (kinds_among types items)))
           × (kinds_of (map (kind_of types) words' ∷ kinds_among types items) (if same then 0
-          else place_of name (type_names items) + 1) ≡ map (kind_of types) words)
+          else number_of_name name (type_names items) + 1) ≡ map (kind_of types) words)
       by_test rest true f = (omega arith, ap (map (kind_of types)) (same_Some words' words f))
       by_test rest false f =
           let found = rest f in
-          let next : place_of name (type_names items) + 1 ≡ suc (place_of name (type_names items)) = omega arith in
+          let next : number_of_name name (type_names items) + 1
+          ≡ suc (number_of_name name (type_names items)) = omega arith in
           (omega (arith, found.0), rw next found.1)
   type_place name (item ∷ items) words e = type_place name items words e
 
   -- a global has the type that it is declared for
   pub global_place : (name : List ℕ) (items : List Item) (ty : List ℕ) → global_type name items ≡ Some ty
-      → slice_get (globals_among types items) (place_of name (global_names items)) ≡ Some (place_of ty types)
+      → slice_get (globals_among types items) (number_of_name name (global_names items))
+      ≡ Some (number_of_name ty types)
   global_place name [] ty e = cc
   global_place name (Global other ty' ∷ items) ty e = by_test (global_place name items ty) (bytes_eq name other) e
     where
       by_test : (global_type name items ≡ Some ty
-          → slice_get (globals_among types items) (place_of name (global_names items)) ≡ Some (place_of ty types))
+          → slice_get (globals_among types items) (number_of_name name (global_names items))
+          ≡ Some (number_of_name ty types))
           → (same : Bool) → (if same then Some ty' else global_type name items) ≡ Some ty
-          → slice_get (place_of ty' types ∷ globals_among types items) (if same then 0
-          else place_of name (global_names items) + 1) ≡ Some (place_of ty types)
-      by_test rest true f = ap (λ (t : List ℕ). Some (place_of t types)) (same_Some ty' ty f)
+          → slice_get (number_of_name ty' types ∷ globals_among types items) (if same then 0
+          else number_of_name name (global_names items) + 1) ≡ Some (number_of_name ty types)
+      by_test rest true f = ap (λ (t : List ℕ). Some (number_of_name t types)) (same_Some ty' ty f)
       by_test rest false f =
-          let next : place_of name (global_names items) + 1 ≡ suc (place_of name (global_names items)) = omega arith in
+          let next : number_of_name name (global_names items) + 1
+          ≡ suc (number_of_name name (global_names items)) = omega arith in
           rw next (rest f)
   global_place name (item ∷ items) ty e = global_place name items ty e
 
 pub global_within : (name : List ℕ) (items : List Item) (ty : List ℕ) → global_type name items ≡ Some ty
-    → place_of name (global_names items) < length (global_names items)
+    → number_of_name name (global_names items) < length (global_names items)
 global_within name [] ty e = cc
 global_within name (Global other ty' ∷ items) ty e = by_test (global_within name items ty) (bytes_eq name other) e
   where
-    by_test : (global_type name items ≡ Some ty → place_of name (global_names items) < length (global_names items))
+    by_test : (global_type name items ≡ Some ty
+        → number_of_name name (global_names items) < length (global_names items))
         → (same : Bool) → (if same then Some ty' else global_type name items) ≡ Some ty
-        → (if same then 0 else place_of name (global_names items) + 1) < suc (length (global_names items))
+        → (if same then 0 else number_of_name name (global_names items) + 1) < suc (length (global_names items))
     by_test rest true f = omega arith
     by_test rest false f = let within = rest f in omega arith
 global_within name (item ∷ items) ty e = global_within name items ty e

@@ -21,7 +21,7 @@ use Rattle.mk_script.specs.declared.items.TypeWord.TheVariants.{Pointer}
 use Rattle.mk_script.specs.declared.items.Item.{Item}
 use Rattle.mk_script.specs.Scopes.{type_names, global_names, pointer_names}
 use Rattle.mk_check.specs.Typing.{type_words, global_type, pointer_at, moved_by, word_among, base_of}
-use Rattle.mk_check.specs.Declarations.{place_of, kind_of, types_of, globals_of}
+use Rattle.mk_check.specs.Declarations.{number_of_name, kind_of, types_of, globals_of}
 use Rattle.mk_check.proofs.DeclaredPlaces.{same_place, pointer_within, type_place, global_place}
 use Rattle.mk_check.proofs.TypedLines.{PointsBefore}
 
@@ -31,7 +31,7 @@ kind_at program at = kind_of (type_names program) (Pointer at)
 
 -- what the caller's register of this name holds
 abbrev pub register_of : List Item → NeverState → ℕ → List ℕ → Value
-register_of script n caller name = register_at n caller (place_of name (pointer_names script))
+register_of script n caller name = register_at n caller (number_of_name name (pointer_names script))
 
 -- Each register that the script declares is null or points to the place that it is declared for.
 abbrev pub AreAsDeclared : List Item → List Item → NeverState → ℕ → Type 0
@@ -50,19 +50,21 @@ pub record FitsScript (program script : List Item) (n : NeverState) (caller : �
 -- A register that is set to what it is declared for.
 pub set_register : (program script : List Item) (n : NeverState) (caller : ℕ) (name : List ℕ) (at : At) (v : Value)
     → AreAsDeclared program script n caller → pointer_at name script ≡ Some at → IsOfKind v (kind_at program at)
-    → AreAsDeclared program script (with_register n caller (place_of name (pointer_names script)) v) caller
+    → AreAsDeclared program script (with_register n caller (number_of_name name (pointer_names script)) v) caller
 set_register program script n caller name at v before is of_kind = λ other at' is'.
-    let here : 8 * caller + place_of other (pointer_names script) ≡ 8 * caller + place_of name (pointer_names script)
+    let here : 8 * caller + number_of_name other (pointer_names script)
+    ≡ 8 * caller + number_of_name name (pointer_names script)
     → IsOfKind v (kind_at program at') =
     λ e.
-    let same_places : place_of other (pointer_names script) ≡ place_of name (pointer_names script) = omega arith in
+    let same_places : number_of_name other (pointer_names script)
+    ≡ number_of_name name (pointer_names script) = omega arith in
     let same : other ≡ name =
     same_place other name (pointer_names script) (pointer_within other script at' is')
     (pointer_within name script at is) same_places in
     let places : at' ≡ at = same_Some at' at (sym is' ∙ (ap (λ (x : List ℕ). pointer_at x script) same ∙ is)) in
     subst (λ (x : At). IsOfKind v (kind_at program x)) (sym places) of_kind in
-    set_by (λ x. IsOfKind x (kind_at program at')) n.registers (8 * caller + place_of name (pointer_names script))
-    (8 * caller + place_of other (pointer_names script)) v Null here
+    set_by (λ x. IsOfKind x (kind_at program at')) n.registers (8 * caller + number_of_name name (pointer_names script))
+    (8 * caller + number_of_name other (pointer_names script)) v Null here
     (before other at' is')
 
 -- What is i words on from a register.
@@ -93,12 +95,12 @@ meets_word program n (Num m) at i word types typed sound of_kind is = tt
 meets_word program n (Ptr number ty offset) at i word types typed sound of_kind is =
     let names = type_names program in
     let found = word_in (type_words at.name program) (at.offset + i) word is in
-    let whole : kinds_of (types_of program) (place_of at.name names) ≡ map (kind_of names) found.all =
+    let whole : kinds_of (types_of program) (number_of_name at.name names) ≡ map (kind_of names) found.all =
     (type_place names at.name program found.all found.is).1 in
-    let ty_is : (allocation_at n number).ty ≡ place_of at.name names = sym sound.1 ∙ of_kind.0 in
+    let ty_is : (allocation_at n number).ty ≡ number_of_name at.name names = sym sound.1 ∙ of_kind.0 in
     let kinds : kinds_of n.types (allocation_at n number).ty ≡ map (kind_of names) found.all =
     ap (λ (t : ℕ). kinds_of n.types t) ty_is
-    ∙ (ap (λ (t : List (List Kind)). kinds_of t (place_of at.name names)) types ∙ whole) in
+    ∙ (ap (λ (t : List (List Kind)). kinds_of t (number_of_name at.name names)) types ∙ whole) in
     let within : at.offset + i < length found.all = slice_get_within found.all (at.offset + i) word found.at in
     let size : length (words_of n number) ≡ length (map (kind_of names) found.all) =
     (typed.allocations number sound.0).size ∙ ap (λ (k : List Kind). length k) kinds in
@@ -117,26 +119,27 @@ pub meets_before : (program script : List Item) (n : NeverState) (caller : ℕ) 
     → Meets n (register_of script n caller pointer) i (λ kind. kind ≡ kind_of (type_names program) word)
 meets_before program script n caller s pointer i word b =
     meets_word program n (register_of script n caller pointer) b.at i word s.types s.typed
-    (s.typed.registers (8 * caller + place_of pointer (pointer_names script))) (s.declared pointer b.at b.declared) b.is
+    (s.typed.registers (8 * caller + number_of_name pointer (pointer_names script)))
+    (s.declared pointer b.at b.declared) b.is
 
 -- a word that is reached is in an allocation, and of its kind
-record IsReached (n : NeverState) (number place : ℕ) (Q : Kind → Type 0) : Type 0 where
+record IsTypedWord (n : NeverState) (number place : ℕ) (Q : Kind → Type 0) : Type 0 where
   there : number < length n.allocations
   inside : place < length (words_of n number)
   is : Q (kind_in n (allocation_at n number) place)
 
-reached : (n : NeverState) (v : Value) (i : ℕ) (Q : Kind → Type 0) (number place : ℕ) → Meets n v i Q
-    → target_of n v i ≡ WordOf number place → IsReached n number place Q
-reached n Null i Q number place meets e = cc
-reached n (Num m) i Q number place meets e = cc
-reached n (Ptr a ty offset) i Q number place meets e =
-    if_by (λ t. t ≡ WordOf number place → IsReached n number place Q) (is_unmapped (allocation_at n a)) Unmapped
+is_typed_word : (n : NeverState) (v : Value) (i : ℕ) (Q : Kind → Type 0) (number place : ℕ) → Meets n v i Q
+    → target_of n v i ≡ WordOf number place → IsTypedWord n number place Q
+is_typed_word n Null i Q number place meets e = cc
+is_typed_word n (Num m) i Q number place meets e = cc
+is_typed_word n (Ptr a ty offset) i Q number place meets e =
+    if_by (λ t. t ≡ WordOf number place → IsTypedWord n number place Q) (is_unmapped (allocation_at n a)) Unmapped
     (WordOf a (offset + i))
     (λ unmapped f. absurd (cc))
     (λ mapped f.
     let number_is : a ≡ number = cc in
     let place_is : offset + i ≡ place = cc in
-    subst (λ (k : ℕ). IsReached n k place Q) number_is (subst (λ (p : ℕ). IsReached n a p Q) place_is
+    subst (λ (k : ℕ). IsTypedWord n k place Q) number_is (subst (λ (p : ℕ). IsTypedWord n a p Q) place_is
     (record { there = exists n a (offset + i) meets.0; inside = meets.0; is = meets.1 }))) e
 
 -- a pointer word that is loaded points to where it is declared to
@@ -145,7 +148,7 @@ pub loaded_word : (program : List Item) (n : NeverState) (v : Value) (i : ℕ) (
     → Meets n v i (λ kind. kind ≡ kind_at program at) → target_of n v i ≡ WordOf number place
     → IsOfKind (word_at n number place) (kind_at program at)
 loaded_word program n v i at number place typed meets e =
-    let r = reached n v i (λ kind. kind ≡ kind_at program at) number place meets e in
+    let r = is_typed_word n v i (λ kind. kind ≡ kind_at program at) number place meets e in
     let suits : Suits n (word_at n number place) (kind_at program at) =
     subst (λ (k : Kind). Suits n (word_at n number place) k) r.is
     ((typed.allocations number r.there).words place r.inside) in
@@ -161,7 +164,8 @@ moved_word program (Ptr number ty offset) i at of_kind = (of_kind.0, ap (λ (o :
 -- what a global holds
 pub global_word : (program : List Item) (n : NeverState) (name ty : List ℕ) → IsTyped (globals_of program) n
     → global_type name program ≡ Some ty
-    → IsOfKind (global_at n (place_of name (global_names program))) (kind_at program (base_of ty))
+    → IsOfKind (global_at n (number_of_name name (global_names program))) (kind_at program (base_of ty))
 global_word program n name ty typed is =
-    subst (λ (o : Option ℕ). IfSome o (λ t. IsOfKind (global_at n (place_of name (global_names program))) (To t 0)))
-    (global_place (type_names program) name program ty is) (typed.listed (place_of name (global_names program)))
+    subst (λ (o : Option ℕ). IfSome o (λ t. IsOfKind (global_at n (number_of_name name (global_names program)))
+    (To t 0)))
+    (global_place (type_names program) name program ty is) (typed.listed (number_of_name name (global_names program)))

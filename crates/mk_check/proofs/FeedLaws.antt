@@ -49,7 +49,7 @@ ops_taken scope fed (Line line item rest) a o h =
 ops_taken scope fed (Rounds rounds body rest) a o h = cc
 ops_taken scope fed (Choice number first second rest) a o h = cc
 
--- The operation that is answered is noted behind those before it.
+-- The operation that is answered is noted after those before it.
 pub ops-feed_push : (program : List Item) (k : ℕ) (answers : List Answer) (a : Answer) (o : Op)
     → next_op program k answers ≡ Some o
     → (feed program k (answers ++ a ∷ [])).ops ≡ (feed program k answers).ops ++ flagged o a ∷ []

@@ -40,7 +40,7 @@ this_script_push : (before : List Item) (item : Item)
 this_script_push before item = fold_push (λ (lines : List Item) (x : Item). if is_script x then []
     else lines ++ x ∷ []) [] before item
 
--- behind a line that is no script, the script has its pointer registers and the line's
+-- after a line that is no script, the script has its pointer registers and the line's
 pointers_more : (before : List Item) (item : Item) → is_script item ≡ false
     → pointers (this_script (before ++ item ∷ [])) ≡ pointers (this_script before) + pointers (item ∷ [])
 pointers_more before item e =

@@ -1,4 +1,4 @@
--- What a script was given behind a history, with one event more.
+-- What a script was given after a history, with one event more.
 use Rattle.std.proofs.Common.{◌≡◌, ◌≢◌, ℕ, zero, suc, ◌+◌, ◌<◌, ◌≤◌, eq-eqb, Bool, true, false, List, [], ◌∷◌, ◌++◌}
 use Rattle.std.proofs.Common.{length, take, map, get_or, set, replicate, refl, sym, ◌∙◌, ap, subst, append-nil}
 use Rattle.std.proofs.Common.{append_assoc, arith, inl, inr}
@@ -53,7 +53,7 @@ pub record Serves (callers : ℕ) (flights : List Flight) (k n : ℕ) (answers :
   pub stage : has_stage (get_or flights k at_rest).op (get_or flights k at_rest).stage ≡ true
   pub decided : length answers ≡ n + pending (get_or flights k at_rest).stage
 
--- the same behind an event, which is caller k's or another's, and may be its call's last one
+-- the same after an event, which is caller k's or another's, and may be its call's last one
 pub record ServesMore (callers : ℕ) (new : List Flight) (k n : ℕ) (answers : List Answer) (decided : Option Answer)
     (mine is_last : Bool) : Type 0 where
   pub serves : Serves callers new k (counted n (mine && is_last)) (answers ++ (if mine then as_list decided else []))

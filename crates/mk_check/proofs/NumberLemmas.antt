@@ -9,12 +9,12 @@ use Rattle.mk_script.specs.declared.items.TypeWord.{TypeWord}
 use Rattle.mk_script.specs.declared.items.Item.{Item}
 use Rattle.mk_script.specs.declared.items.Item.TheVariants.{TypeLine, Global}
 use Rattle.mk_script.specs.Scopes.{type_names, global_names}
-use Rattle.mk_check.specs.Declarations.{place_of, kind_of, kinds_among, globals_among}
+use Rattle.mk_check.specs.Declarations.{number_of_name, kind_of, kinds_among, globals_among}
 use Rattle.std.specs.Borrow.{Bor}
 use Rattle.std.specs.HashMap.{HashMap}
 use Rattle.std.proofs.lemmas.List.{length-append}
 use Rattle.mk_check.specs.Lookups.{AddsFirst}
-use Rattle.mk_check.specs.Numbers.{place_among, AreNumbers}
+use Rattle.mk_check.specs.Numbers.{number_among, AreNumbers}
 
 place-step : (b : Bool) (o : Option ℕ) (n : ℕ)
     → (if b then 0 else unwrap_or o n + 1) ≡ unwrap_or (if b then Some 0 else option_map (λ place. place + 1) o) (suc n)
@@ -22,29 +22,29 @@ place-step true o n = refl
 place-step false None n = omega arith
 place-step false (Some place) n = refl
 
-pub place_of-among : (name : List ℕ) (names : List (List ℕ))
-    → place_of name names ≡ unwrap_or (place_among name names) (length names)
-place_of-among name [] = refl
-place_of-among name (other ∷ others) =
-    ap (λ place. if bytes_eq name other then 0 else place + 1) (place_of-among name others)
-    ∙ place-step (bytes_eq name other) (place_among name others) (length others)
+pub number_of_name-among : (name : List ℕ) (names : List (List ℕ))
+    → number_of_name name names ≡ unwrap_or (number_among name names) (length names)
+number_of_name-among name [] = refl
+number_of_name-among name (other ∷ others) =
+    ap (λ place. if bytes_eq name other then 0 else place + 1) (number_of_name-among name others)
+    ∙ place-step (bytes_eq name other) (number_among name others) (length others)
 
-place_among-step : (b c : Bool) (o : Option ℕ) (n : ℕ)
+number_among-step : (b c : Bool) (o : Option ℕ) (n : ℕ)
     → (if b then Some 0 else option_map (λ place. place + 1) (option_or o (if c then Some n else None)))
     ≡ option_or (if b then Some 0 else option_map (λ place. place + 1) o) (if c then Some (suc n) else None)
-place_among-step true c o n = refl
-place_among-step false true None n = ap Some (omega arith)
-place_among-step false false None n = refl
-place_among-step false c (Some place) n = refl
+number_among-step true c o n = refl
+number_among-step false true None n = ap Some (omega arith)
+number_among-step false false None n = refl
+number_among-step false c (Some place) n = refl
 
-pub place_among-push : (name : List ℕ) (names : List (List ℕ)) (last : List ℕ)
-    → place_among name (names ++ last ∷ [])
-    ≡ option_or (place_among name names) (if bytes_eq name last then Some (length names) else None)
-place_among-push name [] last = refl
-place_among-push name (other ∷ others) last =
+pub number_among-push : (name : List ℕ) (names : List (List ℕ)) (last : List ℕ)
+    → number_among name (names ++ last ∷ [])
+    ≡ option_or (number_among name names) (if bytes_eq name last then Some (length names) else None)
+number_among-push name [] last = refl
+number_among-push name (other ∷ others) last =
     ap (λ place. if bytes_eq name other then Some 0 else option_map (λ n. n + 1) place)
-    (place_among-push name others last)
-    ∙ place_among-step (bytes_eq name other) (bytes_eq name last) (place_among name others) (length others)
+    (number_among-push name others last)
+    ∙ number_among-step (bytes_eq name other) (bytes_eq name last) (number_among name others) (length others)
 
 pub type_names-append : (items behind : List Item)
     → type_names (items ++ behind) ≡ type_names items ++ type_names behind
@@ -82,7 +82,7 @@ module _ (types : List (List ℕ)) where
       → globals_among types (items ++ behind) ≡ globals_among types items ++ globals_among types behind
   globals_among-append [] behind = refl
   globals_among-append (Global name ty ∷ items) behind =
-      ap (λ globals. place_of ty types ∷ globals) (globals_among-append items behind)
+      ap (λ globals. number_of_name ty types ∷ globals) (globals_among-append items behind)
   globals_among-append (item ∷ items) behind = globals_among-append items behind
 
   pub globals_among-push_other : (items : List Item) (item : Item) → ((name ty : List ℕ) → item ≡ Global name ty → ⊥)
@@ -90,7 +90,7 @@ module _ (types : List (List ℕ)) where
   globals_among-push_other [] (Global name ty) differs = absurd (differs name ty refl)
   globals_among-push_other [] item differs = refl
   globals_among-push_other (Global name ty ∷ items) item differs =
-      ap (λ globals. place_of ty types ∷ globals) (globals_among-push_other items item differs)
+      ap (λ globals. number_of_name ty types ∷ globals) (globals_among-push_other items item differs)
   globals_among-push_other (first ∷ items) item differs = globals_among-push_other items item differs
 
   pub length-globals_among : (items : List Item) → length (globals_among types items) ≡ length (global_names items)
@@ -134,7 +134,7 @@ pub AreNumbers-push : {S : Type 0} (old new : HashMap (Bor (List ℕ)) ℕ S) (c
 AreNumbers-push old new count names name adds known = record {
   places = λ other.
       adds other ∙ ap (λ place. option_or place (if bytes_eq other name then Some count else None)) (known.places other)
-      ∙ ap (λ n. option_or (place_among other names) (if bytes_eq other name then Some n else None)) known.all
-      ∙ sym (place_among-push other names name);
+      ∙ ap (λ n. option_or (number_among other names) (if bytes_eq other name then Some n else None)) known.all
+      ∙ sym (number_among-push other names name);
   all = omega (arith, known.all, length-append names (name ∷ []));
 }

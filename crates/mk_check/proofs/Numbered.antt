@@ -5,7 +5,7 @@ use Rattle.mk_never.specs.declared.operations.Op.{Op}
 use Rattle.mk_core.specs.declared.events.Answer.{Answer}
 use Rattle.mk_script.specs.declared.items.Item.{Item}
 use Rattle.mk_script.specs.declared.items.Item.TheVariants.{Heap}
-use Rattle.mk_check.specs.Declarations.{place_of}
+use Rattle.mk_check.specs.Declarations.{number_of_name}
 use Rattle.mk_check.specs.Blocks.{Blocks, Done, Line, Rounds, Choice, followed_by}
 use Rattle.mk_check.specs.Feed.{Scope, Fed, number_in, op_of, run_line, then_run, run_rounds, run, with_answer}
 use Rattle.mk_check.specs.Steps.{Steps, then_steps, none_left, steps_of, instruction_of, Kept, Stopped, op_asked}
@@ -26,7 +26,7 @@ steps_of-followed_by scope (Line line item rest) b =
 steps_of-followed_by scope (Rounds rounds body rest) b =
     ap (steps.Rounds rounds (steps_of scope body)) (steps_of-followed_by scope rest b)
 steps_of-followed_by scope (Choice number first second rest) b =
-    ap (steps.Choice (place_of number scope.numbers) (steps_of scope first) (steps_of scope second))
+    ap (steps.Choice (number_of_name number scope.numbers) (steps_of scope first) (steps_of scope second))
     (steps_of-followed_by scope rest b)
 
 pub op_of-asked : (scope : Scope) (fed : Fed) (item : Item)

@@ -30,7 +30,7 @@ part_of-with_item scope line Else (second ∷ parts) = refl
 part_of-with_item scope line End parts = refl
 part_of-with_item scope line item parts = line_of_parts scope line item parts
 
--- the parts from an item are those behind it, with the item before them
+-- the parts from an item are those after it, with the item before them
 pub parts_from_more : (scope : Scope) (line i next : ℕ) (items : List Item) (item : Item) → i < length items
     → item ≡ slice_index_or items i item → next ≡ i + 1
     → with_element (line + i) (element_of scope item) (map (part_of scope) (parts_from (line + next) (drop next items)))

@@ -217,7 +217,7 @@ answer_stands program k answers a s t line instruction next tree w e some stop s
     (stop ∙ (ap (λ (x : Steps). stop_on_answer x a (kept_in s.place)) st.left
     ∙ ap (stop_on_answer (steps_of scope fed.left) a) kept))
 
--- The text of an answer is made apart, and stands behind the text before.
+-- The text of an answer is made apart, and stands after the text before.
 
 after_answer-text : (text : List ℕ) (instruction : Instruction) (a : Answer) (k : Kept)
     → after_answer instruction a (behind_text text k) ≡ behind_text text (after_answer instruction a k)

@@ -16,7 +16,7 @@ then_steps_assoc (Line line instruction rest) b c = ap (Line line instruction) (
 then_steps_assoc (Rounds rounds body rest) b c = ap (Rounds rounds body) (then_steps_assoc rest b c)
 then_steps_assoc (Choice number first second rest) b c = ap (Choice number first second) (then_steps_assoc rest b c)
 
--- behind a part that ran two others run as one
+-- after a part that ran two others run as one
 then_ran_then : (left : Steps) (kept : Kept) (rest more : Steps)
     → ((k : Kept) → stop_of (then_steps rest more) k ≡ stop_behind (stop_of rest k) (stop_of more) more)
     → stop_behind (record { left = left; kept = kept }) (stop_of (then_steps rest more)) (then_steps rest more)
@@ -54,7 +54,7 @@ stop_of-then_steps (Choice number first second rest) b k =
     let s : Stopped = if slice_index k.numbers number == 0 then stop_of second k else stop_of first k in
     then_ran_then s.left s.kept rest b (stop_of-then_steps rest b)
 
--- rounds behind the first, which may have stopped
+-- rounds after the first, which may have stopped
 rounds_behind : (left : Steps) (kept : Kept) (more : ℕ) (body rest : Steps)
     → stop_behind (stop_behind (record { left = left; kept = kept }) (stop_of_rounds more body (stop_of body))
     (Rounds more body Done)) (stop_of rest) rest

@@ -11,7 +11,7 @@ use Rattle.mk_check.specs.Blocks.{with_else, no_lines, parts_from, outermost_blo
 use Rattle.mk_check.specs.Blocks.{script_of}
 use Rattle.mk_check.specs.WrittenBlocks.{is_plain, IsSecondBranch, AreWritten, ScriptsAreTheirLines}
 
--- what stands behind the `else` of a part, which may be one that has none
+-- what stands after the `else` of a part, which may be one that has none
 abbrev MayHave : Bool → Option Blocks → Type 0
 MayHave true second = Unit {0}
 MayHave false second = second ≡ None
@@ -223,7 +223,7 @@ front_closes [] (Script name ∷ items) h = refl
 front_closes (block ∷ blocks) (Script name ∷ items) h = absurd h
 front_closes blocks (item ∷ items) h = front_closes blocks items h
 
--- what closes behind a line, whichever blocks are open there
+-- what closes after a line, whichever blocks are open there
 record Later (items : List Item) : Type 0 where
   blocks : List Bool
   closes : Closes blocks items

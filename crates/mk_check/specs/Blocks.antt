@@ -4,7 +4,7 @@ use Rattle.mk_script.specs.declared.items.Item.{Item}
 use Rattle.mk_script.specs.declared.items.Item.TheVariants.{Script, Repeat, If, Else, End}
 
 -- Lines to run: a plain line, a `repeat` of a body, or an `if` on a number register with its two branches, each
--- with the lines behind it.
+-- with the lines after it.
 pub data Blocks : Type 0 where
   Done : Blocks
   Line : (line : ℕ) → Item → Blocks → Blocks

@@ -10,13 +10,13 @@ use Rattle.mk_script.specs.declared.items.Item.TheVariants.{Heap, TypeLine, Glob
 use Rattle.mk_core.specs.declared.config.Config.{Config}
 use Rattle.mk_script.specs.Scopes.{type_names, script_names}
 
-abbrev pub place_of : List ℕ → List (List ℕ) → ℕ
-place_of name [] = 0
-place_of name (other ∷ others) = if bytes_eq name other then 0 else place_of name others + 1
+abbrev pub number_of_name : List ℕ → List (List ℕ) → ℕ
+number_of_name name [] = 0
+number_of_name name (other ∷ others) = if bytes_eq name other then 0 else number_of_name name others + 1
 
 abbrev pub kind_of : List (List ℕ) → TypeWord → Kind
 kind_of types Number = NumKind
-kind_of types (Pointer at) = To (place_of at.name types) at.offset
+kind_of types (Pointer at) = To (number_of_name at.name types) at.offset
 
 abbrev pub kinds_among : List (List ℕ) → List Item → List (List Kind)
 kinds_among types [] = []
@@ -29,7 +29,7 @@ types_of items = kinds_among (type_names items) items
 
 abbrev pub globals_among : List (List ℕ) → List Item → List ℕ
 globals_among types [] = []
-globals_among types (Global name ty ∷ items) = place_of ty types ∷ globals_among types items
+globals_among types (Global name ty ∷ items) = number_of_name ty types ∷ globals_among types items
 globals_among types (item ∷ items) = globals_among types items
 
 -- the types of its globals
@@ -47,7 +47,7 @@ resident_of [] = 0
 resident_of (Heap pages resident ∷ items) = resident
 resident_of (item ∷ items) = resident_of items
 
--- the heap that a program's scripts share, with so many markers
+-- the heap that a program's scripts share, with this many markers
 abbrev pub config_of : List Item → ℕ → Config
 config_of program markers =
     record {

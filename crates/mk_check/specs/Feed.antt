@@ -15,7 +15,7 @@ use Rattle.mk_script.specs.declared.items.Item.TheVariants.{Setn, Getp, Setp, Ca
 use Rattle.mk_script.specs.declared.items.Item.TheVariants.{Same, Isnull, Show, Const, Add, Sub, Print, Repeat, If}
 use Rattle.mk_script.specs.declared.items.Item.TheVariants.{Else, End}
 use Rattle.mk_script.specs.Scopes.{type_names, global_names, pointer_names, number_names}
-use Rattle.mk_check.specs.Declarations.{place_of}
+use Rattle.mk_check.specs.Declarations.{number_of_name}
 use Rattle.mk_check.specs.Blocks.{Blocks, Done, Line, Rounds, Choice, followed_by, is_done, blocks_from, ScriptText}
 use Rattle.mk_check.specs.Blocks.{script_of}
 
@@ -35,13 +35,16 @@ pub record Fed : Type 0 where
   pub text : List ℕ
 
 abbrev pub pointer_place : Scope → List ℕ → ℕ
-pointer_place scope name = place_of name scope.pointers
+pointer_place scope name = number_of_name name scope.pointers
 
 abbrev pub number_in : Scope → Fed → List ℕ → ℕ
-number_in scope fed name = slice_index fed.numbers (place_of name scope.numbers)
+number_in scope fed name = slice_index fed.numbers (number_of_name name scope.numbers)
 
 abbrev pub with_number : Scope → Fed → List ℕ → ℕ → Fed
-with_number scope fed name value = record fed { numbers = slice_set fed.numbers (place_of name scope.numbers) value }
+with_number scope fed name value = record fed {
+  numbers =
+      slice_set fed.numbers (number_of_name name scope.numbers) value;
+}
 
 -- the operation that an instruction asks for, if it is one on the heap, a register or a global
 abbrev pub op_of : Scope → Fed → Item → Option Op
@@ -51,7 +54,7 @@ op_of scope fed (Global name ty) = None
 op_of scope fed (Script name) = None
 op_of scope fed (Ptr name at) = None
 op_of scope fed (Num name) = None
-op_of scope fed (New pointer ty) = Some (op.New (pointer_place scope pointer) (place_of ty scope.types) false)
+op_of scope fed (New pointer ty) = Some (op.New (pointer_place scope pointer) (number_of_name ty scope.types) false)
 op_of scope fed (Free pointer) = Some (op.Free (pointer_place scope pointer))
 op_of scope fed (Getn number pointer index) = Some (op.GetNum (pointer_place scope pointer) index)
 op_of scope fed (Setn pointer index number) =
@@ -66,9 +69,10 @@ op_of scope fed (Lea moved pointer index) =
     Some (op.Lea (pointer_place scope moved) (pointer_place scope pointer) index)
 op_of scope fed (Move copied pointer) = Some (op.Move (pointer_place scope copied) (pointer_place scope pointer))
 op_of scope fed (Clear pointer) = Some (op.Clear (pointer_place scope pointer))
-op_of scope fed (Loadg loaded global) = Some (op.GetGlobal (pointer_place scope loaded) (place_of global scope.globals))
+op_of scope fed (Loadg loaded global) =
+    Some (op.GetGlobal (pointer_place scope loaded) (number_of_name global scope.globals))
 op_of scope fed (Storeg stored global) =
-    Some (op.SetGlobal (place_of global scope.globals) (pointer_place scope stored))
+    Some (op.SetGlobal (number_of_name global scope.globals) (pointer_place scope stored))
 op_of scope fed (Same number first second) = Some (op.Same (pointer_place scope first) (pointer_place scope second))
 op_of scope fed (Isnull number pointer) = Some (op.IsNull (pointer_place scope pointer))
 op_of scope fed (Show pointer) = Some (op.IsNull (pointer_place scope pointer))
@@ -94,7 +98,7 @@ run_line scope fed (Sub number left right) =
 run_line scope fed (Print number) = record fed { text = fed.text ++ (decimal (number_in scope fed number) ++ newline) }
 run_line scope fed item = fed
 
--- what runs behind a part that may have stopped at an operation
+-- what runs after a part that may have stopped at an operation
 abbrev pub then_run : Fed → (Fed → Fed) → Blocks → Fed
 then_run fed go rest = if is_done fed.left then go fed else record fed { left = followed_by fed.left rest }
 

@@ -75,7 +75,7 @@ abbrev pub IsWaiting : FeedState → Type 0
 IsWaiting s = (program : List Item) (k : ℕ) (answers : List Answer)
     → FeedStandsFor program k s answers → has_ended (feed program k answers) ≡ false
 
--- Whatever the first stands for, the second stands for that with the answer behind it.
+-- Whatever the first stands for, the second stands for that with the answer after it.
 abbrev pub TakesAnswer : FeedState → Answer → FeedState → Type 0
 TakesAnswer old answer new = (program : List Item) (k : ℕ) (answers : List Answer)
     → FeedStandsFor program k old answers → FeedStandsFor program k new (answers ++ answer ∷ [])

@@ -31,13 +31,13 @@ ops_of_caller caller (x ∷ xs) = if x.caller == caller then x.op ∷ ops_of_cal
 abbrev pub AreNotedBy : List Item → ℕ → List Answer → List Call → Type 0
 AreNotedBy program k answers calls = ops_of_caller k calls ≡ (feed program k answers).ops
 
--- Behind what script k asks for next, noted with any answer, the caller's operations are still those that the script
+-- After what script k asks for next, noted with any answer, the caller's operations are still those that the script
 -- notes.
 abbrev pub AnswersAreNoted : List Item → ℕ → List Answer → List Call → Type 0
 AnswersAreNoted program k answers calls = (op : Op) (answer : Answer) → next_op program k answers ≡ Some op
     → AreNotedBy program k (answers ++ answer ∷ []) (calls ++ record { caller = k; op = flagged op answer } ∷ [])
 
--- Behind a call of another, they are those that it noted.
+-- After a call of another, they are those that it noted.
 abbrev pub OthersAreIgnored : List Item → ℕ → List Answer → List Call → Type 0
 OthersAreIgnored program k answers calls =
     (call : Call) → call.caller ≢ k → AreNotedBy program k answers (calls ++ call ∷ [])
@@ -50,12 +50,12 @@ heap_of program callers = start_of (types_of program) callers
 abbrev pub AreAdmittedFor : List Item → ℕ → List Call → Type 0
 AreAdmittedFor program callers calls = AreAdmitted (globals_of program) (heap_of program callers) calls
 
--- The operation is admitted behind the calls.
+-- The operation is admitted after the calls.
 abbrev pub OpIsAdmittedBehind : List Item → ℕ → List Call → ℕ → Op → Type 0
 OpIsAdmittedBehind program callers calls caller op =
     IsAdmitted (globals_of program) (after_calls (heap_of program callers) calls) caller op
 
--- What script k asks for next is admitted behind the calls, as it is asked for and as it is noted with any answer.
+-- What script k asks for next is admitted after the calls, as it is asked for and as it is noted with any answer.
 pub record NextIsAdmitted (program : List Item) (callers : ℕ) (calls : List Call) (k : ℕ)
     (answers : List Answer) : Type 0 where
   pub asked : (op : Op) → next_op program k answers ≡ Some op → OpIsAdmittedBehind program callers calls k op

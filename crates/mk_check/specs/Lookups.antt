@@ -34,7 +34,7 @@ AddsFirst old new name value =
 abbrev pub KeepsValues : {X S : Type 0} → HashMap (Bor (List ℕ)) X S → HashMap (Bor (List ℕ)) X S → Type 0
 KeepsValues old new = (name : List ℕ) → value_of new name ≡ value_of old name
 
--- the lines of the script behind a line
+-- the lines of the script after a line
 abbrev pub lines_behind : List Item → Item → List Item
 lines_behind lines item = if is_script item then [] else lines ++ item ∷ []
 

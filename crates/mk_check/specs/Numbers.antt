@@ -7,13 +7,13 @@ use Rattle.std.specs.Str.{bytes_eq}
 use Rattle.mk_check.specs.Lookups.{value_of}
 
 -- a name's place among these, if it is one of them
-abbrev pub place_among : List ℕ → List (List ℕ) → Option ℕ
-place_among name [] = None
-place_among name (other ∷ others) =
-    if bytes_eq name other then Some 0 else option_map (λ place. place + 1) (place_among name others)
+abbrev pub number_among : List ℕ → List (List ℕ) → Option ℕ
+number_among name [] = None
+number_among name (other ∷ others) =
+    if bytes_eq name other then Some 0 else option_map (λ place. place + 1) (number_among name others)
 
--- the map has the place of each name, and they are so many
+-- the map has the place of each name, and they are this many
 pub record AreNumbers {S : Type 0} (numbers : HashMap (Bor (List ℕ)) ℕ S) (count : ℕ) (names : List (List ℕ)) : Type
     0 where
-  pub places : (name : List ℕ) → value_of numbers name ≡ place_among name names
+  pub places : (name : List ℕ) → value_of numbers name ≡ number_among name names
   pub all : count ≡ length names

@@ -44,11 +44,11 @@ answer_waiting c es k = slice_get (answers_among k (calls c es)) (ended_calls k 
 abbrev pub text_behind : List Item → Config → List Event → ℕ → List ℕ
 text_behind program c es k = (feed program k (answers_given c es k)).text
 
--- all that the scripts print: their texts, one behind the other
+-- all that the scripts print: their texts, one after the other
 abbrev pub output : List Item → Config → List Event → List ℕ
 output program c es = flat_map (text_behind program c es) (range_with_len 0 (length (script_names program)))
 
--- Behind each enabled list, each call that ended has its answer.
+-- After each enabled list, each call that ended has its answer.
 abbrev pub EndedCallsAreAnswered : Type 0
 EndedCallsAreAnswered =
     (c : Config) (es : List Event) (k : ℕ) → AreEnabled c es → length (answers_given c es k) ≡ ended_calls k es

@@ -20,7 +20,7 @@ is_declaration (Global name ty) = true
 is_declaration (Ptr name at) = true
 is_declaration item = false
 
--- lines that read or write a number behind a pointer
+-- lines that read or write a number after a pointer
 abbrev pub is_number_access : Item → Bool
 is_number_access (Getn number pointer index) = true
 is_number_access (Setn pointer index number) = true

@@ -15,7 +15,7 @@ use Rattle.mk_check.specs.declared.feeding.instructions.Instruction.TheVariants.
 use Rattle.mk_check.specs.declared.feeding.instructions.Instruction.TheVariants.{Store, Load, Show}
 use Rattle.mk_check.specs.declared.feeding.instructions.Element.{Element}
 use Rattle.mk_check.specs.declared.feeding.instructions.Element.TheVariants as element
-use Rattle.mk_check.specs.Declarations.{place_of}
+use Rattle.mk_check.specs.Declarations.{number_of_name}
 use Rattle.mk_check.specs.Blocks.{Blocks}
 use Rattle.mk_check.specs.Blocks as blocks
 use Rattle.mk_check.specs.Feed.{Scope, pointer_place, newline, refusal_line, refusal_text, is_refusal, answered_number}
@@ -42,11 +42,12 @@ none_left (Rounds rounds body rest) = false
 none_left (Choice number first second rest) = false
 
 abbrev pub number_place : Scope → List ℕ → ℕ
-number_place scope name = place_of name scope.numbers
+number_place scope name = number_of_name name scope.numbers
 
 -- the operation of an instruction on an object, if it keeps no number
 abbrev pub object_op : Scope → Item → Option Op
-object_op scope (item.New pointer ty) = Some (op.New (pointer_place scope pointer) (place_of ty scope.types) false)
+object_op scope (item.New pointer ty) =
+    Some (op.New (pointer_place scope pointer) (number_of_name ty scope.types) false)
 object_op scope (item.Free pointer) = Some (op.Free (pointer_place scope pointer))
 object_op scope (item.Getp loaded pointer index) =
     Some (op.GetPtr (pointer_place scope loaded) (pointer_place scope pointer) index)
@@ -61,9 +62,9 @@ register_op scope (item.Lea moved pointer index) =
 register_op scope (item.Move copied pointer) = Some (op.Move (pointer_place scope copied) (pointer_place scope pointer))
 register_op scope (item.Clear pointer) = Some (op.Clear (pointer_place scope pointer))
 register_op scope (item.Loadg loaded global) =
-    Some (op.GetGlobal (pointer_place scope loaded) (place_of global scope.globals))
+    Some (op.GetGlobal (pointer_place scope loaded) (number_of_name global scope.globals))
 register_op scope (item.Storeg stored global) =
-    Some (op.SetGlobal (place_of global scope.globals) (pointer_place scope stored))
+    Some (op.SetGlobal (number_of_name global scope.globals) (pointer_place scope stored))
 register_op scope other = None
 
 -- an instruction that keeps a number of an object
@@ -166,7 +167,7 @@ after_line (Store q i number) kept = kept
 after_line (Load number o) kept = kept
 after_line (Show p) kept = kept
 
--- what runs behind a part that may have stopped at an operation
+-- what runs after a part that may have stopped at an operation
 abbrev pub stop_behind : Stopped → (Kept → Stopped) → Steps → Stopped
 stop_behind stopped go rest =
     if none_left stopped.left then go stopped.kept else record stopped { left = then_steps stopped.left rest }

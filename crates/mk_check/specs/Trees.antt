@@ -48,13 +48,13 @@ pub record Place : Type 0 where
   pub numbers : List ℕ
   pub text : List ℕ
 
--- the steps of an open block, before those behind it
+-- the steps of an open block, before those after it
 abbrev pub frame_steps : List Steps → Steps → Frame → Steps
 frame_steps built behind (frame.Rounds rounds body next) =
     Rounds rounds (steps_at built body) (then_steps (steps_at built next) behind)
 frame_steps built behind (frame.Branch next) = then_steps (steps_at built next) behind
 
--- the steps behind the innermost block
+-- the steps after the innermost block
 abbrev pub behind_frames : List Steps → List Frame → Steps
 behind_frames built frames = fold (frame_steps built) Done frames
 
@@ -80,7 +80,7 @@ abbrev pub FramesAreWithin : ℕ → List Frame → Type 0
 FramesAreWithin count [] = Unit {0}
 FramesAreWithin count (f ∷ frames) = FrameIsWithin count f × FramesAreWithin count frames
 
--- it names nodes of so many alone
+-- it names nodes of this many alone
 pub record IsWithin (count : ℕ) (p : Place) : Type 0 where
   pub at : p.at < count
   pub frames : FramesAreWithin count p.frames
@@ -92,7 +92,7 @@ StopsAt (node.Line line instruction next) p = is_some (op_asked p.numbers instru
 StopsAt (node.Rounds rounds body next) p = ⊥
 StopsAt (node.Choice number first second next) p = ⊥
 
--- a `repeat` begins, or goes on, with so many rounds left
+-- a `repeat` begins, or goes on, with this many rounds left
 abbrev pub place_in_rounds : Place → ℕ → ℕ → ℕ → Place
 place_in_rounds p zero body next = record p { at = next }
 place_in_rounds p (suc more) body next = record p { at = body; frames = p.frames ++ frame.Rounds more body next ∷ [] }

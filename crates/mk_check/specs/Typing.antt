@@ -72,7 +72,7 @@ same_at s t = false
 abbrev pub moved_by : ℕ → At → At
 moved_by i at = record { name = at.name; offset = at.offset + i }
 
--- the place i words behind the one that a register is declared for
+-- the place i words after the one that a register is declared for
 abbrev pub place_behind : Around → List ℕ → ℕ → Option At
 place_behind a pointer i = option_map (moved_by i) (pointer_at pointer a.script)
 
@@ -126,7 +126,7 @@ global_at a name = option_map base_of (global_type name a.program)
 abbrev pub kind_fault : Option At → Option At → Option TypeKind
 kind_fault s t = unless (same_at s t) kind.Kind
 
--- a word behind a register holds a number, or points to where another register does
+-- a word after a register holds a number, or points to where another register does
 abbrev pub number_word_fault : Around → List ℕ → ℕ → Option TypeKind
 number_word_fault a pointer index = unless (is_number_word (word_at a (place_behind a pointer index))) kind.Kind
 
@@ -134,7 +134,7 @@ abbrev pub pointer_word_fault : Around → List ℕ → ℕ → List ℕ → Opt
 pointer_word_fault a pointer index register =
     kind_fault (pointed_place (word_at a (place_behind a pointer index))) (pointer_at register a.script)
 
--- What is wrong with a line that stands behind these of its script, and before those behind it: the names from left to
+-- What is wrong with a line that stands after these of its script, and before those after it: the names from left to
 -- right, then offsets, then kinds, then an interior pointer that is freed.
 abbrev pub typing_fault : Around → ℕ → List Item → Item → Option TypeKind
 typing_fault a line behind (Heap pages resident) = None
@@ -199,7 +199,7 @@ abbrev pub at_line : ℕ → Option TypeKind → Option TypingFault → Option T
 at_line line (Some k) other = Some (record { line = line; kind = k })
 at_line line None other = other
 
--- the least ill-typed line of the items, behind those that were read; the first stands at this line
+-- the least ill-typed line of the items, after those that were read; the first stands at this line
 abbrev pub fault_from : List Item → ℕ → List Item → List Item → Option TypingFault
 fault_from program line before [] = None
 fault_from program line before (item ∷ items) =

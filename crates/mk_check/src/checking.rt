@@ -15,7 +15,7 @@ use std::alloc::Global;
 /// The most instructions that a script may execute.
 const MOST_INSTRUCTIONS: u64 = 1_000_000;
 
-/// What is wrong with a line that begins a script, before the lines behind it.
+/// What is wrong with a line that begins a script, before the lines after it.
 fn length_fault(alloc: Global, behind: &[Item]) -> Result<Option<TypeKind>, NoMemory>
     ensures { IfOk result (λ fault. (a : Around) (line : ℕ) (name : List ℕ)
         → fault ≡ typing_fault a line behind.now (Script name)) }
@@ -24,7 +24,7 @@ fn length_fault(alloc: Global, behind: &[Item]) -> Result<Option<TypeKind>, NoMe
     Ok(unless(count <= MOST_INSTRUCTIONS, TypeKind::TooLong { count }))
 }
 
-/// What is wrong with a line, before the lines behind it.
+/// What is wrong with a line, before the lines after it.
 fn line_fault(
     alloc: Global,
     lookups: &Lookups,

@@ -9,7 +9,7 @@ ghost use Rattle.mk_check.specs.Laws.{AreAdmittedFor, NextIsAdmitted, AreOfScrip
 ghost use Rattle.mk_check.specs.Output.{EndedCallsAreAnswered};
 ghost use Rattle.mk_check.specs.WrittenBlocks.{ScriptsAreTheirLines};
 
-/// What a script asks for next is admitted: behind any admitted calls, whatever their other callers did, if
+/// What a script asks for next is admitted: after any admitted calls, whatever their other callers did, if
 /// its own are those that it noted so far.
 #[tactic(auto, using(crate::proofs::AdmittedScripts::next_is_admitted))]
 pub fn the_next_operation_is_admitted()
@@ -44,7 +44,7 @@ pub fn blocks_are_lines()
     ensures { (program : List Item) → ScriptsAreTheirLines program }
 {}
 
-/// Behind each enabled list of events, each call that ended has an answer, which its script is given.
+/// After each enabled list of events, each call that ended has an answer, which its script is given.
 #[tactic(auto, using(crate::proofs::GivenAnswers::ended_calls_are_answered))]
 pub fn ended_calls_are_answered()
     ensures { EndedCallsAreAnswered }

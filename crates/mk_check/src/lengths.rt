@@ -16,7 +16,7 @@ pub fn is_script(item: &Item) -> bool
     matches!(item, Item::Script { .. })
 }
 
-/// Whether the item is a line of a script, behind its declarations.
+/// Whether the item is a line of a script, after its declarations.
 fn is_instruction(item: &Item) -> bool
     ensures { result ≡ scopes.is_instruction item.now }
 {
@@ -31,7 +31,7 @@ fn is_instruction(item: &Item) -> bool
     )
 }
 
-/// Counts of an open part of a script: of its lines, and of the branch behind its `else`.
+/// Counts of an open part of a script: of its lines, and of the branch after its `else`.
 #[derive(Clone, Copy)]
 struct PartCount {
     lines: u64,

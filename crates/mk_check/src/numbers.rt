@@ -1,7 +1,7 @@
 //! Types and globals of a program as tables, where a type is its number.
 ghost use Rattle.std.specs.Prelude.{◌≡◌, ◌≤◌, map, length, IfOk};
 ghost use Rattle.mk_script.specs.Scopes.{global_names, type_names};
-ghost use Rattle.mk_check.specs.Declarations.{place_of, kind_of, types_of, globals_of};
+ghost use Rattle.mk_check.specs.Declarations.{number_of_name, kind_of, types_of, globals_of};
 
 use crate::lookups::add_first;
 use mk_core::GlobalTable;
@@ -53,7 +53,7 @@ impl<'a> TypeNumbers<'a> {
 
     /// The number of a type; the count of types for another name.
     fn number(&self, name: &Name) -> u64
-        ensures { result ≡ place_of name.now (type_names self.now) }
+        ensures { result ≡ number_of_name name.now (type_names self.now) }
     {
         self.numbers
             .get(&name.as_bytes())

@@ -6,7 +6,7 @@ ghost use Rattle.mk_check.specs.Typing.{base_of, moved_by, same_at, pointed_plac
 
 use mk_script::{At, Name, TypeWord};
 
-/// A word of a type, or one behind its end.
+/// A word of a type, or one after its end.
 #[derive(Clone, Copy)]
 pub struct Place<'a> {
     pub name: &'a Name,
@@ -23,7 +23,7 @@ impl<'a> Place<'a> {
         }
     }
 
-    /// So many words behind where the register points.
+    /// This many words after where the register points.
     pub fn behind(at: &'a At, index: u64) -> Place<'a>
         ensures { at_of result ≡ moved_by index at.now }
     {
@@ -51,7 +51,7 @@ impl<'a> Place<'a> {
 }
 
 /// Where a word points, if it is a pointer.
-pub fn place_in<'a>(word: Option<&'a TypeWord>) -> Option<Place<'a>>
+pub fn pointed_place<'a>(word: Option<&'a TypeWord>) -> Option<Place<'a>>
     ensures { option_map at_of result ≡ pointed_place (option_copied word.entry) }
 {
     match word {

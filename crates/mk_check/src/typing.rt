@@ -11,7 +11,7 @@ ghost use Rattle.mk_check.specs.declared.typing_faults.TypeKind.TheVariants as k
 
 use crate::TypeKind;
 use crate::lookups::Lookups;
-use crate::places::{Place, place_in};
+use crate::places::{Place, pointed_place};
 use mk_script::{At, Item, Name, TypeWord};
 
 pub fn unless(holds: bool, kind: TypeKind) -> Option<TypeKind>
@@ -55,7 +55,7 @@ impl<'a> Lookups<'a> {
     }
 
     /// Where a pointer register is declared to point.
-    fn place_of(&self, pointer: &Name) -> Option<Place<'a>>
+    fn declared_place(&self, pointer: &Name) -> Option<Place<'a>>
         ensures { option_map at_of result ≡ rule.pointer_at pointer.now (around self.now).script }
     {
         Some(Place::new(self.pointer_at(pointer)?))
@@ -155,7 +155,7 @@ impl<'a> Lookups<'a> {
         ensures { result ≡ rule.pointer_word_fault (around self.now) pointer.now index register.now }
     {
         let word = self.word_behind(pointer, index);
-        kind_fault(place_in(word), self.place_of(register))
+        kind_fault(pointed_place(word), self.declared_place(register))
     }
 
     fn declaration_fault(&self, item: &Item) -> Option<TypeKind>
@@ -241,10 +241,9 @@ impl<'a> Lookups<'a> {
         ensures { result ≡ fault_of_sort is_pointer_line (around self.now) item.now }
     {
         match item {
-            Item::New { pointer, ty } => self
-                .pointer_fault(pointer)
-                .or(self.type_fault(ty))
-                .or(kind_fault(self.place_of(pointer), Some(Place::base(ty)))),
+            Item::New { pointer, ty } => self.pointer_fault(pointer).or(self.type_fault(ty)).or(
+                kind_fault(self.declared_place(pointer), Some(Place::base(ty))),
+            ),
             Item::Free { pointer } => self.pointer_fault(pointer).or(self.base_fault(pointer)),
             Item::Lea {
                 moved,
@@ -254,11 +253,14 @@ impl<'a> Lookups<'a> {
                 .pointer_fault(moved)
                 .or(self.pointer_fault(pointer))
                 .or(self.offset_fault(pointer, *index))
-                .or(kind_fault(self.place_of(moved), self.place_behind(pointer, *index))),
+                .or(kind_fault(
+                    self.declared_place(moved),
+                    self.place_behind(pointer, *index),
+                )),
             Item::Move { copied, pointer } => self
                 .pointer_fault(copied)
                 .or(self.pointer_fault(pointer))
-                .or(kind_fault(self.place_of(copied), self.place_of(pointer))),
+                .or(kind_fault(self.declared_place(copied), self.declared_place(pointer))),
             Item::Clear { pointer } => self.pointer_fault(pointer),
             Item::Loadg {
                 loaded: register,
@@ -270,7 +272,7 @@ impl<'a> Lookups<'a> {
             } => self
                 .pointer_fault(register)
                 .or(self.global_fault(global))
-                .or(kind_fault(self.place_of(register), self.place_of_global(global))),
+                .or(kind_fault(self.declared_place(register), self.place_of_global(global))),
             _ => None,
         }
     }

@@ -1,4 +1,4 @@
--- What is of no form: what its command does not take, and what is no number, is no command, whatever comes behind it.
+-- What is of no form: what its command does not take, and what is no number, is no command, whatever comes after it.
 use Rattle.std.proofs.Common.{◌≡◌, ◌⊎◌, ℕ, Bool, true, false, not, ◌&&◌, ◌||◌, List, [], ◌∷◌, Option, Some}
 use Rattle.std.proofs.Common.{None, is_some, refl, sym, subst, inl, inr, if◌then◌else◌, option_and_then}
 use Rattle.std.proofs.Common.{option_map, nat_lt, nat_le}

@@ -127,7 +127,7 @@ has_told bare rows t h = record {
   count = first_found (codes "count") rows (count_told t.numbers) h.count;
 }
 
--- ---- what comes behind the last word refuses nothing
+-- ---- what comes after the last word refuses nothing
 
 abbrev no_kinds : Kinds
 no_kinds = []

@@ -1,4 +1,4 @@
--- What clap takes and finds is what the words tell.
+-- What clap takes and finds is what the words say.
 use Rattle.std.proofs.Common.{◌≡◌, ◌∙◌, Bool, true, false, List, [], ◌∷◌, Option, Some}
 use Rattle.std.proofs.Common.{None, is_some, refl, sym, ap, subst, inl, inr, if◌then◌else◌, option_and_then}
 use Rattle.std.specs.Str.{bytes_eq}

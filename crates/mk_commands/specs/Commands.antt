@@ -60,7 +60,7 @@ IsWithin (OnText on_text) = AreWithin on_text
 IsWithin (Gen request) = (request.count ≤ 3000000) × (request.markers ≤ 8)
 
 -- The command of the words: the first names it, and the others are its numbers and options. `--markers K` and
--- `--markers=K` may stand anywhere behind the name. Behind `--` there are no options.
+-- `--markers=K` may stand anywhere after the name. After `--` there are no options.
 abbrev pub command_of : List (List ℕ) → Option Command
 command_of [] = None
 command_of (name ∷ words) = option_and_then (command_named name) (given_by words)

@@ -1,4 +1,4 @@
--- The words behind a command's name.
+-- The words after a command's name.
 use Rattle.std.specs.Prelude.{ℕ, Bool, true, false, List, [], ◌∷◌, ◌==◌, if◌then◌else◌, Option, Some, None, is_some}
 use Rattle.std.specs.Prelude.{option_and_then, option_map}
 use Rattle.std.specs.Str.{bytes_eq}
@@ -7,7 +7,7 @@ use Rattle.mk_script.specs.Names.{number_of_word}
 
 -- what words of the command line give, as far as they were read
 pub record Given : Type 0 where
-  -- the number behind `--markers`
+  -- the number after `--markers`
   pub markers : Option ℕ
   pub sweep : Bool
   pub why : Bool
@@ -16,7 +16,7 @@ pub record Given : Type 0 where
   pub count : Option ℕ
   -- `--markers` was read, and its number comes next
   pub awaits : Bool
-  -- `--` was read: no option comes behind it
+  -- `--` was read: no option comes after it
   pub ended : Bool
 
 abbrev pub nothing_given : Given
@@ -46,7 +46,7 @@ with_next g n =
 abbrev pub with_number : Given → List ℕ → Option Given
 with_number g digits = option_and_then (with_next g) (number_of_word digits)
 
--- what stands behind this front of a word, if the word has it
+-- what stands after this front of a word, if the word has it
 abbrev pub behind : List ℕ → List ℕ → Option (List ℕ)
 behind [] word = Some word
 behind (x ∷ front) [] = None
@@ -71,7 +71,7 @@ abbrev pub with_words : List (List ℕ) → Given → Option Given
 with_words [] g = Some g
 with_words (word ∷ words) g = option_and_then (with_words words) (with_word g word)
 
--- `--markers` is not the last word, but for what stands behind `--`.
+-- `--markers` is not the last word, but for what stands after `--`.
 abbrev pub whole : Given → Option Given
 whole g = if g.awaits then None else Some g
 

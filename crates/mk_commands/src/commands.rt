@@ -17,7 +17,7 @@ pub enum TextCommand {
     Check,
     /// Prints the canonical text of a text's program.
     Print,
-    /// Runs the schedule behind a text.
+    /// Runs the schedule after a text.
     Replay,
     /// Plays a text's trace.
     Trace,

@@ -115,7 +115,7 @@ fn alone_by<'a>(
     }
 }
 
-/// The command of the words behind the program's name; none where they are of no form.
+/// The command of the words after the program's name; none where they are of no form.
 pub fn command_in(alloc: Global, words: &[String]) -> Result<Option<Command>, NoMemory>
     ensures command { IfOk result (λ command. command ≡ command_of (map (λ word. string_bytes word) words.now)) }
     ensures within { IfOk result (λ command. IfSome command IsWithin) }

@@ -3,7 +3,7 @@ use Rattle.std.proofs.Common.{◌≡◌, ℕ, zero, suc, ◌+◌, ◌-◌, ◌�
 use Rattle.std.proofs.Math.Bool.{and_assoc, and-false, and-true}
 use Rattle.mk_core.specs.Bounded.{all_below}
 
--- so many, and so many behind them
+-- this many, and this many after them
 pub all_below-add : (a b : ℕ) (test : ℕ → Bool)
     → all_below (a + b) test ≡ (all_below a test && all_below b (λ i. test (a + i)))
 unfolding all_below

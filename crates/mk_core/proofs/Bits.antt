@@ -6,11 +6,11 @@ use Rattle.std.proofs.lemmas.Bool.{ne_eqb}
 use Rattle.std.proofs.lemmas.Nat.Bits.{bit_at_above}
 use Rattle.mk_core.specs.Bits.{has_bit}
 
--- a word has no bit behind its last
+-- a word has no bit after its last
 pub has_bit_past : (word k : ℕ) → word < 2 ^ 64 → 64 ≤ k → has_bit word k ≡ false
 has_bit_past word k lt le = ap (λ b. b == 1) (bit_at_above word 64 k lt le)
 
--- no word is a sum with a bit behind its last
+-- no word is a sum with a bit after its last
 pub sum_past : (value word k : ℕ) → value < 2 ^ 64 → 64 ≤ k → (value == word + 2 ^ k) ≡ false
 sum_past value word k lt le =
     let great : 2 ^ 64 ≤ 2 ^ k = pow_mono le in

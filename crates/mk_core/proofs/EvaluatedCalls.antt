@@ -16,7 +16,7 @@ use Rattle.mk_core.proofs.EventsAt.{events_from}
 use Rattle.mk_core.proofs.Schedules.{by, c0, m0, host, fault, first_fault, one_page, pointer_page, freed_after_begin}
 use Rattle.mk_core.proofs.Schedules.{blackened_before_the_move}
 
--- In a call of its own a caller's gate isn't held. It is behind the host's `hold`, and no longer behind its `open`.
+-- In a call of its own a caller's gate isn't held. It is after the host's `hold`, and no longer after its `open`.
 pub not_held_in_call : is_gate_held one_page 0 (take 23 freed_after_begin) ≡ false
 unfolding by c0 host all_below pointed_cell one_page freed_after_begin is_gate_held_from
 not_held_in_call = refl

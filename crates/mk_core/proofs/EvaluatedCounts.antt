@@ -6,9 +6,9 @@ use Rattle.mk_core.specs.declared.events.Event.{Event}
 use Rattle.mk_core.specs.Bounded.{all_below}
 use Rattle.mk_core.specs.Cells.{pointed_cell}
 use Rattle.mk_core.specs.StopConditions.{may_turn_black}
-use Rattle.mk_core.specs.Allocations.{unreleased_storage, held_words, fresh_words_of}
+use Rattle.mk_core.specs.Allocations.{unreleased_storage, held_by_allocations, fresh_words_of}
 use Rattle.mk_core.specs.Cycles.{is_give}
-use Rattle.mk_core.specs.Counts.{ends, releases, fulls, TalliesAreTidy, IsTidy, TalliesAreExact, IsDue}
+use Rattle.mk_core.specs.Counts.{ends, releases, full_answers, TalliesAreTidy, IsTidy, TalliesAreExact, IsDue}
 use Rattle.mk_core.specs.History.{left_from, left, calls_from}
 use Rattle.mk_core.proofs.EventsAt.{◌and◌, event_number, AtEach, Also, at_each}
 use Rattle.mk_core.proofs.Schedules.{by, c0, m0, host, one_page, pointer_page, freed_after_begin}
@@ -24,24 +24,26 @@ unfolding by c0 host all_below pointed_cell one_page freed_after_begin left_from
 allocations_freed = refl
 
 -- The third object alone is held, in 32 words.
-pub counts_at_the_end : (held_words one_page (left one_page freed_after_begin).allocations ≡ 32)
+pub counts_at_the_end : (held_by_allocations one_page (left one_page freed_after_begin).allocations ≡ 32)
     × (fresh_words_of one_page (left one_page freed_after_begin).allocations ≡ 0)
 unfolding by c0 host all_below pointed_cell one_page freed_after_begin left_from unreleased_storage
 counts_at_the_end = (refl, refl)
 
--- Behind the event that frees the first object both are held, and it is fresh.
-pub counts_behind_first_free : (held_words one_page (left one_page (take 14 freed_after_begin)).allocations ≡ 64)
+-- After the event that frees the first object both are held, and it is fresh.
+pub counts_behind_first_free : (held_by_allocations one_page (left one_page (take 14 freed_after_begin)).allocations
+    ≡ 64)
     × (fresh_words_of one_page (left one_page (take 14 freed_after_begin)).allocations ≡ 32)
 unfolding by c0 host all_below pointed_cell one_page freed_after_begin left_from unreleased_storage
 counts_behind_first_free = (refl, refl)
 
--- Behind the one that frees the second, behind the `begin`, the second alone is fresh.
-pub counts_behind_second_free : (held_words one_page (left one_page (take 20 freed_after_begin)).allocations ≡ 64)
+-- After the one that frees the second, after the `begin`, the second alone is fresh.
+pub counts_behind_second_free : (held_by_allocations one_page (left one_page (take 20 freed_after_begin)).allocations
+    ≡ 64)
     × (fresh_words_of one_page (left one_page (take 20 freed_after_begin)).allocations ≡ 32)
 unfolding by c0 host all_below pointed_cell one_page freed_after_begin left_from unreleased_storage
 counts_behind_second_free = (refl, refl)
 
--- In the schedule with a marker each object has 2 words. The third is freed, and stays so behind the cycle that reaches
+-- In the schedule with a marker each object has 2 words. The third is freed, and stays so after the cycle that reaches
 -- it.
 pub allocations_blackened : (left pointer_page blackened_before_the_move).allocations
     ≡ record { base = 0; ty = 0; freed = false; fresh = false; released = false }
@@ -51,7 +53,7 @@ unfolding by c0 m0 host all_below pointed_cell may_turn_black pointer_page black
 allocations_blackened = refl
 
 -- It is held with the others, and fresh only up to the `begin`.
-pub counts_blackened : (held_words pointer_page (left pointer_page blackened_before_the_move).allocations ≡ 6)
+pub counts_blackened : (held_by_allocations pointer_page (left pointer_page blackened_before_the_move).allocations ≡ 6)
     × (fresh_words_of pointer_page (left pointer_page (take 32 blackened_before_the_move)).allocations ≡ 2)
     × (fresh_words_of pointer_page (left pointer_page (take 35 blackened_before_the_move)).allocations ≡ 0)
 unfolding by c0 m0 host all_below pointed_cell may_turn_black pointer_page blackened_before_the_move left_from
@@ -60,7 +62,7 @@ counts_blackened = (refl, refl, refl)
 
 -- Two cycles have ended, each with a released object, and no call was refused.
 pub tallies_freed : (ends freed_after_begin ≡ 2) × (releases (left one_page freed_after_begin).allocations ≡ 2)
-    × (fulls one_page freed_after_begin ≡ 0)
+    × (full_answers one_page freed_after_begin ≡ 0)
 unfolding by c0 host all_below pointed_cell one_page freed_after_begin left_from calls_from
 tallies_freed = (refl, refl, refl)
 
@@ -93,7 +95,7 @@ full_is_tidy before e behind is give =
 
 -- Of its two cycles the second releases an object, and one New is refused.
 pub tallies_full : (ends full_then_reused ≡ 2) × (releases (left one_page full_then_reused).allocations ≡ 1)
-    × (fulls one_page full_then_reused ≡ 1)
+    × (full_answers one_page full_then_reused ≡ 1)
 unfolding by c0 all_below pointed_cell may_turn_black one_page full_then_reused left_from calls_from
 tallies_full = (refl, refl, refl)
 
@@ -110,7 +112,7 @@ pub second_free_is_due : IsDue two_pages (take 19 a_quarter_and_all) (record { s
 unfolding by c0 all_below pointed_cell two_pages a_quarter_and_all left_from unreleased_storage
 second_free_is_due = record { decides = refl; quarter = omega arith }
 
--- The step that takes the snapshot frees nothing, though half of the held words is fresh behind it.
+-- The step that takes the snapshot frees nothing, though half of the held words is fresh after it.
 pub snapshot_is_not_due : IsDue one_page (take 14 freed_after_begin)
     (record { seat = c0; step = step.Quar 0 4294967297 }) → ⊥
 unfolding by c0 host all_below pointed_cell one_page freed_after_begin left_from unreleased_storage

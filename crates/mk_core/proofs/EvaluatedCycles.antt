@@ -46,7 +46,7 @@ second_cycle =
       end = record { at = at_number is_end 4 (drop 46 freed_after_begin) refl refl; none_before = refl };
     }
 
--- The first object is freed before the first cycle begins, and the second only behind that.
+-- The first object is freed before the first cycle begins, and the second only after that.
 pub in_first_snapshot : IsInSnapshot one_page first_cycle.releasing.marking 0
 unfolding by c0 host all_below pointed_cell one_page freed_after_begin left_from event_number at_number first_cycle
 in_first_snapshot = refl
@@ -94,7 +94,7 @@ pub not_released : (placed_at (left pointer_page blackened_before_the_move).allo
 unfolding by c0 m0 host all_below pointed_cell may_turn_black pointer_page blackened_before_the_move left_from
 not_released = refl
 
--- Sweeping marks: the test along a list, and what it tells.
+-- Sweeping marks: the test along a list, and what it says.
 
 unfoldable pub any_sweeps : Config → World → List Event → Bool
 any_sweeps c w [] = false

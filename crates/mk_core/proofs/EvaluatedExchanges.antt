@@ -34,9 +34,9 @@ number_in : Target → ℕ
 number_in (WordOf number place) = number
 number_in _ = 0
 
-place_in : Target → ℕ
-place_in (WordOf number place) = place
-place_in _ = 0
+word_place : Target → ℕ
+word_place (WordOf number place) = place
+word_place _ = 0
 
 -- what is compared, where the answer is 1
 abbrev Compares : Config → List Event → ℕ → ℕ → ℕ → ℕ → Type 0
@@ -57,7 +57,7 @@ compares_there : (c : Config) (es : List Event) (q i p r number place : ℕ)
     → target_of (never_behind c es) (register_at (never_behind c es) 0 q) i ≡ WordOf number place
     → Compares c es 0 p number place
     → ExchangeCompares c es (record { seat = Caller 0; step = step.Cas })
-unfolding number_in place_in
+unfolding number_in word_place
 compares_there c es q i p r number place is there same k' q' i' p' r' number' is_event is' =
     subst (λ (x : ℕ). (flight_of (left c es).now (Caller x)).op ≡ op.CasPtr q' i' p' r'
     → ComparesValues c es x q' i' p' number')
@@ -71,7 +71,7 @@ compares_there c es q i p r number place is there same k' q' i' p' r' number' is
     both ∙ there' in
     subst (λ (x : ℕ). Compares c es 0 x number' place') (ap p_of both)
     (subst (λ (x : ℕ). Compares c es 0 p x place') (ap number_in moved)
-    (subst (λ (x : ℕ). Compares c es 0 p number x) (ap place_in moved) same)))
+    (subst (λ (x : ℕ). Compares c es 0 p number x) (ap word_place moved) same)))
     is'
 
 answered_zero : Some (answer.Num 0) ≡ Some (answer.Num 1) → ⊥

@@ -1,4 +1,4 @@
--- What headers and freed bits tell behind a small history: the one freed bit is that of the third object.
+-- What headers and freed bits tell after a small history: the one freed bit is that of the third object.
 use Rattle.std.proofs.Common.{◌≡◌, ℕ, zero, suc, ◌+◌, ◌*◌, ◌<◌, Bool, true, false, [], ◌∷◌, Some, refl, sym, ◌∙◌, ap}
 use Rattle.std.proofs.Common.{ap₂, subst, inl, inr, arith}
 use Rattle.std.specs.Prelude.{◌==◌}

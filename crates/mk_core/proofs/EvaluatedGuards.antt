@@ -13,7 +13,7 @@ use Rattle.mk_core.specs.History.{left_from, left}
 use Rattle.mk_core.proofs.ListTests.{list_all-at}
 use Rattle.mk_core.proofs.SmallCycles.{small, three_objects, page_dirtied, written_beside, marked_beside}
 
--- Behind the `write` heap word 0, of a black object, points to an unmarked one, and its page isn't dirty yet.
+-- After the `write` heap word 0, of a black object, points to an unmarked one, and its page isn't dirty yet.
 
 pub written_points_badly : word_points_well small.pages (left small written_beside).now.words 0 ≡ false
 unfolding left_from all_below pointed_cell written_beside three_objects
@@ -40,7 +40,7 @@ writing_is_guarded marks zero k i cell black scanned word =
     DirtyIsOwed 0 (refl, page)
 writing_is_guarded marks (suc p) k i cell black scanned word = absurd (omega arith)
 
--- behind the `dirty`
+-- after the `dirty`
 
 pub dirtied_points_badly : word_points_well small.pages (left small (written_beside ++ page_dirtied)).now.words 0
     ≡ false

@@ -9,7 +9,7 @@ use Rattle.mk_core.specs.declared.events.Event.{Event}
 use Rattle.mk_core.specs.Bounded.{all_below}
 use Rattle.mk_core.specs.Cells.{pointed_cell}
 use Rattle.mk_core.specs.Config.{IsWithinLimits}
-use Rattle.mk_core.specs.Allocations.{unreleased_storage, held_words, fresh_words_of, place_among_allocations}
+use Rattle.mk_core.specs.Allocations.{unreleased_storage, held_by_allocations, fresh_words_of, place_among_allocations}
 use Rattle.mk_core.specs.Allocations.{FitsAmongAllocations}
 use Rattle.mk_core.specs.Decided.{answered}
 use Rattle.mk_core.specs.History.{left_from, left, calls_from, calls, CallsAreAdmitted, IsHistory, RefinesNever}
@@ -59,8 +59,8 @@ large_refines = refl
 
 -- 65 words take two pages, which are 128 words. From the event that frees them on none is held, and none is fresh: this
 -- free isn't due.
-pub counts_large : (held_words three_pages (left three_pages (take 16 large_freed)).allocations ≡ 128)
-    × (held_words three_pages (left three_pages (take 17 large_freed)).allocations ≡ 0)
+pub counts_large : (held_by_allocations three_pages (left three_pages (take 16 large_freed)).allocations ≡ 128)
+    × (held_by_allocations three_pages (left three_pages (take 17 large_freed)).allocations ≡ 0)
     × (fresh_words_of three_pages (left three_pages (take 17 large_freed)).allocations ≡ 0)
 unfolding by c0 all_below pointed_cell three_pages large_freed left_from unreleased_storage
 counts_large = (refl, refl, refl)
@@ -69,7 +69,7 @@ pub large_free_is_not_due : IsDue three_pages (take 16 large_freed) (record { se
 unfolding by c0 all_below pointed_cell three_pages large_freed left_from unreleased_storage
 large_free_is_not_due h = let wrong : 0 < 0 = h.quarter in omega arith
 
--- The unmapped pages stay taken up to the release: one page is left, and an object of two fits only behind it.
+-- The unmapped pages stay taken up to the release: one page is left, and an object of two fits only after it.
 pub place_on_the_last : place_among_allocations three_pages 64 true (left three_pages (take 41 large_freed)).allocations
     ≡ Some (record { page = 2; index = 0; carve = true })
 unfolding by c0 all_below pointed_cell three_pages large_freed left_from unreleased_storage

@@ -1,4 +1,4 @@
--- Closed marks along two small cycles: open behind a `begin` and beside a caller that writes, and closed before a
+-- Closed marks along two small cycles: open after a `begin` and beside a caller that writes, and closed before a
 -- `close`.
 use Rattle.std.proofs.Common.{[], ◌∷◌, ◌++◌, refl}
 use Rattle.std.proofs.lemmas.Bool.{false≢true, leb-true, ltb-true}

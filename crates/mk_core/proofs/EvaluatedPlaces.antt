@@ -11,7 +11,8 @@ use Rattle.mk_core.specs.StopConditions.{may_turn_black}
 use Rattle.mk_core.specs.Allocations.{unreleased_storage, place_among_allocations, FitsAmongAllocations}
 use Rattle.mk_core.specs.Cycles.{is_begin, is_close, is_release, is_end}
 use Rattle.mk_core.specs.History.{left_from, left}
-use Rattle.mk_core.specs.Placement.{NoneServesFrom, StandsAtItsPlace, GrantsStandAtTheirPlaces, IsFull, FullsFitNowhere}
+use Rattle.mk_core.specs.Placement.{NoneServesFrom, StandsAtItsPlace, GrantsStandAtTheirPlaces, FindsNoPlace}
+use Rattle.mk_core.specs.Placement.{FullsFitNowhere}
 use Rattle.mk_core.proofs.EventsAt.{events_from, event_number, at_number, turn_number, AtEach, Also, at_each}
 use Rattle.mk_core.proofs.Schedules.{by, c0, host, one_page, freed_after_begin}
 use Rattle.mk_core.proofs.MoreSchedules.{two_pages, full_then_reused, granted_while_marking}
@@ -35,7 +36,7 @@ abbrev pub is_grant : Step → Bool
 is_grant step.Grant = true
 is_grant _ = false
 
--- The first object carves the page, and the second takes the cell beside it. The third is served only behind the cycle
+-- The first object carves the page, and the second takes the cell beside it. The third is served only after the cycle
 -- in its turn: the `used` and the `head` of the cycle serve nothing. So it stands where the first one stood.
 pub first_grant : StandsAtItsPlace one_page (take 3 freed_after_begin) c0
 unfolding by c0 host all_below pointed_cell one_page freed_after_begin left_from unreleased_storage events_from
@@ -120,8 +121,8 @@ grant_while_marking =
       base = refl;
     }
 
--- The refused New begins and ends a cycle in its turn. Both cells are still taken behind it, so it doesn't fit.
-pub full : IsFull one_page (take 31 full_then_reused) c0
+-- The refused New begins and ends a cycle in its turn. Both cells are still taken after it, so it doesn't fit.
+pub full : FindsNoPlace one_page (take 31 full_then_reused) c0
 unfolding by c0 all_below pointed_cell may_turn_black one_page full_then_reused left_from unreleased_storage events_from
     event_number at_number turn_number
 full =
@@ -153,5 +154,5 @@ is_full_step _ = false
 pub fulls_fit_nowhere : FullsFitNowhere one_page full_then_reused
 unfolding by c0 full_then_reused AtEach Also
 fulls_fit_nowhere before e behind is kind =
-    at_each is_full_step (λ (es : List Event) (x : Event). IsFull one_page es x.seat) [] full_then_reused
+    at_each is_full_step (λ (es : List Event) (x : Event). FindsNoPlace one_page es x.seat) [] full_then_reused
     (full, tt) before e behind is (ap is_full_step kind)

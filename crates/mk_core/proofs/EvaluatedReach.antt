@@ -1,4 +1,4 @@
--- What is reached behind a small history: by a register, by a word of another object, and not at all.
+-- What is reached after a small history: by a register, by a word of another object, and not at all.
 use Rattle.std.proofs.Common.{◌≡◌, ℕ, zero, suc, Bool, true, false, not, ◌&&◌, ◌||◌, [], ◌∷◌, replicate, refl, sym, ◌∙◌}
 use Rattle.std.proofs.Common.{ap, subst}
 use Rattle.std.specs.List.{list_all}
@@ -6,7 +6,7 @@ use Rattle.std.proofs.lemmas.Bool.{and_parts, false≢true}
 use Rattle.mk_never.specs.declared.values.Value.{Value}
 use Rattle.mk_never.specs.declared.values.Value.TheVariants.{Null, Num, Ptr}
 use Rattle.mk_never.specs.NeverHeap.{NeverState, Allocation, no_allocation, allocation_at, word_at, is_unmapped}
-use Rattle.mk_never.specs.Reach.{LeadsTo, IsReached, by_register, by_word, IsClosedUnderPointers}
+use Rattle.mk_never.specs.Reach.{LeadsTo, IsReachable, by_register, by_word, IsClosedUnderPointers}
 use Rattle.mk_never.proofs.Reached.{reached_is_in}
 use Rattle.mk_core.specs.Bounded.{all_below}
 use Rattle.mk_core.specs.Cells.{pointed_cell}
@@ -60,7 +60,7 @@ closed_by_test n S h =
           (list_all-at (leads_into S) (allocation_at n from).words Null all refl place) leads.1;
     }
 
--- behind a pointer that was written to the first object, and the second register cleared
+-- after a pointer that was written to the first object, and the second register cleared
 
 abbrev pub first_and_second : NeverState
 first_and_second = record {
@@ -80,22 +80,22 @@ pub never_is : never_behind small begun_in_stop ≡ first_and_second
 unfolding left_from calls_from all_below pointed_cell begun_in_stop three_objects
 never_is = refl
 
-pub first_is_reached : IsReached (never_behind small begun_in_stop) 0
-first_is_reached = subst (λ n. IsReached n 0) (sym never_is) (by_register 0 0 refl)
+pub first_is_reached : IsReachable (never_behind small begun_in_stop) 0
+first_is_reached = subst (λ n. IsReachable n 0) (sym never_is) (by_register 0 0 refl)
 
-pub second_is_reached : IsReached (never_behind small begun_in_stop) 1
-second_is_reached = subst (λ n. IsReached n 1) (sym never_is) (by_word 0 0 1 (by_register 0 0 refl) (refl, refl))
+pub second_is_reached : IsReachable (never_behind small begun_in_stop) 1
+second_is_reached = subst (λ n. IsReachable n 1) (sym never_is) (by_word 0 0 1 (by_register 0 0 refl) (refl, refl))
 
 abbrev pub below_two : ℕ → Bool
 below_two zero = true
 below_two (suc zero) = true
 below_two (suc (suc number)) = false
 
-third_is_outside : IsReached first_and_second 2 → ⊥
+third_is_outside : IsReachable first_and_second 2 → ⊥
 unfolding numbered_all
 third_is_outside reached =
     false≢true (reached_is_in first_and_second (λ number. below_two number ≡ true)
     (closed_by_test first_and_second below_two refl) 2 reached)
 
-pub third_is_not_reached : IsReached (never_behind small begun_in_stop) 2 → ⊥
-third_is_not_reached reached = third_is_outside (subst (λ n. IsReached n 2) never_is reached)
+pub third_is_not_reached : IsReachable (never_behind small begun_in_stop) 2 → ⊥
+third_is_not_reached reached = third_is_outside (subst (λ n. IsReachable n 2) never_is reached)

@@ -1,4 +1,4 @@
--- What turn, gates and phase tell along two small cycles: in a call, in a New, in a stop behind its `close`, and with a
+-- What turn, gates and phase tell along two small cycles: in a call, in a New, in a stop after its `close`, and with a
 -- marker in.
 use Rattle.std.proofs.Common.{◌≡◌, ◌↔◌, ℕ, zero, suc, ◌+◌, ◌<◌, ◌≤◌, true, false, not, List, [], ◌∷◌, ◌++◌, slice_index}
 use Rattle.std.proofs.Common.{Some, refl, sym, ◌∙◌, arith}

@@ -19,7 +19,7 @@ infixr 10 ◌and◌
 pub ◌and◌ : {A B : Type 0} → A → B → A × B
 a and b = (a, b)
 
--- so many events from one on, counted from 0; and that one
+-- this many events from one on, counted from 0; and that one
 unfoldable pub events_from : ℕ → ℕ → List Event → List Event
 events_from first count es = take count (drop first es)
 

@@ -45,7 +45,7 @@ pub enabled_more : (c : Config) (w : World) (es : List Event) (e : Event) → Ar
 unfolding AreEnabledFrom
 enabled_more c w es e h x = enabled_append c w es (e ∷ []) h (x, tt)
 
--- the last event was enabled behind the others
+-- the last event was enabled after the others
 pub last_enabled : (c : Config) (w : World) (es : List Event) (e : Event) → AreEnabledFrom c w (es ++ e ∷ [])
     → IsEnabled c (left_from c w es).now e
 unfolding AreEnabledFrom

@@ -24,7 +24,7 @@ three_pages =
     }
 
 -- Its last word is written to and is wiped when its pages are unmapped, while the other caller's gate is held. An
--- access to it is then refused, and a second Free told so. The next object has room behind a cycle alone.
+-- access to it is then refused, and a second Free told so. The next object has room after a cycle alone.
 unfoldable pub large_freed : List Event
 large_freed =
     by c0 (step.Take (Some (op.New 0 0 false)) ∷ step.Head 0 46 ∷ step.Head 1 26 ∷ step.Used 0 1 ∷ step.Grant ∷

@@ -12,7 +12,7 @@ use Rattle.mk_core.specs.declared.accesses.Access.{Access}
 use Rattle.mk_core.specs.declared.accesses.Access.TheVariants.{Load, Store, Exchange, Or, Add, Sub}
 use Rattle.mk_core.specs.Words.{Words, zero_words_of, with_named, with_word_in, word_in, becomes, accessed}
 use Rattle.mk_core.specs.Layout.{AreOfPages}
-use Rattle.mk_core.specs.Accesses.{reached, access}
+use Rattle.mk_core.specs.Accesses.{word_accessed, access}
 use Rattle.mk_core.specs.History.{World, first_world, world_behind, left_from, left}
 
 pub zero_lengths : (count : ℕ) → AreOfPages count (zero_words_of count)
@@ -217,7 +217,7 @@ unfolding left_from
 left_lengths c w [] h = h
 left_lengths c w (e ∷ es) h =
     left_lengths c (world_behind c w e) es
-    (accessed_lengths c.pages w.now.words (reached c w.now e) (access c w.now e) h)
+    (accessed_lengths c.pages w.now.words (word_accessed c w.now e) (access c w.now e) h)
 
 pub histories_keep_lengths : (c : Config) (es : List Event) → AreOfPages c.pages (left c es).now.words
 histories_keep_lengths c es = left_lengths c (first_world c) es (zero_lengths c.pages)

@@ -9,7 +9,7 @@ pub implied : (a b : Bool) → (not a || b) ≡ true → a ≡ true → b ≡ tr
 implied true b h is = h
 implied false b h is = absurd (false≢true is)
 
--- what holds of all elements, and of what stands behind the end, holds at every index
+-- what holds of all elements, and of what stands after the end, holds at every index
 pub list_all-at : {A : Type 0} (test : A → Bool) (xs : List A) (d : A) → list_all test xs ≡ true → test d ≡ true
     → (i : ℕ) → test (slice_index_or xs i d) ≡ true
 list_all-at test [] d h behind i = behind

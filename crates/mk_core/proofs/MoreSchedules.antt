@@ -13,8 +13,8 @@ use Rattle.mk_core.specs.Cells.{pointed_cell}
 use Rattle.mk_core.specs.StopConditions.{may_turn_black}
 use Rattle.mk_core.proofs.Schedules.{by, c0, host, fault, first_fault, one_page, pointer_page}
 
--- Two objects fill the page. One is freed, but a register still points to it, so a New is refused behind a cycle of its
--- own. Behind a `clear` of that register the next New's cycle releases it, and its cell is taken again.
+-- Two objects fill the page. One is freed, but a register still points to it, so a New is refused after a cycle of its
+-- own. After a `clear` of that register the next New's cycle releases it, and its cell is taken again.
 unfoldable pub full_then_reused : List Event
 full_then_reused =
     by c0 (step.Take (Some (op.New 0 0 false)) ∷ step.Head 0 125 ∷ step.Used 0 1 ∷ step.Grant ∷ step.Tally

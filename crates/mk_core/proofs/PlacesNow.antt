@@ -16,7 +16,8 @@ use Rattle.mk_core.specs.declared.seats.Placing.{Placing}
 use Rattle.mk_core.specs.declared.seats.Placing.TheVariants.{Unplaced, Chosen, Used, Granted}
 use Rattle.mk_core.specs.Words.{Words, quarantine_word}
 use Rattle.mk_core.specs.Cells.{pointed_cell, is_freed}
-use Rattle.mk_core.specs.NewPlaces.{place_on_pages, place_in, object_made, is_new_at, is_free_at, is_undecided_new}
+use Rattle.mk_core.specs.NewPlaces.{place_on_pages, place_by_placing, object_made, is_new_at, is_free_at}
+use Rattle.mk_core.specs.NewPlaces.{is_undecided_new}
 use Rattle.mk_core.specs.NewPlaces.{is_undecided_free, target}
 use Rattle.mk_core.specs.TurnConditions.{place_now, frees, cell_freed}
 use Rattle.mk_core.specs.Moments.{Moment, is_phase}
@@ -63,7 +64,7 @@ pub data IsPlaced (resident : ℕ) (pages : List Page) (o : Object) (place : Pla
   AsUsed : IsPlaced resident pages o place (Used place)
 
 pub placed_in : (resident : ℕ) (pages : List Page) (o : Object) (placing : Placing) (place : Place)
-    → place_in resident pages o placing ≡ Some place → IsPlaced resident pages o place placing
+    → place_by_placing resident pages o placing ≡ Some place → IsPlaced resident pages o place placing
 placed_in resident pages o Unplaced place h = ByFit h
 placed_in resident pages o (Chosen found) place h =
     let e : found ≡ place = cc in
@@ -75,14 +76,14 @@ placed_in resident pages o Granted place h = cc
 
 pub record PlacedNow (c : Config) (m : Moment) (f : Flight) (place : Place) : Type 0 where
   pub new : is_undecided_new f ≡ true
-  pub at : place_in c.resident m.words.pages (object_made c f.op) m.seats.holding.placing ≡ Some place
+  pub at : place_by_placing c.resident m.words.pages (object_made c f.op) m.seats.holding.placing ≡ Some place
   pub placed : IsPlaced c.resident m.words.pages (object_made c f.op) place m.seats.holding.placing
 
 pub placed_now : (c : Config) (m : Moment) (f : Flight) (place : Place) → place_now c m f ≡ Some place
     → PlacedNow c m f place
 placed_now c m f place h =
     let parts = some_under (is_undecided_new f)
-    (place_in c.resident m.words.pages (object_made c f.op) m.seats.holding.placing) place h in
+    (place_by_placing c.resident m.words.pages (object_made c f.op) m.seats.holding.placing) place h in
     record {
       new = parts.0;
       at = parts.1;

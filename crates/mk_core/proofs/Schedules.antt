@@ -43,7 +43,7 @@ first_fault c es = fault c 0 (first_world c) es
 unfoldable pub one_page : Config
 one_page = record { pages = 1; resident = 1; callers = 1; markers = 0; types = replicate 32 Num ∷ []; globals = [] }
 
--- Two objects are freed, one before a cycle begins and one behind its begin. The first alone is released by it.
+-- Two objects are freed, one before a cycle begins and one after its begin. The first alone is released by it.
 unfoldable pub freed_after_begin : List Event
 freed_after_begin =
     by c0 (step.Take (Some (op.New 0 0 false)) ∷ step.Head 0 125 ∷ step.Used 0 1 ∷ step.Grant ∷ step.Tally

@@ -19,7 +19,7 @@ use Rattle.mk_core.specs.Placement.{serves}
 use Rattle.mk_core.specs.Moments.{Moment, is_phase}
 use Rattle.mk_core.proofs.AllBelow.{all_below-at}
 
--- the first page of so many that hasn't the header that is wanted there, and that header
+-- the first page of this many that hasn't the header that is wanted there, and that header
 pub record IsNextHeader (w : Words) (first count : ℕ) (wanted : ℕ → ℕ) (page value : ℕ) : Type 0 where
   pub from : first ≤ page
   pub near : page - first < count
@@ -49,7 +49,7 @@ next_header w first count wanted page value h =
       is = eqb-true value (wanted (page - first)) a.1;
     }
 
--- the place's cell, behind all its headers, whose used bit isn't set, and the word with that bit
+-- the place's cell, after all its headers, whose used bit isn't set, and the word with that bit
 pub record IsCellTaken (w : Words) (o : Object) (place : Place) (page value : ℕ) : Type 0 where
   pub at : page ≡ place.page
   pub headers : (distance : ℕ) → distance < pages_made o → header_at w (place.page + distance) ≡ header_made o distance

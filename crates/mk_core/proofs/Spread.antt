@@ -7,7 +7,7 @@ use Rattle.std.proofs.lemmas.List.{length-take-le, length-replicate}
 use Rattle.std.proofs.Math.Seq.{take-set-lt}
 use Rattle.mk_core.specs.Layout.{gap, spread}
 
--- a change behind the first words
+-- a change after the first words
 pub set_later : (xs ys : List ℕ) (n v : ℕ) → slice_set (xs ++ ys) (length xs + n) v ≡ xs ++ slice_set ys n v
 set_later xs ys n v = set-append_right xs ys (length xs) (length xs + n) v refl (omega arith)
     ∙ ap (λ k. xs ++ slice_set ys k v) (omega arith)

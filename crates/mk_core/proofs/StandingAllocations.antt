@@ -190,7 +190,7 @@ header_shows_storage c a distance header sized b near has = by (cases_Bool (is_s
         large_shows false large (unmapped.1
         ∙ unmapped_run (pages_made (object_placed c a)) distance (object_placed c a).leaf)
 
--- how far behind its first a page of its storage is
+-- how far after its first a page of its storage is
 page_near : (c : Config) (a : PlacedAllocation) (page : ℕ) → IsSized (object_placed c a)
     → BeginsAtCell (object_placed c a) a.base
     → stands_on page (storage_of c a) ≡ true

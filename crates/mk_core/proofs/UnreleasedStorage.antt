@@ -1,4 +1,4 @@
--- The unreleased storage: in parts, behind changes, and which allocation has a storage of it.
+-- The unreleased storage: in parts, after changes, and which allocation has a storage of it.
 use Rattle.std.proofs.Common.{◌≡◌, ℕ, zero, suc, true, false, List, [], ◌∷◌, ◌++◌, map, refl, sym, ◌∙◌, ap, subst, inl}
 use Rattle.std.proofs.Common.{inr, arith}
 use Rattle.std.specs.Prelude.{Contains}

@@ -162,7 +162,7 @@ has_bit_or_right n m i h = has_from (bit_or n m) i (bit_at_or n m i
 pub bit_for_has : (k : ℕ) → k < 64 → has_bit (bit_for k) k ≡ true
 bit_for_has k lt = has_from (bit_for k) k (ap (λ n. bit_at n k) (bit_for_small k lt) ∙ bit_at-pow_same k)
 
--- Bits that are added to one of some words: each bit behind that was there, or is one of them.
+-- Bits that are added to one of some words: each bit after that was there, or is one of them.
 pub more_bits : (xs : List ℕ) (q b p i : ℕ)
     → has_bit (slice_index (slice_set xs q (bit_or (slice_index xs q) b)) p) i ≡ true
     → (has_bit (slice_index xs p) i ≡ true) ⊎ ((p ≡ q) × (has_bit b i ≡ true))

@@ -157,8 +157,8 @@ access_by c n f placing x step.Mblack = Or (scan_bit x.scan)
 access_by c n f placing x step.Over = Add 5
 access_by c n f placing x _ = Load
 
-abbrev pub reached : Config → Moment → Event → TableWord
-reached c m e = word_reached c (caller_number e.seat) (flight_of m e.seat) (marker_at m e.seat) e.step
+abbrev pub word_accessed : Config → Moment → Event → TableWord
+word_accessed c m e = word_reached c (caller_number e.seat) (flight_of m e.seat) (marker_at m e.seat) e.step
 
 abbrev pub access : Config → Moment → Event → Access
 access c m e =
@@ -166,4 +166,4 @@ access c m e =
 
 -- what the access finds
 abbrev pub found : Config → Moment → Event → ℕ
-found c m e = word_in m.words (reached c m e)
+found c m e = word_in m.words (word_accessed c m e)

@@ -7,8 +7,8 @@ use Rattle.mk_never.specs.Types.{kinds_of, is_large}
 use Rattle.mk_geom.specs.declared.addresses.Cell.{Cell}
 use Rattle.mk_geom.specs.declared.pages.Place.{Place}
 use Rattle.mk_geom.specs.declared.pages.Census.{Census}
-use Rattle.mk_geom.specs.StorageWords.{mapped_words, cell_of_storage}
-use Rattle.mk_geom.specs.Storages.{Storage, place_of, census_of, Fits}
+use Rattle.mk_geom.specs.StorageWords.{held_by_storages, cell_of_storage}
+use Rattle.mk_geom.specs.Storages.{Storage, place_among_storages, census_of, Fits}
 use Rattle.mk_core.specs.declared.config.Config.{Config}
 use Rattle.mk_core.specs.declared.events.Step.{Step}
 use Rattle.mk_core.specs.declared.events.Step.TheVariants as step
@@ -24,7 +24,7 @@ use Rattle.mk_core.specs.TurnConditions.{cell_freed}
 use Rattle.mk_core.specs.Accesses.{granted_base}
 use Rattle.mk_core.specs.Moments.{Moment, flight_of}
 
--- The heap word whose address its grant stored, its type, whether it was freed, whether that was behind the last
+-- The heap word whose address its grant stored, its type, whether it was freed, whether that was after the last
 -- `begin`, and whether a `release` released it.
 pub record PlacedAllocation : Type 0 where
   pub base : ℕ
@@ -73,7 +73,7 @@ with_released c w a =
 abbrev pub no_longer_fresh : PlacedAllocation → PlacedAllocation
 no_longer_fresh a = record a { fresh = false }
 
--- the allocations behind a step of a seat whose call is f
+-- the allocations after a step of a seat whose call is f
 abbrev pub allocations_by : Config → Moment → Flight → Step → List PlacedAllocation → List PlacedAllocation
 allocations_by c m f step.Grant xs = xs ++ granted c m f ∷ []
 allocations_by c m f (step.Quar p v) xs = map (freed_where_it_stands m.words (cell_freed c.pages m.words f p v)) xs
@@ -111,15 +111,15 @@ unreleased_storage c (a ∷ xs) =
     if a.released then unreleased_storage c xs else storage_of c a ∷ unreleased_storage c xs
 
 -- The counts: the storage words of the mapped allocations, and of those among them that are fresh.
-abbrev pub held_words : Config → List PlacedAllocation → ℕ
-held_words c xs = mapped_words (unreleased_storage c xs)
+abbrev pub held_by_allocations : Config → List PlacedAllocation → ℕ
+held_by_allocations c xs = held_by_storages (unreleased_storage c xs)
 
 abbrev pub fresh_words_of : Config → List PlacedAllocation → ℕ
 fresh_words_of c xs = sum_by (storage_words c) (filter (λ a. is_mapped c a && a.fresh) xs)
 
 -- Place, fits and census over the unreleased storage
 abbrev pub place_among_allocations : Config → ℕ → Bool → List PlacedAllocation → Option Place
-place_among_allocations c words leaf xs = place_of c.pages c.resident words leaf (unreleased_storage c xs)
+place_among_allocations c words leaf xs = place_among_storages c.pages c.resident words leaf (unreleased_storage c xs)
 
 abbrev pub FitsAmongAllocations : Config → ℕ → Bool → List PlacedAllocation → Type 0
 FitsAmongAllocations c words leaf xs = Fits c.pages c.resident words leaf (unreleased_storage c xs)

@@ -78,7 +78,7 @@ is_under_turn (op.New d ty full) = true
 is_under_turn (op.Free p) = true
 is_under_turn _ = false
 
--- the steps behind that one, in order
+-- the steps after that one, in order
 abbrev pub steps_of : Op → List Stage
 steps_of (op.GetNum q i) = LoadQ ∷ Probe ∷ Read ∷ Leave ∷ []
 steps_of (op.GetPtr d q i) = LoadQ ∷ Probe ∷ Read ∷ Put ∷ Leave ∷ []
@@ -118,12 +118,12 @@ abbrev pub first_of : List Stage → Stage
 first_of [] = Idle
 first_of (s ∷ ss) = s
 
--- the stage behind this one
+-- the stage after this one
 abbrev pub stage_behind : Stage → List Stage → Stage
 stage_behind stage [] = Idle
 stage_behind stage (s ∷ ss) = if is_same_stage s stage then first_of ss else stage_behind stage ss
 
--- the stage behind a refusal: a register that would have been loaded becomes null first
+-- the stage after a refusal: a register that would have been loaded becomes null first
 abbrev pub stage_refused : Op → Stage
 stage_refused (op.GetPtr d q i) = Put
 stage_refused (op.Lea d q i) = Put

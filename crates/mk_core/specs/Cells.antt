@@ -71,7 +71,7 @@ first_word w cell = 64 * cell.page + cell.index * words_under (header_in w cell.
 abbrev pub cell_words : Words → Cell → ℕ
 cell_words w cell = words_under (header_in w cell.page)
 
--- What a value points into, by lookup, in a heap of so many pages, which these are.
+-- What a value points into, by lookup, in a heap of this many pages, which these are.
 unfoldable pub pointed_cell : ℕ → List Page → ℕ → Option Cell
 pointed_cell count pages value = cell_at count (slice_index_or pages (page_at_address value) free_page).header value
 
@@ -120,8 +120,8 @@ abbrev pub none_is_left_unmarked : Words → ℕ → Bool
 none_is_left_unmarked w p = left_unmarked w p == 0
 
 -- A released cell is one of them while the phase is releasing.
-abbrev pub is_released : Words → Cell → Bool
-is_released w cell = is_phase w 4 && is_left_unmarked w cell
+abbrev pub is_released_cell : Words → Cell → Bool
+is_released_cell w cell = is_phase w 4 && is_left_unmarked w cell
 
 abbrev pub is_in_run : RunPages → ℕ → Bool
 is_in_run run n = nat_le run.page (n / 64) && nat_lt (n / 64 - run.page) run.count

@@ -10,7 +10,7 @@ use Rattle.mk_core.specs.declared.events.Event.{Event}
 use Rattle.mk_core.specs.declared.seats.Flight.{Flight}
 use Rattle.mk_core.specs.Moments.{Moment, flight_of}
 use Rattle.mk_core.specs.TurnConditions.{cell_freed}
-use Rattle.mk_core.specs.Allocations.{PlacedAllocation, held_words, fresh_words_of}
+use Rattle.mk_core.specs.Allocations.{PlacedAllocation, held_by_allocations, fresh_words_of}
 use Rattle.mk_core.specs.Decided.{answered}
 use Rattle.mk_core.specs.History.{left, calls}
 use Rattle.mk_core.specs.Cycles.{is_end}
@@ -27,8 +27,8 @@ abbrev pub is_full_answer : Answer → Bool
 is_full_answer answer.Full = true
 is_full_answer _ = false
 
-abbrev pub fulls : Config → List Event → ℕ
-fulls c es = count_by is_full_answer (answered (calls c es))
+abbrev pub full_answers : Config → List Event → ℕ
+full_answers c es = count_by is_full_answer (answered (calls c es))
 
 -- A number above 2^64 - 1 stands in a word as 2^64 - 1.
 abbrev pub in_a_word : ℕ → ℕ
@@ -38,7 +38,7 @@ in_a_word n = min n (2 ^ 64 - 1)
 pub record TalliesAreTidy (c : Config) (es : List Event) : Type 0 where
   pub cycles : (left c es).now.words.cycles ≡ in_a_word (ends es)
   pub released : (left c es).now.words.released ≡ in_a_word (releases (left c es).allocations)
-  pub full : (left c es).now.words.full ≡ in_a_word (fulls c es)
+  pub full : (left c es).now.words.full ≡ in_a_word (full_answers c es)
 
 -- A list is tidy where they are so before each `give`.
 abbrev pub IsTidy : Config → List Event → Type 0
@@ -48,7 +48,7 @@ IsTidy c es =
 
 -- The tallies of held and fresh words are those of the allocations.
 pub record TalliesAreExact (c : Config) (es : List Event) : Type 0 where
-  pub held : (left c es).now.words.held ≡ held_words c (left c es).allocations
+  pub held : (left c es).now.words.held ≡ held_by_allocations c (left c es).allocations
   pub fresh : (left c es).now.words.fresh ≡ in_a_word (fresh_words_of c (left c es).allocations)
 
 -- the step decides that a Free has freed its object
@@ -56,8 +56,8 @@ abbrev pub decides_freed : Config → Moment → Flight → Step → Bool
 decides_freed c m f (step.Quar p v) = is_some (cell_freed c.pages m.words f p v)
 decides_freed c m f _ = false
 
--- A free is due where more than a quarter of the held words is fresh behind the event that decides it.
+-- A free is due where more than a quarter of the held words is fresh after the event that decides it.
 pub record IsDue (c : Config) (es : List Event) (e : Event) : Type 0 where
   pub decides : decides_freed c (left c es).now (flight_of (left c es).now e.seat) e.step ≡ true
-  pub quarter : held_words c (left c (es ++ e ∷ [])).allocations < 4 * fresh_words_of c
+  pub quarter : held_by_allocations c (left c (es ++ e ∷ [])).allocations < 4 * fresh_words_of c
       (left c (es ++ e ∷ [])).allocations

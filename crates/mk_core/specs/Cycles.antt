@@ -43,7 +43,7 @@ abbrev pub is_give : Step → Bool
 is_give step.Give = true
 is_give _ = false
 
--- An event of a kind in a list: what stands before it, the event, and what stands behind it.
+-- An event of a kind in a list: what stands before it, the event, and what stands after it.
 pub record At (kind : Step → Bool) (es : List Event) : Type 0 where
   pub before : List Event
   pub event : Event
@@ -56,7 +56,7 @@ pub record Next (kind : Step → Bool) (es : List Event) : Type 0 where
   pub at : At kind es
   pub none_before : list_any (λ (e : Event). kind e.step) at.before ≡ false
 
--- The marking of a cycle: from a `begin` to the next `close` behind it.
+-- The marking of a cycle: from a `begin` to the next `close` after it.
 pub record Marking (es : List Event) : Type 0 where
   pub begin : At is_begin es
   pub close : Next is_close begin.behind
@@ -94,7 +94,7 @@ is_quarantined a = a.freed && not a.released
 abbrev pub IsInSnapshot : Config → {es : List Event} → Marking es → ℕ → Type 0
 IsInSnapshot c k i = is_quarantined (placed_at (left c (before_begin k)).allocations i) ≡ true
 
--- Behind the list a seat is in a turn: it took the turn, for this operation, and hasn't given it back.
+-- After the list a seat is in a turn: it took the turn, for this operation, and hasn't given it back.
 pub record TurnOf (c : Config) (s : Seat) (es : List Event) : Type 0 where
   pub before : List Event
   pub op : Option Op
@@ -103,7 +103,7 @@ pub record TurnOf (c : Config) (s : Seat) (es : List Event) : Type 0 where
   pub took : (left c before).now.words.turn ≡ 0
   pub goes_on : list_any (λ (e : Event). is_same_seat s e.seat && is_give e.step) behind ≡ false
 
--- A cycle is begun in a call where its `begin` stands behind the call's `take`, and ended in it likewise.
+-- A cycle is begun in a call where its `begin` stands after the call's `take`, and ended in it likewise.
 abbrev pub BeginsIn : {c : Config} {s : Seat} {es : List Event} → TurnOf c s es → Type 0
 BeginsIn t = At is_begin t.behind
 

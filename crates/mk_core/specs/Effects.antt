@@ -44,7 +44,7 @@ use Rattle.mk_core.specs.NewPlaces.{object_made, target}
 use Rattle.mk_core.specs.TurnConditions.{place_now, cell_freed}
 use Rattle.mk_core.specs.StopConditions.{marks_place}
 use Rattle.mk_core.specs.Moments.{Moment, Seats, nothing_done, outside, flight_of, marker_of, others_are_held, is_phase}
-use Rattle.mk_core.specs.Accesses.{reached, access, found}
+use Rattle.mk_core.specs.Accesses.{word_accessed, access, found}
 
 -- a decided answer, and then `give`
 abbrev pub decided : Flight → Answer → Progress
@@ -138,7 +138,7 @@ abbrev pub cycle_ended : OwnCycle → OwnCycle
 cycle_ended Begun = Ended
 cycle_ended cycle = cycle
 
--- What the holder of the turn has done behind its step; a seat that doesn't hold it leaves that alone.
+-- What the holder of the turn has done after its step; a seat that doesn't hold it leaves that alone.
 abbrev pub holding_behind : Config → Moment → Seat → Flight → ℕ → Step → Holding → Holding
 holding_behind c m s f found (step.Take o) h = if found == 0 then nothing_done else h
 holding_behind c m s f found step.Give h = nothing_done
@@ -197,7 +197,7 @@ abbrev pub scan_onward : Option Scan → Option Scan
 scan_onward (Some scan) = Some (record scan { next = scan.next + 1 })
 scan_onward None = None
 
--- a marker behind its step
+-- a marker after its step
 abbrev pub marker_behind : Config → ℕ → Step → Marker → Marker
 marker_behind c found step.Attend x =
     record { presence = if found % 8 == 1 then Attending else Visiting; scan = None; hand = None; seen = None }
@@ -244,7 +244,7 @@ seats_behind c m seat found s =
 abbrev pub moment_behind : Config → Moment → Event → Moment
 moment_behind c m e =
     record {
-      words = accessed m.words (reached c m e) (access c m e);
+      words = accessed m.words (word_accessed c m e) (access c m e);
       seats = seats_behind c m e.seat (found c m e) e.step;
       fresh_words = fresh_behind c m (flight_of m e.seat) e.step;
     }

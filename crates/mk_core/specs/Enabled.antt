@@ -12,7 +12,8 @@ use Rattle.mk_core.specs.Moments.{Moment, flight_of, marker_at}
 use Rattle.mk_core.specs.Order.{seat_exists, group_of, is_open_to, is_in_order}
 use Rattle.mk_core.specs.Ranges.{is_in_range, has_gates, has_phase}
 use Rattle.mk_core.specs.NewPlaces.{object_made, is_run_gone}
-use Rattle.mk_core.specs.TurnConditions.{may_head, may_use, may_quarantine, may_give, may_wipe, is_full, is_used_once}
+use Rattle.mk_core.specs.TurnConditions.{may_head, may_use, may_quarantine, may_give, may_wipe, may_answer_full}
+use Rattle.mk_core.specs.TurnConditions.{is_used_once}
 use Rattle.mk_core.specs.StopConditions.{may_mark, may_begin, may_close, may_end, may_undirty, may_black, may_unblack}
 use Rattle.mk_core.specs.MarkerConditions.{is_out, may_mlook, may_claim, may_mload, may_mmark, may_mblack, may_end_all}
 
@@ -38,7 +39,7 @@ holder_may c m f (step.Open j) = is_run_gone m.words m.seats.holding.freed
 holder_may c m f (step.Mark p v) = may_mark c m f p v
 holder_may c m f (step.Wipe n) = may_wipe c m n
 holder_may c m f step.Full =
-    is_full c.resident m.words.pages (object_made c f.op) m.seats.holding.placing m.seats.holding.cycle
+    may_answer_full c.resident m.words.pages (object_made c f.op) m.seats.holding.placing m.seats.holding.cycle
 holder_may c m f step.Begin = may_begin c.pages m.words
 holder_may c m f step.Close = may_close c m
 holder_may c m f step.End = may_end c.pages m.words
@@ -74,7 +75,7 @@ failing c m e =
 abbrev pub IsEnabled : Config → Moment → Event → Type 0
 IsEnabled c m e = failing c m e ≡ 0
 
--- What an enabled event tells: it meets each of the seven conditions. The last is in two parts, of which one is true.
+-- What an enabled event says: it meets each of the seven conditions. The last is in two parts, of which one is true.
 pub record MeetsAll (c : Config) (m : Moment) (e : Event) : Type 0 where
   pub seat : seat_exists c e.seat ≡ true
   pub kind : is_open_to e.seat (group_of e.step) ≡ true

@@ -19,7 +19,7 @@ use Rattle.mk_core.specs.Moments.{Moment, flight_of, marker_of, marker_at, other
 use Rattle.mk_core.specs.StopConditions.{is_attending}
 use Rattle.mk_core.specs.Allocations.{PlacedAllocation, placed_at, is_mapped, storage_of}
 use Rattle.mk_core.specs.History.{World, left, AreEnabled, never_behind, IsHistory}
-use Rattle.mk_core.specs.Counts.{ends, fulls}
+use Rattle.mk_core.specs.Counts.{ends, full_answers}
 use Rattle.mk_core.specs.Growing.{AreOfOthers}
 use Rattle.mk_core.specs.Readings.{is_in_call, Holds, is_in, NoneAttends}
 
@@ -132,7 +132,7 @@ pub record TurnIsLeft (w v : World) : Type 0 where
 -- The counts of events that only the holder makes are as they were.
 pub record CountsAreLeft (c : Config) (es fs : List Event) : Type 0 where
   pub ends : ends fs ≡ ends es
-  pub fulls : fulls c fs ≡ fulls c es
+  pub fulls : full_answers c fs ≡ full_answers c es
 
 -- A marker that attends finds the phase marking or wanted, and nothing of marks and headers taken back.
 pub record ScanIsLeft (w v : World) : Type 0 where

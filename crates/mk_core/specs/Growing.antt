@@ -40,6 +40,6 @@ own_from c s w (e ∷ es) =
     then record { event = e; found = found c w.now e } ∷ own_from c s (world_behind c w e) es
     else own_from c s (world_behind c w e) es
 
--- In a call: the events of the call's own seat behind what was seen as it began, and what each of them found.
+-- In a call: the events of the call's own seat after what was seen as it began, and what each of them found.
 abbrev pub in_this_call : Config → Seat → List Event → List Event → List Finding
 in_this_call c s seen more = own_from c s (left c seen) more

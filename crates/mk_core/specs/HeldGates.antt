@@ -13,7 +13,7 @@ is_hold_of i _ = false
 abbrev pub changes_gate : ℕ → World → World → Bool
 changes_gate i w v = not (slice_index v.now.words.gates i == slice_index w.now.words.gates i)
 
--- whether a gate is held behind events, where it was held or not before
+-- whether a gate is held after events, where it was held or not before
 unfoldable pub is_gate_held_from : Config → ℕ → World → Bool → List Event → Bool
 is_gate_held_from c i w held [] = held
 is_gate_held_from c i w held (e ∷ es) =

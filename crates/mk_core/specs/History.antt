@@ -13,7 +13,7 @@ use Rattle.mk_core.specs.Effects.{moment_behind, answer_decided}
 use Rattle.mk_core.specs.Allocations.{PlacedAllocation, allocations_behind}
 use Rattle.mk_core.specs.Decided.{Decided, entry_of, asked, answered}
 
--- All that events leave: the moment behind them, and the allocations.
+-- All that events leave: the moment after them, and the allocations.
 pub record World : Type 0 where
   pub now : Moment
   pub allocations : List PlacedAllocation
@@ -52,7 +52,7 @@ calls_from c w (e ∷ es) = call_decided c w.now e ++ calls_from c (world_behind
 abbrev pub calls : Config → List Event → List Decided
 calls c es = calls_from c (first_world c) es
 
--- the heap that never reuses storage, before any operation and behind the calls of a history
+-- the heap that never reuses storage, before any operation and after the calls of a history
 abbrev pub never_first : Config → NeverState
 never_first c = start_of c.types c.callers
 
@@ -64,13 +64,13 @@ abbrev pub CallsAreAdmitted : Config → List Event → Type 0
 CallsAreAdmitted c es = AreAdmitted c.globals (never_first c) (asked (calls c es))
 
 -- A list of events is a history of a heap of this configuration. Without the limits what holds of every history fails:
--- with 17 callers a register lies behind the table's 128.
+-- with 17 callers a register lies after the table's 128.
 pub record IsHistory (c : Config) (es : List Event) : Type 0 where
   pub within_limits : IsWithinLimits c
   pub enabled : AreEnabled c es
   pub admitted : CallsAreAdmitted c es
 
--- an event that is enabled behind a list, and one that is admitted
+-- an event that is enabled after a list, and one that is admitted
 abbrev pub IsEnabledBehind : Config → List Event → Event → Type 0
 IsEnabledBehind c es e = IsEnabled c (left c es).now e
 

@@ -12,7 +12,7 @@ use Rattle.mk_core.specs.Decided.{asked}
 use Rattle.mk_core.specs.History.{left_from, left, AreEnabledFrom, AreEnabled, calls_from, calls, never_first}
 use Rattle.mk_core.specs.History.{never_behind, CallsAreAdmitted, IsHistory}
 
--- What a list leaves is what its later part leaves behind its earlier one.
+-- What a list leaves is what its later part leaves after its earlier one.
 abbrev pub LeftInParts : Config → List Event → List Event → Type 0
 LeftInParts c es more = left c (es ++ more) ≡ left_from c (left c es) more
 

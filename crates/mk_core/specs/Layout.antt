@@ -15,7 +15,7 @@ use Rattle.mk_core.specs.declared.events.Event.{Event}
 use Rattle.mk_core.specs.History.{left}
 use Rattle.mk_core.specs.Words.{Words, zero_words_of, quarantine_word, word_in, with_word_in, becomes, accessed}
 
--- the index of a word by its name, in a table of so many pages
+-- the index of a word by its name, in a table of this many pages
 abbrev pub index_of_named : ℕ → Word → ℕ
 index_of_named pages word.Phase = 0
 index_of_named pages word.Held = 32
@@ -41,7 +41,7 @@ index_of pages (Named name) = index_of_named pages name
 abbrev pub count_of_words : ℕ → ℕ
 count_of_words pages = 640 + 70 * pages
 
--- the name is one of a table of so many pages
+-- the name is one of a table of this many pages
 abbrev pub NamesWord : ℕ → Word → Type 0
 NamesWord pages word.Phase = ⊤
 NamesWord pages word.Held = ⊤
@@ -70,11 +70,11 @@ quarantine_words (freed ∷ freeds) [] = []
 quarantine_words (freed ∷ freeds) (snapshot ∷ snapshots) = quarantine_word freed snapshot
     ∷ quarantine_words freeds snapshots
 
--- so many words that are never used
+-- this many words that are never used
 abbrev pub gap : ℕ → List ℕ
 gap count = replicate count 0
 
--- so many groups of words of that size, each with a gap behind it
+-- this many groups of words of that size, each with a gap after it
 unfoldable pub spread : ℕ → ℕ → ℕ → List ℕ → List ℕ
 spread zero size between xs = []
 spread (suc groups) size between xs = take size xs ++ (gap between ++ spread groups size between (drop size xs))

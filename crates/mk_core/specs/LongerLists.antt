@@ -1,19 +1,19 @@
--- The law on longer lists: what a seat may do behind what it has seen, it may do behind what others did since.
+-- The law on longer lists: what a seat may do after what it has seen, it may do after what others did since.
 use Rattle.std.specs.Prelude.{◌≡◌, List, [], ◌∷◌, ◌++◌, is_some}
 use Rattle.mk_core.specs.declared.config.Config.{Config}
 use Rattle.mk_core.specs.declared.events.Event.{Event}
 use Rattle.mk_core.specs.declared.events.Step.TheVariants as step
-use Rattle.mk_core.specs.Accesses.{reached, access}
+use Rattle.mk_core.specs.Accesses.{word_accessed, access}
 use Rattle.mk_core.specs.Layout.{IsOfTable}
 use Rattle.mk_core.specs.Effects.{answer_decided}
 use Rattle.mk_core.specs.History.{left, IsHistory}
 use Rattle.mk_core.specs.Counts.{IsTidy}
 use Rattle.mk_core.specs.Growing.{AreOfOthers}
 
--- What the event is behind the one list, it is behind the other.
+-- What the event is after the one list, it is after the other.
 pub record IsStillTheSame (c : Config) (es fs : List Event) (e : Event) : Type 0 where
-  pub word : reached c (left c fs).now e ≡ reached c (left c es).now e
-  pub of_the_table : IsOfTable c.pages (reached c (left c es).now e)
+  pub word : word_accessed c (left c fs).now e ≡ word_accessed c (left c es).now e
+  pub of_the_table : IsOfTable c.pages (word_accessed c (left c es).now e)
   pub access : access c (left c fs).now e ≡ access c (left c es).now e
   pub decides : e.step ≡ step.Probe
       → is_some (answer_decided c (left c fs).now e) ≡ is_some (answer_decided c (left c es).now e)

@@ -19,7 +19,7 @@ pub record Seats : Type 0 where
   pub holding : Holding
   pub markers : List MarkerState
 
--- The count of fresh words is kept beside the table: the storage of the small objects freed behind the last `begin`.
+-- The count of fresh words is kept beside the table: the storage of the small objects freed after the last `begin`.
 pub record Moment : Type 0 where
   pub words : Words
   pub seats : Seats

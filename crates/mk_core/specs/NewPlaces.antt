@@ -10,7 +10,7 @@ use Rattle.mk_geom.specs.declared.pages.Page.{Page}
 use Rattle.mk_geom.specs.declared.pages.Place.{Place}
 use Rattle.mk_geom.specs.Classes.{class_for, class_words_of, cells_of, is_small_size, run_pages_of}
 use Rattle.mk_geom.specs.Headers.{word_of}
-use Rattle.mk_geom.specs.PageUses.{place_among}
+use Rattle.mk_geom.specs.PageUses.{place_on_uses}
 use Rattle.mk_geom.specs.PageWords.{uses_of_pages}
 use Rattle.mk_geom.specs.Storages.{block_header, run_header}
 use Rattle.mk_core.specs.declared.config.Config.{Config}
@@ -34,16 +34,16 @@ abbrev pub object_made : Config → Op → Object
 object_made c (op.New d ty full) = object_of (kinds_of c.types ty)
 object_made c _ = object_of []
 
--- where an object goes on pages by first fit, with so many of them resident at most
+-- where an object goes on pages by first fit, with this many of them resident at most
 abbrev pub place_on_pages : ℕ → List Page → Object → Option Place
-place_on_pages resident pages o = place_among resident o.words o.leaf (uses_of_pages pages)
+place_on_pages resident pages o = place_on_uses resident o.words o.leaf (uses_of_pages pages)
 
 -- A New has one place: the first fit, up to the first step that serves its object.
-abbrev pub place_in : ℕ → List Page → Object → Placing → Option Place
-place_in resident pages o Unplaced = place_on_pages resident pages o
-place_in resident pages o (Chosen place) = Some place
-place_in resident pages o (Used place) = Some place
-place_in resident pages o Granted = None
+abbrev pub place_by_placing : ℕ → List Page → Object → Placing → Option Place
+place_by_placing resident pages o Unplaced = place_on_pages resident pages o
+place_by_placing resident pages o (Chosen place) = Some place
+place_by_placing resident pages o (Used place) = Some place
+place_by_placing resident pages o Granted = None
 
 abbrev pub class_made : Object → ℕ
 class_made o = unwrap_or (class_for o.words) 0
@@ -55,7 +55,7 @@ is_small_object o = is_small_size o.words
 abbrev pub pages_made : Object → ℕ
 pages_made o = if is_small_object o then 1 else run_pages_of o.words
 
--- the header word that the page so far behind the first of them gets
+-- the header word that the page so far after the first of them gets
 abbrev pub header_made : Object → ℕ → ℕ
 header_made o distance =
     if is_small_object o
@@ -71,11 +71,11 @@ abbrev pub base_made : Object → Place → ℕ
 base_made o place =
     64 * place.page + (if is_small_object o then place.index * class_words_of (class_made o) else 0)
 
--- the page so far behind a first one has the header word that is wanted there
+-- the page so far after a first one has the header word that is wanted there
 abbrev pub stands : Words → ℕ → (ℕ → ℕ) → ℕ → Bool
 stands w first wanted distance = header_at w (first + distance) == wanted distance
 
--- The page is the first of so many that hasn't the header word that is wanted there, and the value is that word.
+-- The page is the first of this many that hasn't the header word that is wanted there, and the value is that word.
 abbrev pub is_next_header : Words → ℕ → ℕ → (ℕ → ℕ) → ℕ → ℕ → Bool
 is_next_header w first count wanted page value =
     nat_le first page && nat_lt (page - first) count && not (header_at w page == wanted (page - first))

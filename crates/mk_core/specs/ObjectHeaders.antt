@@ -23,8 +23,8 @@ cells_made o = if is_small_object o then cells_of (class_made o) else 1
 abbrev pub words_made : Object → ℕ
 words_made o = if is_small_object o then class_words_of (class_made o) else 64 * pages_made o
 
--- The header is one that the page so far behind an object's first may show: the kind of a block or of a run's head at
--- the first page, and how far it is at a later one. An unmapped run doesn't tell whether it is leaf.
+-- The header is one that the page so far after an object's first may show: the kind of a block or of a run's head at
+-- the first page, and how far it is at a later one. An unmapped run doesn't say whether it is leaf.
 pub data ShowsPart (o : Object) (distance : ℕ) : Option Header → Type 0 where
   OfBlock : distance ≡ 0 → is_small_object o ≡ true → o.leaf ≡ false
       → ShowsPart o distance (Some (Block (class_made o)))

@@ -4,7 +4,7 @@ use Rattle.mk_core.specs.declared.placing.PageHeaders.{PageHeaders}
 use Rattle.mk_core.specs.declared.placing.PageHeaders.TheVariants.{Made, Unmapped}
 use Rattle.mk_core.specs.NewPlaces.{header_made, unmapped_header}
 
--- that of the page so far behind the first
+-- that of the page so far after the first
 abbrev pub header_wanted : PageHeaders → ℕ → ℕ
 header_wanted (Made object) distance = header_made object distance
 header_wanted (Unmapped count) distance = unmapped_header count distance

@@ -48,15 +48,15 @@ before_served {s = s} t first = t.before ++ record { seat = s; step = step.Take 
 abbrev pub object_at : Config → List Event → Seat → Object
 object_at c es s = object_made c (flight_of (left c es).now s).op
 
-abbrev pub place_for : Config → List Event → Object → Option Place
-place_for c es o = place_among_allocations c o.words o.leaf (left c es).allocations
+abbrev pub place_after : Config → List Event → Object → Option Place
+place_after c es o = place_among_allocations c o.words o.leaf (left c es).allocations
 
--- A `grant` behind the list stands at the place of its object before the call's first step that serves it.
+-- A `grant` after the list stands at the place of its object before the call's first step that serves it.
 pub record StandsAtItsPlace (c : Config) (es : List Event) (s : Seat) : Type 0 where
   pub turn : TurnOf c s es
   pub first : FirstServed c turn
   pub place : Place
-  pub fits : place_for c (before_served turn first) (object_at c es s) ≡ Some place
+  pub fits : place_after c (before_served turn first) (object_at c es s) ≡ Some place
   pub base : granted_base c (flight_of (left c es).now s) (left c es).now.seats.holding.placing
       ≡ base_made (object_at c es s) place
 
@@ -65,8 +65,8 @@ GrantsStandAtTheirPlaces c es =
     (before : List Event) (e : Event) (behind : List Event) → es ≡ before ++ e ∷ behind → e.step ≡ step.Grant
     → StandsAtItsPlace c before e.seat
 
--- A Full stands only where nothing fits, behind a cycle that was begun and ended in its call.
-pub record IsFull (c : Config) (es : List Event) (s : Seat) : Type 0 where
+-- A Full stands only where nothing fits, after a cycle that was begun and ended in its call.
+pub record FindsNoPlace (c : Config) (es : List Event) (s : Seat) : Type 0 where
   pub turn : TurnOf c s es
   pub cycle : BeginsAndEndsIn turn
   pub no_fit : FitsAmongAllocations c (object_at c es s).words (object_at c es s).leaf (left c es).allocations → ⊥
@@ -74,4 +74,4 @@ pub record IsFull (c : Config) (es : List Event) (s : Seat) : Type 0 where
 abbrev pub FullsFitNowhere : Config → List Event → Type 0
 FullsFitNowhere c es =
     (before : List Event) (e : Event) (behind : List Event) → es ≡ before ++ e ∷ behind → e.step ≡ step.Full
-    → IsFull c before e.seat
+    → FindsNoPlace c before e.seat

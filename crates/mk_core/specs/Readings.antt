@@ -1,4 +1,4 @@
--- What a look at a word of the table tells: the reading laws.
+-- What a look at a word of the table says: the reading laws.
 use Rattle.std.specs.Prelude.{◌≡◌, ◌≢◌, ◌↔◌, ℕ, ◌+◌, ◌-◌, ◌/◌, ◌<◌, ◌≤◌, Bool, true, false, not, ◌&&◌, ◌||◌, List}
 use Rattle.std.specs.Prelude.{slice_index, Some, count_by}
 use Rattle.mk_geom.specs.declared.headers.Header.TheVariants.{Later}
@@ -74,7 +74,7 @@ pub record PhaseTells (c : Config) (m : Moment) : Type 0 where
   pub under_the_turn : 2 ≤ phase_of m.words → phase_of m.words ≤ 4 → m.words.turn ≢ 0
   pub stopped : phase_of m.words ≡ 3 → (k : ℕ) → k < c.callers → m.words.turn ≢ 1 + k → slice_index m.words.gates k ≡ 2
 
--- What turn, gates and phase tell, behind every enabled list within limits.
+-- What turn, gates and phase say, after every enabled list within limits.
 pub record WordsTellWhoHoldsWhat (c : Config) (es : List Event) : Type 0 where
   pub turn : TurnTells c (left c es).now
   pub gates : (k : ℕ) → k < c.callers → GateTells c es k
@@ -86,7 +86,7 @@ pub record IsTaken (w : World) (cell : Cell) : Type 0 where
   pub in_range : cell.index < cells_under (header_in w.now.words cell.page)
   pub stands : stands_in w.now.words cell (placed_at w.allocations number) ≡ true
 
--- What headers and quarantine words tell besides, behind every history: a header word is one, and outside the phase of
+-- What headers and quarantine words tell besides, after every history: a header word is one, and outside the phase of
 -- releasing a later page has its head, and a freed bit is that of an allocation that is freed, and each such has one.
 pub record WordsTellWhatStands (w : World) : Type 0 where
   pub headers : (p : ℕ) → IsHeaderWord (header_at w.now.words p)

@@ -9,7 +9,7 @@ use Rattle.mk_core.specs.Allocations.{placed_at, storage_of}
 use Rattle.mk_core.specs.History.{World, left, never_behind, bases_of}
 use Rattle.mk_core.specs.Cycles.{Marking, through}
 
--- The list leads to a moment of the cycle, from behind its `begin` up to before its `close`.
+-- The list leads to a moment of the cycle, from after its `begin` up to before its `close`.
 pub record LeadsToMoment {es : List Event} (k : Marking es) (front : List Event) : Type 0 where
   pub done : List Event
   pub to_come : List Event
@@ -27,7 +27,7 @@ IsWordOfAllocation c w n a =
     ((placed_at w.allocations a).released ≡ false) × ((storage_of c (placed_at w.allocations a)).leaf ≡ false)
     × IsWordOf (storage_of c (placed_at w.allocations a)) n
 
--- Behind the list a register of the never-reusing heap, a global or a heap word points into the allocation.
+-- After the list a register of the never-reusing heap, a global or a heap word points into the allocation.
 
 abbrev pub RegisterPointsInto : Config → List Event → ℕ → ℕ → Type 0
 RegisterPointsInto c front i b =

@@ -5,7 +5,7 @@ use Rattle.mk_core.specs.declared.seats.Object.{Object}
 use Rattle.mk_geom.specs.declared.addresses.Cell.{Cell}
 use Rattle.mk_geom.specs.declared.pages.Page.{Page}
 use Rattle.mk_geom.specs.declared.pages.Place.{Place}
-use Rattle.mk_geom.specs.PageUses.{words_held_among}
+use Rattle.mk_geom.specs.PageUses.{held_by_uses}
 use Rattle.mk_geom.specs.PageWords.{uses_of_pages}
 use Rattle.mk_core.specs.declared.config.Config.{Config}
 use Rattle.mk_core.specs.declared.seats.Flight.{Flight}
@@ -20,9 +20,9 @@ use Rattle.mk_geom.specs.Addresses.{address_of}
 use Rattle.mk_core.specs.Words.{Words, used_at, quarantine_word}
 use Rattle.mk_core.specs.Bits.{has_bit, without}
 use Rattle.mk_core.specs.Bounded.{all_below, is_some_and}
-use Rattle.mk_core.specs.Cells.{head_page, pointed_cell, is_freed, are_left_unmarked, is_released, words_are_zero}
+use Rattle.mk_core.specs.Cells.{head_page, pointed_cell, is_freed, are_left_unmarked, is_released_cell, words_are_zero}
 use Rattle.mk_core.specs.Cells.{first_word, cell_words, is_in_run}
-use Rattle.mk_core.specs.NewPlaces.{object_made, place_on_pages, place_in, pages_made, header_made, bits_made}
+use Rattle.mk_core.specs.NewPlaces.{object_made, place_on_pages, place_by_placing, pages_made, header_made, bits_made}
 use Rattle.mk_core.specs.NewPlaces.{is_next_header, place_stands, unmapped_header, is_run_unmapped, is_run_gone}
 use Rattle.mk_core.specs.NewPlaces.{is_undecided_new, target}
 use Rattle.mk_core.specs.Moments.{Moment, is_phase}
@@ -30,7 +30,8 @@ use Rattle.mk_core.specs.Moments.{Moment, is_phase}
 -- the place of an undecided New
 abbrev pub place_now : Config → Moment → Flight → Option Place
 place_now c m f =
-    if is_undecided_new f then place_in c.resident m.words.pages (object_made c f.op) m.seats.holding.placing else None
+    if is_undecided_new f then place_by_placing c.resident m.words.pages
+    (object_made c f.op) m.seats.holding.placing else None
 
 -- Where the phase is marking, the cells that a header makes are marked before it is stored.
 abbrev pub is_marked_first : Words → Object → Place → Bool
@@ -62,7 +63,7 @@ may_head c m f page value =
     else carves m.words (object_made c f.op) (place_now c m f) page value
     || unmaps m.words m.seats.holding.freed page value
 
--- `used` (a): the cell of the place is taken, once, behind all its headers
+-- `used` (a): the cell of the place is taken, once, after all its headers
 abbrev pub takes_cell : Words → Object → Option Place → ℕ → ℕ → Bool
 takes_cell w o place page value =
     is_some_and
@@ -125,8 +126,8 @@ may_quarantine c m f page value =
     then drops m.words page (value % 2 ^ 32) (value / 2 ^ 32)
     else frees m.words (target c.pages m.words f) page value || takes_snapshot m.words page value
 
-abbrev pub words_held : Words → ℕ
-words_held w = words_held_among (uses_of_pages w.pages)
+abbrev pub held_by_pages : Words → ℕ
+held_by_pages w = held_by_uses (uses_of_pages w.pages)
 
 -- no call of a caller's is undecided
 abbrev pub is_decided : Stage → Bool
@@ -137,12 +138,12 @@ is_decided _ = true
 abbrev pub may_give : Moment → Flight → Bool
 may_give m f =
     is_decided f.stage && is_run_gone m.words m.seats.holding.freed
-    && (m.words.held == words_held m.words) && (m.words.fresh == m.fresh_words)
+    && (m.words.held == held_by_pages m.words) && (m.words.fresh == m.fresh_words)
 
 -- `full`: a cycle was begun and ended in this call, and nothing fits
-abbrev pub is_full : ℕ → List Page → Object → Placing → OwnCycle → Bool
-is_full resident pages o Unplaced Ended = is_none (place_on_pages resident pages o)
-is_full resident pages o _ _ = false
+abbrev pub may_answer_full : ℕ → List Page → Object → Placing → OwnCycle → Bool
+may_answer_full resident pages o Unplaced Ended = is_none (place_on_pages resident pages o)
+may_answer_full resident pages o _ _ = false
 
 -- a word of the run whose pages this call unmapped
 abbrev pub is_in_gone_run : Words → Option RunPages → ℕ → Bool
@@ -151,5 +152,5 @@ is_in_gone_run w freed n = is_some_and (λ (run : RunPages). is_in_run run n && 
 -- `wipe`
 abbrev pub may_wipe : Config → Moment → ℕ → Bool
 may_wipe c m n =
-    is_some_and (is_released m.words) (pointed_cell c.pages m.words.pages (address_of n))
+    is_some_and (is_released_cell m.words) (pointed_cell c.pages m.words.pages (address_of n))
     || is_in_gone_run m.words m.seats.holding.freed n

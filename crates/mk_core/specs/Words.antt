@@ -32,7 +32,7 @@ pub record Words : Type 0 where
   pub dirty : List ℕ
   pub heap : List ℕ
 
--- a heap of so many pages, all words 0
+-- a heap of this many pages, all words 0
 abbrev pub zero_words_of : ℕ → Words
 zero_words_of pages =
     record {
@@ -126,7 +126,7 @@ becomes (Or bits) found = bit_or found bits
 becomes (Add n) found = (found + n) % 2 ^ 64
 becomes (Sub n) found = (found + (2 ^ 64 - n)) % 2 ^ 64
 
--- the words behind an access to one of them
+-- the words after an access to one of them
 abbrev pub accessed : Words → TableWord → Access → Words
 accessed w name Load = w
 accessed w name (Store value) = with_word_in w name value

@@ -95,7 +95,7 @@ pub(crate) fn is_under_turn(op: Op) -> bool
     matches!(op, Op::New { .. } | Op::Free { .. })
 }
 
-/// The steps of a call behind that one, in order.
+/// The steps of a call after that one, in order.
 fn steps_of(op: Op) -> &'static [Stage]
     ensures { result.now ≡ steps_of op }
 {
@@ -127,7 +127,7 @@ fn first_of(steps: &[Stage]) -> Stage
     steps.first().copied().unwrap_or(Stage::Idle)
 }
 
-/// The stage behind this one among the steps.
+/// The stage after this one among the steps.
 fn behind(stage: Stage, steps: &[Stage]) -> Stage
     ensures { result ≡ stage_behind stage steps.now }
 {
@@ -151,7 +151,7 @@ pub(crate) fn stage_behind(stage: Stage, op: Op) -> Stage
     behind(stage, steps_of(op))
 }
 
-/// The stage behind a refusal: a register that would have been loaded becomes null first.
+/// The stage after a refusal: a register that would have been loaded becomes null first.
 pub(crate) fn stage_refused(op: Op) -> Stage
     ensures { result ≡ stage_refused op }
 {

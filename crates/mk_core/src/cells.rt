@@ -9,7 +9,7 @@ ghost use Rattle.mk_core.specs.Cells.{cells_under, words_under, run_headed, head
 ghost use Rattle.mk_core.specs.Cells.{is_unmapped_header, has_no_pointers, head_page, cell_bits, first_word};
 ghost use Rattle.mk_core.specs.Cells.{cell_words, pointed_cell, is_used, is_freed, is_marked, points_well};
 ghost use Rattle.mk_core.specs.Cells.{word_points_well, words_point_well, words_are_zero, left_unmarked};
-ghost use Rattle.mk_core.specs.Cells.{is_left_unmarked, are_left_unmarked, none_is_left_unmarked, is_released};
+ghost use Rattle.mk_core.specs.Cells.{is_left_unmarked, are_left_unmarked, none_is_left_unmarked, is_released_cell};
 ghost use Rattle.mk_core.specs.Cells.{is_in_run};
 
 use crate::geometry::{HEAP_START, PAGE_WORDS, WORD_BYTES, page_at};
@@ -174,7 +174,7 @@ impl Table {
         words_under(self.header(cell.page))
     }
 
-    /// What a value points into, in a heap of so many pages.
+    /// What a value points into, in a heap of this many pages.
     #[tactic(auto, unfolding(crate::specs::Cells::pointed_cell))]
     pub(crate) fn pointed_cell(&self, pages: u64, value: u64) -> Option<Cell>
         ensures { result ≡ pointed_cell pages self.now.pages value }
@@ -231,7 +231,7 @@ impl Table {
         true
     }
 
-    /// Whether so many words from the first on are 0.
+    /// Whether this many words from the first on are 0.
     #[tactic(auto, using(crate::proofs::AllBelow::all_below_zero_is, crate::proofs::AllBelow::all_below_more_is, crate::proofs::AllBelow::all_below_not_is))]
     pub(crate) fn words_are_zero(&self, first: u128, count: u64) -> bool
         requires { first < 2 ^ 100 }
@@ -268,8 +268,8 @@ impl Table {
 
     /// Whether the cell is released: the phase is releasing, and the cell is in the snapshot and has no
     /// mark.
-    pub(crate) fn is_released(&self, cell: Cell) -> bool
-        ensures { result ≡ is_released self.now cell }
+    pub(crate) fn is_released_cell(&self, cell: Cell) -> bool
+        ensures { result ≡ is_released_cell self.now cell }
     {
         self.phase() == 4 && has_bit(self.left_unmarked(cell.page), cell.index)
     }

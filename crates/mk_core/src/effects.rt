@@ -32,7 +32,7 @@ use crate::{
 use mk_geom::{Cell, Place, lookup};
 use mk_never::Op;
 
-/// A decided answer, behind which `give` comes.
+/// A decided answer, after which `give` comes.
 fn decided(flight: Flight, answer: Answer) -> Progress
     ensures { result ≡ decided flight answer }
 {
@@ -137,7 +137,7 @@ fn scan_claimed(page: u64, index: u64, marks: u64, seen: Option<SeenHeader>) -> 
     }
 }
 
-/// The scan behind the load of its next word.
+/// The scan after the load of its next word.
 fn scan_onward(scan: Option<Scan>) -> Option<Scan>
     requires { IsTrue (has_next_word scan) }
     ensures { result ≡ scan_onward scan }
@@ -217,7 +217,7 @@ impl Core {
         }
     }
 
-    /// What the turn's holder has done behind its step.
+    /// What the turn's holder has done after its step.
     pub(crate) fn holding_behind(
         &self,
         seat: Seat,
@@ -361,7 +361,7 @@ impl Core {
         (HEAP_START..end).contains(&value).then_some(value)
     }
 
-    /// An open hand behind a look at the header of a page: closed, where that shows nothing there.
+    /// An open hand after a look at the header of a page: closed, where that shows nothing there.
     fn hand_behind_look(&self, page: u64, header: u64, hand: Option<u64>) -> Option<u64>
         ensures { result ≡ hand_behind_look self.now.config page header hand }
     {
@@ -392,7 +392,7 @@ impl Core {
         }
     }
 
-    /// What the marker of this number is at behind its step.
+    /// What the marker of this number is at after its step.
     pub(crate) fn marker_behind(&self, number: u64, found: u64, step: Step) -> Marker
         requires range { IsTrue (is_in_range self.now.config (Seat.Marker number) at_rest step) }
         requires own { IsTrue (marker_may self.now.config (marker_of self.now.now number) step) }
@@ -441,7 +441,7 @@ impl Core {
         }
     }
 
-    /// The count of fresh words behind a step. It stands still at the greatest number.
+    /// The count of fresh words after a step. It stands still at the greatest number.
     pub(crate) fn fresh_behind(&self, flight: Flight, step: Step) -> u64
         ensures { result ≡ fresh_behind self.now.config self.now.now flight step }
     {

@@ -1,4 +1,4 @@
-//! Sizes and addresses. The heap's words stand one behind the other from the heap's start on.
+//! Sizes and addresses. The heap's words stand one after the other from the heap's start on.
 ghost use Rattle.std.specs.Prelude.{◌≡◌};
 ghost use Rattle.mk_geom.specs.Addresses.{page_at_address};
 

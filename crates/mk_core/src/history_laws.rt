@@ -11,7 +11,7 @@ ghost use Rattle.mk_core.specs.Touched.{TouchedIsClosed, TouchedIsLeast};
 use crate::Event;
 
 /// What a list of events leaves, decides and asks for is what its earlier part does, and then its later part
-/// behind that. The earlier part of a history is a history.
+/// after that. The earlier part of a history is a history.
 
 pub fn histories_are_of_two_parts()
     ensures left { (c : Config) (es more : List Event) → LeftInParts c es more }

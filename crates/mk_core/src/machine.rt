@@ -8,7 +8,7 @@ use crate::{Config, Flight, Holding, Marker, OwnCycle, Placing, Presence, Seat, 
 use mk_never::Op;
 use std::marker::Model;
 
-/// The words of the table and what each seat is in the middle of, behind some events.
+/// The words of the table and what each seat is in the middle of, after some events.
 #[derive(Drop)]
 pub struct Core {
     pub(crate) config: Config,

@@ -22,7 +22,7 @@ use mk_geom::{Cell, Header, Place, cells, class_of, class_words, encode, run_pag
 use mk_never::{Kind, Op};
 
 /// The header words that neighbouring pages are to get: those of a new object, or those of an unmapped run
-/// of so many pages.
+/// of this many pages.
 #[derive(Clone, Copy)]
 pub(crate) enum PageHeaders {
     Made(Object),
@@ -30,7 +30,7 @@ pub(crate) enum PageHeaders {
 }
 
 impl PageHeaders {
-    /// That of the page so far behind the first.
+    /// That of the page so far after the first.
     fn word(self, distance: u64) -> u128
         ensures { result ≡ header_wanted self distance }
     {
@@ -105,7 +105,7 @@ fn run_word(count: u64, mapped: bool, leaf: bool, distance: u64) -> u128
     16 * parameter as u128 + encode(shortest) as u128 % 16
 }
 
-/// The header word that the page so far behind the first of them gets.
+/// The header word that the page so far after the first of them gets.
 pub(crate) fn header_made(object: Object, distance: u64) -> u128
     ensures { result ≡ header_made object distance }
 {
@@ -176,7 +176,7 @@ pub(crate) fn adds_bit(word: u64, index: u64, value: u64) -> bool
 }
 
 impl Table {
-    /// Whether so many pages from the first on have the header words that are wanted.
+    /// Whether this many pages from the first on have the header words that are wanted.
     #[tactic(auto, using(crate::proofs::AllBelow::all_below_zero_is, crate::proofs::AllBelow::all_below_more_is, crate::proofs::AllBelow::all_below_not_is))]
     fn headers_stand(&self, first: u64, wanted: PageHeaders, count: u64) -> bool
         ensures { result ≡ all_below count (stands self.now first (header_wanted wanted)) }
@@ -190,7 +190,7 @@ impl Table {
         true
     }
 
-    /// Whether the page is the first of so many that hasn't the header word that is wanted there, and the
+    /// Whether the page is the first of this many that hasn't the header word that is wanted there, and the
     /// value is that word.
     pub(crate) fn is_next_header(
         &self,

@@ -10,7 +10,7 @@ ghost use Rattle.mk_core.specs.NewPlaces.{object_made, base_made};
 ghost use Rattle.mk_core.specs.MarkerConditions.{cell_seen};
 ghost use Rattle.mk_core.specs.Moments.{flight_of, marker_at, holder_number};
 ghost use Rattle.mk_core.specs.Accesses.{caller_number, register_met, reg_access, tally_word, granted_base, next_word};
-ghost use Rattle.mk_core.specs.Accesses.{scan_page, scan_bit, seen_page, seen_bit, reached, access};
+ghost use Rattle.mk_core.specs.Accesses.{scan_page, scan_bit, seen_page, seen_bit, word_accessed, access};
 
 use crate::calls::{
     global_of, page_met, register_d, register_p, register_q, register_r, value_for, value_written,
@@ -173,7 +173,7 @@ impl Core {
     pub(crate) fn word_reached(&self, event: Event) -> TableWord
         requires range { IsTrue
             (is_in_range self.now.config event.seat (flight_of self.now.now event.seat) event.step) }
-        ensures { result ≡ reached self.now.config self.now.now event }
+        ensures { result ≡ word_accessed self.now.config self.now.now event }
     {
         let caller = caller_number(event.seat);
         let flight = self.flight(event.seat);

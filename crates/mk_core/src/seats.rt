@@ -136,7 +136,7 @@ pub struct Progress {
     pub answer: Option<Answer>,
 }
 
-/// What a `New` makes: so many words, leaf where none of them is a pointer.
+/// What a `New` makes: this many words, leaf where none of them is a pointer.
 #[derive(Clone, Copy)]
 pub struct Object {
     pub words: u64,

@@ -35,7 +35,7 @@ fn markers_outside(alloc: Global, markers: usize) -> Result<Vec<Marker>, NoMemor
 }
 
 impl Core {
-    /// The core of this configuration behind no event.
+    /// The core of this configuration after no event.
     fn of(alloc: Global, config: Config) -> Result<Core, NoMemory>
         requires { IsWithinLimits config }
         ensures { IfOk result (λ core. (core.config ≡ config) × (core.now ≡ first_moment config)) }
@@ -50,7 +50,7 @@ impl Core {
         })
     }
 
-    /// The core behind no event: all words are 0, and no seat is in the middle of anything.
+    /// The core after no event: all words are 0, and no seat is in the middle of anything.
     pub fn start(alloc: Global, config: &Config) -> Result<Core, NoMemory>
         requires within_limits { IsWithinLimits config.now }
         ensures config { IfOk result (λ core. core.config ≡ config.now) }
@@ -73,7 +73,7 @@ impl Core {
             Step::Open(_) => self.is_run_gone(),
             Step::Mark { page, value } => self.may_mark(flight, page, value),
             Step::Wipe(word) => self.may_wipe(word),
-            Step::Full => self.is_full(flight),
+            Step::Full => self.may_answer_full(flight),
             Step::Begin => self.may_begin(),
             Step::Close => self.may_close(),
             Step::End => self.may_end(),
@@ -126,7 +126,7 @@ impl Core {
         }
     }
 
-    /// Sets what the seat is in the middle of behind its step, whose access found this word. Gives the
+    /// Sets what the seat is in the middle of after its step, whose access found this word. Gives the
     /// answer that the step decides.
     fn move_seat(&mut self, event: Event, found: u64) -> Option<Answer>
         requires { IsEnabled self.old.config self.old.now event }
@@ -183,7 +183,7 @@ impl Core {
         Ok(answer)
     }
 
-    /// One event, behind every list of events for which the core stands. The answer is that of the call
+    /// One event, after every list of events for which the core stands. The answer is that of the call
     /// that the event decides, and None where it decides none. A compare and exchange that finds another
     /// value is an event too: it changes nothing, and decides nothing but in a `cas`.
     pub fn step(&mut self, event: Event) -> Result<Option<Answer>, NotEnabled>

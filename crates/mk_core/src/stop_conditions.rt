@@ -64,7 +64,7 @@ impl Table {
             && (self.header(page) == 0 || self.used(self.head_page(page)) != 0)
     }
 
-    /// Whether each of the first so many pages is clean.
+    /// Whether each of the first this many pages is clean.
     #[tactic(auto, using(crate::proofs::AllBelow::all_below_zero_is, crate::proofs::AllBelow::all_below_more_is))]
     fn has_clean_pages(&self, pages: u64) -> bool
         ensures { result ≡ all_below pages (has_clean_page self.now) }
@@ -77,7 +77,7 @@ impl Table {
         true
     }
 
-    /// Whether each of the first so many pages is closed.
+    /// Whether each of the first this many pages is closed.
     #[tactic(auto, using(crate::proofs::AllBelow::all_below_zero_is, crate::proofs::AllBelow::all_below_more_is))]
     fn has_closed_pages(&self, pages: u64) -> bool
         ensures { result ≡ all_below pages (has_closed_page self.now) }
@@ -90,7 +90,7 @@ impl Table {
         true
     }
 
-    /// Whether each of the first so many pages is settled.
+    /// Whether each of the first this many pages is settled.
     #[tactic(auto, using(crate::proofs::AllBelow::all_below_zero_is, crate::proofs::AllBelow::all_below_more_is))]
     fn has_settled_pages(&self, pages: u64) -> bool
         ensures { result ≡ all_below pages (has_settled_page self.now) }

@@ -60,7 +60,7 @@ impl Model for Table {
     } };
 }
 
-/// So many zeros.
+/// This many zeros.
 fn zeros(alloc: Global, count: usize) -> Result<Vec<u64>, NoMemory>
     ensures { IfOk result (λ list. list.items ≡ replicate count 0) }
 {
@@ -89,7 +89,7 @@ fn number_at(list: &[u64], place: u128) -> u64
     }
 }
 
-/// Sets the number at a place; one behind the list's end isn't there.
+/// Sets the number at a place; one after the list's end isn't there.
 fn set_number(list: &mut [u64], place: u128, value: u64)
     ensures { list.new ≡ slice_set list.old place value }
 {
@@ -99,7 +99,7 @@ fn set_number(list: &mut [u64], place: u128, value: u64)
 }
 
 impl Table {
-    /// A table of so many pages, all words 0.
+    /// A table of this many pages, all words 0.
     pub(crate) fn start(alloc: Global, pages: u64) -> Result<Table, NoMemory>
         requires { pages < 2 ^ 57 }
         ensures { IfOk result (λ table. table ≡ zero_words_of pages) }

@@ -5,7 +5,8 @@ ghost use Rattle.mk_core.specs.Cells.{pointed_cell, first_word, cell_words, word
 ghost use Rattle.mk_core.specs.NewPlaces.{object_made, pages_made, header_made, is_next_header};
 ghost use Rattle.mk_core.specs.TurnConditions.{is_marked_first, carves, unmaps, empties, may_head, takes_cell};
 ghost use Rattle.mk_core.specs.TurnConditions.{is_used_once, are_wiped, gives_back, may_use, takes_snapshot, drops};
-ghost use Rattle.mk_core.specs.TurnConditions.{may_quarantine, is_decided, may_give, is_full, is_in_gone_run, may_wipe};
+ghost use Rattle.mk_core.specs.TurnConditions.{may_quarantine, is_decided, may_give, may_answer_full, is_in_gone_run};
+ghost use Rattle.mk_core.specs.TurnConditions.{may_wipe};
 ghost use Rattle.mk_core.specs.TurnConditions.{place_now};
 
 use crate::cells::{has_bit, without};
@@ -13,7 +14,7 @@ use crate::placing::{PageHeaders, adds_bit, bits_made, pages_made};
 use crate::seats::Object;
 use crate::table::Table;
 use crate::{Core, Flight, OwnCycle, Placing, Stage};
-use mk_books::words_held;
+use mk_books::held_by_pages;
 use mk_geom::{Cell, Place};
 
 /// Whether no call of a caller's is undecided.
@@ -146,7 +147,7 @@ impl Core {
         }
     }
 
-    /// Whether the cell of the place is taken, behind all its headers.
+    /// Whether the cell of the place is taken, after all its headers.
     fn takes_cell(&self, flight: Flight, page: u64, value: u64) -> bool
         ensures { result ≡ takes_cell self.now.now.words (object_made self.now.config flight.op)
             (place_now self.now.config self.now.now flight) page value }
@@ -189,13 +190,13 @@ impl Core {
     {
         is_decided(flight.stage)
             && self.is_run_gone()
-            && self.table.held() as u128 == words_held(self.table.pages())
+            && self.table.held() as u128 == held_by_pages(self.table.pages())
             && self.table.fresh() == self.fresh_words
     }
 
     /// Whether a cycle was begun and ended in this call, and nothing fits.
-    pub(crate) fn is_full(&self, flight: Flight) -> bool
-        ensures { result ≡ is_full self.now.config.resident self.now.now.words.pages
+    pub(crate) fn may_answer_full(&self, flight: Flight) -> bool
+        ensures { result ≡ may_answer_full self.now.config.resident self.now.now.words.pages
             (object_made self.now.config flight.op)
             self.now.now.seats.holding.placing self.now.now.seats.holding.cycle }
     {
@@ -219,7 +220,7 @@ impl Core {
         ensures { result ≡ may_wipe self.now.config self.now.now word }
     {
         self.cell_of_word(word)
-            .is_some_and(|cell| self.table.is_released(cell))
+            .is_some_and(|cell| self.table.is_released_cell(cell))
             || self.is_in_gone_run(word)
     }
 }

@@ -99,7 +99,7 @@ module _ (p : PassState) (t : InTurn p) (free : IsFreeForCycle p) where
         (ap (λ (b : Bool). b && (v == quarantine_word (slice_index w.freed page) (slice_index w.freed page))) at_zero
         ∙ eq-eqb v _ is))
 
--- what `is_in_order` tells of a turn
+-- what `is_in_order` says of a turn
 pub in_turn : (p : PassState) (o : Option Op) → Has p.seats p.seat → IsTurn p o → IsHistory p.table.config p.seen
     → InTurn p
 in_turn p o own turn history = record { own = own; holds = turn.holds; history = history }

@@ -9,11 +9,11 @@ use Rattle.mk_core.specs.declared.events.Step.TheVariants as step
 use Rattle.mk_core.specs.declared.seats.Holding.{Holding}
 use Rattle.mk_core.specs.declared.seats.OwnCycle.TheVariants.{Begun}
 use Rattle.mk_core.specs.Allocations.{PlacedAllocation, no_longer_fresh, unreleased_storage, storage_of, storage_words}
-use Rattle.mk_core.specs.Allocations.{held_words, fresh_words_of, is_mapped}
+use Rattle.mk_core.specs.Allocations.{held_by_allocations, fresh_words_of, is_mapped}
 use Rattle.mk_geom.specs.Storages.{Storage}
-use Rattle.mk_geom.specs.StorageWords.{mapped_words}
+use Rattle.mk_geom.specs.StorageWords.{held_by_storages}
 use Rattle.mk_core.specs.Bounded.{all_below}
-use Rattle.mk_core.specs.Counts.{releases, in_a_word, TalliesAreExact, TalliesAreTidy, fulls}
+use Rattle.mk_core.specs.Counts.{releases, in_a_word, TalliesAreExact, TalliesAreTidy, full_answers}
 use Rattle.mk_core.specs.Frames.{Steady, steady_of, CountsAreLeft}
 use Rattle.mk_core.specs.History.{World}
 use Rattle.mk_core.specs.Readings.{is_in}
@@ -80,8 +80,9 @@ stale_storage c [] = refl
 stale_storage c (a ∷ xs) =
     ap (λ (ys : List Storage). if a.released then ys else storage_of c a ∷ ys) (stale_storage c xs)
 
-pub stale_held : (c : Config) (xs : List PlacedAllocation) → held_words c (map no_longer_fresh xs) ≡ held_words c xs
-stale_held c xs = ap (λ (ys : List Storage). mapped_words ys) (stale_storage c xs)
+pub stale_held : (c : Config) (xs : List PlacedAllocation)
+    → held_by_allocations c (map no_longer_fresh xs) ≡ held_by_allocations c xs
+stale_held c xs = ap (λ (ys : List Storage). held_by_storages ys) (stale_storage c xs)
 
 never_both : (b : Bool) → (b && false) ≡ false
 never_both true = refl
@@ -177,8 +178,8 @@ exact_from p q is steady x =
     record {
       held =
           ap (λ (s : Steady). s.held) steady ∙ x.held
-          ∙ sym (ap (λ (d : Config). held_words d (world_of q).allocations) same
-          ∙ ap (λ (ys : List PlacedAllocation). held_words c ys) allocations ∙ stale_held c xs);
+          ∙ sym (ap (λ (d : Config). held_by_allocations d (world_of q).allocations) same
+          ∙ ap (λ (ys : List PlacedAllocation). held_by_allocations c ys) allocations ∙ stale_held c xs);
       fresh =
           ap (λ (s : Steady). s.fresh) steady
           ∙ sym (ap (λ (d : Config). in_a_word (fresh_words_of d (world_of q).allocations)) same
@@ -201,7 +202,7 @@ tidy_from p q is steady counts x =
           ∙ stale_releases (world_of p).allocations));
       full =
           ap (λ (s : Steady). s.full) steady ∙ x.full ∙ ap in_a_word (sym counts.fulls)
-          ∙ ap (λ (d : Config). in_a_word (fulls d q.seen)) (sym same);
+          ∙ ap (λ (d : Config). in_a_word (full_answers d q.seen)) (sym same);
     }
 
 pub counts_then : (p q r : PassState) → q.table.config ≡ p.table.config → CountsAreLeft p.table.config p.seen q.seen
@@ -209,7 +210,7 @@ pub counts_then : (p q r : PassState) → q.table.config ≡ p.table.config → 
 counts_then p q r same a b =
     record {
       ends = b.ends ∙ a.ends;
-      fulls = subst (λ (c : Config). fulls c r.seen ≡ fulls c q.seen) same b.fulls ∙ a.fulls;
+      fulls = subst (λ (c : Config). full_answers c r.seen ≡ full_answers c q.seen) same b.fulls ∙ a.fulls;
     }
 
 -- All of it: pages are cleaned, the cycle begins, and the engine does its part.

@@ -1,4 +1,4 @@
--- What an engine does behind each `begin`, in parts, by kinds of step, and at the `begin` itself.
+-- What an engine does after each `begin`, in parts, by kinds of step, and at the `begin` itself.
 use Rattle.std.proofs.Common.{◌≡◌, ⊎_elim, Bool, true, false, List, [], ◌∷◌, ◌++◌, refl, sym, ap, subst, ◌∙◌}
 use Rattle.std.proofs.Common.{append-nil, append_assoc}
 use Rattle.std.specs.Prelude.{not, if◌then◌else◌}
@@ -106,7 +106,7 @@ pub has_on : (p q : PassState) → q ≡ record p { seen = q.seen } → Has p.se
 has_on p q same has = subst (λ (x : PassState). Has x.seats x.seat) (sym same) has
 
 module _ (begins : Config → Seat → List Event → List Event → Type 0) where
-  -- when more was seen behind it
+  -- when more was seen after it
   later : (c : Config) (s : Seat) (es xs ys : List Event) → IsBegunFirst begins c s es xs
       → IsBegunFirst begins c s es (xs ++ ys)
   later c s es xs ys b =
@@ -169,7 +169,7 @@ module _ (begins : Config → Seat → List Event → List Event → Type 0) whe
             d.of_kinds b own);
       }
 
-  -- The `begin`, and what the engine does behind it.
+  -- The `begin`, and what the engine does after it.
   module _ (p d q : PassState) (own : Has p.seats p.seat) (m : Makes p step.Begin d)
       (does : Does begins_marking d q) (part : IsBegun begins d q) where
     abbrev c : Config

@@ -316,7 +316,7 @@ clean_stays p q page k h =
       snapshot = k.snapshot page h.snapshot;
     }
 
--- what a look at a quarantine word tells: its halves
+-- what a look at a quarantine word says: its halves
 pub record Halves (p : PassState) (page n : ℕ) : Type 0 where
   pub freed : n % 2 ^ 32 ≡ slice_index (now_of p).words.freed page
   pub snapshot : n / 2 ^ 32 ≡ slice_index (now_of p).words.snapshot page

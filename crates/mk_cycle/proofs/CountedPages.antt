@@ -22,7 +22,7 @@ same_released a b count words kept =
     ∙ ap (λ (n : ℕ). record { count = b.count; words = n; kept = a.kept }) words
     ∙ ap (λ (n : ℕ). record { count = b.count; words = b.words; kept = n }) kept
 
--- what is told of a page by its snapshot, its marks and its header
+-- what is said of a page by its snapshot, its marks and its header
 told_by : (snapshot marks header s m h : ℕ) (r : Released) → snapshot ≡ s → marks ≡ m → header ≡ h
     → r.count ≡ count_ones (without snapshot marks)
     → r.words ≡ count_ones (without snapshot marks) * words_under (header_of header)
@@ -43,7 +43,7 @@ told_by snapshot marks header s m h r is_snapshot is_marks is_header count words
     ∙ ap (λ (n : ℕ). count_ones (without s m) * words_under (header_of n)) is_header)
     (kept ∙ marked)
 
--- what looks at the marks and the header tell of a page
+-- what looks at the marks and the header say of a page
 pub counted_on : (p a b : PassState) (page snapshot marks header : ℕ) (r : Released) → FreesNone p a → FreesNone a b
     → snapshot ≡ slice_index (now_of p).words.snapshot page
     → marks ≡ slice_index (now_of a).words.marks page → header ≡ header_at (now_of b).words page
@@ -58,7 +58,7 @@ counted_on p a b page snapshot marks header r first second is mark head count wo
     (head ∙ same_header p b page ((none_then p a b first second).same page))
     count words kept
 
--- what a look at the quarantine word tells of it
+-- what a look at the quarantine word says of it
 pub snapshot_told : (p a : PassState) (page quarantine : ℕ) → InTurn a → FreesNone p a
     → quarantine
     ≡ quarantine_word (slice_index (now_of a).words.freed page) (slice_index (now_of a).words.snapshot page)

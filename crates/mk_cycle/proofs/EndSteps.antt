@@ -7,7 +7,7 @@ use Rattle.std.proofs.lemmas.List.Sums.{count_by-le-length, sum_by-append}
 use Rattle.mk_core.specs.declared.events.Event.{Event}
 use Rattle.mk_core.specs.declared.events.Step.TheVariants as step
 use Rattle.mk_core.specs.declared.seats.Holding.{Holding}
-use Rattle.mk_core.specs.Counts.{ends, fulls, is_full_answer}
+use Rattle.mk_core.specs.Counts.{ends, full_answers, is_full_answer}
 use Rattle.mk_core.specs.Cycles.{is_end}
 use Rattle.mk_core.specs.Decided.{Decided, answered}
 use Rattle.mk_core.specs.Effects.{cycle_ended}
@@ -81,9 +81,9 @@ module _ (p q : PassState) (t : InTurn p) (at : IsAtPhase p 4) (u : InTurn q) (a
       (event_of p step.End ∷ [])
       ∙ ap (λ (n : ℕ). n + 1) a.counts.ends
 
-  pub as_many_fulls : fulls p.table.config q.seen ≡ fulls p.table.config p.seen
+  pub as_many_fulls : full_answers p.table.config q.seen ≡ full_answers p.table.config p.seen
   as_many_fulls =
-      ap (λ (xs : List Event). fulls p.table.config xs) seen_is
+      ap (λ (xs : List Event). full_answers p.table.config xs) seen_is
       ∙ ap (λ (xs : List Decided). count_by is_full_answer (answered xs))
       (no_more_calls p.table.config (p.seen ++ a.makes.others) (event_of p step.End)
       (undecided p.table.config w.now p.seat step.End (λ n. refl)))

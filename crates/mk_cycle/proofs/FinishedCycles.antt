@@ -4,15 +4,16 @@ use Rattle.std.specs.Prelude.{not, ◌==◌, ◌||◌}
 use Rattle.mk_geom.proofs.HeldWords.{pages_hold_mapped_words}
 use Rattle.mk_core.specs.declared.config.Config.{Config}
 use Rattle.mk_core.specs.declared.events.Step.TheVariants as step
-use Rattle.mk_core.specs.Allocations.{PlacedAllocation, fresh_words_of, held_words, unreleased_storage, with_released}
+use Rattle.mk_core.specs.Allocations.{PlacedAllocation, fresh_words_of, held_by_allocations, unreleased_storage}
+use Rattle.mk_core.specs.Allocations.{with_released}
 use Rattle.mk_geom.specs.Addresses.{address_of}
 use Rattle.mk_core.specs.Bounded.{is_some_and}
 use Rattle.mk_core.specs.Cells.{is_left_unmarked, pointed_cell}
-use Rattle.mk_core.specs.Counts.{TalliesAreExact, TalliesAreTidy, ends, fulls, in_a_word, releases}
+use Rattle.mk_core.specs.Counts.{TalliesAreExact, TalliesAreTidy, ends, full_answers, in_a_word, releases}
 use Rattle.mk_core.specs.Effects.{cycle_ended}
 use Rattle.mk_core.specs.Frames.{CountsAreLeft, Steady, steady_of}
 use Rattle.mk_core.specs.Moments.{is_held, none_is_held}
-use Rattle.mk_core.specs.TurnConditions.{words_held}
+use Rattle.mk_core.specs.TurnConditions.{held_by_pages}
 use Rattle.mk_core.specs.Words.{Words}
 use Rattle.mk_core.proofs.AllBelow.{all_below-at}
 use Rattle.mk_layout.specs.SettledPages.{IsSettled}
@@ -128,7 +129,7 @@ module _ (p g e q : PassState) (r : Released) (gives : GivesAllBack p g) (free :
   done_e : done_of (now_of e) ≡ record (done_of (now_of g)) { cycle = cycle_ended (now_of g).seats.holding.cycle }
   done_e = ended_done g e t gives.phase u a
 
-  -- nothing is on its way behind the `end`
+  -- nothing is on its way after the `end`
   settled : IsSettled (world_of e)
   settled =
       record {
@@ -137,7 +138,7 @@ module _ (p g e q : PassState) (r : Released) (gives : GivesAllBack p g) (free :
         gone = ended_gone g e t gives.phase u a free_g.gone;
       }
 
-  held_e : words_held (now_of e).words ≡ held_words e.table.config (world_of e).allocations
+  held_e : held_by_pages (now_of e).words ≡ held_by_allocations e.table.config (world_of e).allocations
   held_e =
       pages_hold_mapped_words (now_of e).words.pages (unreleased_storage e.table.config (world_of e).allocations)
       (pages_show_the_storage e.table.config e.seen u.history settled)
@@ -163,9 +164,9 @@ module _ (p g e q : PassState) (r : Released) (gives : GivesAllBack p g) (free :
       record {
         held =
             ap (λ (s : Steady). s.held) sets.steady ∙ held_e
-            ∙ ap (λ (d : Config). held_words d (world_of e).allocations)
+            ∙ ap (λ (d : Config). held_by_allocations d (world_of e).allocations)
             (sym (ap (λ (y : PassState). y.table.config) sets.call.pass))
-            ∙ ap (λ (s : Steady). held_words q.table.config s.allocations) (sym sets.steady);
+            ∙ ap (λ (s : Steady). held_by_allocations q.table.config s.allocations) (sym sets.steady);
         fresh =
             ap (λ (s : Steady). s.fresh) steady_q ∙ ap (λ (s : Steady). s.fresh) tallies_g ∙ x.fresh
             ∙ ap in_a_word (sym (ap (λ (d : Config). fresh_words_of d (world_of q).allocations) same ∙ fresh_same));
@@ -176,13 +177,13 @@ module _ (p g e q : PassState) (r : Released) (gives : GivesAllBack p g) (free :
       sets.counts.ends ∙ one_more_end g e t gives.phase u a
       ∙ ap (λ (n : ℕ). n + 1) (gives_counts p g gives).ends
 
-  fulls_q : fulls q.table.config q.seen ≡ fulls c p.seen
+  fulls_q : full_answers q.table.config q.seen ≡ full_answers c p.seen
   fulls_q =
       let from_e : q.table.config ≡ e.table.config = ap (λ (y : PassState). y.table.config) sets.call.pass in
       let from_g : e.table.config ≡ g.table.config = same_config g e pass_e in
-      ap (λ (d : Config). fulls d q.seen) from_e ∙ sets.counts.fulls
-      ∙ ap (λ (d : Config). fulls d e.seen) from_g ∙ as_many_fulls g e t gives.phase u a
-      ∙ ap (λ (d : Config). fulls d g.seen) (same_config p g pass_g) ∙ (gives_counts p g gives).fulls
+      ap (λ (d : Config). full_answers d q.seen) from_e ∙ sets.counts.fulls
+      ∙ ap (λ (d : Config). full_answers d e.seen) from_g ∙ as_many_fulls g e t gives.phase u a
+      ∙ ap (λ (d : Config). full_answers d g.seen) (same_config p g pass_g) ∙ (gives_counts p g gives).fulls
 
   told_q : HasReleased p q r
   told_q = told_to p g q r same_g told
@@ -252,7 +253,7 @@ module _ (p g e q : PassState) (r : Released) (gives : GivesAllBack p g) (free :
   pub has_released : HasReleased p q r
   has_released = told_q
 
--- So the turn is free for a cycle behind a finish, as it is behind a begin.
+-- So the turn is free for a cycle after a finish, as it is after a begin.
 
 pub finished_free : (p q : PassState) → FinishesCycle p q → IsFreeForCycle p → IsFreeForCycle q
 finished_free p q k free =

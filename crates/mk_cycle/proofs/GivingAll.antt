@@ -60,7 +60,7 @@ gives_all_back p h r o q holds releases opens frees none settled =
       settled = settled;
     }
 
--- What is counted behind the gates' opening is what was released up to there, and still is behind the giving back.
+-- What is counted after the gates' opening is what was released up to there, and still is after the giving back.
 pub all_told : (p h r o q : PassState) (n : ℕ) (counted : Released) → HoldsGates p h → FreesNone r o → Frees o q
     → HasReleased h r (released_below (now_of r).words n) → counted ≡ released_below (now_of o).words n
     → HasReleased p q counted

@@ -16,8 +16,8 @@ use Rattle.mk_core.specs.declared.seats.Flight.{Flight}
 use Rattle.mk_core.specs.Bounded.{is_some_and}
 use Rattle.mk_core.specs.declared.seats.RunPages.{RunPages}
 use Rattle.mk_core.proofs.AllBelow.{all_below-at}
-use Rattle.mk_zeros.specs.Zeros.{MayHold, OfMapped, OfReleased, OfFreedRun, scene_of}
-use Rattle.mk_core.specs.Cells.{pointed_cell, is_released, is_in_run, words_are_zero}
+use Rattle.mk_zeros.specs.Zeros.{MayHold, OfMapped, OfReleased, OfFreedRun, zero_scene_of}
+use Rattle.mk_core.specs.Cells.{pointed_cell, is_released_cell, is_in_run, words_are_zero}
 use Rattle.mk_core.specs.Frames.{Steady}
 use Rattle.mk_core.specs.History.{World}
 use Rattle.mk_core.specs.Moments.{others_are_held}
@@ -110,7 +110,7 @@ module _ (p : PassState) (t : InTurn p) (free : IsFreeForCycle p) (at : IsAtPhas
   f = call_of p
 
   pub wipe_allowed : (n : ℕ) → n < 64 * p.table.config.pages
-      → is_some_and (is_released (now_of p).words)
+      → is_some_and (is_released_cell (now_of p).words)
       (pointed_cell p.table.config.pages (now_of p).words.pages (address_of n)) ≡ true
       → IsEnabledTo p (step.Wipe n)
   wipe_allowed n lt is =
@@ -148,14 +148,14 @@ module _ (p : PassState) (t : InTurn p) (free : IsFreeForCycle p) (at : IsAtPhas
 
   -- A word of no mapped allocation that isn't 0 is of a released cell.
   pub holds_released : (n : ℕ) → IsUnmapped p n → (slice_index (now_of p).words.heap n ≡ 0 → ⊥)
-      → is_some_and (is_released (now_of p).words)
+      → is_some_and (is_released_cell (now_of p).words)
       (pointed_cell p.table.config.pages (now_of p).words.pages (address_of n)) ≡ true
   holds_released n unmapped some = by ((stands c p.seen t.history).all.zeros n some)
     where
-      by : MayHold c (scene_of (world_of p)) n
-          → is_some_and (is_released w) (pointed_cell c.pages w.pages (address_of n)) ≡ true
+      by : MayHold c (zero_scene_of (world_of p)) n
+          → is_some_and (is_released_cell w) (pointed_cell c.pages w.pages (address_of n)) ≡ true
       by (OfMapped m) = absurd (unmapped m)
-      by (OfReleased r) = ap (λ (x : Option Cell). is_some_and (is_released w) x) r.pointed ∙ r.released
+      by (OfReleased r) = ap (λ (x : Option Cell). is_some_and (is_released_cell w) x) r.pointed ∙ r.released
       by (OfFreedRun r) = absurd (some (gone r.run r.there r.word))
         where
           gone : (run : RunPages) → (now_of p).seats.holding.freed ≡ Some run → is_in_run run n ≡ true
@@ -184,7 +184,7 @@ still_unmapped_word p q n k h =
       unmapped = still_unmapped p q n k.keeps h.unmapped;
     }
 
--- the word is 0 behind its wipe
+-- the word is 0 after its wipe
 pub wiped : (p q : PassState) → InTurn p → InTurn q → (n : ℕ) → Acts p (step.Wipe n) q → IsZero q n
 wiped p q t u n a =
     ap (λ (x : World). slice_index x.now.words.heap n) a.world ∙ zero_here (world_at a.makes).now.words.heap n
@@ -195,7 +195,7 @@ wiped p q t u n a =
       | inr past ↦ ap (λ (ys : List ℕ). slice_index ys i) (set_past xs i 0 past) ∙ get_or_past xs i 0 past
     ]
 
--- the words of pages behind steps that store them
+-- the words of pages after steps that store them
 
 abbrev with_pages : World → ℕ → List Page → PageState
 with_pages w r pages = record {

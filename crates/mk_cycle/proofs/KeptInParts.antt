@@ -4,7 +4,7 @@ use Rattle.std.specs.Prelude.{slice_index, ◌==◌}
 use Rattle.std.proofs.lemmas.Bool.{cases_eq, eq-eqb, ne_eqb}
 use Rattle.mk_core.specs.declared.config.Config.{Config}
 use Rattle.mk_core.specs.declared.events.Step.{Step}
-use Rattle.mk_core.specs.Counts.{fulls}
+use Rattle.mk_core.specs.Counts.{full_answers}
 use Rattle.mk_core.specs.Frames.{Steady}
 use Rattle.mk_core.specs.History.{World, world_behind}
 use Rattle.mk_core.specs.Moments.{is_held}
@@ -44,7 +44,8 @@ keeps_then view p q r a b =
       counts =
           record {
             ends = b.counts.ends ∙ a.counts.ends;
-            fulls = subst (λ (c : Config). fulls c r.seen ≡ fulls c q.seen) (same_config p q a.call.pass) b.counts.fulls
+            fulls = subst (λ (c : Config). full_answers c r.seen
+                ≡ full_answers c q.seen) (same_config p q a.call.pass) b.counts.fulls
                 ∙ a.counts.fulls;
           };
     }

@@ -1,4 +1,4 @@
--- Lists of allocations behind a `release`: what is new there, counted and weighed.
+-- Lists of allocations after a `release`: what is new there, counted and weighed.
 use Rattle.std.proofs.Common.{◌≡◌, ℕ, zero, suc, ◌+◌, Bool, true, false, cond, ◌&&◌, not, List, [], ◌∷◌, length, map}
 use Rattle.std.proofs.Common.{get_or, sum_by, count_by, refl, sym, ◌∙◌, ap, arith}
 use Rattle.std.specs.Prelude.{filter, if◌then◌else◌}

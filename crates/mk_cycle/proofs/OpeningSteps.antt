@@ -1,4 +1,4 @@
--- The gates are opened behind a `release`.
+-- The gates are opened after a `release`.
 use Rattle.std.proofs.Common.{◌≡◌, ℕ, Bool, true, false, List, [], ◌∷◌, ◌++◌, refl, sym, ap, subst, ◌∙◌, inl, inr}
 use Rattle.std.proofs.Common.{append-nil, append_assoc}
 use Rattle.mk_core.specs.declared.config.Config.{Config}

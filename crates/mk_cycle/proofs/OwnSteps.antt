@@ -16,7 +16,7 @@ use Rattle.mk_core.specs.declared.seats.Progress.{Progress}
 use Rattle.mk_core.specs.declared.seats.RunPages.{RunPages}
 use Rattle.mk_core.specs.Accesses.{caller_number}
 use Rattle.mk_core.specs.Calls.{at_rest, still}
-use Rattle.mk_core.specs.Counts.{ends, fulls, is_full_answer}
+use Rattle.mk_core.specs.Counts.{ends, full_answers, is_full_answer}
 use Rattle.mk_core.specs.Cycles.{is_end}
 use Rattle.mk_core.specs.Decided.{Decided, answered, entry_of}
 use Rattle.mk_core.specs.Effects.{progress, holding_behind, moment_behind, answer_decided}
@@ -145,8 +145,8 @@ module _ (p : PassState) (s : Step) (q : PassState) (a : Acts p s q) (own : Has 
       let es : List Event = p.seen ++ a.makes.others in
       record {
         ends = ap ends seen_is ∙ no_end es ∙ a.counts.ends;
-        fulls =
-            ap (λ (xs : List Event). fulls c xs) seen_is
+        full_answers =
+            ap (λ (xs : List Event). full_answers c xs) seen_is
             ∙ ap (λ (xs : List Decided). count_by is_full_answer (answered xs))
             (no_more_calls c es (event_of p s) (undecided c m p.seat s st))
             ∙ a.counts.fulls;

@@ -1,4 +1,4 @@
--- Behind a `release` the released cells have no word of a mapped allocation.
+-- After a `release` the released cells have no word of a mapped allocation.
 use Rattle.std.proofs.Common.{◌≡◌, ℕ, ◌+◌, ◌*◌, ◌/◌, ◌<◌, ◌++◌, Bool, true, false, List, refl, sym, ap, subst, ◌∙◌}
 use Rattle.std.proofs.Common.{arith, inl, inr}
 use Rattle.std.specs.Prelude.{◌⊎◌, slice_index, ◌==◌, ◌&&◌, ◌||◌, not, map, Option}
@@ -32,7 +32,7 @@ use Rattle.mk_core.proofs.PointedAllocations.{released_where_left}
 use Rattle.mk_core.proofs.Sizes.{large_is_not_small, pages_some}
 use Rattle.mk_core.proofs.StandingAllocations.{cells_begin, placed_cell, typed_size}
 use Rattle.mk_layout.specs.Quarantine.{IsFreedCell}
-use Rattle.mk_layout.specs.Scene.{is_released_in}
+use Rattle.mk_layout.specs.LayoutScene.{is_released_in}
 use Rattle.mk_invariant.proofs.Theorems.{allocations_are_disjoint, allocations_stand}
 use Rattle.mk_frames.proofs.LastEvents.{stands}
 use Rattle.mk_frames.proofs.RunsStill.{HolderFinds, holder_finds}

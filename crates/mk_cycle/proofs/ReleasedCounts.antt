@@ -1,4 +1,4 @@
--- The words of the pages behind a `release` tell what it released.
+-- The words of the pages after a `release` say what it released.
 use Rattle.std.proofs.Common.{◌≡◌, ◌≢◌, ℕ, ◌+◌, ◌++◌, Bool, true, false, cond, ◌&&◌, ◌||◌, not, List, length, map}
 use Rattle.std.proofs.Common.{sum_by, count_by, refl, sym, ap, ◌∙◌, arith}
 use Rattle.std.specs.Prelude.{slice_index}
@@ -288,7 +288,7 @@ module _ (d q : PassState) (t : InTurn d) (u : InTurn q) (at : IsAtPhase d 3) (a
       ∙ fresh_stays c (d.seen ++ a.makes.others) there phase_there
       ∙ ap (λ (xs : List PlacedAllocation). fresh_words_of c xs) same_before
 
--- What is told of one pass is told of another that knows the same allocations before, and of one that does behind.
+-- What is said of one pass is said of another that knows the same allocations before, and of one that does after.
 pub told_from : (p d q : PassState) (r : Released) → d.table.config ≡ p.table.config
     → (world_of d).allocations ≡ (world_of p).allocations → HasReleased d q r → HasReleased p q r
 told_from p d q r table same told =

@@ -18,7 +18,7 @@ use Rattle.mk_core.specs.Words.{Words, header_at, used_at, quarantine_word}
 use Rattle.mk_core.proofs.BitsWithout.{has_bit_without}
 use Rattle.mk_core.proofs.WordBits.{no_bit, zero_from_bits}
 use Rattle.mk_layout.specs.Quarantine.{IsFreedCell}
-use Rattle.mk_layout.specs.Scene.{is_released_in}
+use Rattle.mk_layout.specs.LayoutScene.{is_released_in}
 use Rattle.mk_invariant.proofs.Theorems.{allocations_stand}
 use Rattle.mk_frames.proofs.LastEvents.{stands}
 use Rattle.mk_words.specs.States.{PassState, world_of, now_of}
@@ -147,7 +147,7 @@ settled_used p page none used =
 pub settled_left : (p : PassState) (page : ℕ) → IsSettledPage p page → left_unmarked (now_of p).words page ≡ 0
 settled_left p page h = eqb-true _ 0 (and_parts (left_unmarked (now_of p).words page == 0) _ h).0
 
--- The head of a page's run isn't behind it.
+-- The head of a page's run isn't after it.
 pub head_before : (x : Option Header) (page : ℕ) → head_page_under x page ≤ page
 head_before (Some (header.Later distance mapped)) page = omega arith
 head_before _ page = omega arith
@@ -180,7 +180,7 @@ still_settled p q page r k lt h =
 pub settled_alike : (p q : PassState) (page : ℕ) → FreesNone p q → IsSettledPage p page → IsSettledPage q page
 settled_alike p q page k h = still_settled p q (page + 1) page (page_at_once (page + 1) p q k) (omega arith) h
 
--- what two looks tell of the released cells
+-- what two looks say of the released cells
 pub marked_gone : (a b : PassState) (page quarantine marks : ℕ) → InTurn a → FreesNone a b
     → quarantine ≡ quarantine_word (slice_index (now_of a).words.freed page)
     (slice_index (now_of a).words.snapshot page)

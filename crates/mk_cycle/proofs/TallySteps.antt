@@ -1,4 +1,4 @@
--- Looks and tallies behind an `end`.
+-- Looks and tallies after an `end`.
 use Rattle.std.proofs.Common.{◌≡◌, ℕ, ◌+◌, refl, sym, ap, subst, ◌∙◌}
 use Rattle.mk_core.specs.declared.config.Config.{Config}
 use Rattle.mk_core.specs.declared.events.Tally.{Tally}
@@ -9,7 +9,7 @@ use Rattle.mk_core.specs.Counts.{in_a_word}
 use Rattle.mk_core.specs.Accesses.{tally_word}
 use Rattle.mk_core.specs.Frames.{Steady, steady_of}
 use Rattle.mk_core.specs.History.{World, world_behind}
-use Rattle.mk_core.specs.TurnConditions.{words_held}
+use Rattle.mk_core.specs.TurnConditions.{held_by_pages}
 use Rattle.mk_core.specs.Words.{Words, named_word}
 use Rattle.mk_words.specs.States.{PassState, world_of, now_of, event_of}
 use Rattle.mk_words.specs.TurnSteps.{world_at, Acts}
@@ -105,14 +105,14 @@ with_three : ℕ → ℕ → ℕ → Steady → Steady
 with_three held cycles released s = record s { held = held; cycles = cycles; released = released }
 
 pub cycle_counted : (p a b q : PassState) (released : ℕ)
-    → Sets (with_tally tally.Held (words_held (now_of p).words)) p a
+    → Sets (with_tally tally.Held (held_by_pages (now_of p).words)) p a
     → Sets (with_tally tally.Cycles (in_a_word ((now_of a).words.cycles + 1))) a b
     → Sets (with_tally tally.Released (in_a_word ((now_of b).words.released + released))) b q
     → Sets (with_cycle_counted (now_of p).words released) p q
 unfolding with_three
 cycle_counted p a b q released held cycles more =
     let v : Words = (now_of p).words in
-    let h : ℕ = words_held v in
+    let h : ℕ = held_by_pages v in
     let c : ℕ = in_a_word ((now_of a).words.cycles + 1) in
     let r : ℕ = in_a_word ((now_of b).words.released + released) in
     let both = sets_then (with_tally tally.Held h) (with_tally tally.Cycles c) p a b held cycles in

@@ -1,4 +1,4 @@
--- What is told of the world in which marks are closed, from wider parts of a turn.
+-- What is said of the world in which marks are closed, from wider parts of a turn.
 use Rattle.std.proofs.Common.{◌≡◌, List, [], ◌∷◌, ◌++◌, ap, subst, ◌∙◌, append_assoc}
 use Rattle.mk_core.specs.declared.config.Config.{Config}
 use Rattle.mk_core.specs.declared.events.Event.{Event}
@@ -21,7 +21,7 @@ told_closing tells p q has makes history told =
       told = told makes.others makes.of_others (made p step.Close q makes has history).history;
     }
 
--- when more was seen behind it
+-- when more was seen after it
 pub told_later : (tells : Config → World → Type 0) (p q r : PassState) (more : List Event) → r.seen ≡ q.seen ++ more
     → IsToldAtClose tells p q → IsToldAtClose tells p r
 told_later tells p q r more is t =

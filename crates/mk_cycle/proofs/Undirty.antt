@@ -22,7 +22,7 @@ undirty_now p q page k zero =
       zero = subst (λ (x : PassState). slice_index (now_of x).words.dirty page ≡ 0) d.is zero;
     }
 
--- when more is cleaned behind it, or was before
+-- when more is cleaned after it, or was before
 
 pub undirty_later : (p q r : PassState) (page : ℕ) → WasUndirty page p q → Cleans q r → WasUndirty page p r
 undirty_later p q r page u k =
@@ -53,7 +53,7 @@ pub undirty_earlier : (o p q : PassState) (page : ℕ) → Cleans o p → WasUnd
 undirty_earlier o p q page k u =
     undirty_at o k.does.more q page (subst (λ (x : PassState). WasUndirty page x q) k.does.is u)
 
--- behind a store of 0
+-- after a store of 0
 
 zero_there : (xs : List ℕ) (i : ℕ) → slice_index (slice_set xs i 0) i ≡ 0
 zero_there xs i = elim (cases_lt i (length xs)) [

@@ -12,7 +12,7 @@ use Rattle.mk_cycle.specs.Cleaning.{WasUndirty}
 use Rattle.mk_cycle.specs.Kinds.{clears, begins_marking}
 use Rattle.mk_cycle.specs.TurnKeeps.{done_of, IsGone, KeepsGates}
 
--- One `begin`: what is cleared before it, and what the engine does behind it. Each page's dirty word was 0 at a moment
+-- One `begin`: what is cleared before it, and what the engine does after it. Each page's dirty word was 0 at a moment
 -- before it; that the marks and black words are 0 there is a condition of the `begin`.
 pub record MakesBegin (p q : PassState) : Type 0 where
   pub cleared : PassState

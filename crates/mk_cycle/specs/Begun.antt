@@ -1,5 +1,5 @@
--- What an engine does directly behind a `begin`, and that it does so behind each one. It is said of a seat, of the
--- events up to the `begin`, and of those behind it in which the engine does its part.
+-- What an engine does directly after a `begin`, and that it does so after each one. It is said of a seat, of the
+-- events up to the `begin`, and of those after it in which the engine does its part.
 use Rattle.std.specs.Prelude.{◌≡◌, List, ◌++◌, ⊤}
 use Rattle.mk_core.specs.declared.config.Config.{Config}
 use Rattle.mk_core.specs.declared.events.Event.{Event}
@@ -25,14 +25,14 @@ pub record IsBegunFirst (begins : Config → Seat → List Event → List Event 
   pub is : more ≡ first ++ rest
   pub part : begins c s es first
 
--- So behind each `begin` of the seat in the list that goes on,
+-- So after each `begin` of the seat in the list that goes on,
 abbrev pub AreBegunFirst : (Config → Seat → List Event → List Event → Type 0) → Config → Seat → List Event
     → List Event
     → Type 0
 AreBegunFirst begins c s es more =
     (b : At is_begin more) → b.event.seat ≡ s → IsBegunFirst begins c s (es ++ through b) b.behind
 
--- and behind each one from what the one pass had seen to what the other has seen.
+-- and after each one from what the one pass had seen to what the other has seen.
 pub record EachIsBegun (begins : Config → Seat → List Event → List Event → Type 0) (p q : PassState) : Type 0 where
   pub more : List Event
   pub is : q.seen ≡ p.seen ++ more

@@ -1,4 +1,4 @@
--- What `finish_cycle` makes and leaves, and what it tells of the cycle.
+-- What `finish_cycle` makes and leaves, and what it says of the cycle.
 use Rattle.std.specs.Prelude.{◌≡◌, ◌+◌, Bool, true, ◌&&◌, not, List, [], ◌∷◌, length, map, count_by, sum_by}
 use Rattle.std.specs.Prelude.{if◌then◌else◌}
 use Rattle.mk_core.specs.declared.events.Step.TheVariants as step

@@ -1,4 +1,4 @@
--- Behind a `release` what was released is wiped and given back, page by page.
+-- After a `release` what was released is wiped and given back, page by page.
 use Rattle.std.specs.Prelude.{◌≡◌, ◌≢◌, ℕ, ◌+◌, ◌*◌, ◌<◌, true, false, [], slice_index}
 use Rattle.mk_geom.specs.declared.pages.Page.{Page}
 use Rattle.mk_core.specs.Bits.{has_bit}

@@ -7,7 +7,7 @@ abbrev pub is_want : Step → Bool
 is_want step.Want = true
 is_want _ = false
 
--- what an engine does behind a `begin`
+-- what an engine does after a `begin`
 abbrev pub begins_marking : Step → Bool
 begins_marking (step.Look x) = true
 begins_marking (step.Hold j) = true
@@ -41,7 +41,7 @@ holds_gates (step.Look x) = true
 holds_gates (step.Hold j) = true
 holds_gates _ = false
 
--- behind a `release`: the gates are opened, and what is released is wiped and given back
+-- after a `release`: the gates are opened, and what is released is wiped and given back
 abbrev pub gives_back : Step → Bool
 gives_back (step.Look x) = true
 gives_back (step.Open j) = true
@@ -52,7 +52,7 @@ gives_back (step.Head p v) = true
 gives_back (step.Tally n v) = true
 gives_back _ = false
 
--- behind an `end`: the tallies are set
+-- after an `end`: the tallies are set
 abbrev pub sets_tallies : Step → Bool
 sets_tallies (step.Look x) = true
 sets_tallies (step.Tally n v) = true

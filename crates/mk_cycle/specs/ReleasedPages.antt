@@ -1,4 +1,4 @@
--- What the words of the pages tell of a `release`, up to when its cells are given back.
+-- What the words of the pages say of a `release`, up to when its cells are given back.
 use Rattle.std.specs.Prelude.{ℕ, zero, suc, ◌+◌, ◌*◌, ◌≤◌, bit_and, count_ones, slice_index}
 use Rattle.mk_core.specs.Cells.{left_unmarked, header_in, words_under}
 use Rattle.mk_core.specs.Words.{Words}
@@ -24,7 +24,7 @@ words_unmarked w p = cells_unmarked w p * words_under (header_in w p)
 abbrev pub cells_marked : Words → ℕ → ℕ
 cells_marked w p = count_ones (left_marked w p)
 
--- on one page, and on the first pages, of so many
+-- on one page, and on the first pages, of this many
 
 abbrev pub released_on : Words → ℕ → Released
 released_on w p = record { count = cells_unmarked w p; words = words_unmarked w p; kept = cells_marked w p }

@@ -14,7 +14,7 @@ use mk_words::{Turn, Words};
 use std::sync::Wait;
 use std::thread::Threads;
 
-/// Begins a cycle: its snapshot is what is freed now. Directly behind its `begin` the engine does its part.
+/// Begins a cycle: its snapshot is what is freed now. Directly after its `begin` the engine does its part.
 pub fn begin_cycle<E: Engine, R: Threads + Wait + Sync>(
     rt: &R,
     words: &Words,

@@ -14,7 +14,7 @@ pub struct Bench<E: Engine> {
 }
 
 impl<E: Engine> Bench<E> {
-    /// A bench for a heap of so many pages.
+    /// A bench for a heap of this many pages.
     pub fn new(alloc: Global, pages: u64) -> Result<Bench<E>, NoMemory>
         ensures engine { IfOk result (λ bench. E.made_for bench.engine ≡ pages) }
         ensures book { IfOk result (λ bench. length bench.book ≡ pages) }

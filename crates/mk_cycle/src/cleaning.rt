@@ -75,7 +75,7 @@ fn copy_freed(turn: &mut Turn, words: &Words, page: u64)
     }
 }
 
-/// Looks at a word before the `begin`, in a table of so many pages.
+/// Looks at a word before the `begin`, in a table of this many pages.
 #[inline(always)]
 fn look_before(turn: &mut Turn, words: &Words, pages: u64, x: Word) -> u64
     requires one_table { turn.old.pass.table ≡ words.now }

@@ -1,4 +1,4 @@
-//! What the words of a page tell of a cycle: what was released on it, by its snapshot and marks, before that is given
+//! What the words of a page say of a cycle: what was released on it, by its snapshot and marks, before that is given
 //! back; and how many words it holds.
 ghost use Rattle.std.specs.Prelude.{◌≡◌, ◌<◌, ◌≤◌, ◌*◌, true, false, bit_and, count_ones, slice_index};
 ghost use Rattle.mk_core.specs.Bits.{without};
@@ -16,11 +16,11 @@ ghost use Rattle.mk_cycle.specs.TurnKeeps.{InTurn};
 use crate::bits::{FREED_END, without, words_under};
 use crate::finishing::Released;
 use crate::turn_steps;
-use mk_books::{Page, words_held};
+use mk_books::{Page, held_by_pages};
 use mk_core::Word;
 use mk_words::{Turn, Words};
 
-/// What the words of a page tell: its released cells, their words, and its marked cells of the snapshot.
+/// What the words of a page say: its released cells, their words, and its marked cells of the snapshot.
 fn released_cells(snapshot: u64, marks: u64, header: u64) -> Released
     ensures count { result.count ≡ count_ones (without snapshot marks) }
     ensures words { result.words ≡ count_ones (without snapshot marks) * words_under (header_of header) }
@@ -35,7 +35,7 @@ fn released_cells(snapshot: u64, marks: u64, header: u64) -> Released
     }
 }
 
-/// Looks at a word that is no register, in a table of so many pages, while nothing is given
+/// Looks at a word that is no register, in a table of this many pages, while nothing is given
 /// back.
 #[inline(always)]
 pub(crate) fn look_among(turn: &mut Turn, words: &Words, pages: u64, x: Word) -> u64
@@ -123,6 +123,6 @@ pub(crate) fn held_on(turn: &mut Turn, words: &Words, page: u64) -> u64
         return 0;
     }
     let used = look(turn, words, Word::Used(page));
-    let held = words_held(&[Page { header, used }]);
+    let held = held_by_pages(&[Page { header, used }]);
     held as u64
 }

@@ -15,7 +15,7 @@ use std::alloc::Global;
 use std::sync::Wait;
 use std::thread::Threads;
 
-/// What makes the marks of a cycle, for a heap of so many pages. What it answers to `keeps_on` is the same for all
+/// What makes the marks of a cycle, for a heap of this many pages. What it answers to `keeps_on` is the same for all
 /// values of its type, and so are whether it makes sweeping marks, and what it does as a cycle begins. Of the marks
 /// that it closed last it tells something.
 pub trait Engine: Drop {
@@ -29,15 +29,15 @@ pub trait Engine: Drop {
 
     ghost begins: { Config → Seat → List Event → List Event → Type 0 };
 
-    /// An engine for so many pages. It takes all its memory here.
+    /// An engine for this many pages. It takes all its memory here.
     fn make(alloc: Global, pages: u64) -> Result<Self, NoMemory>
         ensures { IfOk result (λ engine. made_for engine ≡ pages) };
 
-    /// Whether a cycle that a free begins goes on behind the call.
+    /// Whether a cycle that a free begins goes on after the call.
     fn keeps_on(&self) -> bool
         ensures { result ≡ on };
 
-    /// What comes directly behind a cycle's `begin`.
+    /// What comes directly after a cycle's `begin`.
     fn begin<R: Threads + Wait + Sync>(&mut self, rt: &R, words: &Words, turn: &mut Turn)
         requires one_table { turn.old.pass.table ≡ words.now }
         requires made_for { made_for self.old ≡ words.now.config.pages }

@@ -1,7 +1,7 @@
-//! The stop of a cycle, and what comes behind it up to the `end`.
+//! The stop of a cycle, and what comes after it up to the `end`.
 ghost use Rattle.std.specs.Prelude.{◌≡◌, true, false};
 ghost use Rattle.mk_core.specs.Moments.{none_is_held};
-ghost use Rattle.mk_core.specs.TurnConditions.{words_held};
+ghost use Rattle.mk_core.specs.TurnConditions.{held_by_pages};
 ghost use Rattle.mk_words.specs.States.{now_of};
 ghost use Rattle.mk_turns.specs.Sweeping.{SweepsNothing};
 ghost use Rattle.mk_cycle.specs.EngineLaw.{IsFreeForCycle, IsAtPhase};
@@ -49,7 +49,7 @@ pub(crate) fn give_all_back<E: Engine, R: Threads + Wait + Sync>(
     ensures made_for { E.made_for engine.new ≡ E.made_for engine.old }
     ensures gives { GivesAllBack turn.pass result.0.pass }
     ensures told { HasReleased turn.pass result.0.pass result.1.released }
-    ensures held { result.1.held ≡ words_held (now_of result.0.pass).words }
+    ensures held { result.1.held ≡ held_by_pages (now_of result.0.pass).words }
     ensures reached { E.sweeps ≡ false → SweepsNothing turn.pass result.0.pass }
     ensures told_at_close { IsToldAtClose (E.tells engine.new) turn.pass result.0.pass }
 {

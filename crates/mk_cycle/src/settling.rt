@@ -2,7 +2,7 @@
 //! held is counted: in one pass, which looks at a free page once.
 ghost use Rattle.std.specs.Prelude.{◌≡◌, ◌<◌, ◌≤◌, ℕ};
 ghost use Rattle.mk_core.specs.Cells.{head_page, left_unmarked};
-ghost use Rattle.mk_core.specs.TurnConditions.{words_held};
+ghost use Rattle.mk_core.specs.TurnConditions.{held_by_pages};
 ghost use Rattle.mk_core.specs.Words.{header_at};
 ghost use Rattle.mk_words.specs.States.{now_of};
 ghost use Rattle.mk_cycle.specs.EngineLaw.{IsFreeForCycle, IsAtPhase};
@@ -18,7 +18,7 @@ use crate::turn_steps::{self, free_head};
 use mk_core::Word;
 use mk_words::{Turn, Words};
 
-/// What was released, and how many words are held behind that.
+/// What was released, and how many words are held after that.
 #[derive(Clone, Copy)]
 pub(crate) struct Settled {
     pub(crate) released: Released,
@@ -81,7 +81,7 @@ pub(crate) fn settle_pages(turn: &mut Turn, words: &Words) -> Settled
     ensures frees { Frees turn.old.pass turn.new.pass }
     ensures settled { (page : ℕ) → page < words.now.config.pages → IsSettledPage turn.new.pass page }
     ensures released { result.released ≡ released_below (now_of turn.old.pass).words words.now.config.pages }
-    ensures held { result.held ≡ words_held (now_of turn.new.pass).words }
+    ensures held { result.held ≡ held_by_pages (now_of turn.new.pass).words }
 {
     words.is_within_limits();
     let mut all = Released {

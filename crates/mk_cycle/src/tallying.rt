@@ -3,7 +3,7 @@ ghost use Rattle.std.specs.Prelude.{◌≡◌, ◌+◌, true, false};
 ghost use Rattle.mk_core.specs.Accesses.{tally_word};
 ghost use Rattle.mk_core.specs.Counts.{in_a_word};
 ghost use Rattle.mk_core.specs.Ranges.{is_word};
-ghost use Rattle.mk_core.specs.TurnConditions.{words_held};
+ghost use Rattle.mk_core.specs.TurnConditions.{held_by_pages};
 ghost use Rattle.mk_core.specs.Words.{named_word};
 ghost use Rattle.mk_words.specs.States.{now_of};
 ghost use Rattle.mk_cycle.specs.EngineLaw.{IsFreeForCycle, is_register};
@@ -54,7 +54,7 @@ fn raise(turn: &mut Turn, words: &Words, n: Tally, word: Word, by: u64)
 pub(crate) fn count_cycle(turn: &mut Turn, words: &Words, held: u64, released: u64)
     requires one_table { turn.old.pass.table ≡ words.now }
     requires free { IsFreeForCycle turn.old.pass }
-    requires held { held ≡ words_held (now_of turn.old.pass).words }
+    requires held { held ≡ held_by_pages (now_of turn.old.pass).words }
     ensures op { turn.new.op ≡ turn.old.op }
     ensures sets { Sets (with_cycle_counted (now_of turn.old.pass).words released) turn.old.pass turn.new.pass }
 {

@@ -3,7 +3,7 @@ ghost use Rattle.std.specs.Prelude.{◌≡◌, ◌<◌, ◌*◌, ◌/◌, ◌%�
 ghost use Rattle.mk_core.specs.declared.events.Step.TheVariants as step;
 ghost use Rattle.mk_geom.specs.Addresses.{address_of};
 ghost use Rattle.mk_core.specs.Bounded.{is_some_and};
-ghost use Rattle.mk_core.specs.Cells.{is_released, pointed_cell};
+ghost use Rattle.mk_core.specs.Cells.{is_released_cell, pointed_cell};
 ghost use Rattle.mk_core.specs.TurnConditions.{gives_back, drops, empties};
 ghost use Rattle.mk_core.specs.Moments.{is_held, is_number_of};
 ghost use Rattle.mk_core.specs.Ranges.{is_word};
@@ -18,7 +18,7 @@ ghost use Rattle.mk_cycle.specs.TurnKeeps.{InTurn};
 use mk_core::{Tally, Word};
 use mk_words::{Turn, Words};
 
-/// Looks at a word that is no register, in a table of so many pages.
+/// Looks at a word that is no register, in a table of this many pages.
 #[inline(always)]
 pub(crate) fn look_among(turn: &mut Turn, words: &Words, pages: u64, x: Word) -> u64
     requires one_table { turn.old.pass.table ≡ words.now }
@@ -175,7 +175,7 @@ pub(crate) fn wipe(turn: &mut Turn, words: &Words, word: u64)
     requires free { IsFreeForCycle turn.old.pass }
     requires phase { IsAtPhase turn.old.pass 4 }
     requires within { word < 64 * words.now.config.pages }
-    requires released { is_some_and (is_released (now_of turn.old.pass).words)
+    requires released { is_some_and (is_released_cell (now_of turn.old.pass).words)
         (pointed_cell turn.old.pass.table.config.pages (now_of turn.old.pass).words.pages (address_of word)) ≡ true }
     ensures op { turn.new.op ≡ turn.old.op }
     ensures was { InTurn turn.old.pass }

@@ -28,7 +28,7 @@ fn wipe_word(turn: &mut Turn, words: &Words, word: u64)
     }
 }
 
-/// Makes so many words from a first one on 0.
+/// Makes this many words from a first one on 0.
 fn wipe_cell(turn: &mut Turn, words: &Words, first: u64, count: u64)
     requires one_table { turn.old.pass.table ≡ words.now }
     requires free { IsFreeForCycle turn.old.pass }

@@ -46,7 +46,7 @@ use Rattle.mk_words.specs.Steps.{Finds, IsEnabledTo, found_by}
 use Rattle.mk_words.specs.TurnSteps.{Acts, world_at}
 use Rattle.mk_words.proofs.Made.{stands_behind_others}
 use Rattle.mk_turns.proofs.Doing.{does_step}
-use Rattle.mk_tracing.specs.Grays.{IsInHand, IsReached, MarksReached, TracesReached}
+use Rattle.mk_tracing.specs.Grays.{IsInHand, HandPointsInto, MarksReached, TracesReached}
 use Rattle.mk_tracing.specs.Stops.{hand_of, is_root}
 use Rattle.mk_tracing.proofs.MaySteps.{marks_by}
 use Rattle.mk_tracing.proofs.MoreMarks.{marked_now}
@@ -106,13 +106,13 @@ module _ (p : PassState) (t : InTurn p) (b : IsBeside p) where
       (lt-ltb j p.table.config.callers lt) (ap not other))
       held (ap (λ (n : ℕ). not (n == 3)) b.marking) b.free.gone
 
-  hand_marks : (cell : Cell) (r : IsReached p cell)
+  hand_marks : (cell : Cell) (r : HandPointsInto p cell)
       → marks_by_hand p.table.config.pages (now_of p).words (hand_of p) cell.page (2 ^ cell.index) ≡ true
   hand_marks cell r =
       marks_by p.table.config.pages (now_of p).words
       (hand_of p) r.value cell r.in_hand.hand r.in_hand.is r.in_hand.value r.points
 
-  pub may_mark_beside : (cell : Cell) → IsReached p cell → IsEnabledTo p (step.Mark cell.page (2 ^ cell.index))
+  pub may_mark_beside : (cell : Cell) → HandPointsInto p cell → IsEnabledTo p (step.Mark cell.page (2 ^ cell.index))
   may_mark_beside cell r =
       let within = pointed_within p.table.config.pages (now_of p).words r.value cell r.points in
       may_act p (step.Mark cell.page (2 ^ cell.index)) (protocol p t b.free) t.holds b.free.decided refl
@@ -198,7 +198,7 @@ module _ (t u : TurnState) (was : InTurn t.pass) (is : InTurn u.pass) (b : IsBes
         well = stays_well t u (step.Look x) a was is b same refl;
       }
 
--- the hand behind a look
+-- the hand after a look
 
 module _ (p q : PassState) (x : Word) (a : Acts p (step.Look x) q) where
   hand_now : hand_of q ≡ or_else (hand_given p.table.config (world_at a.makes).now p.seat x
@@ -239,7 +239,7 @@ no_place w o (Some x) page value ne =
     ne (eqb-true (header_at w page) 0 two.1))
 
 module _ (t u : TurnState) (was : InTurn t.pass) (is : InTurn u.pass) (b : IsBeside t.pass) (same : u.op ≡ t.op)
-    (cell : Cell) (a : Acts t.pass (step.Mark cell.page (2 ^ cell.index)) u.pass) (r : IsReached t.pass cell) where
+    (cell : Cell) (a : Acts t.pass (step.Mark cell.page (2 ^ cell.index)) u.pass) (r : HandPointsInto t.pass cell) where
   points_there : pointed_cell t.pass.table.config.pages (world_at a.makes).now.words.pages r.value ≡ Some cell
   points_there = ap (λ (x : Steady). pointed_cell t.pass.table.config.pages x.pages r.value) a.turn.steady ∙ r.points
 

@@ -48,7 +48,7 @@ beside_nothing p =
 pub goes_nowhere : (t : TurnState) → IsBeside t.pass → GoesBeside t t
 goes_nowhere t b = record { table = refl; op = refl; beside = b; marks = beside_nothing t.pass }
 
--- What is found points well behind more marks.
+-- What is found points well after more marks.
 
 all_on : (test more : Finding → Bool) → ((f : Finding) → test f ≡ true → more f ≡ true) → (xs : List Finding)
     → list_all test xs ≡ true → list_all more xs ≡ true
@@ -134,7 +134,7 @@ module _ (p : PassState) (xs : List Event) (r : PassState) where
       ∙ list_any-append test (done_since p q) (done_since q r)
       ∙ or_right (list_any test (done_since p q)) (list_any test (done_since q r)) here
 
--- One part behind another.
+-- One part after another.
 
 pub beside_then : (p q r : PassState) → MarksBeside p q → MarksBeside q r → MarksBeside p r
 beside_then p q r a b =
@@ -164,7 +164,7 @@ then_looked x p q r d e here =
     subst (λ (y : PassState). Does begins_marking y r → LooksAt x y r → LooksAt x p r) (sym d.is)
     (looked_second p d.more r x) e here
 
--- A look at a root, and the marks behind it by which its value points well.
+-- A look at a root, and the marks after it by which its value points well.
 
 same_root : (x : Word) → is_root x ≡ true → is_same_root x x ≡ true
 same_root (word.Reg j r) h = and_from (j == j) (r == r) (eq-eqb j j refl) (eq-eqb r r refl)

@@ -19,7 +19,7 @@ use Rattle.mk_tracing.specs.Tracing.{OwnStepsKeep}
 use Rattle.mk_tracing.proofs.Parts.{keep_in_parts, one_keeps, one_own, others_keep}
 use Rattle.mk_engines.specs.Beside.{done_since, seen_since}
 
--- what was seen behind a list
+-- what was seen after a list
 pub since_behind : (p : PassState) (xs : List Event) → seen_since p (record p { seen = p.seen ++ xs }) ≡ xs
 since_behind p xs = drop-append_seam p.seen xs
 

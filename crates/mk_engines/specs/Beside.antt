@@ -20,7 +20,7 @@ use Rattle.mk_cycle.specs.Holding.{IsHeldOrOwn}
 use Rattle.mk_cycle.specs.Kinds.{begins_marking}
 use Rattle.mk_cycle.specs.TurnKeeps.{KeepsTurn, whole}
 
--- the events that a pass has seen behind what it had seen
+-- the events that a pass has seen after what it had seen
 abbrev pub seen_since : PassState → PassState → List Event
 seen_since p q = drop (length p.seen) q.seen
 

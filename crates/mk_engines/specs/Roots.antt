@@ -13,7 +13,7 @@ use Rattle.mk_tracing.specs.Stops.{is_root}
 use Rattle.mk_tracing.specs.Tracing.{OwnStepsKeep}
 use Rattle.mk_engines.specs.Beside.{found_well, looks_at}
 
--- Behind a list, the seat looked in these events at each register of each caller and at each global, what it found
+-- After a list, the seat looked in these events at each register of each caller and at each global, what it found
 -- there points well at their end, and it marked nothing but what was reached.
 pub record MarksRoots (c : Config) (s : Seat) (es more : List Event) : Type 0 where
   pub looked : (x : Word) → is_root x ≡ true → is_word c x ≡ true

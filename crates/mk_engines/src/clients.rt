@@ -14,7 +14,7 @@ use std::alloc::Global;
 use std::sync::Wait;
 use std::thread::Threads;
 
-/// Begins a cycle whose marks are made beside the callers. Directly behind its `begin` the roots are marked.
+/// Begins a cycle whose marks are made beside the callers. Directly after its `begin` the roots are marked.
 pub(crate) fn begin_beside<R: Threads + Wait + Sync>(
     rt: &R,
     alloc: Global,

@@ -53,7 +53,7 @@ fn mark_registers_of(words: &Words, turn: &mut Turn, caller: u64)
     }
 }
 
-/// Marks what another caller's registers point into. Its gate is held meanwhile, and held behind it only if it was
+/// Marks what another caller's registers point into. Its gate is held meanwhile, and held after it only if it was
 /// before.
 fn mark_registers_held<R: Wait>(rt: &R, words: &Words, turn: &mut Turn, caller: u64)
     requires one_table { turn.old.pass.table ≡ words.now }

@@ -6,7 +6,7 @@ ghost use Rattle.mk_core.specs.Ranges.{is_word};
 ghost use Rattle.mk_core.specs.Words.{named_word};
 ghost use Rattle.mk_words.specs.States.{now_of};
 ghost use Rattle.mk_cycle.specs.TurnKeeps.{KeepsGates};
-ghost use Rattle.mk_tracing.specs.Grays.{IsInHand, IsReached};
+ghost use Rattle.mk_tracing.specs.Grays.{IsInHand, HandPointsInto};
 ghost use Rattle.mk_tracing.specs.Stops.{hand_of, is_root};
 ghost use Rattle.mk_engines.specs.Beside.{FindsInRoot, GoesBeside, IsBeside, IsOpenToLook, KeepsOtherGates};
 ghost use Rattle.mk_engines.specs.Beside.{gives_no_hand};
@@ -54,7 +54,7 @@ pub(crate) fn look_at_root(words: &Words, turn: &mut Turn, x: Word) -> u64
 pub(crate) fn mark_cell(words: &Words, turn: &mut Turn, cell: Cell)
     requires one_table { turn.old.pass.table ≡ words.now }
     requires beside { IsBeside turn.old.pass }
-    requires reached { IsReached turn.old.pass cell }
+    requires reached { HandPointsInto turn.old.pass cell }
     ensures on { GoesBeside turn.old turn.new }
     ensures gates { KeepsGates turn.old.pass turn.new.pass }
     ensures marked { is_marked (now_of turn.new.pass).words cell ≡ true }

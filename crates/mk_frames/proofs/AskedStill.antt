@@ -1,4 +1,4 @@
--- What a step asks of the heap that never reuses storage it asks behind a longer list too: what it finds may differ,
+-- What a step asks of the heap that never reuses storage it asks after a longer list too: what it finds may differ,
 -- and so the answer, but not whether it decides, nor what for.
 use Rattle.std.proofs.Common.{Bool, ap, false, refl, sym, true, ℕ, ◌∙◌, ◌≡◌}
 use Rattle.std.specs.Prelude.{None, Option, Some, if◌then◌else◌, ◌==◌}

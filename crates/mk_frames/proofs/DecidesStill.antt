@@ -1,4 +1,4 @@
--- The call that an event decides behind a list, it decides behind what others did since, and it is admitted there.
+-- The call that an event decides after a list, it decides after what others did since, and it is admitted there.
 use Rattle.std.proofs.Common.{Bool, List, [], ap, inl, inr, refl, subst, sym, true, ℕ, ◌++◌, ◌<◌, ◌∙◌, ◌∷◌, ◌≡◌}
 use Rattle.std.specs.Prelude.{None, Some, if◌then◌else◌, is_some, not, ◌&&◌, ◌==◌}
 use Rattle.std.proofs.lemmas.Bool.{cases_Bool, ltb-true}
@@ -16,7 +16,7 @@ use Rattle.mk_core.specs.declared.events.Step.TheVariants as step
 use Rattle.mk_core.specs.declared.events.Word.{Word}
 use Rattle.mk_core.specs.declared.seats.Flight.{Flight}
 use Rattle.mk_core.specs.declared.seats.Stage.TheVariants as stage
-use Rattle.mk_core.specs.Accesses.{found, reached, register_met}
+use Rattle.mk_core.specs.Accesses.{found, word_accessed, register_met}
 use Rattle.mk_core.specs.Calls.{onward, page_met, q_of, refused}
 use Rattle.mk_core.specs.Cells.{header_in, is_unmapped_header}
 use Rattle.mk_core.specs.Decided.{asked, entry_of}
@@ -88,15 +88,15 @@ module _ (c : Config) (es more : List Event) (k : ℕ) (x : Step) (h : IsHistory
   holding is = holds_is c w.now (Caller k) here.known.now.orderly (acts_as_holder c w.now (Caller k) x
       (actor_of c w.now (Caller k) x here.known.now.orderly meets) is)
 
-  same_word : reached c v.now (of_caller k x) ≡ reached c w.now (of_caller k x)
+  same_word : word_accessed c v.now (of_caller k x) ≡ word_accessed c w.now (of_caller k x)
   same_word = (others_leave_accesses c es more (of_caller k x) h.within_limits h.enabled others on).word
 
   -- An own register shows what it did.
   finds_register : x ≡ step.Reg → found c v.now (of_caller k x) ≡ found c w.now (of_caller k x)
   finds_register is =
       ap (λ (y : TableWord). word_in v.now.words y) same_word
-      ∙ subst (λ (s : Step). word_in v.now.words (reached c w.now (of_caller k s))
-      ≡ word_in w.now.words (reached c w.now (of_caller k s))) (sym is)
+      ∙ subst (λ (s : Step). word_in v.now.words (word_accessed c w.now (of_caller k s))
+      ≡ word_in w.now.words (word_accessed c w.now (of_caller k s))) (sym is)
       (kept.own.registers k (register_met f f.stage) refl
       (register_small f f.stage (operands_of c f.op (here.known.now.operands k))))
 
@@ -138,8 +138,8 @@ module _ (c : Config) (es more : List Event) (k : ℕ) (x : Step) (h : IsHistory
   finds_header is =
       ap (λ (y : TableWord). is_unmapped_header (header_of (word_in v.now.words y))) same_word
       ∙ subst (λ (s : Step).
-      is_unmapped_header (header_of (word_in v.now.words (reached c w.now (of_caller k s))))
-      ≡ is_unmapped_header (header_of (word_in w.now.words (reached c w.now (of_caller k s)))))
+      is_unmapped_header (header_of (word_in v.now.words (word_accessed c w.now (of_caller k s))))
+      ≡ is_unmapped_header (header_of (word_in w.now.words (word_accessed c w.now (of_caller k s)))))
       (sym is) (probes_the_same is)
 
   -- The turn's holder sees the same freed bits and target.

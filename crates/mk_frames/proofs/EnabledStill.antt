@@ -1,4 +1,4 @@
--- An event that is enabled behind a list is enabled behind what others did since.
+-- An event that is enabled after a list is enabled after what others did since.
 use Rattle.std.proofs.Common.{Bool, List, [], ap, arith, false, inl, inr, refl, subst, sym, true, ◌++◌, ◌+◌, ◌∙◌, ◌∷◌}
 use Rattle.std.proofs.Common.{◌≡◌, ◌≢◌}
 use Rattle.std.specs.Prelude.{Option, if◌then◌else◌, ◌==◌}

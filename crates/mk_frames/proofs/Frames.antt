@@ -8,7 +8,7 @@ use Rattle.mk_core.specs.Growing.{AreOfOthers}
 use Rattle.mk_core.specs.History.{IsHistory, World, left, never_behind}
 use Rattle.mk_core.specs.Readings.{Holds}
 use Rattle.mk_core.proofs.HistoryParts.{earlier_part_is_history}
-use Rattle.mk_guard.specs.Kept.{OthersSayFrom}
+use Rattle.mk_guard.specs.Kept.{GuardPremisesFrom}
 use Rattle.mk_guard.proofs.OthersLeave.{others_leave_headers, others_leave_wells}
 use Rattle.mk_invariant.proofs.Joined.{told_to_guard}
 use Rattle.mk_frames.proofs.CallsStill.{held_registers, never_stands_still}
@@ -18,8 +18,8 @@ use Rattle.mk_frames.proofs.RunsStill.{holder_finds}
 use Rattle.mk_frames.proofs.TargetsStill.{targets_are_left}
 
 -- The layout and the zero words say to the guard what it asks, before each event.
-said_along : (c : Config) (es more : List Event) → IsHistory c (es ++ more) → OthersSayFrom c (left c es) more
-unfolding OthersSayFrom
+said_along : (c : Config) (es more : List Event) → IsHistory c (es ++ more) → GuardPremisesFrom c (left c es) more
+unfolding GuardPremisesFrom
 said_along c es [] h = tt
 said_along c es (e ∷ more) h =
     let split : es ++ e ∷ more ≡ (es ++ e ∷ []) ++ more = sym (append_assoc es (e ∷ []) more) in
@@ -27,7 +27,7 @@ said_along c es (e ∷ more) h =
     let last = comes_last c es e (earlier_part_is_history c (es ++ e ∷ []) more parts) in
     let st = stands c es last.before in (
       told_to_guard c (left c es) (never_behind c es) st.known st.all,
-      subst (λ (w : World). OthersSayFrom c w more) last.leaves (said_along c (es ++ e ∷ []) more parts),
+      subst (λ (w : World). GuardPremisesFrom c w more) last.leaves (said_along c (es ++ e ∷ []) more parts),
     )
 
 heap_is_left : (c : Config) (es more : List Event) (s : Seat) → IsHistory c (es ++ more) → AreOfOthers (s ∷ []) more

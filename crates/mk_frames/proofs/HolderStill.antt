@@ -15,7 +15,7 @@ use Rattle.mk_core.specs.declared.seats.Holding.{Holding}
 use Rattle.mk_core.specs.declared.seats.Object.{Object}
 use Rattle.mk_core.specs.Bits.{without}
 use Rattle.mk_core.specs.Bounded.{all_below, is_some_and}
-use Rattle.mk_core.specs.Cells.{are_left_unmarked, head_page, is_left_unmarked, is_released, pointed_cell}
+use Rattle.mk_core.specs.Cells.{are_left_unmarked, head_page, is_left_unmarked, is_released_cell, pointed_cell}
 use Rattle.mk_core.specs.Enabled.{holder_may}
 use Rattle.mk_core.specs.Frames.{Steady, TurnIsLeft, Written, written_of}
 use Rattle.mk_core.specs.History.{World}
@@ -28,10 +28,11 @@ use Rattle.mk_core.specs.NewPlaces.{target}
 use Rattle.mk_core.specs.StopConditions.{blackens, has_closed_page, marks_by_hand, marks_place, may_begin, may_black}
 use Rattle.mk_core.specs.StopConditions.{may_close, may_end, may_mark, may_turn_black, may_unblack, may_undirty}
 use Rattle.mk_core.specs.StopConditions.{none_attends, roots_point_well}
-use Rattle.mk_core.specs.TurnConditions.{are_wiped, carves, drops, empties, frees, gives_back, is_decided, is_full}
+use Rattle.mk_core.specs.TurnConditions.{are_wiped, carves, drops, empties, frees, gives_back, is_decided}
+use Rattle.mk_core.specs.TurnConditions.{may_answer_full}
 use Rattle.mk_core.specs.TurnConditions.{is_in_gone_run, is_marked_first, is_used_once, may_give, may_head}
 use Rattle.mk_core.specs.TurnConditions.{may_quarantine, may_use, may_wipe, place_now, takes_cell, takes_snapshot}
-use Rattle.mk_core.specs.TurnConditions.{unmaps, words_held}
+use Rattle.mk_core.specs.TurnConditions.{unmaps, held_by_pages}
 use Rattle.mk_core.specs.Words.{Words, header_at, phase_of, quarantine_word, used_at}
 use Rattle.mk_protocol.proofs.Asked.{none_at}
 use Rattle.mk_frames.proofs.Tests.{and_on, if_on, none_from, or_on, some_on, without_on}
@@ -194,10 +195,10 @@ module _ (c : Config) (w v : World) (kept : TurnIsLeft w v) (own : v.now.seats.h
       || is_some_and (λ (x : Place). (s.phase == 1) && (p == x.page) && (header_at (record a { pages = s.pages })
       p == 0) && (n == bits_made o)) (place_now c w.now f)) kept.steady
 
-  released_on : (cell : Cell) → is_released a cell ≡ true → is_released b cell ≡ true
+  released_on : (cell : Cell) → is_released_cell a cell ≡ true → is_released_cell b cell ≡ true
   released_on cell h =
       let four = (and_parts (is_phase a 4) (is_left_unmarked a cell) h).0 in
-      ap (λ (ms : List ℕ). is_released (record b { marks = ms }) cell) (quiet_at_4 four)
+      ap (λ (ms : List ℕ). is_released_cell (record b { marks = ms }) cell) (quiet_at_4 four)
       ∙ ap (λ (s : Steady). (s.phase == 4) && is_left_unmarked (record a { snapshot = s.snapshot }) cell) kept.steady
       ∙ h
 
@@ -208,21 +209,21 @@ module _ (c : Config) (w v : World) (kept : TurnIsLeft w v) (own : v.now.seats.h
 
   wipe_on : (n : ℕ) → may_wipe c w.now n ≡ true → may_wipe c v.now n ≡ true
   wipe_on n h =
-      or_on (is_some_and (is_released a) (pointed_cell c.pages a.pages (address_of n)))
+      or_on (is_some_and (is_released_cell a) (pointed_cell c.pages a.pages (address_of n)))
       (is_in_gone_run a w.now.seats.holding.freed n)
-      (is_some_and (is_released b) (pointed_cell c.pages b.pages (address_of n)))
+      (is_some_and (is_released_cell b) (pointed_cell c.pages b.pages (address_of n)))
       (is_in_gone_run b v.now.seats.holding.freed n)
-      (λ e. ap (λ (ps : List Page). is_some_and (is_released b) (pointed_cell c.pages ps (address_of n))) pages
-      ∙ some_on (is_released a) (is_released b) (pointed_cell c.pages a.pages (address_of n)) released_on e)
+      (λ e. ap (λ (ps : List Page). is_some_and (is_released_cell b) (pointed_cell c.pages ps (address_of n))) pages
+      ∙ some_on (is_released_cell a) (is_released_cell b) (pointed_cell c.pages a.pages (address_of n)) released_on e)
       (λ e. gone_run_same n ∙ e) h
 
-  full_same : (f : Flight) → is_full c.resident b.pages (object_made c f.op)
+  full_same : (f : Flight) → may_answer_full c.resident b.pages (object_made c f.op)
       v.now.seats.holding.placing v.now.seats.holding.cycle
-      ≡ is_full c.resident a.pages (object_made c f.op) w.now.seats.holding.placing w.now.seats.holding.cycle
+      ≡ may_answer_full c.resident a.pages (object_made c f.op) w.now.seats.holding.placing w.now.seats.holding.cycle
   full_same f =
-      ap (λ (ps : List Page). is_full c.resident ps (object_made c f.op) v.now.seats.holding.placing
+      ap (λ (ps : List Page). may_answer_full c.resident ps (object_made c f.op) v.now.seats.holding.placing
       v.now.seats.holding.cycle) pages
-      ∙ ap (λ (h : Holding). is_full c.resident a.pages (object_made c f.op) h.placing h.cycle) own
+      ∙ ap (λ (h : Holding). may_answer_full c.resident a.pages (object_made c f.op) h.placing h.cycle) own
 
   give_on : (f : Flight) → (is_run_gone a w.now.seats.holding.freed ≡ true
       → is_run_gone b w.now.seats.holding.freed ≡ true)
@@ -230,13 +231,13 @@ module _ (c : Config) (w v : World) (kept : TurnIsLeft w v) (own : v.now.seats.h
   give_on f gone h =
       let run : Bool = is_run_gone a w.now.seats.holding.freed in
       let run' : Bool = is_run_gone b v.now.seats.holding.freed in
-      and_on (is_decided f.stage && run && (a.held == words_held a)) (a.fresh == w.now.fresh_words)
-      (is_decided f.stage && run' && (b.held == words_held b)) (b.fresh == v.now.fresh_words)
-      (λ e. and_on (is_decided f.stage && run) (a.held == words_held a) (is_decided f.stage
-      && run') (b.held == words_held b)
+      and_on (is_decided f.stage && run && (a.held == held_by_pages a)) (a.fresh == w.now.fresh_words)
+      (is_decided f.stage && run' && (b.held == held_by_pages b)) (b.fresh == v.now.fresh_words)
+      (λ e. and_on (is_decided f.stage && run) (a.held == held_by_pages a) (is_decided f.stage
+      && run') (b.held == held_by_pages b)
       (λ d. and_on (is_decided f.stage) run (is_decided f.stage) run' (λ u. u)
       (λ u. ap (λ (x : Holding). is_run_gone b x.freed) own ∙ gone u) d)
-      (λ u. ap (λ (s : Steady). s.held == words_held (record a { pages = s.pages })) kept.steady ∙ u) e)
+      (λ u. ap (λ (s : Steady). s.held == held_by_pages (record a { pages = s.pages })) kept.steady ∙ u) e)
       (λ e. ap (λ (s : Steady). s.fresh == s.fresh_words) kept.steady ∙ e) h
 
   -- the phase's steps

@@ -30,8 +30,8 @@ use Rattle.mk_protocol.proofs.OrderlyLists.{not_astray}
 use Rattle.mk_protocol.proofs.Stages.{calls_stand, is_call_stage}
 use Rattle.mk_protocol.proofs.Standings.{InCall, is_astray, standing, standing_at}
 use Rattle.mk_protocol.proofs.Views.{view_of}
-use Rattle.mk_images.specs.Images.{CarriesOwn, IsMet, scene_of}
-use Rattle.mk_images.specs.OthersSay.{OthersSay}
+use Rattle.mk_images.specs.Images.{CarriesOwn, IsMet, image_scene_of}
+use Rattle.mk_images.specs.ImagePremises.{ImagePremises}
 use Rattle.mk_images.proofs.Before.{pages_show, ready_of}
 use Rattle.mk_images.proofs.CallSorts.{literal}
 use Rattle.mk_images.proofs.KnownWorlds.{KnownWorld}
@@ -82,13 +82,13 @@ clash n m (Ptr a t o) i on sound meets is met =
     ∙ met (subst (λ count. o + i < count) (sym (on.size a sound.0)) meets.0))
 
 module _ (c : Config) (w : World) (n : NeverState) (known : KnownWorld c w) (all : Invariant c w n) where
-  others : OthersSay c w
+  others : ImagePremises c w
   others = told_to_images c w n known all
 
   pub st : Stands c w.now.words w.allocations
   st = stands_of c w known.limits others
 
-  pub ready : Ready c.globals all.mirrors.safe.0 (scene_of w) n
+  pub ready : Ready c.globals all.mirrors.safe.0 (image_scene_of w) n
   ready = ready_of c w n known all.mirrors st all.mirrors.safe.0 all.mirrors.safe.1
 
   -- Who is in a call finds freed runs gone,
@@ -105,7 +105,7 @@ module _ (c : Config) (w : World) (n : NeverState) (known : KnownWorld c w) (all
 
   -- so headers tell it what is unmapped.
   pub pages_tell : (k : ℕ) → k < c.callers → standing (flight_of w.now (Caller k)) ≡ InCall
-      → PagesShow (header_at w.now.words) (scene_of w) n
+      → PagesShow (header_at w.now.words) (image_scene_of w) n
   pages_tell k lt in_call =
       pages_show c w n known all.mirrors st (gone_shows c w known.limits others (gone_for k lt in_call))
 
@@ -121,7 +121,7 @@ module _ (c : Config) (w : World) (n : NeverState) (known : KnownWorld c w) (all
   finds_unmapped k o q p r l lt is in_call meets u =
       let car : CarriesOwn (bases_of w.allocations) n k (flight stage.Probe o q p r l) =
       subst (λ (f : Flight). CarriesOwn (bases_of w.allocations) n k f) is (all.mirrors.images.carried k) in
-      unmapped_target c.globals all.mirrors.safe.0 (scene_of w) n ready (header_at w.now.words)
+      unmapped_target c.globals all.mirrors.safe.0 (image_scene_of w) n ready (header_at w.now.words)
       (pages_tell k lt in_call) (register_at n k (q_of o)) q (i_of o) (λ kind. Unit {0})
       (car.q refl) (car.some_q refl) (own_sound k (q_of o)) (all.mirrors.safe.1.registers (8 * k + q_of o)) meets u
 
@@ -133,7 +133,8 @@ module _ (c : Config) (w : World) (n : NeverState) (known : KnownWorld c w) (all
   finds_mapped k o q p r l lt is in_call u =
       let car : CarriesOwn (bases_of w.allocations) n k (flight stage.Probe o q p r l) =
       subst (λ (f : Flight). CarriesOwn (bases_of w.allocations) n k f) is (all.mirrors.images.carried k) in
-      mapped_met c.globals all.mirrors.safe.0 (scene_of w) n ready (header_at w.now.words) (pages_tell k lt in_call)
+      mapped_met c.globals all.mirrors.safe.0 (image_scene_of w) n ready (header_at w.now.words)
+      (pages_tell k lt in_call)
       (register_at n k (q_of o)) q (i_of o)
       (car.q refl) (car.some_q refl) (own_sound k (q_of o)) (all.mirrors.safe.1.registers (8 * k + q_of o)) u
 

@@ -28,7 +28,7 @@ use Rattle.mk_protocol.proofs.Frames.{others_leave}
 use Rattle.mk_protocol.proofs.Known.{Known}
 use Rattle.mk_protocol.proofs.OrderlyLists.{not_astray}
 use Rattle.mk_protocol.proofs.Standings.{InCall, in_call_is, in_call_told, standing}
-use Rattle.mk_images.specs.Images.{scene_of}
+use Rattle.mk_images.specs.Images.{image_scene_of}
 use Rattle.mk_images.proofs.Bases.{IsLonger}
 use Rattle.mk_images.proofs.Before.{unmapped_is}
 use Rattle.mk_images.proofs.Kept.{base_at, exists_placed}
@@ -121,18 +121,19 @@ module _ (c : Config) (es more : List Event) (k : ℕ) (h : IsHistory c (es ++ m
   pointer_still t o a x is sound sound' u u' call mapped =
       let lt = exists_placed w.allocations a u in
       let lt' = exists_placed v.allocations a u' in
-      let inside = pointed_word c.globals _ (scene_of w) n (ready c w n here.known here.all) a t o
+      let inside = pointed_word c.globals _ (image_scene_of w) n (ready c w n here.known here.all) a t o
       (subst (λ (y : Value). IsSound n y) is sound) in
       let inside' =
-      pointed_word c.globals _ (scene_of v) m (ready c v m there.known there.all) a t o
+      pointed_word c.globals _ (image_scene_of v) m (ready c v m there.known there.all) a t o
       (subst (λ (y : Value). IsSound m y) is sound') in
       let at = in_call_stands c w.now k here.known.now call in
       let own = others_leave c es more (Caller k) h.within_limits h.enabled others in
       let call' : is_in_call (flight_of v.now (Caller k)) ≡ true =
       ap (λ (f : Flight). is_in_call f) own.own.flight ∙ call in
       let at' = in_call_stands c v.now k there.known.now call' in
-      let shown : PagesShow (header_at w.now.words) (scene_of w) n = pages_tell c w n here.known here.all k at.0 at.1 in
-      let shown' : PagesShow (header_at v.now.words) (scene_of v) m =
+      let shown : PagesShow (header_at w.now.words) (image_scene_of w) n =
+      pages_tell c w n here.known here.all k at.0 at.1 in
+      let shown' : PagesShow (header_at v.now.words) (image_scene_of v) m =
       pages_tell c v m there.known there.all k at'.0 at'.1 in
       let off : is_gone c (placed_at w.allocations a) ≡ false =
       not-true (is_gone c (placed_at w.allocations a)) (and_parts (not (placed_at w.allocations a).released)

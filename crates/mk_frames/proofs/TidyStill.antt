@@ -1,4 +1,4 @@
--- A `give` that keeps a tidy list tidy does so behind what others did since: they leave the tallies, and what these
+-- A `give` that keeps a tidy list tidy does so after what others did since: they leave the tallies, and what these
 -- count.
 use Rattle.std.proofs.Common.{List, [], ap, refl, subst, sym, ◌++◌, ◌∙◌, ◌∷◌, ◌≡◌}
 use Rattle.mk_core.specs.declared.config.Config.{Config}

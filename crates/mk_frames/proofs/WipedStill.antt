@@ -15,7 +15,8 @@ use Rattle.mk_geom.proofs.ClassTable.{cell_ends}
 use Rattle.mk_core.specs.declared.config.Config.{Config}
 use Rattle.mk_core.specs.Allocations.{PlacedAllocation, cell_of_allocation, placed_at}
 use Rattle.mk_core.specs.Bits.{has_bit}
-use Rattle.mk_core.specs.Cells.{cell_words, cells_under, first_word, header_in, heads_run, is_released, pointed_cell}
+use Rattle.mk_core.specs.Cells.{cell_words, cells_under, first_word, header_in, heads_run, is_released_cell}
+use Rattle.mk_core.specs.Cells.{pointed_cell}
 use Rattle.mk_core.specs.Cells.{words_are_zero, words_under}
 use Rattle.mk_core.specs.History.{World}
 use Rattle.mk_core.specs.Moments.{is_phase}
@@ -26,7 +27,7 @@ use Rattle.mk_core.proofs.PageSteps.{gives_back_is, left_bits}
 use Rattle.mk_core.proofs.PointedAllocations.{word_points}
 use Rattle.mk_core.proofs.PointedPages.{found_under}
 use Rattle.mk_core.proofs.WordBits.{no_bit}
-use Rattle.mk_layout.specs.Scene.{run_count}
+use Rattle.mk_layout.specs.LayoutScene.{run_count}
 use Rattle.mk_layout.specs.WholeRuns.{RunsAreWhole}
 use Rattle.mk_images.proofs.KnownWorlds.{KnownWorld}
 use Rattle.mk_zeros.specs.Zeros.{IsMappedWord}
@@ -183,12 +184,13 @@ module _ (c : Config) (w v : World) (n : NeverState) (known : KnownWorld c w) (a
       let cell = word_cell c w all.order.runs (header_in w.now.words p) p k i (cell_of_allocation c a) refl lk li used
       (word_points c w.now.words a known.limits l.stands l.headers
       (first_word w.now.words (record { page = p; index = k }) + i) m.word) in
-      let left : is_released w.now.words (record { page = p; index = k }) ≡ true =
+      let left : is_released_cell w.now.words (record { page = p; index = k }) ≡ true =
       and_from (is_phase w.now.words 4) _ four
       (has_bit_without (slice_index w.now.words.snapshot p) (slice_index w.now.words.marks p) k
       ∙ and_from (has_bit (slice_index w.now.words.snapshot p) k)
       (not (has_bit (slice_index w.now.words.marks p) k)) at.0 (ap not at.1)) in
-      true≢false (sym left ∙ ap (is_released w.now.words) (sym cell) ∙ (told_to_images c w n known all).kept m.number u)
+      true≢false (sym left ∙ ap (is_released_cell w.now.words) (sym cell)
+      ∙ (told_to_images c w n known all).kept m.number u)
 
   pub wiped_still : (p value : ℕ) → is_phase w.now.words 4 ≡ true → gives_back w.now.words p value ≡ true
       → are_wiped v.now.words p (used_at v.now.words p - value) ≡ true

@@ -1,4 +1,4 @@
-//! What the steps of others leave of each seat's own, and what may come next behind longer lists: facts
+//! What the steps of others leave of each seat's own, and what may come next after longer lists: facts
 //! alone, with no code.
 #![tactic(auto)]
 
@@ -10,7 +10,7 @@ pub fn others_leave_what_is_admitted()
     ensures { AdmittedOthersLeave }
 {}
 
-/// An event that may come behind a list may come behind what others did since, reaches the same word in
+/// An event that may come after a list may come after what others did since, reaches the same word in
 /// the same way, and keeps a tidy list tidy.
 pub fn longer_lists_go_on()
     ensures { LongerListsGoOn }

@@ -51,7 +51,7 @@ HasNoIf-followed_by (Line line item rest) b h more = HasNoIf-followed_by rest b 
 HasNoIf-followed_by (Rounds rounds body rest) b h more = (h.0, HasNoIf-followed_by rest b h.1 more)
 HasNoIf-followed_by (Choice number first second rest) b h more = absurd h
 
--- It has noted no operation more, and has so many to ask for.
+-- It has noted no operation more, and has this many to ask for.
 record IsLeft (calls : ℕ) (before after : Fed) : Type 0 where
   ops : length after.ops ≡ length before.ops
   calls_are : calls_of after.left ≡ calls
@@ -63,7 +63,7 @@ calls_of-done (Line line item rest) done = absurd (false≢true done)
 calls_of-done (Rounds rounds body rest) done = absurd (false≢true done)
 calls_of-done (Choice number first second rest) done = absurd (false≢true done)
 
--- a part runs, and what stands behind it
+-- a part runs, and what stands after it
 left_then : (n : ℕ) (before fed : Fed) (go : Fed → Fed) (rest : Blocks) → IsLeft n before fed → HasNoIf rest
     → ((f : Fed) → IsLeft (calls_of rest) f (go f)) → (test : Bool) → is_done fed.left ≡ test
     → IsLeft (n + calls_of rest) before (if test then go fed else record fed { left = followed_by fed.left rest })

@@ -1,4 +1,4 @@
--- The lines of a script are read by what stands behind its first line alone.
+-- The lines of a script are read by what stands after its first line alone.
 use Rattle.std.proofs.Common.{◌≡◌, ℕ, ◌+◌, Bool, true, false, List, [], ◌∷◌, ◌++◌, length, refl, ap, ◌∙◌, sym, Option}
 use Rattle.std.proofs.Common.{Some, None}
 use Rattle.std.specs.List.{list_all}
@@ -19,7 +19,7 @@ use Rattle.mk_check.specs.Lookups.{lines_behind}
 use Rattle.mk_check.proofs.LookupLemmas.{this_script-push}
 use Rattle.mk_gen.proofs.ReadLines.{IsRead, AreRead}
 
--- the same script is open behind both, at the same line and with the same open blocks
+-- the same script is open after both, at the same line and with the same open blocks
 pub record AreAlike (a b : List Item) : Type 0 where
   pub script : has_script a ≡ true
   pub script' : has_script b ≡ true
@@ -51,7 +51,7 @@ alike_push a b item alike = record {
       ∙ sym (open_blocks-push b item);
 }
 
--- behind the first line of a script nothing else counts
+-- after the first line of a script nothing else counts
 pub alike_at_first : (before : List Item) (name : List ℕ) → AreAlike (Script [] ∷ []) (before ++ Script name ∷ [])
 alike_at_first before name = record {
   script = refl;

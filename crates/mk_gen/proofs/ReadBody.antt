@@ -1,4 +1,4 @@
--- The lines of a script behind its name line are read.
+-- The lines of a script after its name line are read.
 use Rattle.std.proofs.Common.{◌≡◌, ℕ, ◌<◌, ◌≤◌, ◌^◌, true, false, ◌&&◌, nat_eq, nat_le, not, Bool, List, [], ◌∷◌, ◌++◌}
 use Rattle.std.proofs.Common.{length, refl, ap, ◌∙◌, sym, subst, arith, Ok}
 use Rattle.std.specs.Fmt.{decimal}

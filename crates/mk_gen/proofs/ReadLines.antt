@@ -1,4 +1,4 @@
--- A text is read as these items, where each line is, behind those before it.
+-- A text is read as these items, where each line is, after those before it.
 use Rattle.std.proofs.Common.{◌≡◌, ℕ, ◌+◌, ◌*◌, ◌≤◌, true, false, nat_eq, nat_lt, nat_le, List, [], ◌∷◌, ◌++◌, length}
 use Rattle.std.proofs.Common.{refl, ap, ◌∙◌, sym, subst, arith, append_assoc, length-append, Ok}
 use Rattle.std.specs.List.{All, slice_split}
@@ -25,7 +25,7 @@ AreRead before [] (item ∷ items) = ⊥
 AreRead before (line ∷ lines) [] = ⊥
 AreRead before (line ∷ lines) (item ∷ items) = IsRead before line item × AreRead (before ++ item ∷ []) lines items
 
--- lines behind lines
+-- lines after lines
 pub AreRead-append : (lines more : List (List ℕ)) (before items behind : List Item) → AreRead before lines items
     → AreRead (before ++ items) more behind → AreRead before (lines ++ more) (items ++ behind)
 AreRead-append [] more before [] behind are are' = subst (λ b. AreRead b more behind) (append-nil before) are'

@@ -1,4 +1,4 @@
--- The scripts are read, each behind those before it.
+-- The scripts are read, each after those before it.
 use Rattle.std.proofs.Common.{◌≡◌, ℕ, ◌+◌, ◌/◌, ◌<◌, ◌≤◌, ◌^◌, Bool, true, ◌&&◌, not, nat_le, List, [], ◌∷◌, ◌++◌}
 use Rattle.std.proofs.Common.{length, refl, ap, ◌∙◌, sym, arith, Ok}
 use Rattle.std.proofs.Math.Nat.{mod-lt}
@@ -23,13 +23,13 @@ use Rattle.mk_gen.proofs.ReadLines.{IsRead, AreRead, AreRead-append}
 use Rattle.mk_gen.proofs.InScript.{alike_at_first, AreRead-alike}
 use Rattle.mk_gen.proofs.ReadBody.{by_words, body_is_read}
 
--- lines with these scripts, behind which another may begin
+-- lines with these scripts, after which another may begin
 pub record AreReady (before : List Item) (names : List (List ℕ)) : Type 0 where
   pub some : has_lines before ≡ true
   pub names_are : script_names before ≡ names
   pub closed : open_blocks before ≡ []
 
--- whether a script of this name may begin behind these
+-- whether a script of this name may begin after these
 abbrev pub may_begin : List (List ℕ) → List ℕ → Bool
 may_begin names name = is_name name && not (is_among name names) && nat_le (length names + 1) 16
 

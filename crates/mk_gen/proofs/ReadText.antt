@@ -34,7 +34,7 @@ module _ (turns numbers x : ℕ) where
       (scripts_are_read turns numbers small (omega (arith, some)) few x all_names [] (declarations numbers)
       (declarations_are_ready numbers) (refl, (refl, (refl, (refl, tt)))))
 
-  -- no block is open behind all lines, and there are scripts
+  -- no block is open after all lines, and there are scripts
   ends : at_end items ≡ Ok items
   unfolding items
   ends = refl

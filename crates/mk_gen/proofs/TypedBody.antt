@@ -1,4 +1,4 @@
--- The lines of a script behind its name line are well typed.
+-- The lines of a script after its name line are well typed.
 use Rattle.std.proofs.Common.{◌≡◌, ℕ, ◌+◌, ◌<◌, List, [], ◌++◌, refl, sym, arith, Some}
 use Rattle.std.specs.Prelude.{replicate, slice_get}
 use Rattle.std.proofs.lemmas.List.{length-replicate, get_or-replicate}

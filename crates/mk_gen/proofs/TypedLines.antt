@@ -1,4 +1,4 @@
--- Lines of a script that are well typed behind others.
+-- Lines of a script that are well typed after others.
 use Rattle.std.proofs.Common.{◌≡◌, ℕ, ◌+◌, true, List, [], ◌∷◌, ◌++◌, Option, None, refl, ap, ◌∙◌, sym, subst}
 use Rattle.std.proofs.Common.{append_assoc}
 use Rattle.std.proofs.lemmas.Bool.{false≢true}
@@ -12,7 +12,7 @@ use Rattle.mk_check.specs.Lookups.{lines_behind}
 use Rattle.mk_check.proofs.LookupLemmas.{this_script-push}
 use Rattle.mk_gen.proofs.InScript.{is_inside}
 
--- a line of a script that is well typed, behind these lines of it
+-- a line of a script that is well typed, after these lines of it
 pub record IsTyped (program script : List Item) (item : Item) : Type 0 where
   pub inside : is_inside item ≡ true
   pub no_fault : typing_fault (record { program = program; script = script }) 0 [] item ≡ None
@@ -40,7 +40,7 @@ pub go_on : (line : ℕ) (fault : Option TypeKind) (other : Option TypingFault) 
     → at_line line fault other ≡ None
 go_on line fault other none none' = rw (none, none') refl
 
--- Lines that are well typed have no fault before those behind them.
+-- Lines that are well typed have no fault before those after them.
 pub typed_then : (program script before items more : List Item) (line : ℕ) → this_script before ≡ script
     → AreTyped program script items → ((later : ℕ) → fault_from program later (before ++ items) more ≡ None)
     → fault_from program line before (items ++ more) ≡ None

@@ -24,7 +24,7 @@ all_scripts_left start count numbers x text are is written =
     let scripts = script_lines (turns_of count) (numbers_of start) (next_state start) all_names in
     rw (written, is, are) (sym (text_of_lines-append (declaration_lines (numbers_of start)) scripts))
 
--- One script more is written, of those that are left: y is the state behind its first draw, and z behind its second.
+-- One script more is written, of those that are left: y is the state after its first draw, and z after its second.
 pub one_script_more : (turns numbers x number y place z i : ℕ) (names : List (List ℕ))
     (name before after whole : List ℕ)
     → number ≡ draw (next_state x) 1000 → y ≡ next_state x → place ≡ draw (next_state y) numbers → z ≡ next_state y
@@ -44,7 +44,7 @@ one_script_more turns numbers x number y place z i names name before after whole
     ∙ ap (λ text. before ++ text) (sym (text_of_lines-append script rest) ∙ ap text_of_lines left)
     ∙ was
 
--- a name that is read behind its reference
+-- a name that is read after its reference
 pub name_read : (names : List (Bor (List ℕ))) (i : ℕ) (other : Bor (List ℕ)) → i < length names
     → (get_or names i other).now ≡ get_or (map (λ name. name.now) names) i (get_or names i other).now
 name_read names i other inside = sym (get_or-map (λ name. name.now) names i other (get_or names i other).now inside)

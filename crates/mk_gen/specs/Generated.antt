@@ -37,7 +37,7 @@ g = codes "g"
 abbrev pub all_names : List (List ℕ)
 all_names = codes "s0" ∷ codes "s1" ∷ codes "s2" ∷ codes "s3" ∷ []
 
--- The lines before the first script. A Node is a number and a link, and a Buf has so many numbers.
+-- The lines before the first script. A Node is a number and a link, and a Buf has this many numbers.
 abbrev pub declarations : ℕ → List Item
 declarations numbers =
     Heap 256 256 ∷
@@ -46,7 +46,7 @@ declarations numbers =
     Global g node ∷
     []
 
--- The lines of a script behind its name line: its registers, and so many turns. In each a new Node gets the number and
+-- The lines of a script after its name line: its registers, and this many turns. In each a new Node gets the number and
 -- goes into the global, the Node that is then read there is linked to for a while, and the number found in that goes to
 -- this place of a new Buf. Both are freed.
 abbrev pub script_body : ℕ → ℕ → ℕ → List Item

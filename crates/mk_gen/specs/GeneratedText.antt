@@ -13,7 +13,7 @@ declaration_lines numbers =
     codes "global g Node" ∷
     []
 
--- the lines of a script behind its name line
+-- the lines of a script after its name line
 abbrev pub body_lines : ℕ → ℕ → ℕ → List (List ℕ)
 body_lines turns number place =
     codes "ptr p Node" ∷

@@ -10,7 +10,7 @@ use Rattle.mk_check.specs.Declarations.{pages_of, resident_of, types_of, globals
 use Rattle.mk_check.specs.Feed.{feed, has_ended}
 use Rattle.mk_gen.specs.Generated.{all_names}
 
--- A heap of 256 pages, all of which may be resident; a type of a number and a link to its like, and one of so many
+-- A heap of 256 pages, all of which may be resident; a type of a number and a link to its like, and one of this many
 -- numbers; a global for the first; and the scripts.
 pub record DeclaresNodes (program : List Item) (numbers : ℕ) : Type 0 where
   pub pages : pages_of program ≡ 256

@@ -20,7 +20,7 @@ fn declarations(alloc: Global, numbers: u64) -> Result<String, NoMemory>
     )?)
 }
 
-/// Appends a script of so many turns, with a number for the node and a place in the buffer.
+/// Appends a script of this many turns, with a number for the node and a place in the buffer.
 fn push_script(
     text: &mut String,
     name: &str,

@@ -9,10 +9,11 @@ use Rattle.mk_geom.specs.declared.pages.Page.{Page}
 use Rattle.mk_geom.specs.declared.headers.Header.{Header}
 use Rattle.mk_geom.specs.Classes.{cells_of}
 use Rattle.mk_geom.specs.Headers.{IsInRange, IsHeaderWord, word_of, header_of}
-use Rattle.mk_geom.specs.PageUses.{PageUse, Cells, PartOfRun, place_among, census_among}
+use Rattle.mk_geom.specs.PageUses.{PageUse, Cells, PartOfRun, place_on_uses, census_among}
 use Rattle.mk_geom.specs.PageWords.{bits_of, use_under, use_of_page, uses_of_pages, HaveHeaderWords}
 use Rattle.mk_geom.specs.Storages.{Storage, is_small, first_page, stands_on, class_of_storage, taken_cells, use_by}
-use Rattle.mk_geom.specs.Storages.{use_of_storages, uses_of_storages, place_of, census_of, block_header, run_header}
+use Rattle.mk_geom.specs.Storages.{use_of_storages, uses_of_storages, place_among_storages, census_of, block_header}
+use Rattle.mk_geom.specs.Storages.{run_header}
 use Rattle.mk_geom.specs.Storages.{run_used, free_page, block_page, run_page, used_word, words_by, words_of_storages}
 use Rattle.mk_geom.specs.Storages.{IsRun, IsStorage, AreLaidOut, PagesStandFor}
 use Rattle.mk_geom.proofs.HeaderLemmas.{header_of-word_of}
@@ -134,8 +135,9 @@ same_uses pages storages stand = same_lists _ _ (shown_length ∙ sym said_lengt
 
 pub same_places : (pages : List Page) (storages : List Storage) (limit words : ℕ) (leaf : Bool)
     → PagesStandFor pages storages
-    → place_among limit words leaf (uses_of_pages pages) ≡ place_of (length pages) limit words leaf storages
-same_places pages storages limit words leaf stand = ap (place_among limit words leaf) (same_uses pages storages stand)
+    → place_on_uses limit words leaf (uses_of_pages pages)
+    ≡ place_among_storages (length pages) limit words leaf storages
+same_places pages storages limit words leaf stand = ap (place_on_uses limit words leaf) (same_uses pages storages stand)
 
 pub same_census : (pages : List Page) (storages : List Storage) → PagesStandFor pages storages
     → census_among (uses_of_pages pages) ≡ census_of (length pages) storages

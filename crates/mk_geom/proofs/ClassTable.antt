@@ -29,7 +29,7 @@ class_words_within (suc (suc (suc (suc (suc (suc zero)))))) known = (omega arith
 class_words_within (suc (suc (suc (suc (suc (suc (suc zero))))))) known = (omega arith, omega arith)
 class_words_within (suc (suc (suc (suc (suc (suc (suc (suc n)))))))) known = absurd (omega arith)
 
--- a cell of so many words ends within its page
+-- a cell of this many words ends within its page
 pub cell_ends : (index words : ℕ) → index < 64 / words → index * words + words ≤ 64
 cell_ends index words within =
     omega (arith, div-add-mod' 64 words, mul-le (suc index) words (64 / words) words within (le_refl words))

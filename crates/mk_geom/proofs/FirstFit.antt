@@ -13,10 +13,10 @@ use Rattle.mk_geom.specs.declared.pages.Place.{Place}
 use Rattle.mk_geom.specs.Classes.{cells_of, class_for, run_pages_of}
 use Rattle.mk_geom.specs.PageUses.{PageUse, Nothing, Cells, PartOfRun, is_free_page, resident_pages, is_same_sort}
 use Rattle.mk_geom.specs.PageUses.{cells_taken, first_where, or_else, page_behind, cell_place, carved, small_place}
-use Rattle.mk_geom.specs.PageUses.{free_range, range_start, large_place, place_among}
+use Rattle.mk_geom.specs.PageUses.{free_range, range_start, large_place, place_on_uses}
 use Rattle.mk_geom.specs.PageWords.{use_of_page, uses_of_pages}
 use Rattle.mk_geom.specs.Places.{MayTakeCell, AreFree, IsCellPlace, IsRunPlace}
-use Rattle.mk_geom.specs.Storages.{Storage, place_of, PagesStandFor}
+use Rattle.mk_geom.specs.Storages.{Storage, place_among_storages, PagesStandFor}
 use Rattle.mk_geom.proofs.Bridge.{same_places}
 use Rattle.mk_geom.proofs.ClassTable.{class_words_within, class_for-some, some_cells}
 
@@ -171,7 +171,7 @@ free_in_range (u ∷ uses) zero d within = (first_is_free u uses zero within).0
 free_in_range (u ∷ uses) (suc k) d within =
     free_in_range uses k d (omega (arith, (first_is_free u uses (suc k) within).1))
 
--- so many uses from `start` on are there, and free
+-- this many uses from `start` on are there, and free
 record AreFreeUses (start count : ℕ) (uses : List PageUse) : Type 0 where
   within : start + count ≤ length uses
   free : AllWithin (λ u. is_free_page u ≡ true) uses start (start + count)
@@ -228,7 +228,7 @@ cell_place_on limit class leaf pages place fits first room =
     }
 
 pub cell_place_is : (limit words class : ℕ) (leaf : Bool) (pages : List Page) (place : Place)
-    → class_for words ≡ Some class → place_among limit words leaf (uses_of_pages pages) ≡ Some place
+    → class_for words ≡ Some class → place_on_uses limit words leaf (uses_of_pages pages) ≡ Some place
     → IsCellPlace limit class leaf pages place
 cell_place_is limit words class leaf pages place class_is is =
     let uses = uses_of_pages pages in
@@ -243,7 +243,7 @@ cell_place_is limit words class leaf pages place class_is is =
     cell_place_on limit class leaf pages place fits first room
 
 pub run_place_is : (limit words : ℕ) (leaf : Bool) (pages : List Page) (place : Place) → 32 < words
-    → place_among limit words leaf (uses_of_pages pages) ≡ Some place
+    → place_on_uses limit words leaf (uses_of_pages pages) ≡ Some place
     → IsRunPlace limit (run_pages_of words) pages place
 run_place_is limit words leaf pages place large is =
     let uses = uses_of_pages pages in
@@ -270,12 +270,14 @@ run_place_is limit words leaf pages place large is =
 
 pub cell_place_found : (pages : List Page) (storages : List Storage) (limit words class : ℕ) (leaf : Bool)
     (place : Place) → PagesStandFor pages storages → class_for words ≡ Some class
-    → place_of (length pages) limit words leaf storages ≡ Some place → IsCellPlace limit class leaf pages place
+    → place_among_storages (length pages) limit words leaf storages ≡ Some place
+    → IsCellPlace limit class leaf pages place
 cell_place_found pages storages limit words class leaf place stand class_is is =
     cell_place_is limit words class leaf pages place class_is (same_places pages storages limit words leaf stand ∙ is)
 
 pub run_place_found : (pages : List Page) (storages : List Storage) (limit words : ℕ) (leaf : Bool) (place : Place)
     → PagesStandFor pages storages → 32 < words
-    → place_of (length pages) limit words leaf storages ≡ Some place → IsRunPlace limit (run_pages_of words) pages place
+    → place_among_storages (length pages) limit words leaf storages ≡ Some place
+    → IsRunPlace limit (run_pages_of words) pages place
 run_place_found pages storages limit words leaf place stand large is =
     run_place_is limit words leaf pages place large (same_places pages storages limit words leaf stand ∙ is)

@@ -8,12 +8,12 @@ use Rattle.std.proofs.lemmas.List.Elements.{All-head, All-tail}
 use Rattle.std.proofs.lemmas.List.Sums.{sum_by-cons, sum_by-set}
 use Rattle.mk_geom.specs.declared.pages.Page.{Page}
 use Rattle.mk_geom.specs.Classes.{class_for, class_words_of, cells_of}
-use Rattle.mk_geom.specs.PageUses.{PageUse, Cells, PartOfRun, words_held_by, words_held_among}
+use Rattle.mk_geom.specs.PageUses.{PageUse, Cells, PartOfRun, held_by_use, held_by_uses}
 use Rattle.mk_geom.specs.PageWords.{uses_of_pages}
 use Rattle.mk_geom.specs.Storages.{Storage, is_small, first_page, last_page, stands_on, class_of_storage, is_cell_taken}
 use Rattle.mk_geom.specs.Storages.{taken_cells, use_by, use_of_storages, IsCell, IsStorage, LieApart, AreLaidOut}
 use Rattle.mk_geom.specs.Storages.{PagesStandFor}
-use Rattle.mk_geom.specs.StorageWords.{mapped_words}
+use Rattle.mk_geom.specs.StorageWords.{held_by_storages}
 use Rattle.mk_geom.proofs.Bridge.{same_uses}
 use Rattle.mk_geom.proofs.ClassTable.{class_words_within}
 use Rattle.mk_geom.proofs.ListSearch.{Contains-head, Contains-tail, Contains-cons_cases, find_cases}
@@ -41,7 +41,7 @@ words_off_page : (s : Storage) (page : ℕ) → (stands_on page s ≡ true → �
 words_off_page s page elsewhere =
     cond-false (stands_on page s) (words_there s) 0 (false_from_ne_true (stands_on page s) elsewhere)
 
--- a storage that stands on so many pages
+-- a storage that stands on this many pages
 sum_on_pages : (s : Storage) (n count : ℕ) → first_page s + count ≡ last_page s + 1 → first_page s + count ≤ n
     → sum_below (words_on s) n ≡ count * words_there s
 sum_on_pages s n count ends within =
@@ -99,20 +99,20 @@ none_set (bit ∷ bits) each =
 
 -- the words that a page holds, where this is a storage that stands there
 abbrev held_as : List Storage → ℕ → Option Storage → ℕ
-held_as xs page o = words_held_by (use_by xs page o)
+held_as xs page o = held_by_use (use_by xs page o)
 
 abbrev cells_with : List Storage → ℕ → Storage → PageUse
 cells_with xs page s = Cells (class_of_storage s) s.leaf (taken_cells xs page (class_of_storage s))
 
 held_small : (xs : List Storage) (page : ℕ) (s : Storage) → is_small s ≡ true
-    → words_held_by (use_by xs page (Some s))
+    → held_by_use (use_by xs page (Some s))
     ≡ class_words_of (class_of_storage s) * count (taken_cells xs page (class_of_storage s))
-held_small xs page s small = ap words_held_by (cond-true (is_small s) (cells_with xs page s) (PartOfRun s.mapped) small)
+held_small xs page s small = ap held_by_use (cond-true (is_small s) (cells_with xs page s) (PartOfRun s.mapped) small)
 
 held_large : (xs : List Storage) (page : ℕ) (s : Storage) → is_small s ≡ false
-    → words_held_by (use_by xs page (Some s)) ≡ (if s.mapped then 64 else 0)
+    → held_by_use (use_by xs page (Some s)) ≡ (if s.mapped then 64 else 0)
 held_large xs page s large =
-    ap words_held_by (cond-false (is_small s) (cells_with xs page s) (PartOfRun s.mapped) large)
+    ap held_by_use (cond-false (is_small s) (cells_with xs page s) (PartOfRun s.mapped) large)
 
 found_first : (page : ℕ) (s : Storage) (xs : List Storage) → stands_on page s ≡ true
     → find (stands_on page) (s ∷ xs) ≡ Some s
@@ -141,7 +141,7 @@ module _ (n : ℕ) (s : Storage) (xs : List Storage) (laid : AreLaidOut n (s ∷
 
   -- a page that it doesn't stand on holds what it held
   held_elsewhere : (page : ℕ) → stands_on page s ≡ false
-      → words_held_by (use_of_storages (s ∷ xs) page) ≡ words_held_by (use_of_storages xs page)
+      → held_by_use (use_of_storages (s ∷ xs) page) ≡ held_by_use (use_of_storages xs page)
   held_elsewhere page apart =
       ap (held_as (s ∷ xs) page) (found_later page s xs apart) ∙ elim (find_cases (stands_on page) xs) [
         | inl (t, found, inside, stands) ↦ ap (held_as (s ∷ xs) page) found ∙ same t inside
@@ -156,7 +156,7 @@ module _ (n : ℕ) (s : Storage) (xs : List Storage) (laid : AreLaidOut n (s ∷
       ]
 
       same : (t : Storage) → Contains xs t
-          → words_held_by (use_by (s ∷ xs) page (Some t)) ≡ words_held_by (use_by xs page (Some t))
+          → held_by_use (use_by (s ∷ xs) page (Some t)) ≡ held_by_use (use_by xs page (Some t))
       same t inside = elim (cases_Bool (is_small t)) [
         | inl small ↦
             let cell = small_is_cell n t (storage_in n xs t laid_tail inside) small in
@@ -171,11 +171,11 @@ module _ (n : ℕ) (s : Storage) (xs : List Storage) (laid : AreLaidOut n (s ∷
 
   -- a run's page has nothing else
   held_on_run : (page : ℕ) → stands_on page s ≡ true → is_small s ≡ false
-      → words_held_by (use_of_storages (s ∷ xs) page) ≡ words_there s + words_held_by (use_of_storages xs page)
+      → held_by_use (use_of_storages (s ∷ xs) page) ≡ words_there s + held_by_use (use_of_storages xs page)
   held_on_run page stands large =
       let there : words_there s ≡ (if s.mapped then 64 else 0) =
       ap (λ (n : ℕ). if s.mapped then n else 0) (cond-false (is_small s) s.words 64 large) in
-      let nothing : words_held_by (use_of_storages xs page) ≡ 0 = elim (find_cases (stands_on page) xs) [
+      let nothing : held_by_use (use_of_storages xs page) ≡ 0 = elim (find_cases (stands_on page) xs) [
         | inl (t, found, inside, t_stands) ↦ absurd
             (false≢true (sym large ∙ ((from_head t inside).alike page stands t_stands).0))
         | inr (none, others) ↦ ap (held_as xs page) none
@@ -232,7 +232,7 @@ module _ (n : ℕ) (s : Storage) (xs : List Storage) (laid : AreLaidOut n (s ∷
         (omega (arith, length-taken_cells xs page (class_of_storage s), index_within))
         (get_or-taken_cells xs page (class_of_storage s) cell.index true index_within ∙ was_free)
 
-    held_before : words_held_by (use_of_storages xs page)
+    held_before : held_by_use (use_of_storages xs page)
         ≡ class_words_of (class_of_storage s) * count (taken_cells xs page (class_of_storage s))
     held_before = elim (find_cases (stands_on page) xs) [
       | inl (t, found, inside, t_stands) ↦
@@ -250,8 +250,8 @@ module _ (n : ℕ) (s : Storage) (xs : List Storage) (laid : AreLaidOut n (s ∷
           ap (held_as xs page) none ∙ sym (ap (λ (k : ℕ). class_words_of (class_of_storage s) * k) no_bit ∙ omega arith)
     ]
 
-    held_on_block : words_held_by (use_of_storages (s ∷ xs) page)
-        ≡ words_there s + words_held_by (use_of_storages xs page)
+    held_on_block : held_by_use (use_of_storages (s ∷ xs) page)
+        ≡ words_there s + held_by_use (use_of_storages xs page)
     held_on_block =
         let words = class_has_words s cell in
         let there : words_there s ≡ s.words = small_there s small ∙ cond-true s.mapped s.words 0 cell.mapped in
@@ -259,24 +259,24 @@ module _ (n : ℕ) (s : Storage) (xs : List Storage) (laid : AreLaidOut n (s ∷
         ∙ ap (λ (k : ℕ). class_words_of (class_of_storage s) * k) taken_more ∙ omega (arith, held_before)
 
   pub held_more : (page : ℕ)
-      → words_held_by (use_of_storages (s ∷ xs) page) ≡ words_on s page + words_held_by (use_of_storages xs page)
+      → held_by_use (use_of_storages (s ∷ xs) page) ≡ words_on s page + held_by_use (use_of_storages xs page)
   held_more page = elim (cases_Bool (stands_on page s)) [
     | inl stands ↦ elim (cases_Bool (is_small s)) [
       | inl small ↦ held_on_block page stands small
-          ∙ ap (λ (k : ℕ). k + words_held_by (use_of_storages xs page)) (sym (words_on_page s page stands))
+          ∙ ap (λ (k : ℕ). k + held_by_use (use_of_storages xs page)) (sym (words_on_page s page stands))
       | inr large ↦ held_on_run page stands large
-          ∙ ap (λ (k : ℕ). k + words_held_by (use_of_storages xs page)) (sym (words_on_page s page stands))
+          ∙ ap (λ (k : ℕ). k + held_by_use (use_of_storages xs page)) (sym (words_on_page s page stands))
     ]
     | inr apart ↦ held_elsewhere page apart
         ∙ omega (arith, words_off_page s page (λ stands. false≢true (sym apart ∙ stands)))
   ]
 
 held_sum : (n : ℕ) (xs : List Storage) → AreLaidOut n xs
-    → sum_below (λ page. words_held_by (use_of_storages xs page)) n ≡ mapped_words xs
-held_sum n [] laid = sum_below-zero (λ page. words_held_by (use_of_storages [] page)) n (λ page within. refl)
+    → sum_below (λ page. held_by_use (use_of_storages xs page)) n ≡ held_by_storages xs
+held_sum n [] laid = sum_below-zero (λ page. held_by_use (use_of_storages [] page)) n (λ page within. refl)
 held_sum n (s ∷ xs) laid =
-    sum_below-add (λ page. words_held_by (use_of_storages (s ∷ xs) page)) (words_on s)
-    (λ page. words_held_by (use_of_storages xs page)) n
+    sum_below-add (λ page. held_by_use (use_of_storages (s ∷ xs) page)) (words_on s)
+    (λ page. held_by_use (use_of_storages xs page)) n
     (λ page within. held_more n s xs laid page)
     ∙ omega (
       arith,
@@ -286,8 +286,8 @@ held_sum n (s ∷ xs) laid =
     )
 
 pub pages_hold_mapped_words : (pages : List Page) (storages : List Storage) → PagesStandFor pages storages
-    → words_held_among (uses_of_pages pages) ≡ mapped_words storages
+    → held_by_uses (uses_of_pages pages) ≡ held_by_storages storages
 pages_hold_mapped_words pages storages stand =
-    ap words_held_among (same_uses pages storages stand)
-    ∙ sum_by-range words_held_by (use_of_storages storages) (length pages)
+    ap held_by_uses (same_uses pages storages stand)
+    ∙ sum_by-range held_by_use (use_of_storages storages) (length pages)
     ∙ held_sum (length pages) storages stand.laid_out

@@ -15,7 +15,7 @@ address_of word = 65536 + 8 * word
 abbrev pub heap_word_at : ℕ → ℕ
 heap_word_at address = (address - 65536) / 8
 
--- inside a heap of so many pages
+-- inside a heap of this many pages
 abbrev pub is_heap_address : ℕ → ℕ → Bool
 is_heap_address pages address = nat_le 65536 address && nat_lt address (65536 + 512 * pages)
 
@@ -26,14 +26,14 @@ page_at_address address = (address - 65536) / 512
 abbrev pub word_at_address : ℕ → ℕ
 word_at_address address = (address - 65536) / 8 % 64
 
--- the cell of a block that has the word; none where the word lies behind the last cell
+-- the cell of a block that has the word; none where the word lies after the last cell
 abbrev pub cell_of_block : ℕ → ℕ → ℕ → Option Cell
 cell_of_block class page word =
     if nat_lt word (cells_of class * class_words_of class)
     then Some (record { page = page; index = word / class_words_of class })
     else None
 
--- the head page of a page's run, which a later page lies behind; another page is its own
+-- the head page of a page's run, which a later page lies after; another page is its own
 abbrev pub head_page_under : Option Header → ℕ → ℕ
 head_page_under (Some (Later distance mapped)) page = page - distance
 head_page_under _ page = page
@@ -52,7 +52,7 @@ cell_under (Later distance mapped) page word =
 cell_under (LeafBlock class) page word = cell_of_block class page word
 cell_under (LeafRun pages) page word = Some (run_of_page (LeafRun pages) page)
 
--- what the address points into, in a heap of so many pages, where its page has this header word
+-- what the address points into, in a heap of this many pages, where its page has this header word
 abbrev pub cell_at : ℕ → ℕ → ℕ → Option Cell
 cell_at pages header address =
     if is_heap_address pages address

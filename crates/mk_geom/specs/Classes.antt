@@ -13,14 +13,14 @@ class_words_of class = slice_index class_sizes class
 abbrev pub cells_of : ℕ → ℕ
 cells_of class = 64 / class_words_of class
 
--- An object of so many words is small: it takes a cell, and a large one whole pages.
+-- An object of this many words is small: it takes a cell, and a large one whole pages.
 abbrev pub is_small_size : ℕ → Bool
 is_small_size words = nat_le words 32
 
--- the least class whose cells hold so many words
+-- the least class whose cells hold this many words
 abbrev pub class_for : ℕ → Option ℕ
 class_for words = if words == 0 then None else position (λ size. nat_le words size) class_sizes
 
--- the least number of pages that hold so many words
+-- the least number of pages that hold this many words
 abbrev pub run_pages_of : ℕ → ℕ
 run_pages_of words = (words + 63) / 64

@@ -7,13 +7,14 @@ use Rattle.mk_geom.specs.declared.pages.Page.{Page}
 use Rattle.mk_geom.specs.declared.pages.Place.{Place}
 use Rattle.mk_geom.specs.Classes.{class_words_of, cells_of, class_for, run_pages_of}
 use Rattle.mk_geom.specs.Addresses.{address_of, page_at_address, cell_at}
-use Rattle.mk_geom.specs.PageUses.{place_among, words_held_among, census_among}
+use Rattle.mk_geom.specs.PageUses.{place_on_uses, held_by_uses, census_among}
 use Rattle.mk_geom.specs.PageWords.{uses_of_pages, HaveHeaderWords}
 use Rattle.mk_geom.specs.Places.{IsCellPlace, IsRunPlace}
-use Rattle.mk_geom.specs.Storages.{Storage, stands_on, uses_of_storages, place_of, census_of, taken_cells, used_word}
+use Rattle.mk_geom.specs.Storages.{Storage, stands_on, uses_of_storages, place_among_storages, census_of, taken_cells}
+use Rattle.mk_geom.specs.Storages.{used_word}
 use Rattle.mk_geom.specs.Storages.{free_page, block_page, run_page, words_of_storages, IsStorage, AreLaidOut}
 use Rattle.mk_geom.specs.Storages.{PagesStandFor}
-use Rattle.mk_geom.specs.StorageWords.{IsWordOf, PointsInto, cell_of_storage, mapped_words, ShowsStorage, page_in}
+use Rattle.mk_geom.specs.StorageWords.{IsWordOf, PointsInto, cell_of_storage, held_by_storages, ShowsStorage, page_in}
 use Rattle.mk_geom.specs.StorageWords.{cell_on}
 
 -- Pages show what stands on them,
@@ -27,7 +28,8 @@ abbrev pub PagesShowPlaces : Type 0
 PagesShowPlaces =
     (pages : List Page) (storages : List Storage) (limit words : ℕ) (leaf : Bool)
     → PagesStandFor pages storages
-    → place_among limit words leaf (uses_of_pages pages) ≡ place_of (length pages) limit words leaf storages
+    → place_on_uses limit words leaf (uses_of_pages pages)
+    ≡ place_among_storages (length pages) limit words leaf storages
 
 -- and they have the same counts.
 abbrev pub PagesShowCensus : Type 0
@@ -39,7 +41,7 @@ PagesShowCensus =
 abbrev pub PagesHoldMappedWords : Type 0
 PagesHoldMappedWords =
     (pages : List Page) (storages : List Storage)
-    → PagesStandFor pages storages → words_held_among (uses_of_pages pages) ≡ mapped_words storages
+    → PagesStandFor pages storages → held_by_uses (uses_of_pages pages) ≡ held_by_storages storages
 
 -- Each header of such pages is a header word.
 abbrev pub PagesHaveHeaderWords : Type 0
@@ -128,7 +130,7 @@ abbrev pub FoundCellIsPlace : Type 0
 FoundCellIsPlace =
     (pages : List Page) (storages : List Storage) (limit words class : ℕ) (leaf : Bool) (place : Place)
     → PagesStandFor pages storages → class_for words ≡ Some class
-    → place_of (length pages) limit words leaf storages ≡ Some place
+    → place_among_storages (length pages) limit words leaf storages ≡ Some place
     → IsCellPlace limit class leaf pages place
 
 -- For a large one it is the head of free pages, as many as it takes.
@@ -136,5 +138,5 @@ abbrev pub FoundRunIsPlace : Type 0
 FoundRunIsPlace =
     (pages : List Page) (storages : List Storage) (limit words : ℕ) (leaf : Bool) (place : Place)
     → PagesStandFor pages storages → 32 < words
-    → place_of (length pages) limit words leaf storages ≡ Some place
+    → place_among_storages (length pages) limit words leaf storages ≡ Some place
     → IsRunPlace limit (run_pages_of words) pages place

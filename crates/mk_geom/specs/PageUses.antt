@@ -71,7 +71,7 @@ abbrev pub free_range : List PageUse → ℕ
 free_range [] = 0
 free_range (page ∷ pages) = if is_free_page page then free_range pages + 1 else 0
 
--- the lowest of so many neighbours that are free
+-- the lowest of this many neighbours that are free
 abbrev pub range_start : ℕ → List PageUse → Option ℕ
 range_start count [] = None
 range_start count (page ∷ pages) =
@@ -82,9 +82,9 @@ abbrev pub large_place : ℕ → ℕ → List PageUse → Option Place
 large_place limit count pages =
     if nat_le (resident_pages pages + count) limit then option_map carved (range_start count pages) else None
 
--- First fit: where an object of so many words goes, leaf or not, where so many pages may be resident.
-abbrev pub place_among : ℕ → ℕ → Bool → List PageUse → Option Place
-place_among limit words leaf pages =
+-- First fit: where an object of this many words goes, leaf or not, where this many pages may be resident.
+abbrev pub place_on_uses : ℕ → ℕ → Bool → List PageUse → Option Place
+place_on_uses limit words leaf pages =
     if is_small_size words
     then option_and_then (λ class. small_place limit class leaf pages) (class_for words)
     else large_place limit (run_pages_of words) pages
@@ -94,13 +94,13 @@ longest_free_range [] = 0
 longest_free_range (page ∷ pages) = max (free_range (page ∷ pages)) (longest_free_range pages)
 
 -- the words of the cells that are taken, or of a page of a mapped run
-abbrev pub words_held_by : PageUse → ℕ
-words_held_by Nothing = 0
-words_held_by (Cells class leaf taken) = class_words_of class * count_by (λ cell. cell) taken
-words_held_by (PartOfRun mapped) = if mapped then 64 else 0
+abbrev pub held_by_use : PageUse → ℕ
+held_by_use Nothing = 0
+held_by_use (Cells class leaf taken) = class_words_of class * count_by (λ cell. cell) taken
+held_by_use (PartOfRun mapped) = if mapped then 64 else 0
 
-abbrev pub words_held_among : List PageUse → ℕ
-words_held_among pages = sum_by words_held_by pages
+abbrev pub held_by_uses : List PageUse → ℕ
+held_by_uses pages = sum_by held_by_use pages
 
 abbrev pub free_cells_among : Bool → List PageUse → ℕ → ℕ
 free_cells_among leaf pages class = sum_by (λ page. count_by not (cells_taken class leaf page)) pages

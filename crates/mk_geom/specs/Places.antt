@@ -28,7 +28,7 @@ pub record IsCellPlace (limit class : ℕ) (leaf : Bool) (pages : List Page) (pl
   pub carves_first : place.carve ≡ true → place.index ≡ 0
   pub has_room : place.carve ≡ true → resident_pages (uses_of_pages pages) < limit
 
--- a place for an object that takes so many pages
+-- a place for an object that takes this many pages
 pub record IsRunPlace (limit count : ℕ) (pages : List Page) (place : Place) : Type 0 where
   pub free : AreFree place.page count pages
   pub index : place.index ≡ 0

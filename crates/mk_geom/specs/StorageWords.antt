@@ -20,8 +20,8 @@ abbrev pub cell_of_storage : Storage → Cell
 cell_of_storage s = record { page = first_page s; index = if is_small s then s.first % 64 / s.words else 0 }
 
 -- the words of the mapped storages
-abbrev pub mapped_words : List Storage → ℕ
-mapped_words storages = sum_by (λ s. if s.mapped then s.words else 0) storages
+abbrev pub held_by_storages : List Storage → ℕ
+held_by_storages storages = sum_by (λ s. if s.mapped then s.words else 0) storages
 
 -- the header word of a page that the storage stands on, mapped or not; a cell's page is always mapped
 abbrev pub header_shown : Storage → ℕ → Bool → ℕ
@@ -36,7 +36,7 @@ header_shown s page mapped =
 abbrev pub ShowsStorage : Storage → ℕ → ℕ → Type 0
 ShowsStorage s page header = (mapped : Bool) × (header ≡ header_shown s page mapped)
 
--- a page of these; behind the last a free one
+-- a page of these; after the last a free one
 abbrev pub page_in : List Page → ℕ → Page
 page_in pages page = slice_index_or pages page free_page
 

@@ -10,7 +10,7 @@ use Rattle.mk_geom.specs.declared.headers.Header.{Header}
 use Rattle.mk_geom.specs.declared.headers.Header.TheVariants.{Block, Run, Later, LeafBlock, LeafRun}
 use Rattle.mk_geom.specs.Classes.{class_for, class_words_of, cells_of, is_small_size}
 use Rattle.mk_geom.specs.Headers.{word_of}
-use Rattle.mk_geom.specs.PageUses.{PageUse, Nothing, Cells, PartOfRun, place_among, census_among}
+use Rattle.mk_geom.specs.PageUses.{PageUse, Nothing, Cells, PartOfRun, place_on_uses, census_among}
 
 -- An object's storage: its first heap word, how many words it takes, whether its pages are mapped, and whether it is
 -- leaf. A small object takes a cell, and a large one all the words of its pages.
@@ -33,11 +33,11 @@ last_page s = (s.first + s.words - 1) / 64
 abbrev pub stands_on : ℕ → Storage → Bool
 stands_on page s = nat_le (first_page s) page && nat_le page (last_page s)
 
--- the class of a cell of so many words
+-- the class of a cell of this many words
 abbrev pub class_of_storage : Storage → ℕ
 class_of_storage s = unwrap_or (class_for s.words) 0
 
--- whether a storage begins at cell k of a page of cells of so many words
+-- whether a storage begins at cell k of a page of cells of this many words
 abbrev pub is_cell_taken : List Storage → ℕ → ℕ → ℕ → Bool
 is_cell_taken storages page words k = list_any (λ s. s.first == 64 * page + k * words) storages
 
@@ -55,21 +55,21 @@ use_by storages page (Some s) =
 abbrev pub use_of_storages : List Storage → ℕ → PageUse
 use_of_storages storages page = use_by storages page (find (stands_on page) storages)
 
--- what stands on each page of a heap of so many
+-- what stands on each page of a heap of this many
 abbrev pub uses_of_storages : ℕ → List Storage → List PageUse
 uses_of_storages pages storages = map (use_of_storages storages) (range_with_len 0 pages)
 
--- Place, fits and census, of a heap of so many pages.
-abbrev pub place_of : ℕ → ℕ → ℕ → Bool → List Storage → Option Place
-place_of pages limit words leaf storages = place_among limit words leaf (uses_of_storages pages storages)
+-- Place, fits and census, of a heap of this many pages.
+abbrev pub place_among_storages : ℕ → ℕ → ℕ → Bool → List Storage → Option Place
+place_among_storages pages limit words leaf storages = place_on_uses limit words leaf (uses_of_storages pages storages)
 
 abbrev pub Fits : ℕ → ℕ → ℕ → Bool → List Storage → Type 0
-Fits pages limit words leaf storages = IsSome (place_of pages limit words leaf storages)
+Fits pages limit words leaf storages = IsSome (place_among_storages pages limit words leaf storages)
 
 abbrev pub census_of : ℕ → List Storage → Census
 census_of pages storages = census_among (uses_of_storages pages storages)
 
--- A cell of a block, or whole pages of a run of 1 to 64, within a heap of so many pages.
+-- A cell of a block, or whole pages of a run of 1 to 64, within a heap of this many pages.
 pub record IsCell (s : Storage) : Type 0 where
   pub class : ℕ
   pub index : ℕ
@@ -109,7 +109,7 @@ abbrev pub block_header : ℕ → Bool → Header
 block_header class true = LeafBlock class
 block_header class false = Block class
 
--- the header of the page of a run that lies so far behind its head. An unmapped leaf run is as any unmapped run.
+-- the header of the page of a run that lies so far after its head. An unmapped leaf run is as any unmapped run.
 abbrev pub run_header : ℕ → Bool → Bool → ℕ → Header
 run_header pages mapped leaf zero = if leaf && mapped then LeafRun pages else Run pages mapped
 run_header pages mapped leaf (suc distance) = Later (suc distance) mapped

@@ -19,7 +19,7 @@ pub struct Cell {
     pub index: u64,
 }
 
-/// The cell or run that an address points into, used or not, in a heap of so many pages, where
+/// The cell or run that an address points into, used or not, in a heap of this many pages, where
 /// `header` is the header word of the address's page. None where the address is outside the heap, in
 /// a block's tail or on a free page, where the word is no header word, and where its distance
 /// leads to before the heap.

@@ -7,7 +7,7 @@ pub(crate) const PAGE_WORDS: u64 = 64;
 /// The words of a cell, by class.
 const CLASS_WORDS: [u64; 8] = [2, 4, 6, 8, 12, 16, 24, 32];
 
-/// The size class of an object of so many words. An object of more than 32 is large, and has no class.
+/// The size class of an object of this many words. An object of more than 32 is large, and has no class.
 pub fn class_of(words: u64) -> Option<u64>
     ensures exact { result ≡ class_for words }
     ensures in_range { IfSome result (λ class. class < 8) }
@@ -44,7 +44,7 @@ pub fn cells(class: u64) -> u64
     PAGE_WORDS / class_words(class)
 }
 
-/// The pages of a run for an object of so many words.
+/// The pages of a run for an object of this many words.
 pub fn run_pages(words: u64) -> u64
     ensures { result ≡ run_pages_of words }
 {

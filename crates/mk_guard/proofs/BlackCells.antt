@@ -29,7 +29,7 @@ use Rattle.mk_protocol.proofs.SameWords.{Behind}
 use Rattle.mk_protocol.proofs.Known.{Known}
 use Rattle.mk_protocol.proofs.IdleMarkers.{work_attends}
 use Rattle.mk_guard.specs.Guard.{ScanStands, Guard, IsMarking}
-use Rattle.mk_guard.specs.Kept.{OthersSay}
+use Rattle.mk_guard.specs.Kept.{GuardPremises}
 use Rattle.mk_guard.proofs.Wells.{bare_guarded}
 use Rattle.mk_guard.proofs.KeptGuard.{Keeps, NewCellsAreGuarded, black_kept}
 use Rattle.mk_guard.proofs.Phases.{either_phase}
@@ -165,7 +165,7 @@ undirties c m seat q early h = by (is_phase m.words 2) (stop_wanted m early h.ph
         record { none = b.0; head = eqb-true (slice_index m.words.blacks (head_page m.words q)) 0 a.1 }
 
 pub undirty_kind : (c : Config) (w : World) (seat : Seat) (q : ℕ) → AreOfPages c.pages w.now.words
-    → IsMarking w.now.words → OthersSay c w
+    → IsMarking w.now.words → GuardPremises c w
     → Meets c w.now seat (step.Undirty q)
     → BlackIsGuarded c w.now → BlackIsGuarded c (Behind c w.now seat (step.Undirty q))
 undirty_kind c w seat q len early say h black p k i lt is scanned li =

@@ -78,7 +78,7 @@ reg_table c m seat =
     register_table m.words (caller_number seat) (register_met (flight_of m seat) (flight_of m seat).stage)
     (reg_access (flight_of m seat) (flight_of m seat).stage)
 
--- A call that has written, or exchanged, owes the dirty word behind it.
+-- A call that has written, or exchanged, owes the dirty word after it.
 
 wrote : (o : Op) → is_astray (standing_at stage.Write o) ≡ false → stage_behind stage.Write (steps_of o) ≡ stage.Dirty
 wrote (op.SetNum q i n) h = refl

@@ -46,7 +46,7 @@ use Rattle.mk_protocol.proofs.Actors.{Meets}
 use Rattle.mk_protocol.proofs.Known.{Known}
 use Rattle.mk_protocol.proofs.NewPlace.{new_holds}
 use Rattle.mk_guard.specs.Guard.{GoesOn, IsMarking}
-use Rattle.mk_guard.specs.Kept.{PlaceIsBare, RunHasObject, OthersSay}
+use Rattle.mk_guard.specs.Kept.{PlaceIsBare, RunHasObject, GuardPremises}
 use Rattle.mk_guard.proofs.Phases.{either_phase}
 use Rattle.mk_guard.proofs.Headers.{HeadFinds, Carved, Unmapped}
 
@@ -313,7 +313,7 @@ marking_phase n h (inr two) = elim (or_cases ((n == 0) || (n == 1)) (n == 4) h) 
 ]
 
 pub head_finds : (c : Config) (w : World) (seat : Seat) (p n : ℕ) → IsWithinLimits c → Known c w.now
-    → IsMarking w.now.words → OthersSay c w
+    → IsMarking w.now.words → GuardPremises c w
     → Meets c w.now seat (step.Head p n) → HeadFinds c.pages w.now.words p n
 head_finds c w seat p n limits known early say h = by (head_step c w.now (flight_of w.now seat) p n h.holder)
   where

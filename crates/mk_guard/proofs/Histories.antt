@@ -1,4 +1,4 @@
--- What stands while a cycle marks and stops, behind every enabled list.
+-- What stands while a cycle marks and stops, after every enabled list.
 use Rattle.std.proofs.Common.{◌≡◌, ◌⊎◌, ℕ, List, [], ◌∷◌, inl, inr, arith}
 use Rattle.std.proofs.lemmas.Bool.{eqb-true}
 use Rattle.mk_core.specs.declared.config.Config.{Config}
@@ -8,13 +8,13 @@ use Rattle.mk_core.specs.Config.{IsWithinLimits}
 use Rattle.mk_core.specs.Words.{phase_of}
 use Rattle.mk_core.specs.Layout.{AreOfPages}
 use Rattle.mk_core.specs.Moments.{first_moment}
-use Rattle.mk_core.specs.Accesses.{reached, access}
+use Rattle.mk_core.specs.Accesses.{word_accessed, access}
 use Rattle.mk_core.specs.History.{World, first_world, world_behind, left, left_from, AreEnabledFrom}
 use Rattle.mk_core.proofs.Conditions.{enabled_meets}
 use Rattle.mk_core.proofs.Lengths.{histories_keep_lengths, zero_lengths, accessed_lengths}
 use Rattle.mk_protocol.proofs.Known.{Known, known_behind, known_at_first, known_left}
 use Rattle.mk_guard.specs.Guard.{MarksStand}
-use Rattle.mk_guard.specs.Kept.{OthersSayFrom, OthersSayAtFirst, EventsKeepTheMarks, MarksStandBehindLists}
+use Rattle.mk_guard.specs.Kept.{GuardPremisesFrom, GuardPremisesAtFirst, EventsKeepTheMarks, MarksStandBehindLists}
 use Rattle.mk_guard.specs.Kept.{CloseFindsMarksClosed, StoppedMarksAreClosed, MarkingGuards}
 use Rattle.mk_guard.proofs.Closing.{closed}
 use Rattle.mk_guard.proofs.ClosedAllocations.{closed_allocations}
@@ -34,12 +34,12 @@ marks_at_first c = record {
 
 marks_from : (c : Config) (w : World) (es : List Event) → IsWithinLimits c → AreOfPages c.pages w.now.words
     → Known c w.now → AreEnabledFrom c w es
-    → OthersSayFrom c w es → MarksStand c w.now → MarksStand c (left_from c w es).now
-unfolding left_from AreEnabledFrom OthersSayFrom
+    → GuardPremisesFrom c w es → MarksStand c w.now → MarksStand c (left_from c w es).now
+unfolding left_from AreEnabledFrom GuardPremisesFrom
 marks_from c w [] limits len known on say g = g
 marks_from c w (e ∷ es) limits len known on say g =
     marks_from c (world_behind c w e) es limits
-    (accessed_lengths c.pages w.now.words (reached c w.now e) (access c w.now e) len)
+    (accessed_lengths c.pages w.now.words (word_accessed c w.now e) (access c w.now e) len)
     (known_behind c w.now e known on.0) on.1 say.1
     (marks_behind c w e.seat e.step limits known len say.0 (enabled_meets c w.now e on.0) g)
 
@@ -65,7 +65,7 @@ marking_guards c m g early =
       | inr e ↦ inr (eqb-true (phase_of m.words) 2 e)
     ])).black
 
-pub others_at_first : OthersSayAtFirst
+pub others_at_first : GuardPremisesAtFirst
 others_at_first c =
     record {
       place = λ early seat place now. absurd (not_early early);

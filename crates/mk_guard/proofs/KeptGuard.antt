@@ -76,7 +76,7 @@ not_true : (b : Bool) → (b ≡ true → ⊥) → b ≡ false
 not_true false h = refl
 not_true true h = absurd (h refl)
 
--- what is scanned behind was scanned before
+-- what is scanned after was scanned before
 pub scanned_before : (pages a b : ℕ) → GoesOn pages a b → cells_under (header_of a) ≢ 0
     → has_no_pointers (header_of b) ≡ false
     → has_no_pointers (header_of a) ≡ false
@@ -133,7 +133,7 @@ cell_kept c m n p k i keeps some before cell scanned lt =
     (scanned_before c.pages (header_at m.words p) (header_at n.words p) g some scanned)
     (subst (λ j. i < j) (g.words some) lt)))
 
--- Cells that are black behind were so before, or their words were guarded before.
+-- Cells that are black after were so before, or their words were guarded before.
 pub black_kept : (c : Config) (m n : Moment) → Keeps c m n → NewCellsAreGuarded c m n
     → ((p k : ℕ) → has_bit (slice_index n.words.blacks p) k ≡ true → (has_bit (slice_index m.words.blacks p) k ≡ true)
     ⊎ ((i : ℕ) → k < cells_under (header_in m.words p) → has_no_pointers (header_in m.words p) ≡ false

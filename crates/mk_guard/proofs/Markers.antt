@@ -1,4 +1,4 @@
--- What the markers are in the middle of stands behind an event that keeps what is guarded.
+-- What the markers are in the middle of stands after an event that keeps what is guarded.
 use Rattle.std.proofs.Common.{◌≡◌, ℕ, ◌<◌, Bool, true, false, List, refl, sym, ap, subst, arith}
 use Rattle.std.specs.Prelude.{Option, Some, None, is_none, is_some, slice_index, slice_set, bit_or, ◌&&◌, ◌==◌}
 use Rattle.std.specs.Prelude.{if◌then◌else◌}

@@ -1,4 +1,4 @@
--- One event, whatever it is: what stands while a cycle marks and stops, stands behind it.
+-- One event, whatever it is: what stands while a cycle marks and stops, stands after it.
 use Rattle.std.proofs.Common.{◌≡◌, ◌⊎◌, ℕ, ◌≤◌, true, false, refl, sym, ◌∙◌, subst, inl, inr, arith}
 use Rattle.std.specs.Prelude.{slice_index, ◌&&◌, ◌==◌}
 use Rattle.std.proofs.lemmas.Bool.{cases_lt, true≢false, eqb-true, and_parts}
@@ -24,7 +24,7 @@ use Rattle.mk_protocol.proofs.Asked.{none_at}
 use Rattle.mk_protocol.proofs.SameWords.{Behind}
 use Rattle.mk_protocol.proofs.Known.{Known}
 use Rattle.mk_guard.specs.Guard.{MarkerStands, Guard, IsMarking, MarksStand}
-use Rattle.mk_guard.specs.Kept.{OthersSay}
+use Rattle.mk_guard.specs.Kept.{GuardPremises}
 use Rattle.mk_guard.proofs.Phases.{is_phase_step, phase_stays, over_phase}
 use Rattle.mk_guard.proofs.Wells.{wells_from}
 use Rattle.mk_guard.proofs.KeptGuard.{Keeps, goes_equal, black_kept}
@@ -57,7 +57,7 @@ keeps_of c m seat x known len early h no_head no_clean =
 
 keeps_head : (c : Config) (w : World) (seat : Seat) (p n : ℕ) → IsWithinLimits c → Known c w.now
     → AreOfPages c.pages w.now.words
-    → IsMarking w.now.words → OthersSay c w → Meets c w.now seat (step.Head p n)
+    → IsMarking w.now.words → GuardPremises c w → Meets c w.now seat (step.Head p n)
     → Keeps c w.now (Behind c w.now seat (step.Head p n))
 keeps_head c w seat p n limits known len early say h =
     let s = head_keeps c w.now seat p n len h (head_finds c w seat p n limits known early say h) in
@@ -72,7 +72,7 @@ keeps_head c w seat p n limits known len early say h =
 
 black_behind : (c : Config) (w : World) (seat : Seat) (x : Step) → IsWithinLimits c → Known c w.now
     → AreOfPages c.pages w.now.words
-    → IsMarking w.now.words → OthersSay c w → Meets c w.now seat x → Guard c w.now
+    → IsMarking w.now.words → GuardPremises c w → Meets c w.now seat x → Guard c w.now
     → BlackIsGuarded c (Behind c w.now seat x)
 black_behind c w seat (step.Head p n) limits known len early say h g =
     black_kept c w.now (Behind c w.now seat (step.Head p n)) (keeps_head c w seat p n limits known len early say h)
@@ -104,7 +104,7 @@ same_markers c m (Marker k) q j h = let kind = h.kind in cc
 
 markers_behind : (c : Config) (w : World) (seat : Seat) (x : Step) → IsWithinLimits c → Known c w.now
     → AreOfPages c.pages w.now.words
-    → IsMarking w.now.words → OthersSay c w → Meets c w.now seat x → Guard c w.now
+    → IsMarking w.now.words → GuardPremises c w → Meets c w.now seat x → Guard c w.now
     → (j : ℕ) → is_attending (marker_of (Behind c w.now seat x) j).presence ≡ true
     → MarkerStands c (Behind c w.now seat x) (marker_of (Behind c w.now seat x) j)
 markers_behind c w seat (step.Head p n) limits known len early say h g j at =
@@ -125,7 +125,7 @@ markers_behind c w seat x limits known len early say h g j at = rest x h refl re
 
 guard_behind : (c : Config) (w : World) (seat : Seat) (x : Step) → IsWithinLimits c → Known c w.now
     → AreOfPages c.pages w.now.words
-    → IsMarking w.now.words → OthersSay c w → Meets c w.now seat x → Guard c w.now → Guard c (Behind c w.now seat x)
+    → IsMarking w.now.words → GuardPremises c w → Meets c w.now seat x → Guard c w.now → Guard c (Behind c w.now seat x)
 guard_behind c w seat x limits known len early say h g =
     record {
       black = black_behind c w seat x limits known len early say h g;
@@ -181,7 +181,7 @@ past c m n is out =
 
 pub marks_behind : (c : Config) (w : World) (seat : Seat) (x : Step) → IsWithinLimits c → Known c w.now
     → AreOfPages c.pages w.now.words
-    → OthersSay c w → Meets c w.now seat x → MarksStand c w.now → MarksStand c (Behind c w.now seat x)
+    → GuardPremises c w → Meets c w.now seat x → MarksStand c w.now → MarksStand c (Behind c w.now seat x)
 marks_behind c w seat step.Begin limits known len say h g =
     let z = eqb-true (phase_of w.now.words) 0 h.phase in
     record { guarded = λ early. begun c w.now seat known len h; closed = λ three. absurd (omega arith) }

@@ -13,7 +13,7 @@ use Rattle.mk_core.specs.declared.events.Step.TheVariants as step
 use Rattle.mk_core.specs.Config.{IsWithinLimits}
 use Rattle.mk_core.specs.Layout.{AreOfPages}
 use Rattle.mk_core.specs.Moments.{Moment}
-use Rattle.mk_core.specs.Accesses.{reached, access}
+use Rattle.mk_core.specs.Accesses.{word_accessed, access}
 use Rattle.mk_core.specs.Growing.{AreOfOthers}
 use Rattle.mk_core.specs.Frames.{Attends, HeadersAreLeft, Steady}
 use Rattle.mk_core.specs.History.{World, first_world, world_behind, left, left_from, AreEnabledFrom}
@@ -25,7 +25,7 @@ use Rattle.mk_protocol.proofs.OthersMoves.{WorldBehind}
 use Rattle.mk_protocol.proofs.Known.{Known, known_behind, known_left}
 use Rattle.mk_protocol.proofs.Frames.{left_after, still_attends, other_seat, others_leave}
 use Rattle.mk_guard.specs.Guard.{IsMarking}
-use Rattle.mk_guard.specs.Kept.{OthersSay, OthersSayFrom}
+use Rattle.mk_guard.specs.Kept.{GuardPremises, GuardPremisesFrom}
 use Rattle.mk_guard.specs.Left.{OthersLeaveHeaders, OthersLeaveWells}
 use Rattle.mk_guard.proofs.Wells.{well_is, is_well, wells_from}
 use Rattle.mk_guard.proofs.Changes.{is_head, headers_kind, marks_kind}
@@ -45,7 +45,7 @@ headers_joined c w u v a b =
 
 -- one event while a cycle marks, whoever steps
 pub headers_after : (c : Config) (w : World) (seat : Seat) (x : Step) → IsWithinLimits c → Known c w.now
-    → AreOfPages c.pages w.now.words → IsMarking w.now.words → OthersSay c w
+    → AreOfPages c.pages w.now.words → IsMarking w.now.words → GuardPremises c w
     → Meets c w.now seat x → HeadersAreLeft c w (WorldBehind c w seat x)
 headers_after c w seat (step.Head p n) limits known len early say h =
     let s = head_keeps c w.now seat p n len h (head_finds c w seat p n limits known early say h) in
@@ -76,8 +76,8 @@ attended c m Host known a = absurd a
 
 headers_from : (c : Config) (w : World) (s : Seat) (es : List Event) → IsWithinLimits c → Known c w.now
     → AreOfPages c.pages w.now.words → AreEnabledFrom c w es
-    → AreOfOthers (s ∷ []) es → OthersSayFrom c w es → Attends w.now s → HeadersAreLeft c w (left_from c w es)
-unfolding left_from AreEnabledFrom AreOfOthers OthersSayFrom
+    → AreOfOthers (s ∷ []) es → GuardPremisesFrom c w es → Attends w.now s → HeadersAreLeft c w (left_from c w es)
+unfolding left_from AreEnabledFrom AreOfOthers GuardPremisesFrom
 headers_from c w s [] limits known len on others say a = headers_same c w
 headers_from c w s (e ∷ es) limits known len on others say a =
     let h = enabled_meets c w.now e on.0 in
@@ -85,7 +85,7 @@ headers_from c w s (e ∷ es) limits known len on others say a =
     headers_joined c w (world_behind c w e) (left_from c (world_behind c w e) es)
     (headers_after c w e.seat e.step limits known len (attended c w.now s known a) say.0 h)
     (headers_from c (world_behind c w e) s es limits (known_behind c w.now e known on.0)
-    (accessed_lengths c.pages w.now.words (reached c w.now e) (access c w.now e) len) on.1 others.1 say.1
+    (accessed_lengths c.pages w.now.words (word_accessed c w.now e) (access c w.now e) len) on.1 others.1 say.1
     (still_attends c s w (world_behind c w e) own a))
 
 pub others_leave_headers : OthersLeaveHeaders

@@ -1,4 +1,4 @@
--- The phase that a condition names, and the phase behind a step.
+-- The phase that a condition names, and the phase after a step.
 use Rattle.std.proofs.Common.{◌≡◌, ◌⊎◌, ℕ, ◌%◌, Bool, true, false, refl, ap, inl, inr, arith}
 use Rattle.std.specs.Prelude.{◌||◌, ◌==◌}
 use Rattle.std.proofs.lemmas.Bool.{eqb-true, and_parts, or_cases}

@@ -50,7 +50,7 @@ pub record StandsMapped (c : Config) (w : Words) (a : PlacedAllocation) : Type 0
       → header_at w (a.base / 64 + distance) ≡ header_made (object_placed c a) distance
 
 -- What the layout and the zero words say of one world.
-pub record OthersSay (c : Config) (w : World) : Type 0 where
+pub record GuardPremises (c : Config) (w : World) : Type 0 where
   -- while a cycle marks
   pub place : IsMarking w.now.words → (seat : Seat) (place : Place)
       → place_now c w.now (flight_of w.now seat) ≡ Some place
@@ -63,38 +63,38 @@ pub record OthersSay (c : Config) (w : World) : Type 0 where
       → StandsMapped c w.now.words (placed_at w.allocations i)
 
 -- They say so before each event, from this world on.
-unfoldable pub OthersSayFrom : Config → World → List Event → Type 0
-OthersSayFrom c w [] = ⊤
-OthersSayFrom c w (e ∷ es) = OthersSay c w × OthersSayFrom c (world_behind c w e) es
+unfoldable pub GuardPremisesFrom : Config → World → List Event → Type 0
+GuardPremisesFrom c w [] = ⊤
+GuardPremisesFrom c w (e ∷ es) = GuardPremises c w × GuardPremisesFrom c (world_behind c w e) es
 
 -- Of the first world they do.
-abbrev pub OthersSayAtFirst : Type 0
-OthersSayAtFirst = (c : Config) → OthersSay c (first_world c)
+abbrev pub GuardPremisesAtFirst : Type 0
+GuardPremisesAtFirst = (c : Config) → GuardPremises c (first_world c)
 
 -- One event, whatever it is, keeps what stands while a cycle marks and stops.
 abbrev pub EventsKeepTheMarks : Type 0
 EventsKeepTheMarks =
     (c : Config) (es : List Event) (e : Event) → IsWithinLimits c → AreEnabled c es → IsEnabledBehind c es e
-    → OthersSay c (left c es) → MarksStand c (left c es).now → MarksStand c (world_behind c (left c es) e).now
+    → GuardPremises c (left c es) → MarksStand c (left c es).now → MarksStand c (world_behind c (left c es) e).now
 
--- So it stands behind every enabled list.
+-- So it stands after every enabled list.
 abbrev pub MarksStandBehindLists : Type 0
 MarksStandBehindLists =
-    (c : Config) (es : List Event) → IsWithinLimits c → AreEnabled c es → OthersSayFrom c (first_world c) es
+    (c : Config) (es : List Event) → IsWithinLimits c → AreEnabled c es → GuardPremisesFrom c (first_world c) es
     → MarksStand c (left c es).now
 
 -- A `close` finds the marks closed.
 abbrev pub CloseFindsMarksClosed : Type 0
 CloseFindsMarksClosed =
     (c : Config) (es : List Event) (seat : Seat) → IsWithinLimits c → AreEnabled c es
-    → IsEnabledBehind c es (record { seat = seat; step = step.Close }) → OthersSay c (left c es)
+    → IsEnabledBehind c es (record { seat = seat; step = step.Close }) → GuardPremises c (left c es)
     → MarksStand c (left c es).now
     → MarksAreClosed c (left c es)
 
 -- They stay so up to the `release`.
 abbrev pub StoppedMarksAreClosed : Type 0
 StoppedMarksAreClosed =
-    (c : Config) (w : World) → IsWithinLimits c → OthersSay c w → MarksStand c w.now → phase_of w.now.words ≡ 3
+    (c : Config) (w : World) → IsWithinLimits c → GuardPremises c w → MarksStand c w.now → phase_of w.now.words ≡ 3
     → MarksAreClosed c w
 
 -- While the cycle marks, each word of a black cell is guarded.

@@ -9,14 +9,15 @@ use Rattle.mk_core.specs.Readings.{Holds}
 use Rattle.mk_core.specs.Growing.{AreOfOthers}
 use Rattle.mk_core.specs.Frames.{Attends, HeadersAreLeft}
 use Rattle.mk_core.specs.History.{left, AreEnabled}
-use Rattle.mk_guard.specs.Kept.{OthersSayFrom}
+use Rattle.mk_guard.specs.Kept.{GuardPremisesFrom}
 
 -- A marker that attends finds no header taken back, each cell that a header showed, and what points well still does.
 abbrev pub OthersLeaveHeaders : Type 0
 OthersLeaveHeaders =
     (c : Config) (es more : List Event) (s : Seat) → IsWithinLimits c → AreEnabled c (es ++ more)
     → AreOfOthers (s ∷ []) more
-    → OthersSayFrom c (left c es) more → Attends (left c es).now s → HeadersAreLeft c (left c es) (left c (es ++ more))
+    → GuardPremisesFrom c (left c es) more → Attends (left c es).now s
+    → HeadersAreLeft c (left c es) (left c (es ++ more))
 
 -- What points well still does for the turn's holder, whatever the layout says.
 abbrev pub OthersLeaveWells : Type 0

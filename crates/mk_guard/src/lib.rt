@@ -1,7 +1,7 @@
 //! What stands while a cycle marks, and from its `close` to its `release`: facts alone, with no code.
 #![tactic(auto)]
 
-ghost use Rattle.mk_guard.specs.Kept.{OthersSayAtFirst, EventsKeepTheMarks, MarksStandBehindLists};
+ghost use Rattle.mk_guard.specs.Kept.{GuardPremisesAtFirst, EventsKeepTheMarks, MarksStandBehindLists};
 ghost use Rattle.mk_guard.specs.Kept.{CloseFindsMarksClosed, StoppedMarksAreClosed, MarkingGuards};
 ghost use Rattle.mk_guard.specs.Left.{OthersLeaveHeaders, OthersLeaveWells};
 
@@ -10,9 +10,9 @@ pub fn events_keep_the_marks()
     ensures { EventsKeepTheMarks }
 {}
 
-/// So it stands behind every list along which the layout says so, as it does of the first world.
+/// So it stands after every list along which the layout says so, as it does of the first world.
 pub fn marks_stand_behind_lists()
-    ensures at_first { OthersSayAtFirst }
+    ensures at_first { GuardPremisesAtFirst }
     ensures along { MarksStandBehindLists }
 {}
 

@@ -94,7 +94,7 @@ taken_overs p q t has history =
     ap (λ (r : PassState). has_over r.seen) w.is
     ∙ no_more_overs p.seen w.more (none_over_waiting p c (left c p.seen) w.more has w.only on.1)
 
--- Behind an `over` the phase says so for ever.
+-- After an `over` the phase says so for ever.
 
 five_stays : (x : Step) (n : ℕ) → AsksPhase x n → n ≡ 5 → phase_behind x n ≡ 5
 five_stays step.Begin n asks five = absurd (omega arith)

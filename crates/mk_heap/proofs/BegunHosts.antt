@@ -1,4 +1,4 @@
--- What the engine does behind each `begin` of the host's.
+-- What the engine does after each `begin` of the host's.
 use Rattle.std.proofs.Common.{◌≡◌, ⊎_elim, List, refl, sym, subst}
 use Rattle.std.specs.Prelude.{None}
 use Rattle.mk_core.specs.declared.config.Config.{Config}

@@ -49,7 +49,7 @@ pass_of_next h x w is table lt =
       seats = refl;
     })
 
--- the host behind one caller
+-- the host after one caller
 pub behind_one : (h g : HostState) (w : WordsState) → h ≡ first_host w → g ≡ with_caller_made h
     → (g.callers ≡ 1) × (g.pass.table ≡ w)
 behind_one h g w first is = (
@@ -57,7 +57,7 @@ behind_one h g w first is = (
   ap (λ (x : HostState). x.pass.table) is ∙ ap (λ (x : HostState). x.pass.table) first,
 )
 
--- its pass behind a call
+-- its pass after a call
 pub pass_of_later : (p q : PassState) → q ≡ record p { seen = q.seen } → IsPassOf p.table p → IsPassOf q.table q
 pass_of_later p q is of =
     subst (λ (r : PassState). IsPassOf r.table r) (sym is)
@@ -93,7 +93,7 @@ one_is_joined w first made h joined over p seen later is_first is_made is seats 
       markers = λ k lt. absurd (omega arith);
     })
 
--- Behind a call that says so, an `over` is among what was seen.
+-- After a call that says so, an `over` is among what was seen.
 
 over_before : (xs ys : List Event) → has_over xs ≡ true → has_over (xs ++ ys) ≡ true
 over_before xs ys h = list_any-append (λ (e : Event). is_over e.step) xs ys ∙ ap (λ (b : Bool). b || has_over ys) h

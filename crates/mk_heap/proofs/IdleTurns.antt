@@ -1,4 +1,4 @@
--- The host's turn before an `over`: whether a cycle is on, and that none is behind the end of one.
+-- The host's turn before an `over`: whether a cycle is on, and that none is after the end of one.
 use Rattle.std.proofs.Common.{◌≡◌, ◌⊎◌, ℕ, zero, suc, ◌≤◌, ◌%◌, true, false, List, refl, sym, ap, subst, ◌∙◌, inl, inr}
 use Rattle.std.proofs.Common.{arith}
 use Rattle.std.specs.Prelude.{not, None}
@@ -8,8 +8,8 @@ use Rattle.mk_core.specs.declared.events.Seat.TheVariants.{Host}
 use Rattle.mk_core.specs.declared.events.Step.TheVariants as step
 use Rattle.mk_core.specs.declared.events.Word.TheVariants as word
 use Rattle.mk_core.specs.declared.seats.Holding.{Holding}
-use Rattle.mk_core.specs.Allocations.{PlacedAllocation, held_words, fresh_words_of}
-use Rattle.mk_core.specs.Counts.{TalliesAreExact, TalliesAreTidy, fulls, in_a_word, releases}
+use Rattle.mk_core.specs.Allocations.{PlacedAllocation, held_by_allocations, fresh_words_of}
+use Rattle.mk_core.specs.Counts.{TalliesAreExact, TalliesAreTidy, full_answers, in_a_word, releases}
 use Rattle.mk_core.specs.Frames.{Steady}
 use Rattle.mk_core.specs.History.{IsHistory}
 use Rattle.mk_core.specs.Moments.{is_held, none_is_held}
@@ -38,7 +38,7 @@ at_most_one zero le = inl refl
 at_most_one (suc zero) le = inr refl
 at_most_one (suc (suc n)) le = absurd (omega arith)
 
--- Directly behind its `take` a turn has a cycle on or none, and is free for one.
+-- Directly after its `take` a turn has a cycle on or none, and is free for one.
 
 pub fresh_phase : (p : PassState) → IsFresh p None → IsHistory p.table.config p.seen → has_over p.seen ≡ false
     → (IsAtPhase p 0) ⊎ (IsAtPhase p 1)
@@ -67,7 +67,7 @@ pub look_keeps : (p q : PassState) → InTurn p → IsFreeForCycle p → IsHisto
     → Acts p (step.Look word.Phase) q → KeepsTurn whole p q
 look_keeps p q t free history a = calm_keeps p (step.Look word.Phase) q a t history refl free whole refl
 
--- So it tells whether a cycle is on, which is finished then.
+-- So it reports whether a cycle is on, which is finished then.
 
 pub none_is_on : (p q : PassState) (n : ℕ) → InTurn p → IsFresh p None → has_over p.seen ≡ false
     → IsHistory q.table.config q.seen → Finds p (step.Look word.Phase) n q → (n % 8 ≡ 1 → ⊥) → IsAtPhase p 0
@@ -109,8 +109,8 @@ exact_kept p q k x =
     record {
       held =
           ap (λ (s : Steady). s.held) k.steady ∙ x.held
-          ∙ sym (ap (λ (d : Config). held_words d xs) same
-          ∙ ap (λ (ys : List PlacedAllocation). held_words c ys) allocations);
+          ∙ sym (ap (λ (d : Config). held_by_allocations d xs) same
+          ∙ ap (λ (ys : List PlacedAllocation). held_by_allocations c ys) allocations);
       fresh =
           ap (λ (s : Steady). s.fresh) k.steady ∙ x.fresh
           ∙ sym (ap (λ (d : Config). in_a_word (fresh_words_of d xs)) same
@@ -128,7 +128,7 @@ tidy_kept p q k x =
           ∙ ap in_a_word (sym (ap (λ (s : Steady). releases s.allocations) k.steady));
       full =
           ap (λ (s : Steady). s.full) k.steady ∙ x.full ∙ ap in_a_word (sym k.counts.fulls)
-          ∙ ap (λ (d : Config). in_a_word (fulls d q.seen)) (sym same);
+          ∙ ap (λ (d : Config). in_a_word (full_answers d q.seen)) (sym same);
     }
 
 -- No gate is held where none was, by the same holder.

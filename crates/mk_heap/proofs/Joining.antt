@@ -1,4 +1,4 @@
--- What the host knows still holds behind the events of others.
+-- What the host knows still holds after the events of others.
 use Rattle.std.proofs.Common.{◌≡◌, Bool, true, false, not, List, ◌++◌, refl, sym, ◌∙◌, ap, subst}
 use Rattle.std.specs.Prelude.{None}
 use Rattle.atomic_table.specs.Seated.{TableId}
@@ -50,7 +50,7 @@ begins : (c : Config) (seats : List Seat) (es fs : List Event) → IsHistory c f
     → IsHistory c (es ++ g.more)
 begins c seats es fs h g = subst (λ (l : List Event). IsHistory c l) g.is h
 
--- A seat that rests still does, behind the events of others,
+-- A seat that rests still does, after the events of others,
 pub still_rests : (c : Config) (seats : List Seat) (es fs : List Event) (s : Seat) → IsHistory c fs → Grows seats es fs
     → Has seats s → Rests (left c es).now s → Rests (left c fs).now s
 still_rests c seats es fs s h g has rests =

@@ -134,7 +134,7 @@ idle_moves p q t =
       | inr on ↦ finish_moves p e.looked q looked (e.on on)
     ]
 
--- the host, behind steps of its own
+-- the host, after steps of its own
 pub moved_is_host : (h : HostState) (q : PassState) → IsHost h → MovesOn h.pass q → IsHistory q.table.config q.seen
     → host_has_turn q.table.config (now_of q) ≡ false → IsHost (record h { pass = q })
 moved_is_host h q is v history no_turn =

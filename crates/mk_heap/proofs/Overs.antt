@@ -14,7 +14,7 @@ use Rattle.mk_core.specs.Moments.{Moment, flight_of, none_is_held}
 use Rattle.mk_core.specs.NewPlaces.{is_run_gone}
 use Rattle.mk_core.specs.Ranges.{has_phase}
 use Rattle.mk_core.specs.Readings.{is_in}
-use Rattle.mk_core.specs.TurnConditions.{is_decided, words_held}
+use Rattle.mk_core.specs.TurnConditions.{is_decided, held_by_pages}
 use Rattle.mk_core.specs.Words.{phase_of}
 use Rattle.mk_layout.specs.SettledPages.{IsSettled}
 use Rattle.mk_protocol.proofs.Asked.{give_phase}
@@ -72,7 +72,7 @@ give_allowed p t may =
     may_act p step.Give (protocol p t may.free) t.holds may.free.decided refl refl may.gates may.phase
     (and_from (decided && gone && held) fresh
     (and_from (decided && gone) held (and_from decided gone rests may.free.gone)
-    (eq-eqb m.words.held (words_held m.words) tallies.0)) (eq-eqb m.words.fresh m.fresh_words tallies.1))
+    (eq-eqb m.words.held (held_by_pages m.words) tallies.0)) (eq-eqb m.words.fresh m.fresh_words tallies.1))
   where
     m : Moment
     m = now_of p
@@ -84,7 +84,7 @@ give_allowed p t may =
     gone = is_run_gone m.words m.seats.holding.freed
 
     held : Bool
-    held = m.words.held == words_held m.words
+    held = m.words.held == held_by_pages m.words
 
     fresh : Bool
     fresh = m.words.fresh == m.fresh_words
@@ -104,10 +104,11 @@ give_allowed p t may =
           gone = may.free.gone;
         }
 
-    tallies : ((now_of p).words.held ≡ words_held (now_of p).words) × ((now_of p).words.fresh ≡ (now_of p).fresh_words)
+    tallies : ((now_of p).words.held ≡ held_by_pages (now_of p).words)
+        × ((now_of p).words.fresh ≡ (now_of p).fresh_words)
     tallies = settled_tallies p.table.config p.seen t.history settled may.exact
 
--- An idle turn may be given back, and one behind the `over`.
+-- An idle turn may be given back, and one after the `over`.
 
 pub idle_may_give : (p : PassState) → IsIdleTurn p → MayGive p
 idle_may_give p idle =

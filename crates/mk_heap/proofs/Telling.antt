@@ -1,4 +1,4 @@
--- What the host asks where it tells a word: a look decides nothing, and the turn may be given back behind it.
+-- What the host asks where it tells a word: a look decides nothing, and the turn may be given back after it.
 use Rattle.std.proofs.Common.{◌≡◌, ◌+◌, false, List, [], ◌∷◌, ◌++◌, refl, sym, ◌∙◌, ap, subst, append-nil, arith}
 use Rattle.std.proofs.lemmas.Bool.{ne_eqb}
 use Rattle.mk_core.specs.declared.config.Config.{Config}
@@ -71,7 +71,7 @@ look_tidy p q x a host t =
     subst (λ (d : Config). TalliesAreTidy d q.seen) (sym (ap (λ (r : PassState). r.table.config) a.makes.is))
     (subst (λ (es : List Event). TalliesAreTidy c es) (sym seen_is) behind)
 
--- Behind a `give` the host hasn't the turn.
+-- After a `give` the host hasn't the turn.
 pub given_no_turn : (p q : PassState) → Acts p step.Give q → host_has_turn q.table.config (now_of q) ≡ false
 given_no_turn p q a =
     ne_eqb (now_of q).words.turn (1 + q.table.config.callers)

@@ -1,11 +1,11 @@
--- What a report tells of the history of a heap that is closed.
+-- What a report says of the history of a heap that is closed.
 use Rattle.std.specs.Prelude.{◌≡◌, ℕ, true, List, count_by}
 use Rattle.mk_core.specs.declared.config.Config.{Config}
 use Rattle.mk_core.specs.declared.events.Event.{Event}
 use Rattle.mk_core.specs.declared.events.Seat.{Seat}
 use Rattle.mk_core.specs.Order.{seat_exists}
-use Rattle.mk_core.specs.Allocations.{PlacedAllocation, held_words, fresh_words_of}
-use Rattle.mk_core.specs.Counts.{IsTidy, ends, releases, fulls, in_a_word}
+use Rattle.mk_core.specs.Allocations.{PlacedAllocation, held_by_allocations, fresh_words_of}
+use Rattle.mk_core.specs.Counts.{IsTidy, ends, releases, full_answers, in_a_word}
 use Rattle.mk_core.specs.Cycles.{is_quarantined}
 use Rattle.mk_core.specs.History.{left, IsHistory}
 use Rattle.mk_words.specs.Finals as final
@@ -26,12 +26,12 @@ quarantined xs = count_by is_quarantined xs
 
 -- Its numbers are the counts of the history.
 pub record HasCounts (c : Config) (es : List Event) (r : Report) : Type 0 where
-  pub held : r.held ≡ held_words c (left c es).allocations
+  pub held : r.held ≡ held_by_allocations c (left c es).allocations
   pub fresh : r.fresh ≡ in_a_word (fresh_words_of c (left c es).allocations)
   pub quarantined : r.quarantined ≡ quarantined (left c es).allocations
   pub released : r.released ≡ in_a_word (releases (left c es).allocations)
   pub cycles : r.cycles ≡ in_a_word (ends es)
-  pub full : r.full ≡ in_a_word (fulls c es)
+  pub full : r.full ≡ in_a_word (full_answers c es)
 
 -- The history is one of the heap's, and tidy; no call of it is in flight, and no marker is in.
 pub record IsWhole (c : Config) (es : List Event) : Type 0 where

@@ -20,7 +20,7 @@ use std::sync::Wait;
 use std::thread::Threads;
 
 impl Host {
-    /// Finishes a cycle that is on, and says to the markers that all is over. No caller is made behind it. The bench
+    /// Finishes a cycle that is on, and says to the markers that all is over. No caller is made after it. The bench
     /// stays as it was where no cycle is on.
     pub fn over<E: Engine, R: Threads + Wait + Sync>(
         &mut self,
@@ -53,7 +53,7 @@ impl Host {
         self.pass = Some(back);
     }
 
-    /// Makes one cycle, when a cycle that is on is finished. No cycle is on behind it. Directly behind its `begin` the
+    /// Makes one cycle, when a cycle that is on is finished. No cycle is on after it. Directly after its `begin` the
     /// engine does its part.
     pub fn cycle<E: Engine, R: Threads + Wait + Sync>(
         &mut self,

@@ -53,7 +53,7 @@ impl Host {
         }
     }
 
-    /// The next caller. None is made behind an `over`.
+    /// The next caller. None is made after an `over`.
     pub fn caller<'h>(&mut self, heap: &'h Heap) -> Caller<'h>
         requires one_table { self.old.pass.table ≡ heap.now }
         requires more { self.old.callers < heap.now.config.callers }

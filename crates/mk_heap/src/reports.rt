@@ -1,4 +1,4 @@
-//! What is told of a heap that is closed.
+//! What is said of a heap that is closed.
 
 use mk_words::Final;
 

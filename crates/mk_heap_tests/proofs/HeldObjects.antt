@@ -118,7 +118,7 @@ double_keeps {on} {p} {q} {x} c h r lt =
     (sym (left_there c r lt ∙ free_leaves n (number_of p) r (register_at n (number_of p) x) ∙ c.decided.known r lt))
     (h r lt)
 
--- So a caller goes on behind each.
+-- So a caller goes on after each.
 
 pub seen_only : {on : Bool} {p q : PassState} {o : Op} {a : Answer} → CalledInTurn on p o a q
     → q ≡ record p { seen = q.seen }

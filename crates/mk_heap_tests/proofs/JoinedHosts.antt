@@ -1,4 +1,4 @@
--- The host's callers and markers before their first call, and behind their last.
+-- The host's callers and markers before their first call, and after their last.
 use Rattle.std.proofs.Common.{◌≡◌, ◌⊎◌, ℕ, zero, suc, ◌<◌, true, false, List, [], ◌∷◌, ◌++◌, refl, sym, ◌∙◌}
 use Rattle.std.proofs.Common.{ap, subst, inl, inr, arith}
 use Rattle.std.specs.Prelude.{not}
@@ -31,7 +31,7 @@ holds_null w k p first lt =
       null = null_at_first p 1 first.seen;
     }
 
--- A pass behind its caller's calls.
+-- A pass after its caller's calls.
 
 pub same_at_home : (p q : PassState) (s t : CallerState) → s ≡ at_home p → t.pass ≡ record s.pass { seen = t.pass.seen }
     → q ≡ t.pass → q ≡ record p { seen = q.seen }

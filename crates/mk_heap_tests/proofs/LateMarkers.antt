@@ -197,7 +197,7 @@ module _ (w : WordsState) (p : PassState) (m : IsMarking w p) (one : w.config.ca
           may_act q step.Want (protocol q u free) u.holds free.decided refl refl all_held
           (eq-eqb (phase_of (now_of q).words) 1 phase) refl
 
--- The host, behind its first marker and its first caller, which has joined the caller.
+-- The host, after its first marker and its first caller, which has joined the caller.
 pub joined_one : (w : WordsState) (f g h j : HostState) (p : PassState) → f ≡ first_host w → g ≡ with_marker_made f
     → h ≡ with_caller_made g → j ≡ with_joined h p j.pass.seen → p.seats ≡ Caller 0 ∷ []
     → has_over j.pass.seen ≡ has_over h.pass.seen → HasJoinedOne w j
@@ -214,7 +214,7 @@ joined_one w f g h j p is_f is_g is_h is_j alone overs =
       markers = ap (λ (x : HostState). x.markers) is_j ∙ ap (λ (x : HostState). x.markers) all;
     }
 
--- Its one caller's pass, which was made behind the marker's.
+-- Its one caller's pass, which was made after the marker's.
 pub only_seat : (w : WordsState) (f g : HostState) (s : CallerState) (p : PassState) → f ≡ first_host w
     → g ≡ with_marker_made f → s ≡ at_home (pass_for g (Caller g.callers)) → p ≡ s.pass → p.seats ≡ Caller 0 ∷ []
 only_seat w f g s p is_f is_g is_s is_p =

@@ -53,7 +53,7 @@ module _ (w : WordsState) (k : ℕ) (p : PassState) (is : IsPassFor w k p) where
   pub may_make : k < w.config.callers → 0 < length w.config.types → IsEnabledTo p (step.Take (Some first_new))
   may_make few typed = take_allowed p first_new is.idle (exists few) refl (operands typed)
 
-  -- Directly behind its `take` the turn may place its object.
+  -- Directly after its `take` the turn may place its object.
   module _ (q : PassState) (few : k < w.config.callers) (own : Has p.seats p.seat)
       (takes : TakesTurn p (Some first_new) q) (fresh : IsFresh q (Some first_new))
       (exact : TalliesAreExact q.table.config q.seen) (tidy : TalliesAreTidy q.table.config q.seen)

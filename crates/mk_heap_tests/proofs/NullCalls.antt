@@ -71,7 +71,7 @@ may_read p h =
       store = tt;
     }
 
--- The register stays null, behind a call that sets another one, and where there was no call.
+-- The register stays null, after a call that sets another one, and where there was no call.
 
 later : (p q : PassState) → q ≡ record p { seen = q.seen } → value_of q 1 ≡ value_of p 1 → HoldsNull p → HoldsNull q
 later p q is same h =

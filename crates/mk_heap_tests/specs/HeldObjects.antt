@@ -19,7 +19,7 @@ pub record IsReady (s : CallerState) : Type 0 where
   pub alone : s.pass.seats ≡ Caller number ∷ []
   pub objects : HoldsObjects s.pass
 
--- It may, with a bench that was made for so many pages and has a book of so many, and there is a type.
+-- It may, with a bench that was made for this many pages and has a book of this many, and there is a type.
 pub record MayAllocate (made_for book : ℕ) (s : CallerState) : Type 0 where
   pub ready : IsReady s
   pub ty : 0 < length s.pass.table.config.types

@@ -1,4 +1,4 @@
-//! A schedule that is stepped on a core: what was freed behind a cycle's `begin` stays, and the next cycle gives it
+//! A schedule that is stepped on a core: what was freed after a cycle's `begin` stays, and the next cycle gives it
 //! back.
 
 use mk_core::{Answer, Config, Core, Event, GlobalTable, NotEnabled, Seat, Step, Tally};
@@ -57,7 +57,7 @@ fn make(core: &mut Core, seat: Seat, steps: &[Step]) -> Result<Option<Answer>, N
     Ok(last)
 }
 
-/// Two objects of half a page are made, and both are freed, the second behind the `begin` of the first one's free. The
+/// Two objects of half a page are made, and both are freed, the second after the `begin` of the first one's free. The
 /// host ends that cycle, which gives the first one back, and only that. A third object stands where the first one was.
 #[test]
 fn what_is_freed_behind_the_begin_stays(rt: HostRuntime) -> Result<(), Fail> {

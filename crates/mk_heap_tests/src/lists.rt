@@ -21,7 +21,7 @@ heap 200 200/type N n p:N/type G n*32/\
     move x h/repeat 1000/getp y x 1/setp x 1 y/move x y/end/\
     move x h/repeat 1000/getn n x 0/add sum sum n/getp x x 1/end/print sum/";
 
-/// The last instruction of each script's walk, counted from 0: behind 4 for each object, 2 for each that is freed, one,
+/// The last instruction of each script's walk, counted from 0: after 4 for each object, 2 for each that is freed, one,
 /// and 3 for each step.
 const LAST_STEPS: [u64; 2] = [7200, 7000];
 

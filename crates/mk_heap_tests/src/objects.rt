@@ -167,7 +167,7 @@ mod tests {
     use mk_never::{Kind, TypeTable};
     use std::test::Fail;
 
-    /// A 33rd object doesn't fit, behind a cycle that releases nothing. Of 64 words 16 are a quarter, so that the
+    /// A 33rd object doesn't fit, after a cycle that releases nothing. Of 64 words 16 are a quarter, so that the
     /// eighth free isn't due and the ninth is; its cycle releases nothing either, since each freed object is in a
     /// register.
     #[test]

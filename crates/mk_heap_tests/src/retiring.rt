@@ -98,7 +98,7 @@ fn retire_nine<R: Threads + Wait + Sync>(
     })
 }
 
-/// The same behind 32 objects on a heap of its own, if all fit.
+/// The same after 32 objects on a heap of its own, if all fit.
 pub(crate) fn fill_and_retire<E: Engine, R: Threads + Wait + Sync>(
     rt: &R,
     alloc: Global,

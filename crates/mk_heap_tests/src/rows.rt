@@ -10,9 +10,9 @@ use std::sync::Wait;
 use std::test::Fail;
 use std::thread::Threads;
 
-/// A program, with `/` for a newline, and behind ` -> ` what it prints. They are: a heap that is full until an object
+/// A program, with `/` for a newline, and after ` -> ` what it prints. They are: a heap that is full until an object
 /// isn't reached any more; a freed run whose pages are kept while a pointer leads there; a number in an object without
-/// pointers that would be an address; the same beside pointers, with the numbers below, at and behind both ends of the
+/// pointers that would be an address; the same beside pointers, with the numbers below, at and after both ends of the
 /// cell and of the heap; a ring of two freed objects; and an object that an interior pointer keeps.
 const ROWS: &str = "\
 heap 1 1/type A n*32/script s/ptr p A/ptr q A/ptr r A/num n/new p A/new q A/free p/free q/new r A/clear p/new r A/\

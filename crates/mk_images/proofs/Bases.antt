@@ -1,10 +1,10 @@
--- Bases are added behind the others, and stay.
+-- Bases are added after the others, and stay.
 use Rattle.std.proofs.Common.{◌≡◌, ℕ, Bool, List, [], ◌∷◌, ◌++◌, sym, ◌∙◌, append-nil}
 use Rattle.std.proofs.lemmas.List.{map-append}
 use Rattle.mk_never.specs.NeverHeap.{NeverState}
 use Rattle.mk_core.specs.Allocations.{PlacedAllocation}
 use Rattle.mk_core.specs.History.{bases_of}
-use Rattle.mk_images.specs.Images.{Scene}
+use Rattle.mk_images.specs.Images.{ImageScene}
 use Rattle.mk_images.proofs.Moves.{Move, Rests, Flies, Owes, Pays, Stores, Shares, Writes, Wipes, Grants, Frees, Renews}
 use Rattle.mk_images.proofs.Moves.{Releases}
 
@@ -15,7 +15,7 @@ pub record IsLonger (xs ys : List ℕ) : Type 0 where
 same : (xs ys : List ℕ) → ys ≡ xs → IsLonger xs ys
 same xs ys e = record { more = []; is = e ∙ sym (append-nil xs) }
 
-pub bases_grow : (safe : ℕ → Bool) (s t : Scene) (n m : NeverState) → Move safe s n t m
+pub bases_grow : (safe : ℕ → Bool) (s t : ImageScene) (n m : NeverState) → Move safe s n t m
     → IsLonger (bases_of s.allocations) (bases_of t.allocations)
 bases_grow safe s t n m (Grants k d base ty f at long ld z) =
     record { more = base ∷ []; is = map-append (λ (x : PlacedAllocation). x.base) s.allocations _ }

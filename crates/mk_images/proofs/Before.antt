@@ -16,7 +16,7 @@ use Rattle.mk_core.specs.Cells.{pointed_cell, first_word, header_in, is_unmapped
 use Rattle.mk_core.specs.Allocations.{storage_words, placed_at}
 use Rattle.mk_core.specs.History.{World}
 use Rattle.mk_protocol.proofs.Operands.{HaveOperands, operands_of}
-use Rattle.mk_images.specs.Images.{scene_of, flight_among}
+use Rattle.mk_images.specs.Images.{image_scene_of, flight_among}
 use Rattle.mk_images.specs.SafeSets.{IsSafeSet}
 use Rattle.mk_core.specs.Allocations.{cell_of_allocation}
 use Rattle.mk_images.proofs.Stands.{Stands, is_gone}
@@ -79,7 +79,7 @@ module _ (c : Config) (w : World) (n : NeverState) (known : KnownWorld c w) (mir
       storages_apart st a b i j ua ub (omega arith) (omega arith) ne
 
   pub ready_of : Stands c w.now.words w.allocations → (safe : ℕ → Bool) → IsSafeSet safe w.allocations n
-      → Ready c.globals safe (scene_of w) n
+      → Ready c.globals safe (image_scene_of w) n
   ready_of st safe s =
       record {
         images = mirrors.images;
@@ -95,12 +95,12 @@ module _ (c : Config) (w : World) (n : NeverState) (known : KnownWorld c w) (mir
             (known.limits.types ty [] (subst (λ (types : List (List Kind)). ty < length types) mirrors.types lt)).0.0;
       }
 
-  -- headers tell what is unmapped
+  -- headers say what is unmapped
   pub pages_show : Stands c w.now.words w.allocations
       → ((a i : ℕ) → (placed_at w.allocations a).released ≡ false → is_gone c (placed_at w.allocations a) ≡ true
       → i < storage_words c (placed_at w.allocations a)
       → is_unmapped_header (header_in w.now.words (((placed_at w.allocations a).base + i) / 64)) ≡ true)
-      → PagesShow (header_at w.now.words) (scene_of w) n
+      → PagesShow (header_at w.now.words) (image_scene_of w) n
   pages_show st un a i u li =
       let lt = exists_placed w.allocations a u in
       let f = words_fit a lt in

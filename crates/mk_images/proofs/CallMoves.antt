@@ -27,7 +27,7 @@ use Rattle.mk_core.specs.Image.{image_of, answer_of}
 use Rattle.mk_core.specs.Effects.{progress_probe}
 use Rattle.mk_core.specs.History.{bases_of}
 use Rattle.mk_protocol.proofs.Standings.{standing_at, is_astray}
-use Rattle.mk_images.specs.Images.{has_p, has_some_p, has_r, Scene, flight_among, is_put, CarriesOwn, ProbedOwn}
+use Rattle.mk_images.specs.Images.{has_p, has_some_p, has_r, ImageScene, flight_among, is_put, CarriesOwn, ProbedOwn}
 use Rattle.mk_core.specs.Allocations.{placed_at}
 use Rattle.mk_images.specs.SafeSets.{IsSafe}
 use Rattle.mk_images.proofs.Moves.{Move, Decides, Owes, Shares, Writes}
@@ -53,7 +53,7 @@ access_meets n k (op.SetPtr q i p) a h = meets_some n (register_at n k q) i IsPo
 access_meets n k (op.CasPtr q i p r) a h = meets_some n (register_at n k q) i IsPointer h
 access_meets n k _ a h = absurd (false≢true a)
 
--- behind its `probe` an access carries what it did before
+-- after its `probe` an access carries what it did before
 record BehindProbe (s : Stage) (o : Op) : Type 0 where
   pub access : accesses o ≡ true
   pub put : is_put s ≡ false
@@ -70,7 +70,7 @@ at_probe (op.SetPtr q i p) h = record { access = refl; put = refl; p = refl; som
 at_probe (op.CasPtr q i p r) h = record { access = refl; put = refl; p = refl; some_p = refl; r = refl }
 at_probe _ h = absurd (true≢false h)
 
-module _ (listed : List ℕ) (safe : ℕ → Bool) (s : Scene) (n : NeverState) (k : ℕ) (h : Ready listed safe s n)
+module _ (listed : List ℕ) (safe : ℕ → Bool) (s : ImageScene) (n : NeverState) (k : ℕ) (h : Ready listed safe s n)
     (there : k < length s.flights) (long : 8 * k + 7 < length n.registers) where
   own_sound : (r : ℕ) → IsSound n (register_at n k r)
   own_sound r = h.typed.registers (8 * k + r)

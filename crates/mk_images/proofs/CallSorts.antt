@@ -31,7 +31,7 @@ use Rattle.mk_protocol.proofs.Stages.{is_call_stage}
 use Rattle.mk_protocol.proofs.NextSteps.{at_its_stage, at_reg, at_enter}
 use Rattle.mk_protocol.proofs.OrderlyLists.{not_astray}
 use Rattle.mk_protocol.proofs.Operands.{operands_of}
-use Rattle.mk_images.specs.Images.{scene_of, is_put, is_past_probe, CarriesOwn, ProbedOwn}
+use Rattle.mk_images.specs.Images.{image_scene_of, is_put, is_past_probe, CarriesOwn, ProbedOwn}
 use Rattle.mk_images.proofs.KnownWorlds.{KnownWorld}
 use Rattle.mk_images.specs.Mirrors.{Mirrors}
 use Rattle.mk_images.proofs.Moves.{is_bare, Flies}
@@ -44,8 +44,8 @@ use Rattle.mk_images.proofs.CallMoves.{probe_leads, read_leads, write_leads, cas
 
 abbrev pub LeadsAt : Config → World → NeverState → (ℕ → Bool) → ℕ → Step → Type 0
 LeadsAt c w n safe k x =
-    Leads safe (scene_of w) n k (flight_of w.now (Caller k)).op
-    (scene_of (world_behind c w (record { seat = Caller k; step = x })))
+    Leads safe (image_scene_of w) n k (flight_of w.now (Caller k)).op
+    (image_scene_of (world_behind c w (record { seat = Caller k; step = x })))
     (answer_decided c w.now (record { seat = Caller k; step = x }))
 
 abbrev pub AdmittedAt : Config → World → NeverState → ℕ → Step → Type 0
@@ -95,7 +95,7 @@ read_admitted listed n k f o x out ad = admitted_call listed n k o (answer.Num x
 pub literal : (f : Flight) (st : Stage) → f.stage ≡ st → f ≡ flight st f.op f.q f.p f.r f.loaded
 literal f st e = ap (λ x. flight x f.op f.q f.p f.r f.loaded) e
 
--- the words behind `reg`
+-- the words after `reg`
 reg_registers : (w : Words) (k : ℕ) (f : Flight) (st : Stage)
     → (accessed w (Named (word.Reg k (register_met f st))) (reg_access f st)).registers
     ≡ registers_behind w.registers k f st
@@ -130,7 +130,7 @@ begun_not_put (op.New d ty full) = refl
 begun_not_put _ = refl
 
 module _ (c : Config) (w : World) (n : NeverState) (known : KnownWorld c w) (mirrors : Mirrors c w n) (safe : ℕ
-    → Bool) (ready : Ready c.globals safe (scene_of w) n) where
+    → Bool) (ready : Ready c.globals safe (image_scene_of w) n) where
   pub there_is : (k : ℕ) → k < c.callers → k < length w.now.seats.flights
   there_is k lt = let e = known.now.orderly.flights in omega (arith, e)
 
@@ -148,19 +148,23 @@ module _ (c : Config) (w : World) (n : NeverState) (known : KnownWorld c w) (mir
 
   -- a call that begins, or doesn't
   pub begins : (k : ℕ) (o next : Op) (x : ℕ) → is_put (flight_of w.now (Caller k)).stage ≡ false
-      → LeadsBy safe (scene_of w) n k o (scene_of w) (begins_where_free (flight_of w.now (Caller k)) next x)
+      → LeadsBy safe (image_scene_of w) n k o (image_scene_of w) (begins_where_free (flight_of w.now (Caller k)) next x)
   begins k o next x was =
-      either_leads safe (scene_of w) n k o (scene_of w) (x == 0) (record { flight = begun next; answer = None })
+      either_leads safe (image_scene_of w) n k o (image_scene_of w) (x == 0) (record {
+        flight = begun next;
+        answer =
+            None;
+      })
       (still (flight_of w.now (Caller k)))
-      (λ z. flies_on safe (scene_of w) n k o (begun next) was (begun_not_put next) (begun_carries _ next n k)
+      (λ z. flies_on safe (image_scene_of w) n k o (begun next) was (begun_not_put next) (begun_carries _ next n k)
       (λ past. let y : false ≡ true = sym (begun_unprobed next) ∙ past in cc))
-      (λ z. flies_on safe (scene_of w) n k o (flight_of w.now (Caller k)) was was (ready.images.carried k)
+      (λ z. flies_on safe (image_scene_of w) n k o (flight_of w.now (Caller k)) was was (ready.images.carried k)
       (ready.images.probed k))
 
   -- a call that stays where it is
   pub stays : (k : ℕ) (o : Op)
-      → Leads safe (scene_of w) n k o
-      (record (scene_of w) { flights = slice_set w.now.seats.flights k (flight_of w.now (Caller k)) }) None
+      → Leads safe (image_scene_of w) n k o
+      (record (image_scene_of w) { flights = slice_set w.now.seats.flights k (flight_of w.now (Caller k)) }) None
   stays k o = (
     Flies k (flight_of w.now (Caller k)) (λ r x. refl) (ready.images.carried k) (ready.images.probed k),
     λ more. refl,
@@ -168,8 +172,11 @@ module _ (c : Config) (w : World) (n : NeverState) (known : KnownWorld c w) (mir
 
   pub bare_on : (k : ℕ) (o : Op) (f : Flight) → is_put (flight_of w.now (Caller k)).stage ≡ false
       → is_bare f.stage ≡ true
-      → Leads safe (scene_of w) n k o (record (scene_of w) { flights = slice_set w.now.seats.flights k f }) None
-  bare_on k o f was bare = (goes_bare safe (scene_of w) n k f was bare, λ more. refl)
+      → Leads safe (image_scene_of w) n k o (record (image_scene_of w) {
+        flights =
+            slice_set w.now.seats.flights k f;
+      }) None
+  bare_on k o f was bare = (goes_bare safe (image_scene_of w) n k f was bare, λ more. refl)
 
   stage_put : (k : ℕ) (st : Stage) → (flight_of w.now (Caller k)).stage ≡ st → is_put st ≡ false
       → is_put (flight_of w.now (Caller k)).stage ≡ false
@@ -190,15 +197,15 @@ module _ (c : Config) (w : World) (n : NeverState) (known : KnownWorld c w) (mir
       let f = flight_of w.now (Caller k) in
       let lt = ltb-true k c.callers h.seat in
       let e = literal f stage.Dirty (at_its_stage f.stage f.op step.Dirty refl h.order) in
-      subst (λ (g : Flight). Leads safe (scene_of w) n k g.op
-      (record (scene_of w) { flights = slice_set w.now.seats.flights k (onward g None).flight }) None) (sym e)
+      subst (λ (g : Flight). Leads safe (image_scene_of w) n k g.op
+      (record (image_scene_of w) { flights = slice_set w.now.seats.flights k (onward g None).flight }) None) (sym e)
       (dirty_by f.op f.q f.p f.r f.loaded (subst (λ (g : Flight). is_astray (standing g) ≡ false) e (own_astray k lt))
       (ap (λ (g : Flight). is_put g.stage) e))
     where
       dirty_by : (o : Op) (q p r l : ℕ) → is_astray (standing_at stage.Dirty o) ≡ false
           → is_put (flight_of w.now (Caller k)).stage ≡ false
-          → Leads safe (scene_of w) n k o
-          (record (scene_of w)
+          → Leads safe (image_scene_of w) n k o
+          (record (image_scene_of w)
           { flights = slice_set w.now.seats.flights k (onward (flight stage.Dirty o q p r l) None).flight }) None
       dirty_by (op.SetNum q' i m) q p r l a was =
           bare_on k (op.SetNum q' i m) (flight stage.Leave (op.SetNum q' i m) q p r l) was refl
@@ -214,7 +221,7 @@ module _ (c : Config) (w : World) (n : NeverState) (known : KnownWorld c w) (mir
       let f = flight_of w.now (Caller k) in
       let lt = ltb-true k c.callers h.seat in
       let x = register_word w.now.words k (register_met f f.stage) in
-      subst (λ (rs : List ℕ). Leads safe (scene_of w) n k f.op
+      subst (λ (rs : List ℕ). Leads safe (image_scene_of w) n k f.op
       (record {
         registers = rs;
         globals = (accessed w.now.words (Named (word.Reg k (register_met f f.stage))) (reg_access f f.stage)).globals;
@@ -224,7 +231,7 @@ module _ (c : Config) (w : World) (n : NeverState) (known : KnownWorld c w) (mir
       })
       (progress_reg f f.stage x).answer)
       (sym (reg_registers w.now.words k f f.stage))
-      (subst (λ (gs : List ℕ). Leads safe (scene_of w) n k f.op
+      (subst (λ (gs : List ℕ). Leads safe (image_scene_of w) n k f.op
       (record {
         registers = registers_behind w.now.words.registers k f f.stage;
         globals = gs;
@@ -234,7 +241,7 @@ module _ (c : Config) (w : World) (n : NeverState) (known : KnownWorld c w) (mir
       })
       (progress_reg f f.stage x).answer)
       (sym (reg_globals w.now.words k f f.stage))
-      (subst (λ (hs : List ℕ). Leads safe (scene_of w) n k f.op
+      (subst (λ (hs : List ℕ). Leads safe (image_scene_of w) n k f.op
       (record {
         registers = registers_behind w.now.words.registers k f f.stage;
         globals = w.now.words.globals;
@@ -243,10 +250,12 @@ module _ (c : Config) (w : World) (n : NeverState) (known : KnownWorld c w) (mir
         allocations = w.allocations;
       }) (progress_reg f f.stage x).answer)
       (sym (reg_heap w.now.words k f f.stage))
-      (reg_leads c.globals safe (scene_of w) n k ready (there_is k lt) (own_registers k lt) (own_words k lt) f.stage
+      (reg_leads c.globals safe (image_scene_of w) n k ready (there_is k lt) (own_registers k lt)
+      (own_words k lt) f.stage
       f.op f.q f.p f.r f.loaded x refl (own_d k) (at_reg f.stage f.op h.order) (own_astray k lt)
       (ready.images.carried k)
-      (λ np. own_plain (scene_of w) n ready.images k (register_met f f.stage) (register_small_here k f.stage) np) ad)))
+      (λ np. own_plain (image_scene_of w) n ready.images k (register_met f f.stage)
+      (register_small_here k f.stage) np) ad)))
     where
       register_small_here : (k : ℕ) (s : Stage) → register_met (flight_of w.now (Caller k)) s < 8
       register_small_here k stage.LoadQ = (ready.small k).0
@@ -254,7 +263,7 @@ module _ (c : Config) (w : World) (n : NeverState) (known : KnownWorld c w) (mir
       register_small_here k stage.LoadR = (ready.small k).2
       register_small_here k _ = (ready.small k).3
 
-  pub probe_leads_at : (k : ℕ) → PagesShow (header_at w.now.words) (scene_of w) n → Meets c w k step.Probe
+  pub probe_leads_at : (k : ℕ) → PagesShow (header_at w.now.words) (image_scene_of w) n → Meets c w k step.Probe
       → AdmittedAt c w n k step.Probe → LeadsAt c w n safe k step.Probe
   probe_leads_at k show h ad =
       let f = flight_of w.now (Caller k) in
@@ -262,9 +271,9 @@ module _ (c : Config) (w : World) (n : NeverState) (known : KnownWorld c w) (mir
       let st = at_its_stage f.stage f.op step.Probe refl h.order in
       let e = literal f stage.Probe st in
       let out = call_outside f.op f.stage (ap is_call_stage st) (own_astray k lt) in
-      subst (λ (g : Flight). LeadsBy safe (scene_of w) n k g.op (scene_of w)
+      subst (λ (g : Flight). LeadsBy safe (image_scene_of w) n k g.op (image_scene_of w)
       (progress_probe g (header_at w.now.words (page_met f)))) (sym e)
-      (probe_leads c.globals safe (scene_of w) n k ready (there_is k lt) (own_registers k lt)
+      (probe_leads c.globals safe (image_scene_of w) n k ready (there_is k lt) (own_registers k lt)
       (header_at w.now.words) show f.op f.q f.p f.r f.loaded (header_at w.now.words (page_met f)) e (own_d k)
       (subst (λ (g : Flight). is_astray (standing g) ≡ false) e (own_astray k lt))
       (subst (λ (g : Flight). CarriesOwn (bases_of w.allocations) n k g) e (ready.images.carried k)) refl
@@ -280,8 +289,10 @@ module _ (c : Config) (w : World) (n : NeverState) (known : KnownWorld c w) (mir
       let e = literal f stage.Read st in
       let out = call_outside f.op f.stage (ap is_call_stage st) (own_astray k lt) in
       let x = slice_index w.now.words.heap (word_met f) in
-      subst (λ (g : Flight). LeadsBy safe (scene_of w) n k g.op (scene_of w) (progress_read g g.op x)) (sym e)
-      (read_leads c.globals safe (scene_of w) n k ready (there_is k lt) (own_registers k lt) f.op f.q f.p f.r f.loaded x
+      subst (λ (g : Flight). LeadsBy safe (image_scene_of w) n k g.op (image_scene_of w) (progress_read g g.op x))
+      (sym e)
+      (read_leads c.globals safe (image_scene_of w) n k ready (there_is k lt)
+      (own_registers k lt) f.op f.q f.p f.r f.loaded x
       e (own_d k)
       (subst (λ (g : Flight). is_astray (standing g) ≡ false) e (own_astray k lt))
       (subst (λ (g : Flight). CarriesOwn (bases_of w.allocations) n k g) e (ready.images.carried k))
@@ -296,10 +307,11 @@ module _ (c : Config) (w : World) (n : NeverState) (known : KnownWorld c w) (mir
       let st = at_its_stage f.stage f.op step.Write refl h.order in
       let e = literal f stage.Write st in
       let out = call_outside f.op f.stage (ap is_call_stage st) (own_astray k lt) in
-      subst (λ (g : Flight). LeadsBy safe (scene_of w) n k g.op
-      (record (scene_of w) { heap = slice_set w.now.words.heap (word_met g) (value_written g g.op) })
+      subst (λ (g : Flight). LeadsBy safe (image_scene_of w) n k g.op
+      (record (image_scene_of w) { heap = slice_set w.now.words.heap (word_met g) (value_written g g.op) })
       (onward g (Some answer.Done))) (sym e)
-      (write_leads c.globals safe (scene_of w) n k ready (there_is k lt) (own_registers k lt) f.op f.q f.p f.r f.loaded
+      (write_leads c.globals safe (image_scene_of w) n k ready (there_is k lt)
+      (own_registers k lt) f.op f.q f.p f.r f.loaded
       e
       (subst (λ (g : Flight). is_astray (standing g) ≡ false) e (own_astray k lt))
       (subst (λ (g : Flight). CarriesOwn (bases_of w.allocations) n k g) e (ready.images.carried k))
@@ -314,10 +326,11 @@ module _ (c : Config) (w : World) (n : NeverState) (known : KnownWorld c w) (mir
       let e = literal f stage.Cas st in
       let out = call_outside f.op f.stage (ap is_call_stage st) (own_astray k lt) in
       let x = slice_index w.now.words.heap (word_met f) in
-      subst (λ (g : Flight). LeadsBy safe (scene_of w) n k g.op
-      (record (scene_of w) { heap = slice_set w.now.words.heap (word_met g) (if x == g.p then g.r else x) })
+      subst (λ (g : Flight). LeadsBy safe (image_scene_of w) n k g.op
+      (record (image_scene_of w) { heap = slice_set w.now.words.heap (word_met g) (if x == g.p then g.r else x) })
       (progress_cas g x)) (sym e)
-      (cas_leads c.globals safe (scene_of w) n k ready (there_is k lt) (own_registers k lt) f.op f.q f.p f.r f.loaded x
+      (cas_leads c.globals safe (image_scene_of w) n k ready (there_is k lt)
+      (own_registers k lt) f.op f.q f.p f.r f.loaded x
       e
       (subst (λ (g : Flight). is_astray (standing g) ≡ false) e (own_astray k lt))
       (subst (λ (g : Flight). CarriesOwn (bases_of w.allocations) n k g) e (ready.images.carried k))
@@ -330,8 +343,9 @@ module _ (c : Config) (w : World) (n : NeverState) (known : KnownWorld c w) (mir
       let lt = ltb-true k c.callers h.seat in
       let e = literal f stage.Getg (at_its_stage f.stage f.op step.Getg refl h.order) in
       let x = slice_index w.now.words.globals (g_of f.op) in
-      subst (λ (g : Flight). LeadsBy safe (scene_of w) n k g.op (scene_of w) (progress_getg g x)) (sym e)
-      (getg_leads c.globals safe (scene_of w) n k ready (there_is k lt) (own_registers k lt) f.op f.q f.p f.r f.loaded x
+      subst (λ (g : Flight). LeadsBy safe (image_scene_of w) n k g.op (image_scene_of w) (progress_getg g x)) (sym e)
+      (getg_leads c.globals safe (image_scene_of w) n k ready (there_is k lt)
+      (own_registers k lt) f.op f.q f.p f.r f.loaded x
       e (own_d k) (subst (λ (g : Flight). is_astray (standing g) ≡ false) e (own_astray k lt)) refl)
 
   pub setg_leads_at : (k : ℕ) → Meets c w k step.Setg → LeadsAt c w n safe k step.Setg
@@ -343,10 +357,11 @@ module _ (c : Config) (w : World) (n : NeverState) (known : KnownWorld c w) (mir
       let small = parts.g in
       let lg = known.lengths.globals in
       let ln = mirrors.global_count in
-      subst (λ (g : Flight). LeadsBy safe (scene_of w) n k g.op
-      (record (scene_of w) { globals = slice_set w.now.words.globals (g_of g.op) g.p })
+      subst (λ (g : Flight). LeadsBy safe (image_scene_of w) n k g.op
+      (record (image_scene_of w) { globals = slice_set w.now.words.globals (g_of g.op) g.p })
       (onward g (Some answer.Done))) (sym e)
-      (setg_leads c.globals safe (scene_of w) n k ready (there_is k lt) (own_registers k lt) f.op f.q f.p f.r f.loaded e
+      (setg_leads c.globals safe (image_scene_of w) n k ready (there_is k lt)
+      (own_registers k lt) f.op f.q f.p f.r f.loaded e
       (subst (λ (g : Flight). is_astray (standing g) ≡ false) e (own_astray k lt))
       (subst (λ (g : Flight). CarriesOwn (bases_of w.allocations) n k g) e (ready.images.carried k))
       (omega arith) (omega arith))

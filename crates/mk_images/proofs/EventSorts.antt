@@ -44,11 +44,11 @@ use Rattle.mk_protocol.proofs.Actors.{grants_new}
 use Rattle.mk_protocol.proofs.OrderlyLists.{not_astray}
 use Rattle.mk_images.proofs.KeptPlaces.{same_places}
 use Rattle.mk_images.proofs.Stands.{gone_shows}
-use Rattle.mk_images.specs.Images.{Scene, scene_of, flight_among, is_put, is_past_probe}
+use Rattle.mk_images.specs.Images.{ImageScene, image_scene_of, flight_among, is_put, is_past_probe}
 use Rattle.mk_images.proofs.KnownWorlds.{KnownWorld}
 use Rattle.mk_images.specs.Mirrors.{Mirrors}
 use Rattle.mk_images.proofs.Stands.{Stands}
-use Rattle.mk_images.specs.OthersSay.{OthersSay}
+use Rattle.mk_images.specs.ImagePremises.{ImagePremises}
 use Rattle.mk_images.proofs.Moves.{Move, Rests, Wipes, Renews}
 use Rattle.mk_images.proofs.Ready.{Ready, Leads}
 use Rattle.mk_images.proofs.Before.{pages_show}
@@ -62,8 +62,8 @@ use Rattle.mk_images.proofs.TurnMoves.{grant_by, full_by, quar_by, look_by}
 
 -- what an event leads to, and that what it decides is right
 abbrev pub Goes : Config → World → NeverState → (ℕ → Bool) → Event → Type 0
-Goes c w n safe e = Leads safe (scene_of w) n (caller_number e.seat) (flight_of w.now e.seat).op
-    (scene_of (world_behind c w e)) (answer_decided c w.now e)
+Goes c w n safe e = Leads safe (image_scene_of w) n (caller_number e.seat) (flight_of w.now e.seat).op
+    (image_scene_of (world_behind c w e)) (answer_decided c w.now e)
 
 abbrev MeetsOf : Config → World → Seat → Step → Type 0
 MeetsOf c w seat x = MeetsAll c w.now (record { seat = seat; step = x })
@@ -81,10 +81,10 @@ is_still (step.Quar p v) = false
 is_still step.Grant = false
 is_still x = true
 
--- what is behind it but for the flights
-abbrev still_scene : Config → World → Seat → Step → Scene
+-- what is after it but for the flights
+abbrev still_scene : Config → World → Seat → Step → ImageScene
 still_scene c w seat x =
-    record (scene_of (world_behind c w (record { seat = seat; step = x }))) { flights = w.now.seats.flights }
+    record (image_scene_of (world_behind c w (record { seat = seat; step = x }))) { flights = w.now.seats.flights }
 
 turn_plain : (s : Stage) → is_turn_stage s ≡ true → is_put s ≡ false
 turn_plain stage.Put h = cc
@@ -94,7 +94,7 @@ idle_plain : (s : Stage) → s ≡ stage.Idle → is_put s ≡ false
 idle_plain s e = ap is_put e
 
 tally_scene : (w : World) (t : Tally) (v : ℕ)
-    → scene_of w ≡ record {
+    → image_scene_of w ≡ record {
       registers = (accessed w.now.words (Named (tally_word t)) (Store v)).registers;
       globals = (accessed w.now.words (Named (tally_word t)) (Store v)).globals;
       heap = (accessed w.now.words (Named (tally_word t)) (Store v)).heap;
@@ -112,8 +112,8 @@ none_target true = refl
 none_target false = refl
 
 module _ (c : Config) (w : World) (n : NeverState) (known : KnownWorld c w) (mirrors : Mirrors c w n)
-    (others : OthersSay c w) (safe : ℕ
-    → Bool) (ready : Ready c.globals safe (scene_of w) n) (st : Stands c w.now.words w.allocations) where
+    (others : ImagePremises c w) (safe : ℕ
+    → Bool) (ready : Ready c.globals safe (image_scene_of w) n) (st : Stands c w.now.words w.allocations) where
   -- at a release nothing is owed
   plain_at : (seat : Seat) → is_open_to seat group.Turn ≡ true → MeetsOf c w seat step.Release → (j : ℕ)
       → is_put (flight_among w.now.seats.flights j).stage ≡ false
@@ -135,14 +135,15 @@ module _ (c : Config) (w : World) (n : NeverState) (known : KnownWorld c w) (mir
   plain_at (Marker k) o h j = absurd (false≢true o)
 
   still_moves : (seat : Seat) (x : Step) → is_still x ≡ true → MeetsOf c w seat x
-      → Move safe (scene_of w) n (still_scene c w seat x) n
+      → Move safe (image_scene_of w) n (still_scene c w seat x) n
   still_moves seat step.Reg s h = absurd (false≢true s)
   still_moves seat step.Write s h = absurd (false≢true s)
   still_moves seat step.Cas s h = absurd (false≢true s)
   still_moves seat step.Setg s h = absurd (false≢true s)
   still_moves seat (step.Quar p v) s h = absurd (false≢true s)
   still_moves seat step.Grant s h = absurd (false≢true s)
-  still_moves seat (step.Tally t v) s h = subst (λ (x : Scene). Move safe (scene_of w) n x n) (tally_scene w t v) Rests
+  still_moves seat (step.Tally t v) s h =
+      subst (λ (x : ImageScene). Move safe (image_scene_of w) n x n) (tally_scene w t v) Rests
   still_moves seat (step.Wipe x) s h = Wipes x (wiped_outside c w n known mirrors others st x (h.holder))
   still_moves seat step.Begin s h =
       Renews (map no_longer_fresh w.allocations) (same_places no_longer_fresh w.allocations fresh_leaves)
@@ -154,11 +155,11 @@ module _ (c : Config) (w : World) (n : NeverState) (known : KnownWorld c w) (mir
   still_moves seat _ s h = Rests
 
   -- of a caller, whose flight stays
-  still_leads : (k : ℕ) (t : Scene) → Move safe (scene_of w) n t n → t.flights ≡ w.now.seats.flights
-      → Leads safe (scene_of w) n k (flight_of w.now (Caller k)).op
+  still_leads : (k : ℕ) (t : ImageScene) → Move safe (image_scene_of w) n t n → t.flights ≡ w.now.seats.flights
+      → Leads safe (image_scene_of w) n k (flight_of w.now (Caller k)).op
       (record t { flights = slice_set w.now.seats.flights k (flight_of w.now (Caller k)) }) None
   still_leads k t m e = (
-    subst (λ (fs : List Flight). Move safe (scene_of w) n (record t { flights = fs }) n) (e
+    subst (λ (fs : List Flight). Move safe (image_scene_of w) n (record t { flights = fs }) n) (e
         ∙ sym (set-get_or w.now.seats.flights k at_rest)) m,
     λ more. refl,
   )
@@ -261,10 +262,11 @@ module _ (c : Config) (w : World) (n : NeverState) (known : KnownWorld c w) (mir
       no_holder true e = false≢true e
       no_holder false e = false≢true e
   host_goes (step.Quar p v) h = (
-    subst (λ (x : Option Cell). Move safe (scene_of w) n
-        (record (scene_of w) { allocations = map (freed_where_it_stands w.now.words x) w.allocations }) n)
+    subst (λ (x : Option Cell). Move safe (image_scene_of w) n
+        (record (image_scene_of w) { allocations = map (freed_where_it_stands w.now.words x) w.allocations }) n)
         (sym (none_target (not (is_phase w.now.words 4) && frees w.now.words None p v)))
-        (subst (λ (xs : List PlacedAllocation). Move safe (scene_of w) n (record (scene_of w) { allocations = xs }) n)
+        (subst (λ (xs : List PlacedAllocation). Move safe (image_scene_of w) n (record
+        (image_scene_of w) { allocations = xs }) n)
         (sym (none_freed w.now.words w.allocations)) Rests),
     λ more. refl,
   )

@@ -29,10 +29,10 @@ use Rattle.mk_core.specs.History.{AreEnabledFrom}
 use Rattle.mk_core.proofs.Conditions.{enabled_meets}
 use Rattle.mk_core.proofs.HistoryParts.{enabled_in_parts, admitted_in_parts, earlier_part_is_history}
 use Rattle.mk_protocol.proofs.NextSteps.{at_its_stage}
-use Rattle.mk_images.specs.Images.{scene_of, CarriesOwn, ProbedOwn}
-use Rattle.mk_images.specs.OthersSay.{OthersSay}
+use Rattle.mk_images.specs.Images.{image_scene_of, CarriesOwn, ProbedOwn}
+use Rattle.mk_images.specs.ImagePremises.{ImagePremises}
 use Rattle.mk_images.specs.Mirrors.{Mirrors}
-use Rattle.mk_images.specs.Laws.{OthersSayAlong, HistoriesCompareValues}
+use Rattle.mk_images.specs.Laws.{ImagePremisesAlong, HistoriesCompareValues}
 use Rattle.mk_images.proofs.KnownWorlds.{KnownWorld, known_world}
 use Rattle.mk_images.proofs.Stands.{stands_of}
 use Rattle.mk_images.proofs.Before.{ready_of}
@@ -61,7 +61,7 @@ abbrev cas_of : ℕ → Event
 cas_of k = record { seat = Caller k; step = step.Cas }
 
 compares_values : (c : Config) (w : World) (n : NeverState) (k q i p r number place : ℕ) → KnownWorld c w
-    → OthersSay c w → Mirrors c w n → MeetsAll c w.now (cas_of k)
+    → ImagePremises c w → Mirrors c w n → MeetsAll c w.now (cas_of k)
     → (flight_of w.now (Caller k)).op ≡ op.CasPtr q i p r
     → AreAdmitted c.globals n (asked (call_decided c w.now (cas_of k)))
     → target_of n (register_at n k q) i ≡ WordOf number place
@@ -79,7 +79,8 @@ compares_values c w n k q i p r number place known others mirrors h is ad target
     let admitted : IsAdmitted c.globals n k o =
     subst (λ (y : Op). IsAdmitted c.globals n k y) is (admitted_call c.globals n k f.op _ (ap is_under_turn is) ad)
     in
-    let compared = cas_compares c.globals safe.0 (scene_of w) n k ready (there_is c w n known mirrors safe.0 ready k lt)
+    let compared = cas_compares c.globals safe.0 (image_scene_of w) n k ready
+    (there_is c w n known mirrors safe.0 ready k lt)
     (own_registers c w n known mirrors safe.0 ready k lt) q i p r f.q f.p f.r f.loaded x
     (subst (λ (g : Flight). CarriesOwn (bases_of w.allocations) n k g) lit (ready.images.carried k))
     (subst (λ (g : Flight). ProbedOwn n k g) lit (ready.images.probed k))
@@ -93,8 +94,8 @@ pub histories_compare : HistoriesCompareValues
 unfolding AreEnabledFrom calls_from
 histories_compare c es h others before behind k q i p r number whole is place target =
     let parts : IsHistory c (before ++ cas_of k ∷ behind) = subst (λ (xs : List Event). IsHistory c xs) whole h in
-    let say : OthersSayAlong c (before ++ cas_of k ∷ behind) =
-    subst (λ (xs : List Event). OthersSayAlong c xs) whole others in
+    let say : ImagePremisesAlong c (before ++ cas_of k ∷ behind) =
+    subst (λ (xs : List Event). ImagePremisesAlong c xs) whole others in
     let earlier = earlier_part_is_history c before (cas_of k ∷ behind) parts in
     let mirrors = histories_mirror c before earlier (say_along c before (cas_of k ∷ behind) say) in
     let on = ((enabled_in_parts c before (cas_of k ∷ behind)).0 parts.enabled).1.0 in

@@ -7,12 +7,12 @@ use Rattle.mk_core.specs.declared.config.Config.{Config}
 use Rattle.mk_core.specs.Bits.{has_bit}
 use Rattle.mk_core.specs.History.{first_world}
 use Rattle.mk_protocol.proofs.OrderlyLists.{at_first}
-use Rattle.mk_images.specs.OthersSay.{OthersSay}
+use Rattle.mk_images.specs.ImagePremises.{ImagePremises}
 
 bare_word : (k : ℕ) → has_bit 0 k ≡ false
 bare_word k = ap (λ x. x == 1) (bit_at-zero k)
 
-pub others_at_first : (c : Config) → OthersSay c (first_world c)
+pub others_at_first : (c : Config) → ImagePremises c (first_world c)
 others_at_first c =
     record {
       laid_out = λ i u. absurd (false≢true (sym u));

@@ -16,17 +16,17 @@ use Rattle.mk_core.specs.declared.seats.Flight.{Flight}
 use Rattle.mk_geom.specs.Addresses.{address_of}
 use Rattle.mk_core.specs.Image.{image_of}
 use Rattle.mk_core.specs.Words.{Words}
-use Rattle.mk_core.specs.Cells.{pointed_cell, first_word, is_freed, is_released}
+use Rattle.mk_core.specs.Cells.{pointed_cell, first_word, is_freed, is_released_cell}
 use Rattle.mk_core.specs.Allocations.{PlacedAllocation, stands_in, freed_where_it_stands, placed_at}
 use Rattle.mk_core.specs.History.{World, bases_of}
 use Rattle.mk_core.specs.Ranges.{is_run_cell}
-use Rattle.mk_images.specs.Images.{scene_of, flight_among, is_put, is_past_probe}
+use Rattle.mk_images.specs.Images.{image_scene_of, flight_among, is_put, is_past_probe}
 use Rattle.mk_images.specs.SafeSets.{IsSafe}
 use Rattle.mk_core.specs.Allocations.{cell_of_allocation}
 use Rattle.mk_images.proofs.Stands.{Stands}
 use Rattle.mk_images.proofs.KnownWorlds.{KnownWorld}
 use Rattle.mk_images.specs.Mirrors.{Mirrors}
-use Rattle.mk_images.specs.OthersSay.{OthersSay}
+use Rattle.mk_images.specs.ImagePremises.{ImagePremises}
 use Rattle.mk_images.proofs.Moves.{is_bare, Move, Decides, Frees}
 use Rattle.mk_images.proofs.Kept.{base_at, exists_placed}
 use Rattle.mk_images.proofs.Ready.{Ready, pointed_word}
@@ -44,18 +44,18 @@ is_freed_in w (Some cell) = is_freed w cell
 is_freed_in w None = false
 
 abbrev is_released_in : Words → Option Cell → Bool
-is_released_in w (Some cell) = is_released w cell
+is_released_in w (Some cell) = is_released_cell w cell
 is_released_in w None = false
 
 module _ (c : Config) (w : World) (n : NeverState) (known : KnownWorld c w) (mirrors : Mirrors c w n) (safe : ℕ
-    → Bool) (ready : Ready c.globals safe (scene_of w) n) (st : Stands c w.now.words w.allocations) where
+    → Bool) (ready : Ready c.globals safe (image_scene_of w) n) (st : Stands c w.now.words w.allocations) where
   -- the cell that a value points into
   pub pointer_cell : (a t o p : ℕ) → IsSound n (Ptr a t o) → IsSafe safe (Ptr a t o)
       → p ≡ image_of (bases_of w.allocations) (Ptr a t o)
       → pointed_cell c.pages w.now.words.pages p ≡ Some (cell_of_allocation c (placed_at w.allocations a))
   pointer_cell a t o p sound is e =
       let u = ready.set.unreleased a is in
-      let inside = pointed_word c.globals safe (scene_of w) n ready a t o sound in
+      let inside = pointed_word c.globals safe (image_scene_of w) n ready a t o sound in
       let fits = words_fit c w n known mirrors a (exists_placed w.allocations a u) in
       ap (pointed_cell c.pages w.now.words.pages) (e ∙ ap (λ b. address_of (b + o)) (base_at w.allocations a))
       ∙ st.cell a o u (omega arith)
@@ -65,14 +65,14 @@ module _ (c : Config) (w : World) (n : NeverState) (known : KnownWorld c w) (mir
       → (placed_at w.allocations b).base ≡ (placed_at w.allocations a).base → b ≡ a
   same_first a b ua ub e = elim (cases_eq b a) [ inl x ↦ x | inr ne ↦ absurd (st.apart b a ub ua ne e) ]
 
-  pub free_by : (others : OthersSay c w) (k : ℕ) (o : Op) (f : Flight) (p : ℕ) (cell : Cell) (v : Value)
-      → Decides (scene_of w) n k f → IsSound n v → IsSafe safe v
+  pub free_by : (others : ImagePremises c w) (k : ℕ) (o : Op) (f : Flight) (p : ℕ) (cell : Cell) (v : Value)
+      → Decides (image_scene_of w) n k f → IsSound n v → IsSafe safe v
       → p ≡ image_of (bases_of w.allocations) v → p ≢ 0
       → pointed_cell c.pages w.now.words.pages p ≡ Some cell → is_freed w.now.words cell ≡ false
       → (is_run_cell w.now.words (Some cell) ≡ true → (j : ℕ) → j ≢ k
       → is_past_probe (flight_among w.now.seats.flights j).stage ≡ false)
-      → Move safe (scene_of w) n
-      (record (scene_of w) {
+      → Move safe (image_scene_of w) n
+      (record (image_scene_of w) {
         flights = slice_set w.now.seats.flights k f;
         allocations = map (freed_where_it_stands w.now.words (Some cell)) w.allocations;
       }) (after_free n v)
@@ -127,12 +127,15 @@ module _ (c : Config) (w : World) (n : NeverState) (known : KnownWorld c w) (mir
         | inr h ↦ h
       ]
 
-  pub double_by : (others : OthersSay c w) (k : ℕ) (f : Flight) (p : ℕ) (cell : Cell) (v : Value)
+  pub double_by : (others : ImagePremises c w) (k : ℕ) (f : Flight) (p : ℕ) (cell : Cell) (v : Value)
       → is_put (flight_among w.now.seats.flights k).stage ≡ false
       → is_bare f.stage ≡ true → IsSound n v → IsSafe safe v
       → p ≡ image_of (bases_of w.allocations) v → p ≢ 0 → pointed_cell c.pages w.now.words.pages p ≡ Some cell
       → is_freed w.now.words cell ≡ true
-      → Move safe (scene_of w) n (record (scene_of w) { flights = slice_set w.now.seats.flights k f }) (after_free n v)
+      → Move safe (image_scene_of w) n (record (image_scene_of w) {
+        flights =
+            slice_set w.now.seats.flights k f;
+      }) (after_free n v)
       × (free_reply n v ≡ reply.Double)
   double_by others k f p cell Null was bare sound is e ne points is_free = absurd (ne e)
   double_by others k f p cell (Num m) was bare sound is e ne points is_free = absurd sound
@@ -150,9 +153,9 @@ module _ (c : Config) (w : World) (n : NeverState) (known : KnownWorld c w) (mir
             ∙ released))
       ] in
       let never : (allocation_at n a).freed ≡ true = sym (mirrors.twins.freed a lt) ∙ its in (
-        subst (λ (m : NeverState). Move safe (scene_of w) n
-            (record (scene_of w) { flights = slice_set w.now.seats.flights k f }) m) (sym (same_never a never))
-            (goes_bare safe (scene_of w) n k f was bare),
+        subst (λ (m : NeverState). Move safe (image_scene_of w) n
+            (record (image_scene_of w) { flights = slice_set w.now.seats.flights k f }) m) (sym (same_never a never))
+            (goes_bare safe (image_scene_of w) n k f was bare),
         ap (λ b. if b then reply.Double else reply.Done) never,
       )
     where

@@ -63,9 +63,9 @@ use Rattle.mk_protocol.proofs.OrderlyLists.{not_astray, actor_of}
 use Rattle.mk_protocol.proofs.Stages.{turns_stand}
 use Rattle.mk_protocol.proofs.NextSteps.{of_turn}
 use Rattle.mk_protocol.proofs.Sorts.{moves}
-use Rattle.mk_images.specs.Images.{scene_of, CarriesOwn}
+use Rattle.mk_images.specs.Images.{image_scene_of, CarriesOwn}
 use Rattle.mk_images.specs.SafeSets.{IsSafe}
-use Rattle.mk_images.specs.OthersSay.{OthersSay}
+use Rattle.mk_images.specs.ImagePremises.{ImagePremises}
 use Rattle.mk_images.specs.Mirrors.{Mirrors, PointsAtRun, OwnsFreedRun}
 use Rattle.mk_images.proofs.KnownWorlds.{KnownWorld}
 use Rattle.mk_images.proofs.Bases.{IsLonger}
@@ -78,14 +78,14 @@ use Rattle.mk_images.proofs.RegMoves.{flight}
 use Rattle.mk_images.proofs.FreeMoves.{pointer_cell}
 use Rattle.mk_images.proofs.CallSorts.{literal}
 
--- the heap that never reuses storage, behind an event
+-- the heap that never reuses storage, after an event
 abbrev pub never_after : Config → World → NeverState → Event → NeverState
 never_after c w n e = after_calls n (asked (call_decided c w.now e))
 
 abbrev event_of : Seat → Step → Event
 event_of seat x = record { seat = seat; step = x }
 
--- the run that is freed behind a step
+-- the run that is freed after a step
 abbrev freed_behind : Config → World → Seat → Flight → Step → Option RunPages
 freed_behind c w seat f x =
     (holding_behind c w.now seat f (found c w.now (event_of seat x)) x w.now.seats.holding).freed
@@ -120,7 +120,7 @@ was_freed c w seat f (step.Quar p v) run e =
     ]
 was_freed c w seat f _ run e = Before e refl
 
--- Who is under the turn behind a step of its own was so, where somebody had the turn.
+-- Who is under the turn after a step of its own was so, where somebody had the turn.
 
 holds_now : (c : Config) (v : View) (seat : Seat) (k : ℕ) → seat ≡ Caller k → HoldsTurn c v seat
     → standing (flight_in v k) ≡ UnderTurn
@@ -209,12 +209,12 @@ not_by : (j k : ℕ) (o : Op) (a : Option Answer) → j ≢ k → AreNotBy k (as
 not_by j k o None ne = tt
 not_by j k o (Some a) ne = (ne, tt)
 
-module _ (c : Config) (w : World) (n : NeverState) (known : KnownWorld c w) (others : OthersSay c w)
+module _ (c : Config) (w : World) (n : NeverState) (known : KnownWorld c w) (others : ImagePremises c w)
     (mirrors : Mirrors c w n) where
   st : Stands c w.now.words w.allocations
   st = stands_of c w known.limits others
 
-  ready : Ready c.globals mirrors.safe.0 (scene_of w) n
+  ready : Ready c.globals mirrors.safe.0 (image_scene_of w) n
   ready = ready_of c w n known mirrors st mirrors.safe.0 mirrors.safe.1
 
   -- who is in a decided Free holds the turn
@@ -222,7 +222,7 @@ module _ (c : Config) (w : World) (n : NeverState) (known : KnownWorld c w) (oth
       → HoldsTurn c (view_of w.now) (Caller k)
   holds k lt free = (lt, decided_free_stands (flight_of w.now (Caller k)).stage (flight_of w.now (Caller k)).op free)
 
-  -- what a register points at is there behind the event
+  -- what a register points at is there after the event
   points_on : (e : Event) (k r : ℕ) (run : RunPages)
       → IsLonger (bases_of w.allocations) (bases_of (world_behind c w e).allocations)
       → register_at (never_after c w n e) k r ≡ register_at n k r → PointsAtRun w n k r run
@@ -285,7 +285,7 @@ module _ (c : Config) (w : World) (n : NeverState) (known : KnownWorld c w) (oth
   turn_taken run old z = let e : None ≡ Some run = ap (λ (h : Holding). h.freed) (sym (known.now.orderly.free z))
       ∙ old in cc
 
-  -- what the group says behind the step of a seat
+  -- what the group says after the step of a seat
   abbrev OwnsBehind : Seat → Step → RunPages → ℕ → Type 0
   OwnsBehind seat x run k =
       is_decided_free (flight_of (world_behind c w (event_of seat x)).now (Caller k)) ≡ true
@@ -425,7 +425,7 @@ module _ (c : Config) (w : World) (n : NeverState) (known : KnownWorld c w) (oth
           by x (Before old g) = old
           by x (Now p v heads) = absurd (no_run w.now.words (not (is_phase w.now.words 4)) run heads)
 
-pub freed_run_stays : (c : Config) (w : World) (n : NeverState) (e : Event) → KnownWorld c w → OthersSay c w
+pub freed_run_stays : (c : Config) (w : World) (n : NeverState) (e : Event) → KnownWorld c w → ImagePremises c w
     → Mirrors c w n → Meets c w.now e.seat e.step
     → IsLonger (bases_of w.allocations) (bases_of (world_behind c w e).allocations)
     → AreAdmitted c.globals n (asked (call_decided c w.now e))

@@ -12,7 +12,7 @@ use Rattle.mk_core.specs.declared.config.Config.{Config}
 use Rattle.mk_core.specs.declared.seats.RunPages.{RunPages}
 use Rattle.mk_core.specs.Words.{Words, header_at, phase_of}
 use Rattle.mk_core.specs.Bounded.{is_some_and}
-use Rattle.mk_core.specs.Cells.{pointed_cell, first_word, header_in, is_released, is_left_unmarked, is_in_run}
+use Rattle.mk_core.specs.Cells.{pointed_cell, first_word, header_in, is_released_cell, is_left_unmarked, is_in_run}
 use Rattle.mk_core.specs.Cells.{is_unmapped_header}
 use Rattle.mk_core.specs.Moments.{is_phase}
 use Rattle.mk_core.specs.NewPlaces.{pages_made, base_made, stands, unmapped_header, is_run_unmapped}
@@ -27,7 +27,7 @@ use Rattle.mk_core.proofs.StandingAllocations.{typed_size, cells_begin}
 use Rattle.mk_core.proofs.GrantedAllocations.{placed_stands, placed_headers}
 use Rattle.mk_core.proofs.PointedAllocations.{word_points}
 use Rattle.mk_images.specs.Mirrors.{Mirrors}
-use Rattle.mk_images.specs.OthersSay.{IsPlaceOfNone, MayHoldWords, OfMapped, OfReleased, OfFreedRun, OthersSay}
+use Rattle.mk_images.specs.ImagePremises.{IsPlaceOfNone, MayHoldWords, OfMapped, OfReleased, OfFreedRun, ImagePremises}
 use Rattle.mk_images.proofs.KnownWorlds.{KnownWorld}
 use Rattle.mk_images.proofs.Kept.{exists_placed}
 use Rattle.mk_images.proofs.Stands.{is_gone, Stands}
@@ -58,7 +58,7 @@ first_in w (Some cell) = first_word w cell
 first_in w None = 0
 
 module _ (c : Config) (w : World) (n : NeverState) (known : KnownWorld c w) (mirrors : Mirrors c w n)
-    (others : OthersSay c w) (st : Stands c w.now.words w.allocations) where
+    (others : ImagePremises c w) (st : Stands c w.now.words w.allocations) where
   -- the words of a place that is granted, while no run is freed
   pub place_is_zero : (a : PlacedAllocation) (place : Place) → ((run : RunPages) → w.now.seats.holding.freed ≢ Some run)
       → phase_of w.now.words ≢ 4
@@ -102,10 +102,11 @@ module _ (c : Config) (w : World) (n : NeverState) (known : KnownWorld c w) (mir
       ap (λ y. pointed_cell c.pages w.now.words.pages (address_of y)) (sym e) ∙ st.cell a i u (omega arith) in
       let mapped : is_unmapped_header (header_in w.now.words (x / 64)) ≡ false =
       ap (λ y. is_unmapped_header (header_in w.now.words (y / 64))) (sym e) ∙ st.mapped a i u un (omega arith) in
-      elim (or_cases (is_some_and (is_released w.now.words) (pointed_cell c.pages w.now.words.pages (address_of x)))
+      elim (or_cases (is_some_and (is_released_cell w.now.words) (pointed_cell c.pages w.now.words.pages
+      (address_of x)))
       (is_in_gone_run w.now.words w.now.seats.holding.freed x) h) [
         | inl r ↦ absurd (false≢true (sym (others.kept a u)
-            ∙ ap (λ (y : Option Cell). is_some_and (is_released w.now.words) y) (sym cell) ∙ r))
+            ∙ ap (λ (y : Option Cell). is_some_and (is_released_cell w.now.words) y) (sym cell) ∙ r))
         | inr g ↦ absurd (true≢false (sym (gone_word w.now.seats.holding.freed refl g) ∙ mapped))
       ]
     where

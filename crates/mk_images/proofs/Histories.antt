@@ -26,9 +26,9 @@ use Rattle.mk_core.proofs.Histories.{left_more, enabled_more}
 use Rattle.mk_protocol.proofs.OrderlyLists.{at_first}
 use Rattle.mk_images.specs.Images.{shown, CarriesOwn, ProbedOwn}
 use Rattle.mk_images.specs.SafeSets.{IsSafe, HasSafeSet}
-use Rattle.mk_images.specs.OthersSay.{OthersSay}
+use Rattle.mk_images.specs.ImagePremises.{ImagePremises}
 use Rattle.mk_images.specs.Mirrors.{Mirrors}
-use Rattle.mk_images.specs.Laws.{OthersSayAlong, HistoriesRefineNever, HistoriesMirrorNever, ReachedIsUnreleased}
+use Rattle.mk_images.specs.Laws.{ImagePremisesAlong, HistoriesRefineNever, HistoriesMirrorNever, ReachedIsUnreleased}
 use Rattle.mk_images.specs.Laws.{HistoriesTellOthers}
 use Rattle.mk_images.proofs.KnownWorlds.{KnownWorld, known_world}
 use Rattle.mk_images.proofs.Pairs.{bare_carries}
@@ -64,7 +64,8 @@ joined_right bs n xs ys hx hy =
 -- The list is in two parts: the events that are done, and those that come.
 follows_from : (c : Config) (whole done es : List Event) (w : World) (n : NeverState) → IsWithinLimits c
     → w ≡ left c done → AreEnabled c done → AreEnabledFrom c w es
-    → done ++ es ≡ whole → OthersSayAlong c whole → Mirrors c w n → AreAdmitted c.globals n (asked (calls_from c w es))
+    → done ++ es ≡ whole → ImagePremisesAlong c whole → Mirrors c w n
+    → AreAdmitted c.globals n (asked (calls_from c w es))
     → FollowsAll c w n es
 unfolding left_from AreEnabledFrom calls_from
 follows_from c whole done [] w n limits is was on e others mirrors ad =
@@ -77,7 +78,7 @@ follows_from c whole done (x ∷ es) w n limits is was on e others mirrors ad =
     let admitted = admitted_split c.globals n (asked xs) (asked ys)
     (subst (λ (zs : List Call). AreAdmitted c.globals n zs) split ad) in
     let known : KnownWorld c w = subst (λ (y : World). KnownWorld c y) (sym is) (known_world c done limits was) in
-    let here : OthersSay c w = subst (λ (y : World). OthersSay c y) (sym is) (others done (x ∷ es) e) in
+    let here : ImagePremises c w = subst (λ (y : World). ImagePremises c y) (sym is) (others done (x ∷ es) e) in
     let one : Follows c w n x = one_event c w n x known here mirrors on.0 admitted.0 in
     let behind : v ≡ left c (done ++ x ∷ []) = ap (λ y. world_behind c y x) is
     ∙ sym (left_more c (first_world c) done x) in
@@ -136,7 +137,7 @@ first_mirrors c =
       safe = first_safe c;
     }
 
-all_follow : (c : Config) (es : List Event) → IsHistory c es → OthersSayAlong c es
+all_follow : (c : Config) (es : List Event) → IsHistory c es → ImagePremisesAlong c es
     → FollowsAll c (first_world c) (never_first c) es
 unfolding left_from AreEnabledFrom
 all_follow c es h others =
@@ -150,12 +151,13 @@ pub histories_mirror : HistoriesMirrorNever
 histories_mirror c es h others = (all_follow c es h others).mirrors
 
 -- The premises hold along each front.
-pub say_along : (c : Config) (front rest : List Event) → OthersSayAlong c (front ++ rest) → OthersSayAlong c front
+pub say_along : (c : Config) (front rest : List Event) → ImagePremisesAlong c (front ++ rest)
+    → ImagePremisesAlong c front
 say_along c front rest others xs ys e = others xs (ys ++ rest) (sym (append_assoc xs ys rest)
     ∙ ap (λ (zs : List Event). zs ++ rest) e)
 
 -- A list is the last of its own fronts.
-others_behind : (c : Config) (es : List Event) → OthersSayAlong c es → OthersSay c (left c es)
+others_behind : (c : Config) (es : List Event) → ImagePremisesAlong c es → ImagePremises c (left c es)
 others_behind c es others = others es [] (append-nil es)
 
 pub histories_tell : HistoriesTellOthers

@@ -25,7 +25,7 @@ use Rattle.mk_geom.specs.Addresses.{address_of}
 use Rattle.mk_core.specs.Image.{image_of}
 use Rattle.mk_core.specs.Allocations.{PlacedAllocation, never_granted, placed_at}
 use Rattle.mk_core.specs.History.{bases_of}
-use Rattle.mk_images.specs.Images.{Scene, flight_among, is_put, shown, is_past_probe, Carries, CarriesOwn, IsMet}
+use Rattle.mk_images.specs.Images.{ImageScene, flight_among, is_put, shown, is_past_probe, Carries, CarriesOwn, IsMet}
 use Rattle.mk_images.specs.Images.{ProbedOwn, AreImages}
 use Rattle.mk_images.proofs.Moves.{is_bare, Decides, Move, Rests, Flies, Owes, Pays, Stores, Shares, Writes, Wipes}
 use Rattle.mk_images.proofs.Moves.{Grants, Frees, Renews, Releases}
@@ -69,7 +69,7 @@ registers_from cs fs k f ys vs there own others i = elim (cases_eq (i / 8) k) [
 ]
 
 -- a caller's own register
-own_shown : (s : Scene) (n : NeverState) → AreImages s n → (k r : ℕ) → r < 8
+own_shown : (s : ImageScene) (n : NeverState) → AreImages s n → (k r : ℕ) → r < 8
     → shown (flight_among s.flights k) r (slice_index s.registers (8 * k + r))
     ≡ image_of (bases_of s.allocations) (register_at n k r)
 own_shown s n h k r lt =
@@ -80,7 +80,7 @@ own_shown s n h k r lt =
     (subst (λ (j : ℕ). shown (flight_among s.flights ((8 * k + r) / 8)) j (slice_index s.registers (8 * k + r))
     ≡ image_of (bases_of s.allocations) (register_at n k r)) b (h.registers (8 * k + r)))
 
-pub own_plain : (s : Scene) (n : NeverState) → AreImages s n → (k r : ℕ) → r < 8
+pub own_plain : (s : ImageScene) (n : NeverState) → AreImages s n → (k r : ℕ) → r < 8
     → is_put (flight_among s.flights k).stage ≡ false
     → slice_index s.registers (8 * k + r) ≡ image_of (bases_of s.allocations) (register_at n k r)
 own_plain s n h k r lt was = sym (shows_plain (flight_among s.flights k) r (slice_index s.registers (8 * k + r)) was)
@@ -127,7 +127,7 @@ other_register n k d j r v ld lr ne =
 put_past : (s : Stage) → s ≡ stage.Put → is_past_probe s ≡ false
 put_past s e = ap is_past_probe e
 
-module _ (s : Scene) (n : NeverState) (h : AreImages s n) (small : AreSmall s.flights) where
+module _ (s : ImageScene) (n : NeverState) (h : AreImages s n) (small : AreSmall s.flights) where
   flies : (k : ℕ) (f : Flight) → ((r x : ℕ) → shown f r x ≡ shown (flight_among s.flights k) r x)
       → CarriesOwn (bases_of s.allocations) n k f → ProbedOwn n k f
       → AreImages (record s { flights = slice_set s.flights k f }) n
@@ -314,7 +314,7 @@ word_elsewhere n a i b j v ne =
     (get_or-set_other n.allocations a b (record (allocation_at n a) { words = slice_set (words_of n a) i v })
     no_allocation ne)
 
-module _ (s : Scene) (n : NeverState) (h : AreImages s n) (small : AreSmall s.flights) where
+module _ (s : ImageScene) (n : NeverState) (h : AreImages s n) (small : AreSmall s.flights) where
   writes : AreApart s.allocations n → (k a i x : ℕ) (f : Flight) (v : Value) → Decides s n k f
       → (placed_at s.allocations a).released ≡ false → i < length (words_of n a)
       → (placed_at s.allocations a).base + i < length s.heap → x ≡ image_of (bases_of s.allocations) v
@@ -369,7 +369,7 @@ pub same_base : (xs ys : List PlacedAllocation) → bases_of ys ≡ bases_of xs 
     → (placed_at ys a).base ≡ (placed_at xs a).base
 same_base xs ys e a = sym (base_at ys a) ∙ ap (λ bs. slice_index bs a) e ∙ base_at xs a
 
-module _ (s : Scene) (n : NeverState) (h : AreImages s n) where
+module _ (s : ImageScene) (n : NeverState) (h : AreImages s n) where
   pub rebased : (xs : List PlacedAllocation) → bases_of xs ≡ bases_of s.allocations
       → ((a : ℕ) → (placed_at xs a).released ≡ false → (placed_at s.allocations a).released ≡ false)
       → AreImages (record s { allocations = xs }) n
@@ -406,7 +406,7 @@ freed_is : (n : NeverState) (a b : ℕ) → is_unmapped (record (allocation_at n
 freed_is n a b s u = set_by (λ (x : NeverAllocation). is_unmapped x ≡ false) n.allocations a b
     (record (allocation_at n a) { freed = true }) no_allocation (λ e. s) u
 
-module _ (s : Scene) (n : NeverState) (h : AreImages s n) (small : AreSmall s.flights) where
+module _ (s : ImageScene) (n : NeverState) (h : AreImages s n) (small : AreSmall s.flights) where
   frees : (k a : ℕ) (f : Flight) → Decides s n k f
       → (is_unmapped (record (allocation_at n a) { freed = true }) ≡ true → (j : ℕ) → j ≢ k
       → is_past_probe (flight_among s.flights j).stage ≡ false)
@@ -509,7 +509,7 @@ exists_placed xs a h = elim (cases_lt a (length xs)) [
       ∙ h in absurd (cc)
 ]
 
-module _ (globals : List ℕ) (s : Scene) (n : NeverState) (h : AreImages s n) (small : AreSmall s.flights)
+module _ (globals : List ℕ) (s : ImageScene) (n : NeverState) (h : AreImages s n) (small : AreSmall s.flights)
     (typed : IsTyped globals n) (same : length s.allocations ≡ length n.allocations) where
   grants : (k d base ty : ℕ) (f : Flight) → Decides s n k f → 8 * k + 7 < length s.registers → d < 8
       → ((i : ℕ) → i < length (kinds_of n.types ty) → slice_index s.heap (base + i) ≡ 0)
@@ -576,7 +576,7 @@ module _ (globals : List ℕ) (s : Scene) (n : NeverState) (h : AreImages s n) (
       }
 
 -- each move
-pub images_kept : (globals : List ℕ) (safe : ℕ → Bool) (s t : Scene) (n m : NeverState) → AreImages s n
+pub images_kept : (globals : List ℕ) (safe : ℕ → Bool) (s t : ImageScene) (n m : NeverState) → AreImages s n
     → AreSmall s.flights → IsTyped globals n
     → length s.allocations ≡ length n.allocations → AreApart s.allocations n
     → Move safe s n t m → AreImages t m

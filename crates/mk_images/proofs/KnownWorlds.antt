@@ -1,4 +1,4 @@
--- All that is known of a world behind an enabled list, of whatever calls.
+-- All that is known of a world after an enabled list, of whatever calls.
 use Rattle.std.proofs.Common.{List}
 use Rattle.mk_core.specs.declared.config.Config.{Config}
 use Rattle.mk_core.specs.declared.events.Event.{Event}

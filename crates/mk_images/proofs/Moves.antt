@@ -14,7 +14,7 @@ use Rattle.mk_geom.specs.Addresses.{address_of}
 use Rattle.mk_core.specs.Image.{image_of}
 use Rattle.mk_core.specs.Allocations.{PlacedAllocation, placed_at}
 use Rattle.mk_core.specs.History.{bases_of}
-use Rattle.mk_images.specs.Images.{Scene, flight_among, is_put, shown, CarriesOwn, ProbedOwn, is_past_probe}
+use Rattle.mk_images.specs.Images.{ImageScene, flight_among, is_put, shown, CarriesOwn, ProbedOwn, is_past_probe}
 use Rattle.mk_images.specs.SafeSets.{IsSafe, IsSafeSet}
 
 -- nothing is carried, and nothing owed
@@ -26,8 +26,8 @@ is_bare stage.Leave = true
 is_bare stage.Give = true
 is_bare _ = false
 
--- the caller's call, of which nothing is owed, is over or decided behind the event
-pub record Decides (s : Scene) (n : NeverState) (k : ℕ) (f : Flight) : Type 0 where
+-- the caller's call, of which nothing is owed, is over or decided after the event
+pub record Decides (s : ImageScene) (n : NeverState) (k : ℕ) (f : Flight) : Type 0 where
   pub there : k < length s.flights
   pub registers : 8 * k + 7 < length n.registers
   pub was : is_put (flight_among s.flights k).stage ≡ false
@@ -46,7 +46,7 @@ abbrev pub SameFreed : List PlacedAllocation → List PlacedAllocation → Type 
 SameFreed xs ys = (a : ℕ) → (placed_at ys a).freed ≡ (placed_at xs a).freed
 
 -- from what an event finds to what it leaves
-pub data Move (safe : ℕ → Bool) (s : Scene) (n : NeverState) : Scene → NeverState → Type 0 where
+pub data Move (safe : ℕ → Bool) (s : ImageScene) (n : NeverState) : ImageScene → NeverState → Type 0 where
   Rests : Move safe s n s n
   Flies : (k : ℕ) (f : Flight) → ((r x : ℕ) → shown f r x ≡ shown (flight_among s.flights k) r x)
       → CarriesOwn (bases_of s.allocations) n k f → ProbedOwn n k f

@@ -1,4 +1,4 @@
--- One event: the world mirrors the heap that never reuses storage behind it, and the answer that it decides is right.
+-- One event: the world mirrors the heap that never reuses storage after it, and the answer that it decides is right.
 use Rattle.std.proofs.Common.{◌≡◌, ℕ, List, ◌++◌, ◌∙◌}
 use Rattle.mk_never.specs.NeverHeap.{NeverState, replies_of}
 use Rattle.mk_never.specs.Admitted.{AreAdmitted}
@@ -12,8 +12,8 @@ use Rattle.mk_core.specs.Decided.{asked, answered}
 use Rattle.mk_core.specs.Enabled.{IsEnabled}
 use Rattle.mk_core.specs.History.{World, world_behind, call_decided, bases_of}
 use Rattle.mk_core.proofs.Conditions.{enabled_meets}
-use Rattle.mk_images.specs.Images.{scene_of}
-use Rattle.mk_images.specs.OthersSay.{OthersSay}
+use Rattle.mk_images.specs.Images.{image_scene_of}
+use Rattle.mk_images.specs.ImagePremises.{ImagePremises}
 use Rattle.mk_images.specs.Mirrors.{Mirrors}
 use Rattle.mk_images.proofs.KnownWorlds.{KnownWorld}
 use Rattle.mk_images.proofs.Bases.{IsLonger, bases_grow}
@@ -32,7 +32,8 @@ pub record Follows (c : Config) (w : World) (n : NeverState) (e : Event) : Type 
       → answered (call_decided c w.now e)
       ≡ answers_of (bases_of (world_behind c w e).allocations ++ later) (replies_of n (asked (call_decided c w.now e)))
 
-pub one_event : (c : Config) (w : World) (n : NeverState) (e : Event) → KnownWorld c w → OthersSay c w → Mirrors c w n
+pub one_event : (c : Config) (w : World) (n : NeverState) (e : Event) → KnownWorld c w → ImagePremises c w
+    → Mirrors c w n
     → IsEnabled c w.now e
     → AreAdmitted c.globals n (asked (call_decided c w.now e)) → Follows c w n e
 one_event c w n e known others mirrors on ad =
@@ -41,19 +42,21 @@ one_event c w n e known others mirrors on ad =
     let ready = ready_of c w n known mirrors st safe.0 safe.1 in
     let leads = goes c w n known mirrors others safe.0 ready st e.seat e.step (enabled_meets c w.now e on) ad in
     let stays : Continues n (never_after c w n e) = calls_stay n (asked (call_decided c w.now e)) in
-    let grows = bases_grow safe.0 (scene_of w) (scene_of (world_behind c w e)) n (never_after c w n e) leads.0 in
+    let grows = bases_grow safe.0 (image_scene_of w) (image_scene_of (world_behind c w e)) n
+    (never_after c w n e) leads.0 in
     record {
       mirrors = record {
         types = stays.types ∙ mirrors.types;
         register_count = stays.registers ∙ mirrors.register_count;
         global_count = stays.globals ∙ mirrors.global_count;
         typed = calls_keep c.globals n (asked (call_decided c w.now e)) mirrors.typed ad;
-        twins = twins_kept safe.0 (scene_of w) (scene_of (world_behind c w e)) n (never_after c w n e) mirrors.twins
+        twins = twins_kept safe.0 (image_scene_of w) (image_scene_of (world_behind c w e)) n
+            (never_after c w n e) mirrors.twins
             leads.0;
-        images = images_kept c.globals safe.0 (scene_of w) (scene_of (world_behind c w e)) n
+        images = images_kept c.globals safe.0 (image_scene_of w) (image_scene_of (world_behind c w e)) n
             (never_after c w n e) mirrors.images ready.small mirrors.typed mirrors.twins.count ready.apart leads.0;
         freed_run = freed_run_stays c w n e known others mirrors (enabled_meets c w.now e on) grows ad;
-        safe = safe_kept safe.0 (scene_of w) (scene_of (world_behind c w e)) n (never_after c w n e) safe.1
+        safe = safe_kept safe.0 (image_scene_of w) (image_scene_of (world_behind c w e)) n (never_after c w n e) safe.1
             mirrors.twins.count leads.0;
       };
       bases = grows;

@@ -17,14 +17,14 @@ use Rattle.mk_core.specs.Allocations.{PlacedAllocation, placed_at}
 use Rattle.mk_core.specs.History.{bases_of}
 use Rattle.mk_geom.specs.Headers.{header_of}
 use Rattle.mk_core.specs.Cells.{is_unmapped_header}
-use Rattle.mk_images.specs.Images.{Scene, IsMet}
+use Rattle.mk_images.specs.Images.{ImageScene, IsMet}
 use Rattle.mk_images.specs.SafeSets.{IsSafe}
 use Rattle.mk_images.proofs.Pairs.{image_more}
 use Rattle.mk_images.proofs.Kept.{base_at}
 use Rattle.mk_images.proofs.Ready.{Ready}
 
 -- the access through the value, i words on, whose address is in q
-pub record Reaches (safe : ℕ → Bool) (s : Scene) (n : NeverState) (v : Value) (q i : ℕ) (P : Kind
+pub record Reaches (safe : ℕ → Bool) (s : ImageScene) (n : NeverState) (v : Value) (q i : ℕ) (P : Kind
     → Type 0) : Type 0 where
   pub number : ℕ
   pub place : ℕ
@@ -38,13 +38,13 @@ pub record Reaches (safe : ℕ → Bool) (s : Scene) (n : NeverState) (v : Value
   pub kind : P (kind_in n (allocation_at n number) place)
 
 -- where a header of a page says that it is unmapped
-abbrev pub PagesShow : (ℕ → ℕ) → Scene → NeverState → Type 0
+abbrev pub PagesShow : (ℕ → ℕ) → ImageScene → NeverState → Type 0
 PagesShow header s n =
     (a i : ℕ) → (placed_at s.allocations a).released ≡ false → i < length (words_of n a)
     → is_unmapped_header (header_of (header (((placed_at s.allocations a).base + i) / 64)))
     ≡ is_unmapped (allocation_at n a)
 
-module _ (listed : List ℕ) (safe : ℕ → Bool) (s : Scene) (n : NeverState) (h : Ready listed safe s n) where
+module _ (listed : List ℕ) (safe : ℕ → Bool) (s : ImageScene) (n : NeverState) (h : Ready listed safe s n) where
   word_is : (a t o q i : ℕ) → q ≡ image_of (bases_of s.allocations) (Ptr a t o)
       → (q - 65536) / 8 + i ≡ (placed_at s.allocations a).base + (o + i)
   word_is a t o q i e = let b = base_at s.allocations a in omega arith
@@ -69,7 +69,7 @@ module _ (listed : List ℕ) (safe : ℕ → Bool) (s : Scene) (n : NeverState) 
         kind = meets.1;
       }
 
-  -- what `probe` tells
+  -- what `probe` says
   pub unmapped_target : (header : ℕ → ℕ) → PagesShow header s n → (v : Value) (q i : ℕ) (P : Kind → Type 0)
       → q ≡ image_of (bases_of s.allocations) v → q ≢ 0 → IsSound n v
       → IsSafe safe v → Meets n v i P

@@ -18,13 +18,13 @@ use Rattle.mk_core.specs.Calls.{one_if}
 use Rattle.mk_core.specs.Image.{image_of, answer_of, answers_of}
 use Rattle.mk_core.specs.History.{bases_of}
 use Rattle.mk_core.specs.Decided.{entry_of, flagged, asked, answered}
-use Rattle.mk_images.specs.Images.{Scene, AreImages}
+use Rattle.mk_images.specs.Images.{ImageScene, AreImages}
 use Rattle.mk_core.specs.Allocations.{placed_at}
 use Rattle.mk_images.specs.SafeSets.{IsSafe, IsSafeSet}
 use Rattle.mk_images.proofs.Moves.{Move}
 use Rattle.mk_images.proofs.Kept.{AreApart, AreSmall, base_at}
 
-pub record Ready (listed : List ℕ) (safe : ℕ → Bool) (s : Scene) (n : NeverState) : Type 0 where
+pub record Ready (listed : List ℕ) (safe : ℕ → Bool) (s : ImageScene) (n : NeverState) : Type 0 where
   pub images : AreImages s n
   pub typed : IsTyped listed n
   pub set : IsSafeSet safe s.allocations n
@@ -37,7 +37,7 @@ pub record Ready (listed : List ℕ) (safe : ℕ → Bool) (s : Scene) (n : Neve
   pub full : (ty : ℕ) → ty < length n.types → 0 < length (kinds_of n.types ty)
 
 -- a sound pointer points to one of the words
-pub pointed_word : (listed : List ℕ) (safe : ℕ → Bool) (s : Scene) (n : NeverState) → Ready listed safe s n
+pub pointed_word : (listed : List ℕ) (safe : ℕ → Bool) (s : ImageScene) (n : NeverState) → Ready listed safe s n
     → (a t o : ℕ) → IsSound n (Ptr a t o) → o < length (words_of n a)
 pointed_word listed safe s n h a t o sound =
     let typed : IsTypedAllocation n (allocation_at n a) = h.typed.allocations a sound.0 in
@@ -52,7 +52,7 @@ image_zero n bs Null s e = refl
 image_zero n bs (Num m) s e = absurd s
 image_zero n bs (Ptr a t o) s e = absurd (omega arith)
 
-pub image_same : (listed : List ℕ) (safe : ℕ → Bool) (s : Scene) (n : NeverState) → Ready listed safe s n
+pub image_same : (listed : List ℕ) (safe : ℕ → Bool) (s : ImageScene) (n : NeverState) → Ready listed safe s n
     → (u v : Value) → IsSound n u → IsSound n v → IsSafe safe u
     → IsSafe safe v
     → image_of (bases_of s.allocations) u ≡ image_of (bases_of s.allocations) v → u ≡ v
@@ -75,7 +75,7 @@ image_same listed safe s n h (Ptr a t o) (Ptr b u i) su sv fu fv e =
           (pointed_word listed safe s n h a t o su) (pointed_word listed safe s n h b u i sv) ne places)
     ]
 
-pub image_test : (listed : List ℕ) (safe : ℕ → Bool) (s : Scene) (n : NeverState) → Ready listed safe s n
+pub image_test : (listed : List ℕ) (safe : ℕ → Bool) (s : ImageScene) (n : NeverState) → Ready listed safe s n
     → (u v : Value) → IsSound n u → IsSound n v → IsSafe safe u
     → IsSafe safe v
     → (image_of (bases_of s.allocations) u == image_of (bases_of s.allocations) v) ≡ is_same u v
@@ -91,16 +91,16 @@ bit_is true = refl
 bit_is false = refl
 
 -- what an event leads to, and that the answer that it decides is right
-abbrev pub Leads : (ℕ → Bool) → Scene → NeverState → ℕ → Op → Scene → Option Answer → Type 0
+abbrev pub Leads : (ℕ → Bool) → ImageScene → NeverState → ℕ → Op → ImageScene → Option Answer → Type 0
 Leads safe s n k o t a =
     Move safe s n t (after_calls n (asked (entry_of k o a)))
     × ((more : List ℕ) → answered (entry_of k o a)
     ≡ answers_of (bases_of t.allocations ++ more) (replies_of n (asked (entry_of k o a))))
 
-abbrev pub LeadsBy : (ℕ → Bool) → Scene → NeverState → ℕ → Op → Scene → Progress → Type 0
+abbrev pub LeadsBy : (ℕ → Bool) → ImageScene → NeverState → ℕ → Op → ImageScene → Progress → Type 0
 LeadsBy safe s n k o t p = Leads safe s n k o (record t { flights = slice_set s.flights k p.flight }) p.answer
 
-pub either_leads : (safe : ℕ → Bool) (s : Scene) (n : NeverState) (k : ℕ) (o : Op) (t : Scene) (b : Bool)
+pub either_leads : (safe : ℕ → Bool) (s : ImageScene) (n : NeverState) (k : ℕ) (o : Op) (t : ImageScene) (b : Bool)
     (p q : Progress) → (b ≡ true → LeadsBy safe s n k o t p)
     → (b ≡ false → LeadsBy safe s n k o t q)
     → LeadsBy safe s n k o t (if b then p else q)

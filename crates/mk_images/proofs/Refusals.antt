@@ -19,7 +19,7 @@ use Rattle.mk_core.specs.Calls.{q_of, i_of, d_of, stage_refused}
 use Rattle.mk_core.specs.Image.{answer_of}
 use Rattle.mk_core.specs.History.{bases_of}
 use Rattle.mk_core.specs.Decided.{flagged}
-use Rattle.mk_images.specs.Images.{Scene, flight_among, is_put}
+use Rattle.mk_images.specs.Images.{ImageScene, flight_among, is_put}
 use Rattle.mk_images.proofs.Moves.{is_bare, Move, Flies, Owes}
 use Rattle.mk_images.proofs.Pairs.{bare_carries, bare_unprobed, shows_plain, bare_owes_nothing}
 use Rattle.mk_images.proofs.Ready.{Leads, one_right}
@@ -36,8 +36,8 @@ abbrev pub is_word : Target → Bool
 is_word (WordOf a i) = true
 is_word _ = false
 
--- a flight that goes on, with nothing owed before or behind
-pub goes_bare : (safe : ℕ → Bool) (s : Scene) (n : NeverState) (k : ℕ) (f : Flight)
+-- a flight that goes on, with nothing owed before or after
+pub goes_bare : (safe : ℕ → Bool) (s : ImageScene) (n : NeverState) (k : ℕ) (f : Flight)
     → is_put (flight_among s.flights k).stage ≡ false → is_bare f.stage ≡ true
     → Move safe s n (record s { flights = slice_set s.flights k f }) n
 goes_bare safe s n k f was bare =
@@ -46,7 +46,7 @@ goes_bare safe s n k f was bare =
     (λ past. let x : false ≡ true = sym (bare_unprobed f.stage bare) ∙ past in cc)
 
 -- a decided call that leaves the heap as it is
-pub decides_nothing : (safe : ℕ → Bool) (s : Scene) (n : NeverState) (k : ℕ) (o : Op) (f : Flight) (a : Answer)
+pub decides_nothing : (safe : ℕ → Bool) (s : ImageScene) (n : NeverState) (k : ℕ) (o : Op) (f : Flight) (a : Answer)
     → flagged o a ≡ o
     → is_put (flight_among s.flights k).stage ≡ false → is_bare f.stage ≡ true → after_op n k o ≡ n
     → ((bs : List ℕ) → a ≡ answer_of bs (reply_of n k o))
@@ -59,7 +59,7 @@ decides_nothing safe s n k o f a flag was bare stays is = (
 )
 
 -- a refused call whose register becomes null, which is still to be stored
-pub owes_null : (safe : ℕ → Bool) (s : Scene) (n : NeverState) (k d : ℕ) (o : Op) (f : Flight) (a : Answer)
+pub owes_null : (safe : ℕ → Bool) (s : ImageScene) (n : NeverState) (k d : ℕ) (o : Op) (f : Flight) (a : Answer)
     → flagged o a ≡ o → k < length s.flights
     → 8 * k + 7 < length n.registers → is_put (flight_among s.flights k).stage ≡ false
     → f.stage ≡ stage.Put → d_of f.op ≡ d → d < 8 → f.loaded ≡ 0 → after_op n k o ≡ with_register n k d Null
@@ -99,7 +99,7 @@ abbrev flight : Stage → Op → ℕ → ℕ → ℕ → ℕ → Flight
 flight st o q p r l = record { stage = st; op = o; q = q; p = p; r = r; loaded = l }
 
 -- an access that reaches none word
-pub refuses : (safe : ℕ → Bool) (s : Scene) (n : NeverState) (k : ℕ) (o : Op) (q p r : ℕ) (a : Answer) (t : Target)
+pub refuses : (safe : ℕ → Bool) (s : ImageScene) (n : NeverState) (k : ℕ) (o : Op) (q p r : ℕ) (a : Answer) (t : Target)
     → accesses o ≡ true → k < length s.flights
     → 8 * k + 7 < length n.registers
     → is_put (flight_among s.flights k).stage ≡ false → d_of o < 8 → is_word t ≡ false

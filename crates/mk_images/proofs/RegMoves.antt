@@ -25,7 +25,7 @@ use Rattle.mk_core.specs.Decided.{entry_of, asked}
 use Rattle.mk_core.specs.Accesses.{register_met}
 use Rattle.mk_protocol.proofs.Standings.{standing_at, is_astray}
 use Rattle.mk_protocol.proofs.Stages.{is_reg_stage}
-use Rattle.mk_images.specs.Images.{is_past_probe, Scene, flight_among, is_put, has_p, has_some_p, has_r, Carries}
+use Rattle.mk_images.specs.Images.{is_past_probe, ImageScene, flight_among, is_put, has_p, has_some_p, has_r, Carries}
 use Rattle.mk_images.specs.Images.{CarriesOwn, ProbedOwn}
 use Rattle.mk_images.specs.SafeSets.{IsSafe}
 use Rattle.mk_images.proofs.Moves.{Move, Flies, Pays, Stores}
@@ -50,7 +50,7 @@ carries_q bs f a b d e ne p sp r = record {
   r = λ x. let y : false ≡ true = sym r ∙ x in cc;
 }
 
--- behind the load of q, an access carries q alone
+-- after the load of q, an access carries q alone
 record BehindLoadQ (s : Stage) (o : Op) : Type 0 where
   pub p : has_p s o ≡ false
   pub some_p : has_some_p s o ≡ false
@@ -67,7 +67,7 @@ behind_load_q (op.CasPtr q i p r) h = record { p = refl; some_p = refl; r = refl
 behind_load_q _ h = absurd (false≢true h)
 
 -- a flight that goes on undecided
-pub flies_on : (safe : ℕ → Bool) (s : Scene) (n : NeverState) (k : ℕ) (o : Op) (f : Flight)
+pub flies_on : (safe : ℕ → Bool) (s : ImageScene) (n : NeverState) (k : ℕ) (o : Op) (f : Flight)
     → is_put (flight_among s.flights k).stage ≡ false → is_put f.stage ≡ false
     → CarriesOwn (bases_of s.allocations) n k f → ProbedOwn n k f
     → Leads safe s n k o (record s { flights = slice_set s.flights k f }) None
@@ -77,7 +77,7 @@ flies_on safe s n k o f was is carries probed = (
 )
 
 -- a pointer i words on
-lea_value : (listed : List ℕ) (safe : ℕ → Bool) (s : Scene) (n : NeverState) → Ready listed safe s n
+lea_value : (listed : List ℕ) (safe : ℕ → Bool) (s : ImageScene) (n : NeverState) → Ready listed safe s n
     → (v : Value) (x i : ℕ) → IsSound n v → IsSafe safe v
     → x ≡ image_of (bases_of s.allocations) v → x ≢ 0
     → Meets n v i (λ kind. Unit {0}) → ((x + 8 * i) % 2 ^ 64 ≡ image_of (bases_of s.allocations) (moved_on v i))
@@ -91,7 +91,7 @@ lea_value listed safe s n h (Ptr a t o) x i sound is e ne meets =
     let room = h.room in
     (omega arith, is, refl)
 
-module _ (listed : List ℕ) (safe : ℕ → Bool) (s : Scene) (n : NeverState) (k : ℕ) (h : Ready listed safe s n)
+module _ (listed : List ℕ) (safe : ℕ → Bool) (s : ImageScene) (n : NeverState) (k : ℕ) (h : Ready listed safe s n)
     (there : k < length s.flights) (long : 8 * k + 7 < length n.registers) (longs : 8 * k + 7 < length s.registers)
   where
     null_at : (q x : ℕ) → x ≡ image_of (bases_of s.allocations) (register_at n k q) → (x == 0) ≡ true
@@ -267,13 +267,13 @@ module _ (listed : List ℕ) (safe : ℕ → Bool) (s : Scene) (n : NeverState) 
       λ more. refl,
     )
 
--- the registers behind `reg`
+-- the registers after `reg`
 abbrev pub registers_behind : List ℕ → ℕ → Flight → Stage → List ℕ
 registers_behind xs k f stage.Store = slice_set xs (8 * k + d_of f.op) (value_for f f.op)
 registers_behind xs k f stage.Put = slice_set xs (8 * k + d_of f.op) f.loaded
 registers_behind xs k f _ = xs
 
-pub reg_leads : (listed : List ℕ) (safe : ℕ → Bool) (s : Scene) (n : NeverState) (k : ℕ) → Ready listed safe s n
+pub reg_leads : (listed : List ℕ) (safe : ℕ → Bool) (s : ImageScene) (n : NeverState) (k : ℕ) → Ready listed safe s n
     → k < length s.flights → 8 * k + 7 < length n.registers
     → 8 * k + 7 < length s.registers
     → (st : Stage) (o : Op) (q p r l x : ℕ) → flight_among s.flights k ≡ flight st o q p r l → d_of o < 8

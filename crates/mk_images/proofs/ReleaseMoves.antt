@@ -23,7 +23,7 @@ use Rattle.mk_core.proofs.StandingAllocations.{storage_holds}
 use Rattle.mk_geom.specs.declared.addresses.Cell.{Cell}
 use Rattle.mk_core.specs.Allocations.{PlacedAllocation, storage_words, with_released, placed_at}
 use Rattle.mk_core.specs.History.{World, bases_of}
-use Rattle.mk_images.specs.Images.{scene_of, flight_among, is_put}
+use Rattle.mk_images.specs.Images.{image_scene_of, flight_among, is_put}
 use Rattle.mk_images.specs.SafeSets.{IsSafe, IsSafeSet}
 use Rattle.mk_core.specs.Allocations.{cell_of_allocation}
 use Rattle.mk_images.proofs.Stands.{Stands, is_gone}
@@ -51,7 +51,7 @@ is_number_kind Number h = refl
 is_number_kind (To t o) h = cc
 
 module _ (c : Config) (w : World) (n : NeverState) (known : KnownWorld c w) (mirrors : Mirrors c w n) (safe : ℕ
-    → Bool) (ready : Ready c.globals safe (scene_of w) n) (st : Stands c w.now.words w.allocations)
+    → Bool) (ready : Ready c.globals safe (image_scene_of w) n) (st : Stands c w.now.words w.allocations)
     (marks : MarksAreClosed c w) (plain : (j : ℕ) → is_put (flight_among w.now.seats.flights j).stage ≡ false) where
   abbrev cut : ℕ → Bool
   cut a = safe a && is_marked w.now.words (cell_of_allocation c (placed_at w.allocations a))
@@ -63,7 +63,7 @@ module _ (c : Config) (w : World) (n : NeverState) (known : KnownWorld c w) (mir
   value_cut (Ptr a t o) sound is well =
       let u = ready.set.unreleased a is in
       let lt = exists_placed w.allocations a u in
-      let word = pointed_word c.globals safe (scene_of w) n ready a t o sound in
+      let word = pointed_word c.globals safe (image_scene_of w) n ready a t o sound in
       let fits = words_fit c w n known mirrors a lt in
       let cell = ap (λ b. pointed_cell c.pages w.now.words.pages (address_of (b + o))) (base_at w.allocations a)
       ∙ st.cell a o u (omega arith) in
@@ -169,8 +169,8 @@ module _ (c : Config) (w : World) (n : NeverState) (known : KnownWorld c w) (mir
             parts.1;
       }
 
-  pub releases : Move safe (scene_of w) n
-      (record (scene_of w) { allocations = map (with_released c w.now.words) w.allocations }) n
+  pub releases : Move safe (image_scene_of w) n
+      (record (image_scene_of w) { allocations = map (with_released c w.now.words) w.allocations }) n
   releases =
       Releases (map (with_released c w.now.words) w.allocations)
       (same_places (with_released c w.now.words) w.allocations (released_leaves c w.now.words))

@@ -1,4 +1,4 @@
--- There is a safe set behind each move, and the two lists of allocations still go together.
+-- There is a safe set after each move, and the two lists of allocations still go together.
 use Rattle.std.proofs.Common.{◌≡◌, ◌≢◌, ℕ, zero, suc, ◌+◌, ◌*◌, ◌<◌, Bool, true, false, List, [], ◌∷◌, ◌++◌, length}
 use Rattle.std.proofs.Common.{map, get_or, refl, sym, ap, subst, ◌∙◌, inl, inr, arith, length-set, length-append}
 use Rattle.std.specs.Prelude.{slice_index_or, slice_set, ◌||◌, ◌==◌}
@@ -13,7 +13,7 @@ use Rattle.mk_never.specs.NeverHeap.{NeverState, Allocation as NeverAllocation, 
 use Rattle.mk_never.specs.NeverHeap.{word_at, is_unmapped, with_register, with_global, with_word, with_new, with_freed}
 use Rattle.mk_never.proofs.Edits.{set_by}
 use Rattle.mk_core.specs.Allocations.{PlacedAllocation, placed_at}
-use Rattle.mk_images.specs.Images.{Scene, AreTwins}
+use Rattle.mk_images.specs.Images.{ImageScene, AreTwins}
 use Rattle.mk_images.specs.SafeSets.{IsSafe, IsSafeSet, HasSafeSet}
 use Rattle.mk_images.proofs.Moves.{SamePlaces, Move, Rests, Flies, Owes, Pays, Stores, Shares, Writes, Wipes, Grants}
 use Rattle.mk_images.proofs.Moves.{Frees, Renews, Releases}
@@ -39,7 +39,7 @@ zero_safe safe (Number ∷ kinds) zero = tt
 zero_safe safe (To t o ∷ kinds) zero = tt
 zero_safe safe (kind ∷ kinds) (suc i) = zero_safe safe kinds i
 
-module _ (safe : ℕ → Bool) (s : Scene) (n : NeverState) (h : IsSafeSet safe s.allocations n) where
+module _ (safe : ℕ → Bool) (s : ImageScene) (n : NeverState) (h : IsSafeSet safe s.allocations n) where
   of_register : (k d : ℕ) (v : Value) → IsSafe safe v → IsSafeSet safe s.allocations (with_register n k d v)
   of_register k d v is =
       record {
@@ -125,7 +125,7 @@ module _ (safe : ℕ → Bool) (s : Scene) (n : NeverState) (h : IsSafeSet safe 
         | inr x ↦ absurd (ne (eqb-true b (length n.allocations) x))
       ]
 
-pub safe_kept : (safe : ℕ → Bool) (s t : Scene) (n m : NeverState) → IsSafeSet safe s.allocations n
+pub safe_kept : (safe : ℕ → Bool) (s t : ImageScene) (n m : NeverState) → IsSafeSet safe s.allocations n
     → length s.allocations ≡ length n.allocations → Move safe s n t m
     → HasSafeSet t.allocations m
 safe_kept safe s t n m h same Rests = (safe, h)
@@ -210,7 +210,7 @@ twins_new xs n base ty h =
       ];
     }
 
-pub twins_kept : (safe : ℕ → Bool) (s t : Scene) (n m : NeverState) → AreTwins s.allocations n → Move safe s n t m
+pub twins_kept : (safe : ℕ → Bool) (s t : ImageScene) (n m : NeverState) → AreTwins s.allocations n → Move safe s n t m
     → AreTwins t.allocations m
 twins_kept safe s t n m h Rests = h
 twins_kept safe s t n m h (Flies k f e c p) = h

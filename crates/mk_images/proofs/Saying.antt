@@ -41,9 +41,9 @@ use Rattle.mk_protocol.proofs.Stages.{is_call_stage}
 use Rattle.mk_protocol.proofs.NextSteps.{at_its_stage}
 use Rattle.mk_protocol.proofs.OrderlyLists.{not_astray}
 use Rattle.mk_protocol.proofs.Protocols.{protocol_of}
-use Rattle.mk_images.specs.Images.{scene_of, is_put, CarriesOwn, ProbedOwn}
+use Rattle.mk_images.specs.Images.{image_scene_of, is_put, CarriesOwn, ProbedOwn}
 use Rattle.mk_images.specs.SafeSets.{IsSafe}
-use Rattle.mk_images.specs.OthersSay.{OthersSay}
+use Rattle.mk_images.specs.ImagePremises.{ImagePremises}
 use Rattle.mk_images.specs.Mirrors.{Mirrors}
 use Rattle.mk_images.specs.ImagesSay.{IsCellOfUnreleased, IsMappedWord, ImagesSay}
 use Rattle.mk_images.proofs.KnownWorlds.{KnownWorld}
@@ -57,12 +57,12 @@ use Rattle.mk_images.proofs.Freeing.{decided_free_gives}
 use Rattle.mk_images.proofs.FreeMoves.{pointer_cell}
 use Rattle.mk_images.proofs.CallSorts.{call_outside, admitted_call, literal}
 
-module _ (c : Config) (w : World) (n : NeverState) (known : KnownWorld c w) (others : OthersSay c w)
+module _ (c : Config) (w : World) (n : NeverState) (known : KnownWorld c w) (others : ImagePremises c w)
     (mirrors : Mirrors c w n) where
   st : Stands c w.now.words w.allocations
   st = stands_of c w known.limits others
 
-  ready : Ready c.globals mirrors.safe.0 (scene_of w) n
+  ready : Ready c.globals mirrors.safe.0 (image_scene_of w) n
   ready = ready_of c w n known mirrors st mirrors.safe.0 mirrors.safe.1
 
   own_sound : (k r : ℕ) → IsSound n (register_at n k r)
@@ -125,7 +125,7 @@ module _ (c : Config) (w : World) (n : NeverState) (known : KnownWorld c w) (oth
             (let b = points.base in omega arith))
       ] in
       let plain : is_put f.stage ≡ false = ap is_put (decided_free_gives f.stage f.op who.holds) in
-      let word = own_plain (scene_of w) n ready.images k (p_of f.op) (ready.small k).1 plain
+      let word = own_plain (image_scene_of w) n ready.images k (p_of f.op) (ready.small k).1 plain
       ∙ ap (image_of (bases_of w.allocations)) points.is in
       let cell = pointer_cell c w n known mirrors mirrors.safe.0 ready st points.number points.ty points.offset _ sound
       is word in
@@ -137,7 +137,7 @@ module _ (c : Config) (w : World) (n : NeverState) (known : KnownWorld c w) (oth
 
   -- The word that a caller stores to
 
-  reached_word : (k i q : ℕ) (v : Value) (P : Kind → Type 0) → Reaches mirrors.safe.0 (scene_of w) n v q i P
+  reached_word : (k i q : ℕ) (v : Value) (P : Kind → Type 0) → Reaches mirrors.safe.0 (image_scene_of w) n v q i P
       → IsMappedWord c w ((q - 65536) / 8 + i)
   reached_word k i q v P to =
       let x = placed_at w.allocations to.number in
@@ -158,11 +158,11 @@ module _ (c : Config) (w : World) (n : NeverState) (known : KnownWorld c w) (oth
       → IsAdmitted c.globals n k o → IsMappedWord c w ((q - 65536) / 8 + i_of o)
   write_word k (op.SetNum q' i m) q p r l a car pro ad =
       reached_word k i q _ IsNumber
-      (reaches c.globals mirrors.safe.0 (scene_of w) n ready (register_at n k q') q i IsNumber (car.q refl)
+      (reaches c.globals mirrors.safe.0 (image_scene_of w) n ready (register_at n k q') q i IsNumber (car.q refl)
       (car.some_q refl) (own_sound k q') (own_safe k q') (pro refl) ad.access)
   write_word k (op.SetPtr q' i p') q p r l a car pro ad =
       reached_word k i q _ IsPointer
-      (reaches c.globals mirrors.safe.0 (scene_of w) n ready (register_at n k q') q i IsPointer (car.q refl)
+      (reaches c.globals mirrors.safe.0 (image_scene_of w) n ready (register_at n k q') q i IsPointer (car.q refl)
       (car.some_q refl) (own_sound k q') (own_safe k q') (pro refl) ad.access)
   write_word k (op.New d ty full) q p r l a car pro ad = cc
   write_word k _ q p r l a car pro ad = cc
@@ -173,7 +173,7 @@ module _ (c : Config) (w : World) (n : NeverState) (known : KnownWorld c w) (oth
       → IsAdmitted c.globals n k o → IsMappedWord c w ((q - 65536) / 8 + i_of o)
   cas_word k (op.CasPtr q' i p' r') q p r l a car pro ad =
       reached_word k i q _ IsPointer
-      (reaches c.globals mirrors.safe.0 (scene_of w) n ready (register_at n k q') q i IsPointer (car.q refl)
+      (reaches c.globals mirrors.safe.0 (image_scene_of w) n ready (register_at n k q') q i IsPointer (car.q refl)
       (car.some_q refl) (own_sound k q') (own_safe k q') (pro refl) ad.access)
   cas_word k (op.New d ty full) q p r l a car pro ad = cc
   cas_word k _ q p r l a car pro ad = cc

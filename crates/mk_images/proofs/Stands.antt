@@ -21,7 +21,7 @@ use Rattle.mk_core.proofs.Sizes.{large_is_not_small, small_pages, large_words, l
 use Rattle.mk_core.proofs.ObjectHeaders.{part_heads_run, made_is_mapped, unmapped_is_unmapped}
 use Rattle.mk_core.proofs.StandingAllocations.{typed_size, cell_ends_within, run_begins, first_page_shows, cells_begin}
 use Rattle.mk_core.proofs.PointedAllocations.{word_points}
-use Rattle.mk_images.specs.OthersSay.{run_of_allocation, IsLaidOut, OthersSay}
+use Rattle.mk_images.specs.ImagePremises.{run_of_allocation, IsLaidOut, ImagePremises}
 
 -- A large allocation that was freed is unmapped.
 abbrev pub is_gone : Config → PlacedAllocation → Bool
@@ -44,7 +44,7 @@ pub record Stands (c : Config) (w : Words) (xs : List PlacedAllocation) : Type 0
   pub run : (a : ℕ) → (placed_at xs a).released ≡ false → is_large (kinds_of c.types (placed_at xs a).ty) ≡ true
       → heads_run (header_in w ((placed_at xs a).base / 64)) ≡ true
 
--- how far behind its first page a word of an allocation lies
+-- how far after its first page a word of an allocation lies
 pub record PageOfWord (c : Config) (a : PlacedAllocation) (i : ℕ) : Type 0 where
   pub distance : ℕ
   pub page : (a.base + i) / 64 ≡ a.base / 64 + distance
@@ -73,7 +73,7 @@ pub large_object : (c : Config) (a : PlacedAllocation) → is_large (kinds_of c.
 large_object c a large =
     not-true (is_small_object (object_placed c a)) (sym (large_is_not_small (kinds_of c.types a.ty)) ∙ large)
 
-pub stands_of : (c : Config) (w : World) → IsWithinLimits c → OthersSay c w → Stands c w.now.words w.allocations
+pub stands_of : (c : Config) (w : World) → IsWithinLimits c → ImagePremises c w → Stands c w.now.words w.allocations
 stands_of c w limits others =
     record {
       cell = λ a i u lt.
@@ -134,7 +134,7 @@ gone_headers c w (Some run) a h un gone distance near =
           (all_below-at run.count distance (stands w run.page (unmapped_header run.count)) all (omega arith))))
     ]
 
-pub gone_shows : (c : Config) (w : World) → IsWithinLimits c → OthersSay c w
+pub gone_shows : (c : Config) (w : World) → IsWithinLimits c → ImagePremises c w
     → is_run_gone w.now.words w.now.seats.holding.freed ≡ true
     → (a i : ℕ) → (placed_at w.allocations a).released ≡ false → is_gone c (placed_at w.allocations a) ≡ true
     → i < storage_words c (placed_at w.allocations a)

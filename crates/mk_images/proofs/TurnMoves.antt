@@ -44,14 +44,14 @@ use Rattle.mk_core.proofs.GrantedAllocations.{granted_type}
 use Rattle.mk_images.proofs.Freeing.{new_frees_none}
 use Rattle.mk_protocol.proofs.Views.{view_of, HoldsTurn}
 use Rattle.mk_protocol.proofs.Operands.{operands_of}
-use Rattle.mk_images.specs.OthersSay.{IsPlaceOfNone}
+use Rattle.mk_images.specs.ImagePremises.{IsPlaceOfNone}
 use Rattle.mk_images.proofs.Kept.{fresh_one}
 use Rattle.mk_images.proofs.GrantMoves.{fills_cell, place_is_zero}
-use Rattle.mk_images.specs.Images.{scene_of, flight_among, is_put, is_past_probe, CarriesOwn}
+use Rattle.mk_images.specs.Images.{image_scene_of, flight_among, is_put, is_past_probe, CarriesOwn}
 use Rattle.mk_images.proofs.KnownWorlds.{KnownWorld}
 use Rattle.mk_images.specs.Mirrors.{Mirrors}
 use Rattle.mk_images.proofs.Stands.{Stands}
-use Rattle.mk_images.specs.OthersSay.{OthersSay}
+use Rattle.mk_images.specs.ImagePremises.{ImagePremises}
 use Rattle.mk_images.proofs.Moves.{Move, Grants}
 use Rattle.mk_images.proofs.Ready.{Ready, Leads, either_leads, one_right}
 use Rattle.mk_images.proofs.Refusals.{goes_bare}
@@ -73,15 +73,15 @@ sees_freed w None (word.Quar p) h = cc
 sees_freed w None _ h = cc
 
 module _ (c : Config) (w : World) (n : NeverState) (known : KnownWorld c w) (mirrors : Mirrors c w n)
-    (others : OthersSay c w) (safe : ℕ
-    → Bool) (ready : Ready c.globals safe (scene_of w) n) (st : Stands c w.now.words w.allocations)
+    (others : ImagePremises c w) (safe : ℕ
+    → Bool) (ready : Ready c.globals safe (image_scene_of w) n) (st : Stands c w.now.words w.allocations)
     (k : ℕ) (lt : k < c.callers) where
   pub grant_by : (s : Stage) (o : Op) (q p r l : ℕ) (placing : Placing)
       → flight_of w.now (Caller k) ≡ flight s o q p r l → comes_next s o step.Grant ≡ true
       → is_used_once placing ≡ true
       → w.now.seats.holding.placing ≡ placing → HoldsTurn c (view_of w.now) (Caller k) → phase_of w.now.words ≢ 4
       → has_operands c o ≡ true
-      → Leads safe (scene_of w) n k o (record {
+      → Leads safe (image_scene_of w) n k o (record {
         registers = slice_set w.now.words.registers (8 * k + d_of o)
             (address_of (granted_base c (flight s o q p r l) placing) % 2 ^ 64);
         globals = w.now.words.globals;
@@ -104,7 +104,7 @@ module _ (c : Config) (w : World) (n : NeverState) (known : KnownWorld c w) (mir
       let word : address_of (base_made o place) ≡ address_of (base_made o place) % 2 ^ 64 = omega arith in
       let zero_there = place_is_zero c w n known mirrors others st a place
       (λ run. new_frees_none c w.now k run known.now.orderly hold new) phase refl taken fills in (
-        subst (λ x. Move safe (scene_of w) n (record {
+        subst (λ x. Move safe (image_scene_of w) n (record {
           registers = slice_set w.now.words.registers (8 * k + d) x;
           globals = w.now.words.globals;
           heap = w.now.words.heap;
@@ -129,11 +129,11 @@ module _ (c : Config) (w : World) (n : NeverState) (known : KnownWorld c w) (mir
 
   pub full_by : (s : Stage) (o : Op) (q p r l : ℕ) → flight_among w.now.seats.flights k ≡ flight s o q p r l
       → comes_next s o step.Full ≡ true
-      → Leads safe (scene_of w) n k o
-      (record (scene_of w) { flights = slice_set w.now.seats.flights k (flight stage.Give o q p r l) })
+      → Leads safe (image_scene_of w) n k o
+      (record (image_scene_of w) { flights = slice_set w.now.seats.flights k (flight stage.Give o q p r l) })
       (Some answer.Full)
   full_by stage.Turn (op.New d ty full) q p r l is next = (
-    goes_bare safe (scene_of w) n k (flight stage.Give (op.New d ty full) q p r l)
+    goes_bare safe (image_scene_of w) n k (flight stage.Give (op.New d ty full) q p r l)
         (ap (λ (f : Flight). is_put f.stage) is) refl,
     λ more. refl,
   )
@@ -145,8 +145,8 @@ module _ (c : Config) (w : World) (n : NeverState) (known : KnownWorld c w) (mir
       → (is_run_cell w.now.words (Some cell) ≡ true → (j : ℕ) → j ≢ k
       → is_past_probe (flight_among w.now.seats.flights j).stage ≡ false)
       → CarriesOwn (bases_of w.allocations) n k (flight s o q p r l)
-      → Leads safe (scene_of w) n k o
-      (record (scene_of w) {
+      → Leads safe (image_scene_of w) n k o
+      (record (image_scene_of w) {
         flights = slice_set w.now.seats.flights k (flight stage.Give o q p r l);
         allocations = map (freed_where_it_stands w.now.words (Some cell)) w.allocations;
       }) (Some answer.Done)
@@ -173,8 +173,8 @@ module _ (c : Config) (w : World) (n : NeverState) (known : KnownWorld c w) (mir
       → is_undecided_free (flight s o q p r l) ≡ true
       → pointed_cell c.pages w.now.words.pages p ≡ Some cell → is_freed w.now.words cell ≡ true
       → CarriesOwn (bases_of w.allocations) n k (flight s o q p r l)
-      → Leads safe (scene_of w) n k o
-      (record (scene_of w) { flights = slice_set w.now.seats.flights k (flight stage.Give o q p r l) })
+      → Leads safe (image_scene_of w) n k o
+      (record (image_scene_of w) { flights = slice_set w.now.seats.flights k (flight stage.Give o q p r l) })
       (Some answer.Double)
   twice_by stage.Turn (op.Free p') q p r l cell is undecided points is_free car =
       let f = flight stage.Give (op.Free p') q p r l in
@@ -193,17 +193,17 @@ module _ (c : Config) (w : World) (n : NeverState) (known : KnownWorld c w) (mir
       → cell_freed c.pages w.now.words f p v ≡ x
       → (is_run_cell w.now.words (target c.pages w.now.words f) ≡ true → (j : ℕ) → j ≢ k
       → is_past_probe (flight_among w.now.seats.flights j).stage ≡ false)
-      → Leads safe (scene_of w) n k f.op
-      (record (scene_of w) {
+      → Leads safe (image_scene_of w) n k f.op
+      (record (image_scene_of w) {
         flights = slice_set w.now.seats.flights k (progress_freed f x).flight;
         allocations = map (freed_where_it_stands w.now.words x) w.allocations;
       }) (progress_freed f x).answer
   quar_by f p v None is e quiet =
-      subst (λ (xs : List PlacedAllocation). Leads safe (scene_of w) n k f.op
-      (record (scene_of w) { flights = slice_set w.now.seats.flights k f; allocations = xs }) None)
+      subst (λ (xs : List PlacedAllocation). Leads safe (image_scene_of w) n k f.op
+      (record (image_scene_of w) { flights = slice_set w.now.seats.flights k f; allocations = xs }) None)
       (sym (none_freed w.now.words w.allocations))
-      (subst (λ (g : Flight). Leads safe (scene_of w) n k g.op
-      (record (scene_of w) { flights = slice_set w.now.seats.flights k g }) None) is
+      (subst (λ (g : Flight). Leads safe (image_scene_of w) n k g.op
+      (record (image_scene_of w) { flights = slice_set w.now.seats.flights k g }) None) is
       (stays c w n known mirrors safe ready k (flight_among w.now.seats.flights k).op))
   quar_by f p v (Some cell) is e quiet =
       let freed = freed_cell c.pages w.now.words f p v cell e in
@@ -213,17 +213,18 @@ module _ (c : Config) (w : World) (n : NeverState) (known : KnownWorld c w) (mir
 
   -- a look
   pub look_by : (f : Flight) (x : Word) → flight_among w.now.seats.flights k ≡ f
-      → Leads safe (scene_of w) n k f.op
-      (record (scene_of w) { flights = slice_set w.now.seats.flights k (progress_look c w.now.words f x).flight })
+      → Leads safe (image_scene_of w) n k f.op
+      (record (image_scene_of w) { flights = slice_set w.now.seats.flights k (progress_look c w.now.words f x).flight })
       (progress_look c w.now.words f x).answer
   look_by f x is =
-      either_leads safe (scene_of w) n k f.op (scene_of w) (sees_double w.now.words (target c.pages w.now.words f) x)
+      either_leads safe (image_scene_of w) n k f.op (image_scene_of w) (sees_double w.now.words
+      (target c.pages w.now.words f) x)
       (decided f answer.Double) (still f)
       (λ sees.
       let t = sees_freed w.now.words (target c.pages w.now.words f) x sees in
       let points = target_is c.pages w.now.words f t.cell t.is in
       twice_by f.stage f.op f.q f.p f.r f.loaded t.cell is points.free points.pointed t.freed
       (subst (λ (g : Flight). CarriesOwn (bases_of w.allocations) n k g) is (ready.images.carried k)))
-      (λ sees. subst (λ (g : Flight). Leads safe (scene_of w) n k g.op
-      (record (scene_of w) { flights = slice_set w.now.seats.flights k g }) None) is
+      (λ sees. subst (λ (g : Flight). Leads safe (image_scene_of w) n k g.op
+      (record (image_scene_of w) { flights = slice_set w.now.seats.flights k g }) None) is
       (stays c w n known mirrors safe ready k (flight_among w.now.seats.flights k).op))

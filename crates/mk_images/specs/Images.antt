@@ -15,15 +15,15 @@ use Rattle.mk_core.specs.Allocations.{PlacedAllocation, placed_at}
 use Rattle.mk_core.specs.History.{World, bases_of}
 
 -- what the images read of a world
-pub record Scene : Type 0 where
+pub record ImageScene : Type 0 where
   pub registers : List ℕ
   pub globals : List ℕ
   pub heap : List ℕ
   pub flights : List Flight
   pub allocations : List PlacedAllocation
 
-abbrev pub scene_of : World → Scene
-scene_of w =
+abbrev pub image_scene_of : World → ImageScene
+image_scene_of w =
     record {
       registers = w.now.words.registers;
       globals = w.now.words.globals;
@@ -32,7 +32,7 @@ scene_of w =
       allocations = w.allocations;
     }
 
--- the call of a caller; behind the last caller there is none
+-- the call of a caller; after the last caller there is none
 abbrev pub flight_among : List Flight → ℕ → Flight
 flight_among fs k = slice_index_or fs k at_rest
 
@@ -49,7 +49,7 @@ owes _ d r = false
 abbrev pub shown : Flight → ℕ → ℕ → ℕ
 shown f r x = if owes f.stage (d_of f.op) r then f.loaded else x
 
--- Whether the stage is behind the load of q, p or r, and what was loaded is used there; and whether it isn't null.
+-- Whether the stage is after the load of q, p or r, and what was loaded is used there; and whether it isn't null.
 
 abbrev pub has_q : Stage → Op → Bool
 has_q stage.LoadP (op.SetPtr q i p) = true
@@ -119,7 +119,7 @@ ProbedOwn n k f = is_past_probe f.stage ≡ true → IsMet n (register_at n k (q
 
 -- Words are the images of values: those of registers and globals, those of unreleased allocations that aren't unmapped,
 -- and what calls in flight have loaded.
-pub record AreImages (s : Scene) (n : NeverState) : Type 0 where
+pub record AreImages (s : ImageScene) (n : NeverState) : Type 0 where
   pub registers :
       (k : ℕ) → shown (flight_among s.flights (k / 8)) (k % 8) (slice_index s.registers k)
       ≡ image_of (bases_of s.allocations) (slice_index_or n.registers k Null)

@@ -1,6 +1,6 @@
 pub mod Images
 pub mod SafeSets
-pub mod OthersSay
+pub mod ImagePremises
 pub mod Mirrors
 pub mod ImagesSay
 pub mod Laws

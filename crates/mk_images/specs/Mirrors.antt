@@ -11,7 +11,7 @@ use Rattle.mk_core.specs.Moments.{flight_of}
 use Rattle.mk_core.specs.Allocations.{placed_at}
 use Rattle.mk_core.specs.History.{World}
 use Rattle.mk_protocol.specs.Protocol.{is_decided_free}
-use Rattle.mk_images.specs.Images.{scene_of, AreImages, AreTwins}
+use Rattle.mk_images.specs.Images.{image_scene_of, AreImages, AreTwins}
 use Rattle.mk_images.specs.SafeSets.{HasSafeSet}
 
 -- The register points into the allocation of the run.
@@ -38,7 +38,7 @@ pub record Mirrors (c : Config) (w : World) (n : NeverState) : Type 0 where
   -- It has the same allocations,
   pub twins : AreTwins w.allocations n
   -- whose words are the images of its values.
-  pub images : AreImages (scene_of w) n
+  pub images : AreImages (image_scene_of w) n
   -- A call keeps the pointer to the run that it unmaps.
   pub freed_run : OwnsFreedRun w n
   -- What a program can get to isn't released.

@@ -16,7 +16,7 @@ use Rattle.mk_core.specs.declared.seats.Placing.TheVariants.{Used}
 use Rattle.mk_core.specs.declared.seats.RunPages.{RunPages}
 use Rattle.mk_core.specs.Allocations.{PlacedAllocation, cell_of_allocation, granted, is_mapped, placed_at}
 use Rattle.mk_core.specs.Bounded.{all_below}
-use Rattle.mk_core.specs.Cells.{is_released, pointed_cell}
+use Rattle.mk_core.specs.Cells.{is_released_cell, pointed_cell}
 use Rattle.mk_core.specs.ClosedMarks.{MarksAreClosed}
 use Rattle.mk_core.specs.History.{World}
 use Rattle.mk_core.specs.Moments.{flight_of, is_phase}
@@ -33,10 +33,10 @@ use Rattle.mk_core.proofs.PointedAllocations.{base_points}
 use Rattle.mk_core.proofs.Sizes.{large_is_not_small, pages_some}
 use Rattle.mk_core.proofs.StandingAllocations.{typed_size}
 use Rattle.mk_layout.specs.Quarantine.{IsQuarantined}
-use Rattle.mk_layout.specs.Scene.{Among, Claim, HasHeader, IsShown, Unmapping, is_released_in}
+use Rattle.mk_layout.specs.LayoutScene.{Among, Claim, HasHeader, IsShown, Unmapping, is_released_in}
 use Rattle.mk_protocol.specs.Ground.{ground_of}
 use Rattle.mk_layout.specs.Terrain.{IsClaimedRun, IsLaidOut, RunStands, claim_of, claims_of, claims_placed}
-use Rattle.mk_layout.specs.Terrain.{is_unmapping, mode_of, object_now, place_claim, scene_of}
+use Rattle.mk_layout.specs.Terrain.{is_unmapping, mode_of, object_now, place_claim, layout_scene_of}
 use Rattle.mk_layout.proofs.Claims.{claim_among, claim_is}
 use Rattle.mk_layout.proofs.Holders.{holding_object, new_has_turn, seat_operands}
 use Rattle.mk_layout.proofs.Joined.{apart_across, apart_left}
@@ -45,8 +45,8 @@ use Rattle.mk_layout.proofs.Serving.{own_claim, placed_claim}
 use Rattle.mk_layout.proofs.OneCell.{numbers_apart}
 use Rattle.mk_layout.proofs.StandingClaims.{IsStanding, place_index}
 use Rattle.mk_layout.proofs.Unmapping.{shares_run}
-use Rattle.mk_images.specs.OthersSay.{IsCellOfFreed, IsFreedRun, IsPlaceOfNone, OthersSay, run_of_allocation}
-use Rattle.mk_images.specs.OthersSay as images
+use Rattle.mk_images.specs.ImagePremises.{IsCellOfFreed, IsFreedRun, IsPlaceOfNone, ImagePremises, run_of_allocation}
+use Rattle.mk_images.specs.ImagePremises as images
 use Rattle.mk_images.proofs.KnownWorlds.{KnownWorld}
 use Rattle.mk_zeros.specs.Zeros.{HasZeros}
 use Rattle.mk_invariant.specs.RunGates.{HoldsRunGates}
@@ -76,7 +76,7 @@ mode_unmapping false going e = cc
 
 -- What is left of a snapshot's cells is released while the phase is releasing.
 pub released_is : (w : World) (cell : Cell)
-    → is_released w.now.words cell
+    → is_released_cell w.now.words cell
     ≡ is_released_in (is_phase w.now.words 4) w.now.words.snapshot w.now.words.marks cell.page cell.index
 released_is w cell =
     by (is_phase w.now.words 4) _ _ _
@@ -171,7 +171,7 @@ module _ (c : Config) (w : World) (known : KnownWorld c w) (laid : IsLaidOut c w
             let some2 = pages_some x.claim.object (laid.scene.shown x.claim his).sized in
             let page = x.page in
             let same : x.claim ≡ claim_of c w.now.seats.holding.freed a =
-            shares_run (scene_of c (object_now c w.now) (is_phase w.now.words 4) w.now.words.marks (ground_of w))
+            shares_run (layout_scene_of c (object_now c w.now) (is_phase w.now.words 4) w.now.words.marks (ground_of w))
             (claim_of c w.now.seats.holding.freed a) x.claim 0 0 laid.scene mine his large
             (omega arith) (omega arith) (omega arith) in
             let count : r.count ≡ pages_made (object_placed c a) = sym x.count
@@ -278,7 +278,7 @@ module _ (c : Config) (w : World) (known : KnownWorld c w) (laid : IsLaidOut c w
       }
 
   pub say_to_images : IsQuarantined c w → HasZeros c w → HoldsRunGates c w
-      → (phase_of w.now.words ≡ 3 → MarksAreClosed c w) → OthersSay c w
+      → (phase_of w.now.words ≡ 3 → MarksAreClosed c w) → ImagePremises c w
   say_to_images q zeros gates marks =
       record {
         laid_out = laid_out;

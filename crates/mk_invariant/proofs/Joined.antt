@@ -9,10 +9,10 @@ use Rattle.mk_core.specs.Enabled.{IsEnabled}
 use Rattle.mk_core.specs.History.{World, call_decided, world_behind}
 use Rattle.mk_core.specs.Words.{phase_of}
 use Rattle.mk_core.proofs.Conditions.{enabled_meets}
-use Rattle.mk_layout.specs.LayoutLaws.{OthersSay}
+use Rattle.mk_layout.specs.LayoutLaws.{LayoutPremises}
 use Rattle.mk_layout.proofs.Histories.{order_behind}
 use Rattle.mk_images.specs.ImagesSay.{ImagesSay}
-use Rattle.mk_images.specs.OthersSay as images
+use Rattle.mk_images.specs.ImagePremises as images
 use Rattle.mk_images.proofs.FreedRuns.{never_after}
 use Rattle.mk_images.proofs.KnownWorlds.{KnownWorld}
 use Rattle.mk_images.proofs.OneEvent.{one_event}
@@ -29,17 +29,17 @@ use Rattle.mk_zeros.proofs.TellImages.{images_tell_the_zeros}
 use Rattle.mk_invariant.proofs.ForImages.{say_to_images}
 
 module _ (c : Config) (w : World) (n : NeverState) (known : KnownWorld c w) (all : Invariant c w n) where
-  pub told_to_guard : guard.OthersSay c w
+  pub told_to_guard : guard.GuardPremises c w
   told_to_guard = guard_in c w known all.order.laid all.zeros
 
-  pub told_to_images : images.OthersSay c w
+  pub told_to_images : images.ImagePremises c w
   told_to_images = say_to_images c w known all.order.laid all.order.quarantined all.zeros all.run_gates
       (stopped_marks_are_closed c w known.limits told_to_guard all.marks)
 
   told_by_images : ImagesSay c w n
   told_by_images = images_say c w n known told_to_images all.mirrors
 
-  pub told_to_layout : OthersSay c w
+  pub told_to_layout : LayoutPremises c w
   told_to_layout =
       record {
         target = λ seat cell is. let x =
@@ -48,7 +48,7 @@ module _ (c : Config) (w : World) (n : NeverState) (known : KnownWorld c w) (all
       }
 
   pub told_to_zeros : (e : Event) → IsEnabled c w.now e → AreAdmitted c.globals n (asked (call_decided c w.now e))
-      → zeros.OthersSay c w e
+      → zeros.ZeroPremises c w e
   told_to_zeros e on admitted = images_tell_the_zeros c w n e all.order.laid told_by_images on admitted
 
 -- One event, whatever it is.

@@ -5,7 +5,7 @@ use Rattle.mk_core.specs.declared.events.Event.{Event}
 use Rattle.mk_core.specs.History.{IsHistory, World, left, left_from}
 use Rattle.mk_core.proofs.HistoryParts.{earlier_part_is_history, left_in_parts}
 use Rattle.mk_core.proofs.Lengths.{histories_keep_lengths}
-use Rattle.mk_layout.specs.LayoutLaws.{OthersSayFrom}
+use Rattle.mk_layout.specs.LayoutLaws.{LayoutPremisesFrom}
 use Rattle.mk_layout.proofs.CycleSnapshots.{snapshots_are_of_cycles}
 use Rattle.mk_layout.proofs.ResidentPages.{resident_few}
 use Rattle.mk_images.proofs.KnownWorlds.{known_world}
@@ -21,15 +21,15 @@ few_pages_are_resident c es h =
     resident_few c (left c es) (histories_keep_lengths c es).pages (histories_keep_the_invariant c es h).order.room
 
 -- The layout is told what it asks along a history.
-told_from : (c : Config) (done es : List Event) → IsHistory c (done ++ es) → OthersSayFrom c (left c done) es
-unfolding OthersSayFrom left_from
+told_from : (c : Config) (done es : List Event) → IsHistory c (done ++ es) → LayoutPremisesFrom c (left c done) es
+unfolding LayoutPremisesFrom left_from
 told_from c done [] h = tt
 told_from c done (e ∷ es) h =
     let here = earlier_part_is_history c done (e ∷ es) h in
     let split : done ++ e ∷ es ≡ (done ++ e ∷ []) ++ es = sym (append_assoc done (e ∷ []) es) in (
       told_to_layout c (left c done) _ (known_world c done here.within_limits here.enabled)
           (histories_keep_the_invariant c done here),
-      subst (λ (w : World). OthersSayFrom c w es) (left_in_parts c done (e ∷ []))
+      subst (λ (w : World). LayoutPremisesFrom c w es) (left_in_parts c done (e ∷ []))
           (told_from c (done ++ e ∷ []) es (subst (λ (xs : List Event). IsHistory c xs) split h)),
     )
 

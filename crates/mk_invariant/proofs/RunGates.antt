@@ -1,4 +1,4 @@
--- While a run isn't unmapped and wiped, the gates of all but the turn's holder are held: behind one event.
+-- While a run isn't unmapped and wiped, the gates of all but the turn's holder are held: after one event.
 use Rattle.std.proofs.Common.{Bool, ap, false, inl, inr, refl, subst, sym, true, ℕ, ◌+◌, ◌<◌, ◌∙◌, ◌≡◌, ◌≢◌}
 use Rattle.std.specs.Prelude.{None, Option, Some, if◌then◌else◌, not, slice_index, ◌||◌, ◌==◌}
 use Rattle.std.proofs.lemmas.Bool.{cases_Bool, true≢false}

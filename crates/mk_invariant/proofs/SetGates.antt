@@ -1,4 +1,4 @@
--- Gates that are held stay so behind any step but `open`.
+-- Gates that are held stay so after any step but `open`.
 use Rattle.std.proofs.Common.{List, ap, false, inl, inr, length, refl, subst, sym, true, ℕ, ◌+◌, ◌<◌, ◌∙◌, ◌≡◌, ◌≢◌}
 use Rattle.std.specs.Prelude.{Bool, if◌then◌else◌, slice_index, slice_set, ◌==◌}
 use Rattle.std.proofs.lemmas.Bool.{cases_eq, cases_lt}

@@ -1,4 +1,4 @@
--- The theorems, from the invariant behind each front of a history.
+-- The theorems, from the invariant after each front of a history.
 use Rattle.std.proofs.Common.{List, subst, sym, ◌++◌, ◌∙◌, ◌∷◌, ◌≡◌}
 use Rattle.std.specs.Prelude.{Some}
 use Rattle.mk_core.specs.declared.config.Config.{Config}
@@ -10,7 +10,7 @@ use Rattle.mk_core.specs.History.{AreEnabledFrom, IsHistory, RefinesNever, left}
 use Rattle.mk_core.proofs.HistoryParts.{earlier_part_is_history, enabled_in_parts}
 use Rattle.mk_core.proofs.PointedAllocations.{word_points}
 use Rattle.mk_layout.proofs.Settled.{first_fit_is_the_place, headers_stand, unreleased_are_apart, unreleased_stand}
-use Rattle.mk_images.specs.Laws.{OthersSayAlong}
+use Rattle.mk_images.specs.Laws.{ImagePremisesAlong}
 use Rattle.mk_images.proofs.Exchanges.{histories_compare}
 use Rattle.mk_images.proofs.Histories.{histories_refine, reached_is_unreleased}
 use Rattle.mk_images.proofs.KnownWorlds.{KnownWorld, known_world}
@@ -25,7 +25,7 @@ use Rattle.mk_invariant.proofs.Joined.{told_to_guard, told_to_images}
 world_is_known : (c : Config) (es : List Event) → IsHistory c es → KnownWorld c (left c es)
 world_is_known c es h = known_world c es h.within_limits h.enabled
 
-images_are_told : (c : Config) (es : List Event) → IsHistory c es → OthersSayAlong c es
+images_are_told : (c : Config) (es : List Event) → IsHistory c es → ImagePremisesAlong c es
 images_are_told c es h front more e =
     let whole : IsHistory c (front ++ more) = subst (λ (xs : List Event). IsHistory c xs) (sym e) h in
     let earlier = earlier_part_is_history c front more whole in

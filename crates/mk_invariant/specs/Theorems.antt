@@ -1,6 +1,6 @@
 -- What holds of all histories.
 use Rattle.std.specs.Prelude.{◌≡◌, ℕ, false, List, [], ◌∷◌, ◌++◌, ◌≤◌, true}
-use Rattle.mk_never.specs.Reach.{IsReached}
+use Rattle.mk_never.specs.Reach.{IsReachable}
 use Rattle.mk_geom.specs.StorageWords.{IsWordOf}
 use Rattle.mk_geom.specs.Storages.{PagesStandFor}
 use Rattle.mk_core.specs.declared.config.Config.{Config}
@@ -41,7 +41,7 @@ KeepsTheInvariant c es = Invariant c (left c es) (never_behind c es)
 
 -- What a program can get to isn't released.
 abbrev pub KeepsTheReach : Config → List Event → Type 0
-KeepsTheReach c es = (number : ℕ) → IsReached (never_behind c es) number
+KeepsTheReach c es = (number : ℕ) → IsReachable (never_behind c es) number
     → (placed_at (left c es).allocations number).released ≡ false
 
 -- Each unreleased allocation stands on the heap, with its headers and its used bit,
@@ -88,7 +88,7 @@ MarksStayClosed c es = phase_of (left c es).now.words ≡ 3 → MarksAreClosed c
 abbrev pub PagesHaveHeaderWords : Config → List Event → Type 0
 PagesHaveHeaderWords c es = HasHeaderWords (left c es)
 
--- and at most so many pages are resident.
+-- and at most this many pages are resident.
 abbrev pub FewPagesAreResident : Config → List Event → Type 0
 FewPagesAreResident c es = resident_pages (uses_of_pages (left c es).now.words.pages) ≤ c.resident
 

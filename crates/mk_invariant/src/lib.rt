@@ -9,7 +9,7 @@ ghost use Rattle.mk_invariant.specs.Theorems.{FewPagesAreResident, PagesHaveHead
 ghost use Rattle.mk_invariant.specs.Theorems.{GuardsBlackCells, InvariantAtFirst, KeepsTheInvariant, KeepsTheReach};
 ghost use Rattle.mk_invariant.specs.Theorems.{MarksStayClosed, OfHistories, PagesShowTheStorage};
 
-/// The invariant holds at first, one event of a history keeps it, and so it holds behind each history.
+/// The invariant holds at first, one event of a history keeps it, and so it holds after each history.
 pub fn histories_keep_the_invariant()
     ensures at_first { InvariantAtFirst }
     ensures one_event { EventsKeepTheInvariant }

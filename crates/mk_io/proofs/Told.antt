@@ -1,4 +1,4 @@
--- Calls one after another, at what a source or a sink tells.
+-- Calls one after another, at what a source or a sink says.
 use Rattle.std.proofs.Common.{◌≡◌, ℕ, ◌+◌, ◌-◌, List, ◌++◌, length, take, drop, Some, None, refl, ap, subst, ◌∙◌, arith}
 use Rattle.std.proofs.Common.{length-append, length-take, append_assoc}
 use Rattle.std.proofs.Math.Seq.{take-add}

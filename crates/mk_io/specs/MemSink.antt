@@ -43,6 +43,6 @@ after_write s bytes =
       calls = saturating_next s.calls;
     }
 
--- it takes so many more bytes, and none of its calls fails
+-- it takes this many more bytes, and none of its calls fails
 abbrev pub sink_has_room : SinkState → ℕ → Bool
 sink_has_room s n = (length s.fails == 0) && nat_le n s.room

@@ -8,9 +8,9 @@ use crate::Failed;
 
 /// What bytes are written to, a part at a time.
 ///
-/// The ghost member `taken` is the bytes that the sink took so far, or `None` where it doesn't tell
+/// The ghost member `taken` is the bytes that the sink took so far, or `None` where it doesn't say
 /// them: then the clauses on content say nothing. `faults` counts the calls that failed, and
-/// `has_room` says that the sink takes so many more bytes with no call that fails.
+/// `has_room` says that the sink takes this many more bytes with no call that fails.
 pub trait Sink {
     ghost taken: { Self → Option (List ℕ) };
 

@@ -18,7 +18,7 @@ pub trait Source {
 
     ghost never_fails: { Self → Bool };
 
-    /// Reads some bytes to the front of `buf`, and returns how many. What stands behind them in
+    /// Reads some bytes to the front of `buf`, and returns how many. What stands after them in
     /// `buf` is left open.
     ///
     /// No byte, where `buf` has room for one, is the end of input.

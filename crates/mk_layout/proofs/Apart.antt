@@ -23,14 +23,14 @@ use Rattle.mk_core.specs.declared.seats.Object.{Object}
 use Rattle.mk_core.proofs.Sizes.{pages_some, small_pages, small_words, words_are_small, words_within}
 use Rattle.mk_core.proofs.StandingAllocations.{first_page_shows, placed_cell}
 use Rattle.mk_core.proofs.UnreleasedStorage.{released_front, storage_is_of, unreleased_front}
-use Rattle.mk_layout.specs.Scene.{AreApart, Claim, IsLaidOn, IsOfOneCell, IsShown, NoPlot, Scene}
+use Rattle.mk_layout.specs.LayoutScene.{AreApart, Claim, IsLaidOn, IsOfOneCell, IsShown, NoPlot, LayoutScene}
 use Rattle.mk_layout.specs.Terrain.{IsAtCell, claim_of, claims_of}
 use Rattle.mk_layout.proofs.Claims.{claim_among, front, gone_front}
 use Rattle.mk_layout.proofs.StandingClaims.{IsStanding, ends_on_pages, stands_there}
 use Rattle.mk_layout.proofs.Unmapping.{shares_run}
 
 -- a scene in which nothing is on its way: no place, no run, no released cell
-abbrev pub quiet_scene : Config → Words → List PlacedAllocation → Scene
+abbrev pub quiet_scene : Config → Words → List PlacedAllocation → LayoutScene
 quiet_scene c w xs = record {
   pages = w.pages;
   claims = claims_of c None xs;

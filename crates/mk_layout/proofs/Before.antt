@@ -1,4 +1,4 @@
--- What is known of a world before an event, and what is to show behind it.
+-- What is known of a world before an event, and what is to show after it.
 use Rattle.std.proofs.Common.{Bool, arith, false, length, true, ℕ, ◌<◌, ◌≡◌}
 use Rattle.std.specs.Prelude.{nat_lt}
 use Rattle.std.proofs.lemmas.Bool.{ltb-true}
@@ -17,8 +17,8 @@ use Rattle.mk_protocol.proofs.Known.{Known}
 use Rattle.mk_protocol.proofs.OthersMoves.{WorldBehind}
 use Rattle.mk_protocol.proofs.SameWords.{reg_keeps}
 use Rattle.mk_protocol.proofs.SameWords.{Keeps}
-use Rattle.mk_layout.specs.LayoutLaws.{OthersSay}
-use Rattle.mk_layout.specs.Scene.{Among, Claim, is_released_in}
+use Rattle.mk_layout.specs.LayoutLaws.{LayoutPremises}
+use Rattle.mk_layout.specs.LayoutScene.{Among, Claim, is_released_in}
 use Rattle.mk_protocol.specs.Ground.{Ground, ground_of}
 use Rattle.mk_layout.specs.Terrain.{claims_on, object_now}
 use Rattle.mk_layout.proofs.Serving.{Laid}
@@ -28,7 +28,7 @@ pub record Before (c : Config) (w : World) : Type 0 where
   pub limits : IsWithinLimits c
   pub lengths : AreOfPages c.pages w.now.words
   pub known : Known c w.now
-  pub others : OthersSay c w
+  pub others : LayoutPremises c w
   -- no claim's cell is released
   pub unreleased : is_phase w.now.words 4 ≡ true → (x : Claim)
       → Among x (claims_on c (object_now c w.now) (ground_of w))
@@ -38,7 +38,7 @@ pub record Before (c : Config) (w : World) : Type 0 where
 abbrev pub LaidNow : Config → World → Ground → Type 0
 LaidNow c w t = Laid c (object_now c w.now) (is_phase w.now.words 4) w t
 
--- whether released cells are there behind a step
+-- whether released cells are there after a step
 abbrev pub is_releasing_behind : Step → Bool → Bool
 is_releasing_behind step.Release b = true
 is_releasing_behind step.End b = false

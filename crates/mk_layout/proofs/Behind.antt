@@ -1,4 +1,4 @@
--- One event: what stands on the pages behind it.
+-- One event: what stands on the pages after it.
 use Rattle.std.proofs.Common.{Bool, List, ap, arith, false, inl, inr, refl, subst, sym, true, ℕ, ◌%◌, ◌+◌, ◌-◌, ◌^◌}
 use Rattle.std.proofs.Common.{◌∙◌, ◌≡◌, ◌≢◌, ◌⊎◌}
 use Rattle.std.specs.Prelude.{None, Option, Some, if◌then◌else◌, is_some, ◌==◌}
@@ -114,7 +114,7 @@ releasing_marks c w seat x known h on = by x h on
     by x h on = marks_stay c w.now seat (colours_of (WorldBehind c w seat x).now) known
         (eqb-true (phase_of w.now.words) 4 on) (colour_step c w.now seat x h)
 
--- Where there is a place behind, the turn is the same,
+-- Where there is a place after, the turn is the same,
 turn_kind : (c : Config) (w : World) (seat : Seat) (x : Step) → Meets c w.now seat x
     → has_place (WorldBehind c w seat x).now.seats.holding.placing ≡ true
     → (WorldBehind c w seat x).now.words.turn ≡ w.now.words.turn
@@ -151,7 +151,7 @@ object_kind c w seat x known h has =
       | inr none ↦ absurd (held_none v.now.seats.holding.placing has none)
     ]
 
--- An enabled event: laid out before it, laid out behind it.
+-- An enabled event: laid out before it, laid out after it.
 pub layout_behind : (c : Config) (w : World) (seat : Seat) (x : Step) → Before c w → Meets c w.now seat x
     → IsLaidOut c w → IsLaidOut c (WorldBehind c w seat x)
 layout_behind c w seat x b h laid =

@@ -15,7 +15,7 @@ use Rattle.mk_core.specs.Moments.{flight_of, is_phase, nothing_done}
 use Rattle.mk_core.specs.NewPlaces.{base_made, is_run_gone, is_run_unmapped, is_undecided_new, object_made}
 use Rattle.mk_core.specs.StandingAllocations.{object_placed}
 use Rattle.mk_core.specs.StopConditions.{marks_place, may_end}
-use Rattle.mk_core.specs.TurnConditions.{is_decided, is_used_once, place_now, words_held}
+use Rattle.mk_core.specs.TurnConditions.{is_decided, is_used_once, place_now, held_by_pages}
 use Rattle.mk_core.specs.Words.{Words, header_at, phase_of}
 use Rattle.mk_core.specs.declared.config.Config.{Config}
 use Rattle.mk_core.specs.declared.events.Seat.{Seat}
@@ -36,10 +36,10 @@ use Rattle.mk_protocol.specs.Protocol.{has_place}
 use Rattle.mk_protocol.proofs.Actors.{Meets, grants_new}
 use Rattle.mk_protocol.proofs.Ground.{KeepsGround, tally_ground}
 use Rattle.mk_protocol.proofs.OthersMoves.{WorldBehind}
-use Rattle.mk_layout.specs.Scene.{Claim, IsLaidOn, Scene}
+use Rattle.mk_layout.specs.LayoutScene.{Claim, IsLaidOn, LayoutScene}
 use Rattle.mk_protocol.specs.Ground.{Ground, ground_of}
 use Rattle.mk_layout.specs.Terrain.{HasLayout, IsLaidOut, RunStands, claim_of, claims_of, claims_placed, object_now}
-use Rattle.mk_layout.specs.Terrain.{scene_of}
+use Rattle.mk_layout.specs.Terrain.{layout_scene_of}
 use Rattle.mk_layout.proofs.Before.{Before, LaidBehind, LaidNow, reg_leaves_ground}
 use Rattle.mk_layout.proofs.Claims.{LeavesCells, cells_behind}
 use Rattle.mk_layout.proofs.Dropped.{ended}
@@ -132,7 +132,8 @@ begin_kind : (c : Config) (w : World) → IsLaidOut c w
     → LaidNow c w (record (ground_of w) { allocations = map no_longer_fresh w.allocations })
 begin_kind c w laid =
     let same = sym (fresh_claims c w.now.seats.holding.freed w.allocations) in
-    let s : Scene = scene_of c (object_now c w.now) (is_phase w.now.words 4) w.now.words.marks (ground_of w) in
+    let s : LayoutScene =
+    layout_scene_of c (object_now c w.now) (is_phase w.now.words 4) w.now.words.marks (ground_of w) in
     record {
       scene = subst (λ (xs : List Claim). IsLaidOn
           (record s { claims = xs ++ claims_placed (object_now c w.now) w.now.seats.holding.placing })) same laid.scene;
@@ -182,7 +183,7 @@ give_kind c w seat b h laid =
     own =
         let decided : Bool = is_decided (flight_of w.now seat).stage in
         let gone : Bool = is_run_gone w.now.words w.now.seats.holding.freed in
-        let counts : Bool = w.now.words.held == words_held w.now.words in
+        let counts : Bool = w.now.words.held == held_by_pages w.now.words in
         let a = and_parts (decided && gone && counts) (w.now.words.fresh == w.now.fresh_words) h.holder in
         and_parts decided gone (and_parts (decided && gone) counts a.0).0
 

@@ -1,4 +1,4 @@
--- The claims of the allocations, by their numbers, and behind a change of each.
+-- The claims of the allocations, by their numbers, and after a change of each.
 use Rattle.std.proofs.Common.{List, [], ap, false, inl, inr, length, map, refl, subst, suc, sym, true, zero, ℕ, ◌/◌}
 use Rattle.std.proofs.Common.{◌<◌, ◌∙◌, ◌∷◌, ◌≡◌, ◌⊎◌}
 use Rattle.std.specs.Prelude.{Option}
@@ -10,7 +10,7 @@ use Rattle.mk_core.specs.declared.config.Config.{Config}
 use Rattle.mk_core.specs.declared.seats.Object.{Object}
 use Rattle.mk_core.specs.declared.seats.RunPages.{RunPages}
 use Rattle.mk_core.proofs.ChangedAllocations.{LeavesPlaces, changed_at}
-use Rattle.mk_layout.specs.Scene.{Among, AreApart, Claim, IsOfOneCell}
+use Rattle.mk_layout.specs.LayoutScene.{Among, AreApart, Claim, IsOfOneCell}
 use Rattle.mk_layout.specs.Terrain.{IsAtCell, claim_of, claims_of}
 
 -- the unreleased allocation whose claim it is
@@ -77,7 +77,7 @@ pub one_cell : (c : Config) (old new : Option RunPages) (a b : PlacedAllocation)
     → IsOfOneCell (claim_of c new b) (claim_of c old a)
 one_cell c old new a b base ty = (ap (λ n. n / 64) base, ap (λ (x : Cell). x.index) (same_cell c a b base ty))
 
--- A claim behind it is that of an allocation that was unreleased.
+-- A claim after it is that of an allocation that was unreleased.
 pub record WasClaim (c : Config) (run : Option RunPages) (g : PlacedAllocation
     → PlacedAllocation) (xs : List PlacedAllocation) (y : Claim) : Type 0 where
   pub number : ℕ

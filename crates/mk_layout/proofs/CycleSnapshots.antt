@@ -6,7 +6,7 @@ use Rattle.std.proofs.lemmas.Bool.{false_from_ne_true, true≢false}
 use Rattle.std.proofs.lemmas.List.{get_or_past, length-append, length-map}
 use Rattle.std.specs.List.{list_any}
 use Rattle.mk_geom.specs.declared.addresses.Cell.{Cell}
-use Rattle.mk_core.specs.Accesses.{access, reached}
+use Rattle.mk_core.specs.Accesses.{access, word_accessed}
 use Rattle.mk_core.specs.Allocations.{PlacedAllocation, freed_where_it_stands, granted, never_granted, no_longer_fresh}
 use Rattle.mk_core.specs.Allocations.{placed_at, stands_in, with_released}
 use Rattle.mk_core.specs.Bits.{has_bit}
@@ -29,7 +29,7 @@ use Rattle.mk_core.proofs.PlacesNow.{freed_cell}
 use Rattle.mk_protocol.proofs.Actors.{Meets}
 use Rattle.mk_protocol.proofs.Known.{Known, known_at_first, known_behind}
 use Rattle.mk_protocol.proofs.OthersMoves.{WorldBehind}
-use Rattle.mk_layout.specs.LayoutLaws.{OthersSayFrom, StandsInOrder}
+use Rattle.mk_layout.specs.LayoutLaws.{LayoutPremisesFrom, StandsInOrder}
 use Rattle.mk_layout.specs.Quarantine.{IsQuarantined}
 use Rattle.mk_layout.specs.Snapshots.{SnapshotsAreOfCycles}
 use Rattle.mk_layout.specs.Terrain.{IsLaidOut}
@@ -41,11 +41,11 @@ use Rattle.mk_layout.proofs.QuarantineByKind.{frees_here}
 use Rattle.mk_layout.proofs.QuarantineChanges.{FreesHere, before_change}
 use Rattle.mk_layout.proofs.Released.{releasing_leaves}
 
--- freed, and not behind the last `begin`
+-- freed, and not after the last `begin`
 abbrev is_freed_before : PlacedAllocation → Bool
 is_freed_before a = a.freed && not a.fresh
 
--- what one event does to the flags of an allocation that is unreleased behind it
+-- what one event does to the flags of an allocation that is unreleased after it
 data FlagsStep (w v : World) (i : ℕ) : Type 0 where
   Stays : (placed_at w.allocations i).released ≡ false
       → is_freed_before (placed_at v.allocations i) ≡ is_freed_before (placed_at w.allocations i) → FlagsStep w v i
@@ -131,7 +131,7 @@ longer c w seat step.Grant = omega (arith, length-append w.allocations (granted 
 longer c w seat step.Release = let e = length-map w.allocations (with_released c w.now.words) in omega arith
 longer c w seat _ = omega arith
 
--- what these allocations had in quarantine, another world's flags tell
+-- what these allocations had in quarantine, another world's flags say
 record Tells (xs : List PlacedAllocation) (w : World) : Type 0 where
   longer : length xs ≤ length w.allocations
   flags : (i : ℕ) → (placed_at w.allocations i).released ≡ false
@@ -169,24 +169,24 @@ begin_is : (x : Step) → is_begin x ≡ true → x ≡ step.Begin
 begin_is step.Begin h = refl
 begin_is _ h = cc
 
--- what is known of a world, and of the events behind it
+-- what is known of a world, and of the events after it
 record Along (c : Config) (w : World) (es : List Event) : Type 0 where
   limits : IsWithinLimits c
   lengths : AreOfPages c.pages w.now.words
   known : Known c w.now
   enabled : AreEnabledFrom c w es
-  others : OthersSayFrom c w es
+  others : LayoutPremisesFrom c w es
   order : StandsInOrder c w
 
 along_next : (c : Config) (w : World) (e : Event) (es : List Event) → Along c w (e ∷ es)
     → Before c w × Meets c w.now e.seat e.step × Along c (world_behind c w e) es
-unfolding AreEnabledFrom OthersSayFrom
+unfolding AreEnabledFrom LayoutPremisesFrom
 along_next c w e es a = (
   known_before c w a.limits a.lengths a.known a.others.0 a.order.quarantined,
   enabled_meets c w.now e a.enabled.0,
   record {
     limits = a.limits;
-    lengths = accessed_lengths c.pages w.now.words (reached c w.now e) (access c w.now e) a.lengths;
+    lengths = accessed_lengths c.pages w.now.words (word_accessed c w.now e) (access c w.now e) a.lengths;
     known = known_behind c w.now e a.known a.enabled.0;
     enabled = a.enabled.1;
     others = a.others.1;

@@ -1,4 +1,4 @@
--- Whether the phase is one of a cycle's, behind each kind of event.
+-- Whether the phase is one of a cycle's, after each kind of event.
 use Rattle.std.proofs.Common.{Bool, ap, arith, false, refl, sym, true, ℕ, ◌%◌, ◌+◌, ◌-◌, ◌^◌, ◌∙◌, ◌≡◌}
 use Rattle.std.proofs.lemmas.Bool.{eqb-true}
 use Rattle.mk_core.specs.History.{World}
@@ -14,7 +14,7 @@ use Rattle.mk_layout.specs.Quarantine.{is_cycling}
 use Rattle.mk_layout.proofs.Before.{reg_leaves}
 use Rattle.mk_layout.proofs.Behind.{over_phase}
 
--- whether the phase is one of a cycle's behind a step
+-- whether the phase is one of a cycle's after a step
 abbrev pub is_cycling_behind : Step → Bool → Bool
 is_cycling_behind step.Begin b = true
 is_cycling_behind step.End b = false

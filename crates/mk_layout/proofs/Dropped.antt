@@ -15,9 +15,9 @@ use Rattle.mk_core.proofs.AllBelow.{all_below-at}
 use Rattle.mk_core.proofs.BitsWithout.{has_bit_without}
 use Rattle.mk_core.proofs.PageSteps.{Drops}
 use Rattle.mk_core.proofs.WordBits.{no_bit}
-use Rattle.mk_layout.specs.Scene.{IsClaimed, is_released_in}
+use Rattle.mk_layout.specs.LayoutScene.{IsClaimed, is_released_in}
 use Rattle.mk_protocol.specs.Ground.{Ground, ground_of}
-use Rattle.mk_layout.specs.Terrain.{HasLayout, claims_on, scene_of}
+use Rattle.mk_layout.specs.Terrain.{HasLayout, claims_on, layout_scene_of}
 use Rattle.mk_layout.proofs.Releasing.{layout_ended}
 use Rattle.mk_layout.proofs.Serving.{Laid}
 
@@ -120,7 +120,7 @@ pub ended : (c : Config) (o : Object) (w : World) → length w.now.words.pages �
     → Laid c o false w (ground_of w)
 ended c o w len st h =
     record {
-      scene = layout_ended (scene_of c o true w.now.words.marks (ground_of w)) st.scene
+      scene = layout_ended (layout_scene_of c o true w.now.words.marks (ground_of w)) st.scene
           (record {
             none = λ p k lt. (settled_page w.now.words c.pages p h (omega (arith, len))).none k;
             settled = λ p lt some empty. (settled_page w.now.words c.pages p h (omega (arith, len))).used some empty;

@@ -21,10 +21,10 @@ use Rattle.mk_core.specs.ObjectHeaders.{IsSized, cells_made}
 use Rattle.mk_core.specs.declared.seats.Object.{Object}
 use Rattle.mk_core.proofs.ObjectHeaders.{small_header}
 use Rattle.mk_core.proofs.Sizes.{class_for_small, large_pages, small_cells, small_pages}
-use Rattle.mk_layout.specs.Scene.{header_on, shows_on, used_on}
+use Rattle.mk_layout.specs.LayoutScene.{header_on, shows_on, used_on}
 use Rattle.mk_books.proofs.UsedBitLemmas.{length-bits_of}
 
--- the pages of the place are free, and so many more may be resident
+-- the pages of the place are free, and this many more may be resident
 pub record FitsOnFreePages (limit : ℕ) (pages : List Page) (o : Object) (place : Place) : Type 0 where
   pub room : resident_pages (uses_of_pages pages) + pages_made o ≤ limit
   pub index : place.index ≡ 0

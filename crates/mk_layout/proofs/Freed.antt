@@ -25,10 +25,10 @@ use Rattle.mk_core.proofs.ObjectHeaders.{part_cells}
 use Rattle.mk_core.proofs.Sizes.{pages_some}
 use Rattle.mk_core.proofs.SmallCycles.{small}
 use Rattle.mk_core.proofs.StandingAllocations.{first_page_shows}
-use Rattle.mk_layout.specs.Scene.{Among, Claim, HasHeader, IsShown, IsUnmappedHeaderOf}
+use Rattle.mk_layout.specs.LayoutScene.{Among, Claim, HasHeader, IsShown, IsUnmappedHeaderOf}
 use Rattle.mk_protocol.specs.Ground.{ground_of}
 use Rattle.mk_layout.specs.Terrain.{IsCellOf, IsClaimedRun, RunStands, claim_of, claims_of, claims_on, is_unmapping}
-use Rattle.mk_layout.specs.Terrain.{mode_of, scene_of}
+use Rattle.mk_layout.specs.Terrain.{mode_of, layout_scene_of}
 use Rattle.mk_layout.proofs.Claims.{LeavesCells, changed_among, claim_among}
 use Rattle.mk_layout.proofs.Modes.{Remodes, remoded}
 use Rattle.mk_layout.proofs.Readings.{one_claim}
@@ -287,7 +287,8 @@ gone_terrain c o releasing w unmapped st =
         let some = pages_some x.claim.object sx.sized in
         let xp = x.page in
         let one =
-        shares_run (scene_of c o releasing w.now.words.marks (ground_of w)) (claim_of c w.now.seats.holding.freed a)
+        shares_run (layout_scene_of c o releasing w.now.words.marks (ground_of w))
+        (claim_of c w.now.seats.holding.freed a)
         x.claim 0 0 st.scene ia ix large (omega arith) (omega arith) (omega arith) in
         let count : pages_made ob ≡ run.count = ap (λ (z : Claim). pages_made z.object) (sym one) ∙ x.count in
         let near : d < run.count = omega arith in (

@@ -12,14 +12,14 @@ use Rattle.mk_core.specs.declared.seats.Placing.{Placing}
 use Rattle.mk_core.specs.declared.seats.Placing.TheVariants.{Granted, Used}
 use Rattle.mk_core.specs.declared.seats.RunPages.{RunPages}
 use Rattle.mk_core.proofs.StandingAllocations.{made_begins}
-use Rattle.mk_layout.specs.Scene.{Among, Claim, IsLaidOn, IsShown, NoPlot}
+use Rattle.mk_layout.specs.LayoutScene.{Among, Claim, IsLaidOn, IsShown, NoPlot}
 use Rattle.mk_protocol.specs.Ground.{Ground}
 use Rattle.mk_layout.specs.Terrain.{HasLayout, IsAtCell, RunStands, claim_of, claims_of, is_unmapping, mode_of}
-use Rattle.mk_layout.specs.Terrain.{place_claim, scene_of}
+use Rattle.mk_layout.specs.Terrain.{place_claim, layout_scene_of}
 use Rattle.mk_layout.proofs.Joined.{among_back, among_front}
 use Rattle.mk_layout.proofs.StandingClaims.{place_index}
 
--- An allocation behind a `grant` is one from before, or the new one.
+-- An allocation after a `grant` is one from before, or the new one.
 pub pushed_at : (xs : List PlacedAllocation) (a : PlacedAllocation) (i : ℕ)
     → (placed_at (xs ++ a ∷ []) i).released ≡ false
     → (((placed_at xs i).released ≡ false) × (placed_at (xs ++ a ∷ []) i ≡ placed_at xs i))
@@ -73,7 +73,7 @@ pub granted_terrain : (c : Config) (releasing : Bool) (marks : List ℕ) (t : Gr
 granted_terrain c releasing marks t place a used is st =
     record {
       scene = subst (λ (cs : List Claim). IsLaidOn
-          (record (scene_of c (object_placed c a) releasing marks t) { claims = cs; plot = NoPlot })) claims was;
+          (record (layout_scene_of c (object_placed c a) releasing marks t) { claims = cs; plot = NoPlot })) claims was;
       gone = gone t.run st.gone;
       first = tt;
       cells = λ i u. elim (pushed_at t.allocations a i u) [
@@ -83,9 +83,12 @@ granted_terrain c releasing marks t place a used is st =
       ];
     }
   where
-    was : IsLaidOn (record (scene_of c (object_placed c a) releasing marks t)
+    was : IsLaidOn (record (layout_scene_of c (object_placed c a) releasing marks t)
         { claims = claims_of c t.run t.allocations ++ place_claim (object_placed c a) place ∷ []; plot = NoPlot })
-    was = subst (λ (p : Placing). IsLaidOn (scene_of c (object_placed c a) releasing marks (record t { placing = p })))
+    was = subst (λ (p : Placing). IsLaidOn (layout_scene_of c (object_placed c a) releasing marks (record t {
+      placing =
+          p;
+    })))
         used st.scene
 
     shown : IsShown t.pages (place_claim (object_placed c a) place)

@@ -1,4 +1,4 @@
--- Each page has a header word, behind each event.
+-- Each page has a header word, after each event.
 use Rattle.std.proofs.Common.{List, ap, arith, inl, inr, refl, subst, sym, true, ℕ, ◌-◌, ◌<◌, ◌∙◌, ◌≡◌}
 use Rattle.std.specs.Prelude.{IsSome, Option}
 use Rattle.std.proofs.lemmas.Bool.{cases_eq}
@@ -23,7 +23,7 @@ use Rattle.mk_protocol.proofs.Actors.{Meets}
 use Rattle.mk_protocol.proofs.Ground.{tally_ground}
 use Rattle.mk_protocol.proofs.OthersMoves.{WorldBehind}
 use Rattle.mk_layout.specs.Room.{HasHeaderWords}
-use Rattle.mk_layout.specs.Scene.{header_on}
+use Rattle.mk_layout.specs.LayoutScene.{header_on}
 use Rattle.mk_protocol.specs.Ground.{ground_of}
 use Rattle.mk_layout.specs.Terrain.{IsClaimedRun, IsLaidOut, RunStands, claims_of, object_now}
 use Rattle.mk_layout.proofs.Before.{Before, page_within, reg_leaves_ground}

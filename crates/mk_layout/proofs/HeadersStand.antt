@@ -39,7 +39,7 @@ use Rattle.mk_core.proofs.SmallCycles.{small}
 use Rattle.mk_core.proofs.StandingAllocations.{run_begins, standing_has_storage}
 use Rattle.mk_core.proofs.UnreleasedStorage.{has_its_storage, storage_is_of}
 use Rattle.mk_core.proofs.WordBits.{bit_is_none, bit_is_one}
-use Rattle.mk_layout.specs.Scene.{Claim, HasHeader, IsClaimed, IsShown, is_released_in, shows_on}
+use Rattle.mk_layout.specs.LayoutScene.{Claim, HasHeader, IsClaimed, IsShown, is_released_in, shows_on}
 use Rattle.mk_layout.specs.Terrain.{claim_of, claims_of, mode_of}
 use Rattle.mk_layout.proofs.Apart.{Rests, index_is, lie_apart, lie_in_pairs, on_its_pages, quiet_scene, same_block}
 use Rattle.mk_layout.proofs.Apart.{shown_of, small_is, standing_of}

@@ -1,4 +1,4 @@
--- All is in order behind every list of enabled events.
+-- All is in order after every list of enabled events.
 use Rattle.std.proofs.Common.{Bool, List, [], ap, arith, false, refl, subst, sym, true, ℕ, ◌∙◌, ◌∷◌, ◌≡◌}
 use Rattle.std.specs.Prelude.{Some, replicate, slice_index, slice_index_or, ◌||◌}
 use Rattle.std.proofs.lemmas.Bool.{true≢false}
@@ -8,7 +8,7 @@ use Rattle.mk_geom.specs.PageWords.{use_of_page}
 use Rattle.mk_geom.specs.Storages.{free_page}
 use Rattle.mk_geom.specs.declared.headers.Header.TheVariants.{Later}
 use Rattle.mk_geom.specs.declared.pages.Page.{Page}
-use Rattle.mk_core.specs.Accesses.{access, reached}
+use Rattle.mk_core.specs.Accesses.{access, word_accessed}
 use Rattle.mk_core.specs.Cells.{heads_run}
 use Rattle.mk_core.specs.Config.{IsWithinLimits}
 use Rattle.mk_core.specs.Enabled.{IsEnabled}
@@ -26,11 +26,11 @@ use Rattle.mk_protocol.proofs.Actors.{Meets}
 use Rattle.mk_protocol.proofs.Known.{Known, known_at_first, known_behind, known_left}
 use Rattle.mk_protocol.proofs.OthersMoves.{WorldBehind}
 use Rattle.mk_protocol.proofs.OrderlyLists.{at_first}
-use Rattle.mk_layout.specs.LayoutLaws.{EventsKeepTheLayout, FewPagesAreResident, HistoriesAreLaidOut, OthersSay}
-use Rattle.mk_layout.specs.LayoutLaws.{OthersSayFrom, PagesHaveHeaderWords, StandsInOrder}
+use Rattle.mk_layout.specs.LayoutLaws.{EventsKeepTheLayout, FewPagesAreResident, HistoriesAreLaidOut, LayoutPremises}
+use Rattle.mk_layout.specs.LayoutLaws.{LayoutPremisesFrom, PagesHaveHeaderWords, StandsInOrder}
 use Rattle.mk_layout.specs.Quarantine.{HasQuarantine, IsQuarantined}
 use Rattle.mk_layout.specs.Room.{is_taken_page}
-use Rattle.mk_layout.specs.Scene.{NoPlot}
+use Rattle.mk_layout.specs.LayoutScene.{NoPlot}
 use Rattle.mk_protocol.specs.Ground.{ground_of}
 use Rattle.mk_layout.specs.Terrain.{IsLaidOut, object_now}
 use Rattle.mk_layout.proofs.Before.{Before, is_releasing_behind}
@@ -104,7 +104,7 @@ in_order_at_first c =
     free p = ap (λ (x : Page). is_resident_page (use_of_page x) || false) (at_first c.pages p free_page)
 
 pub known_before : (c : Config) (w : World) → IsWithinLimits c → AreOfPages c.pages w.now.words → Known c w.now
-    → OthersSay c w → IsQuarantined c w → Before c w
+    → LayoutPremises c w → IsQuarantined c w → Before c w
 known_before c w limits lengths known others q =
     record {
       limits = limits;
@@ -134,7 +134,7 @@ quarantine_behind c w seat x b h laid q =
 
 -- One event, from the world before it.
 pub order_behind : (c : Config) (w : World) (e : Event) → IsWithinLimits c → AreOfPages c.pages w.now.words
-    → Known c w.now → IsEnabled c w.now e → OthersSay c w
+    → Known c w.now → IsEnabled c w.now e → LayoutPremises c w
     → StandsInOrder c w → StandsInOrder c (world_behind c w e)
 order_behind c w e limits lengths known on others all =
     let h = enabled_meets c w.now e on in
@@ -156,13 +156,13 @@ events_keep_the_layout c es e limits on enabled others both =
     order_behind c (left c es) e limits (histories_keep_lengths c es) (known_left c es limits on) enabled others both
 
 order_from : (c : Config) (w : World) (es : List Event) → IsWithinLimits c → AreOfPages c.pages w.now.words
-    → Known c w.now → AreEnabledFrom c w es → OthersSayFrom c w es
+    → Known c w.now → AreEnabledFrom c w es → LayoutPremisesFrom c w es
     → StandsInOrder c w → StandsInOrder c (left_from c w es)
-unfolding left_from AreEnabledFrom OthersSayFrom
+unfolding left_from AreEnabledFrom LayoutPremisesFrom
 order_from c w [] limits lengths known on others both = both
 order_from c w (e ∷ es) limits lengths known on others both =
     order_from c (world_behind c w e) es limits
-    (accessed_lengths c.pages w.now.words (reached c w.now e) (access c w.now e) lengths)
+    (accessed_lengths c.pages w.now.words (word_accessed c w.now e) (access c w.now e) lengths)
     (known_behind c w.now e known on.0) on.1 others.1
     (order_behind c w e limits lengths known on.0 others.0 both)
 

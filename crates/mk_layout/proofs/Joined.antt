@@ -1,6 +1,6 @@
 -- Lists of claims that are joined.
 use Rattle.std.proofs.Common.{List, [], ap, inl, inr, refl, sym, ◌++◌, ◌∙◌, ◌∷◌, ◌⊎◌}
-use Rattle.mk_layout.specs.Scene.{Among, AreApart, Claim, IsOfOneCell}
+use Rattle.mk_layout.specs.LayoutScene.{Among, AreApart, Claim, IsOfOneCell}
 
 pub among_front : (xs ys : List Claim) (x : Claim) → Among x xs → Among x (xs ++ ys)
 among_front [] ys x i = absurd i

@@ -1,4 +1,4 @@
--- Each freed bit is that of a cell of its page, behind each event.
+-- Each freed bit is that of a cell of its page, after each event.
 use Rattle.std.proofs.Common.{List, ap, arith, false, inl, inr, length, refl, subst, sym, true, ℕ, ◌%◌, ◌-◌, ◌/◌, ◌<◌}
 use Rattle.std.proofs.Common.{◌^◌, ◌∙◌, ◌≡◌}
 use Rattle.std.specs.Prelude.{Option, Some, not, slice_index, slice_set}
@@ -28,9 +28,9 @@ use Rattle.mk_protocol.proofs.Actors.{Meets}
 use Rattle.mk_protocol.proofs.Ground.{tally_ground}
 use Rattle.mk_protocol.proofs.OthersMoves.{WorldBehind}
 use Rattle.mk_layout.specs.Quarantine.{FreedCellsAreKnown, IsQuarantined}
-use Rattle.mk_layout.specs.Scene.{is_released_in, shows_on}
+use Rattle.mk_layout.specs.LayoutScene.{is_released_in, shows_on}
 use Rattle.mk_protocol.specs.Ground.{ground_of}
-use Rattle.mk_layout.specs.Terrain.{IsLaidOut, claim_of, object_now, scene_of}
+use Rattle.mk_layout.specs.Terrain.{IsLaidOut, claim_of, object_now, layout_scene_of}
 use Rattle.mk_layout.proofs.Before.{Before, is_releasing_behind, page_within, reg_leaves_ground}
 use Rattle.mk_layout.proofs.Behind.{phase_kind}
 use Rattle.mk_layout.proofs.ByKind.{off_at}
@@ -50,7 +50,7 @@ known_quiet c w off laid q p k h = elim (q.owned p k h) [
       let a : PlacedAllocation = placed_at w.allocations o.number in
       let shown = shown_at c w o.number laid o.unreleased in
       let cells = cells_at_claim
-      (scene_of c (object_now c w.now) (is_phase w.now.words 4) w.now.words.marks (ground_of w))
+      (layout_scene_of c (object_now c w.now) (is_phase w.now.words 4) w.now.words.marks (ground_of w))
       (claim_of c w.now.seats.holding.freed a) shown in
       let page : a.base / 64 ≡ p = ap (λ (x : Cell). x.page) o.cell in
       let index : (cell_of_allocation c a).index ≡ k = ap (λ (x : Cell). x.index) o.cell in

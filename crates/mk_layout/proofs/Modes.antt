@@ -7,9 +7,9 @@ use Rattle.mk_core.specs.StandingAllocations.{object_placed}
 use Rattle.mk_core.specs.declared.config.Config.{Config}
 use Rattle.mk_core.specs.declared.seats.Object.{Object}
 use Rattle.mk_core.specs.declared.seats.RunPages.{RunPages}
-use Rattle.mk_layout.specs.Scene.{Among, Claim, HasHeader, Mode, header_on}
+use Rattle.mk_layout.specs.LayoutScene.{Among, Claim, HasHeader, Mode, header_on}
 use Rattle.mk_protocol.specs.Ground.{Ground}
-use Rattle.mk_layout.specs.Terrain.{HasLayout, RunStands, claim_of, claims_of, claims_placed, scene_of}
+use Rattle.mk_layout.specs.Terrain.{HasLayout, RunStands, claim_of, claims_of, claims_placed, layout_scene_of}
 use Rattle.mk_layout.proofs.Claims.{LeavesCells, apart_behind, cells_behind, changed_among, claim_among, claim_is}
 use Rattle.mk_layout.proofs.Claims.{was_claim}
 use Rattle.mk_layout.proofs.Joined.{among_back, among_front, among_parts, apart_across, apart_joined, apart_left}
@@ -52,7 +52,7 @@ pub remoded : (c : Config) (o : Object) (releasing : Bool) (marks : List ℕ) (t
     → HasLayout c o releasing marks (record t { run = run; allocations = map g t.allocations })
 remoded c o releasing marks t run g st r stands =
     record {
-      scene = layout_changed (scene_of c o releasing marks t)
+      scene = layout_changed (layout_scene_of c o releasing marks t)
           (claims_of c run (map g t.allocations) ++ claims_placed o t.placing) st.scene
           (record {
             from = λ y i. elim (among_parts (claims_of c run (map g t.allocations)) (claims_placed o t.placing) y i) [

@@ -12,8 +12,9 @@ use Rattle.mk_core.specs.Cells.{cells_under}
 use Rattle.mk_core.specs.NewPlaces.{is_small_object, pages_made}
 use Rattle.mk_core.specs.ObjectHeaders.{ShowsPart}
 use Rattle.mk_core.proofs.Sizes.{pages_some}
-use Rattle.mk_layout.specs.Scene.{Among, Claim, InPlot, IsClaimed, IsLaidOn, NoPlot, Plot, Scene, head_on, header_on}
-use Rattle.mk_layout.specs.Scene.{is_released_in, is_released_on, run_count, shows_on, used_on}
+use Rattle.mk_layout.specs.LayoutScene.{Among, Claim, InPlot, IsClaimed, IsLaidOn, NoPlot, Plot, LayoutScene, head_on}
+use Rattle.mk_layout.specs.LayoutScene.{header_on}
+use Rattle.mk_layout.specs.LayoutScene.{is_released_in, is_released_on, run_count, shows_on, used_on}
 use Rattle.mk_layout.proofs.Readings.{claimed, zero_where_none}
 use Rattle.mk_layout.proofs.RunCounts.{part_count, small_count}
 
@@ -37,14 +38,15 @@ head_cases (Some (Later d m)) p = inr (d, (m, refl))
 head_cases _ p = inl refl
 
 -- the page is one of a claim's
-pub record IsOn (sc : Scene) (p : ℕ) : Type 0 where
+pub record IsOn (sc : LayoutScene) (p : ℕ) : Type 0 where
   pub claim : Claim
   pub among : Among claim sc.claims
   pub distance : ℕ
   pub near : distance < pages_made claim.object
   pub at : claim.page + distance ≡ p
 
-pub on_claim : (sc : Scene) (p : ℕ) → IsLaidOn sc → sc.plot ≡ NoPlot → sc.releasing ≡ false → header_on sc.pages p ≢ 0
+pub on_claim : (sc : LayoutScene) (p : ℕ) → IsLaidOn sc → sc.plot ≡ NoPlot → sc.releasing ≡ false
+    → header_on sc.pages p ≢ 0
     → IsOn sc p
 on_claim sc p laid none off some =
     elim (find_bit (used_on sc.pages (head_on sc.pages p)) (cells_under (shows_on sc.pages (head_on sc.pages p)))) [

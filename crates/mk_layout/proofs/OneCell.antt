@@ -5,7 +5,7 @@ use Rattle.std.proofs.lemmas.Bool.{cases_Bool, true≢false}
 use Rattle.mk_core.specs.Allocations.{PlacedAllocation, placed_at}
 use Rattle.mk_core.specs.declared.config.Config.{Config}
 use Rattle.mk_core.specs.declared.seats.RunPages.{RunPages}
-use Rattle.mk_layout.specs.Scene.{AreApart, Claim, IsOfOneCell}
+use Rattle.mk_layout.specs.LayoutScene.{AreApart, Claim, IsOfOneCell}
 use Rattle.mk_layout.specs.Terrain.{claim_of, claims_of}
 use Rattle.mk_layout.proofs.Claims.{claim_among, front, gone_front}
 

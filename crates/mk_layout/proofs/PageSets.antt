@@ -5,7 +5,7 @@ use Rattle.std.proofs.lemmas.Bool.{cases_eq}
 use Rattle.std.proofs.lemmas.List.{get_or-set_other, get_or-set_same}
 use Rattle.mk_geom.specs.Storages.{free_page}
 use Rattle.mk_geom.specs.declared.pages.Page.{Page}
-use Rattle.mk_layout.specs.Scene.{header_on, used_on}
+use Rattle.mk_layout.specs.LayoutScene.{header_on, used_on}
 
 abbrev pub with_header_on : List Page → ℕ → ℕ → List Page
 with_header_on pages p n = slice_set pages p (record { header = n; used = used_on pages p })

@@ -14,9 +14,11 @@ use Rattle.mk_core.specs.declared.seats.Object.{Object}
 use Rattle.mk_core.proofs.ObjectHeaders.{made_shows, part_cells, shown_later}
 use Rattle.mk_core.proofs.Sizes.{pages_some}
 use Rattle.mk_core.proofs.WordBits.{added_here, added_other}
-use Rattle.mk_layout.specs.Scene.{Among, AreApart, Claim, HasHeader, HasItsHead, InPlot, IsClaimed, IsLaidOn}
-use Rattle.mk_layout.specs.Scene.{IsOfOneCell, IsPlotShown, IsShown, IsTakenCell, Mapped, NoPlot, Plot, PlotStands}
-use Rattle.mk_layout.specs.Scene.{Plotted, Scene, head_on, header_on, is_released_on, run_count, shows_on, used_on}
+use Rattle.mk_layout.specs.LayoutScene.{Among, AreApart, Claim, HasHeader, HasItsHead, InPlot, IsClaimed, IsLaidOn}
+use Rattle.mk_layout.specs.LayoutScene.{IsOfOneCell, IsPlotShown, IsShown, IsTakenCell, Mapped, NoPlot, Plot}
+use Rattle.mk_layout.specs.LayoutScene.{PlotStands}
+use Rattle.mk_layout.specs.LayoutScene.{Plotted, LayoutScene, head_on, header_on, is_released_on, run_count, shows_on}
+use Rattle.mk_layout.specs.LayoutScene.{used_on}
 use Rattle.mk_layout.proofs.PageSets.{headed_here, headed_other, headed_used, used_header, used_here, used_other}
 use Rattle.mk_layout.proofs.PageSets.{with_header_on, with_used_on}
 use Rattle.mk_layout.proofs.Readings.{claimed_head, claimed_some, free_unused, none_set, zero_where_none}
@@ -24,10 +26,10 @@ use Rattle.mk_layout.proofs.Releasing.{head_of_other, shown_beside}
 use Rattle.mk_layout.proofs.RunCounts.{part_count}
 
 -- the place is chosen: its pages are free
-abbrev pub ChosenAt : Scene → ℕ → Object → Scene
+abbrev pub ChosenAt : LayoutScene → ℕ → Object → LayoutScene
 ChosenAt s first o = record s { plot = Plotted first o }
 
-pub layout_chosen : (s : Scene) (first : ℕ) (o : Object) → IsLaidOn s → s.plot ≡ NoPlot → IsSized o
+pub layout_chosen : (s : LayoutScene) (first : ℕ) (o : Object) → IsLaidOn s → s.plot ≡ NoPlot → IsSized o
     → first + pages_made o ≤ length s.pages
     → ((d : ℕ) → d < pages_made o → header_on s.pages (first + d) ≡ 0) → IsLaidOn (ChosenAt s first o)
 layout_chosen s first o laid none sized within free =
@@ -49,15 +51,15 @@ layout_chosen s first o laid none sized within free =
     }
 
 -- `head` (a) and (b): the first page that hasn't its header gets it
-abbrev pub Carved : Scene → ℕ → Object → ℕ → Scene
+abbrev pub Carved : LayoutScene → ℕ → Object → ℕ → LayoutScene
 Carved s first o d = record s { pages = with_header_on s.pages (first + d) (header_made o d); plot = Plotted first o }
 
-pub record Carves (s : Scene) (first : ℕ) (o : Object) (d : ℕ) : Type 0 where
+pub record Carves (s : LayoutScene) (first : ℕ) (o : Object) (d : ℕ) : Type 0 where
   pub within : d < pages_made o
   pub not_yet : header_on s.pages (first + d) ≢ header_made o d
   pub before : (e : ℕ) → e < d → header_on s.pages (first + e) ≡ header_made o e
 
-pub layout_carved : (s : Scene) (first : ℕ) (o : Object) (d : ℕ) → IsLaidOn s → s.plot ≡ Plotted first o
+pub layout_carved : (s : LayoutScene) (first : ℕ) (o : Object) (d : ℕ) → IsLaidOn s → s.plot ≡ Plotted first o
     → s.releasing ≡ false → Carves s first o d → IsLaidOn (Carved s first o d)
 layout_carved s first o d laid plotted off next =
     record {
@@ -163,11 +165,11 @@ layout_carved s first o d laid plotted off next =
               in omega arith)),
         )
 
--- `used` (a): the cell of the place is taken, behind all its headers
-abbrev pub Taken : Scene → Claim → ℕ → Scene
+-- `used` (a): the cell of the place is taken, after all its headers
+abbrev pub Taken : LayoutScene → Claim → ℕ → LayoutScene
 Taken s x n = record s { pages = with_used_on s.pages x.page n; claims = s.claims ++ x ∷ []; plot = NoPlot }
 
-pub record Takes (s : Scene) (x : Claim) (n : ℕ) : Type 0 where
+pub record Takes (s : LayoutScene) (x : Claim) (n : ℕ) : Type 0 where
   pub sized : IsSized x.object
   pub mapped : x.mode ≡ Mapped
   pub index : x.index < cells_made x.object
@@ -203,7 +205,7 @@ apart_push (z ∷ zs) x apart new = (
   apart_push zs x apart.1 (λ y i. new y (inr i)),
 )
 
-pub layout_taken : (s : Scene) (x : Claim) (n : ℕ) → IsLaidOn s → Takes s x n → IsLaidOn (Taken s x n)
+pub layout_taken : (s : LayoutScene) (x : Claim) (n : ℕ) → IsLaidOn s → Takes s x n → IsLaidOn (Taken s x n)
 layout_taken s x n laid t =
     record {
       shown = λ y among. elim (among_push s.claims x y among) [

@@ -40,7 +40,7 @@ use Rattle.mk_protocol.proofs.Actors.{Meets}
 use Rattle.mk_protocol.proofs.Ground.{KeepsGround, tally_ground}
 use Rattle.mk_protocol.proofs.OthersMoves.{WorldBehind}
 use Rattle.mk_layout.specs.Quarantine.{HasQuarantine, IsQuarantined}
-use Rattle.mk_layout.specs.Scene.{Claim, IsShown, is_released_in}
+use Rattle.mk_layout.specs.LayoutScene.{Claim, IsShown, is_released_in}
 use Rattle.mk_protocol.specs.Ground.{Ground, ground_of}
 use Rattle.mk_layout.specs.Terrain.{IsLaidOut, claim_of, object_now}
 use Rattle.mk_layout.proofs.Before.{Before, is_releasing_behind, reg_leaves_ground}

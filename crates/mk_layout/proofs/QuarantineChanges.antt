@@ -1,4 +1,4 @@
--- The quarantine behind the steps that change allocations: `release`, `quar` (a), `grant`, `begin`.
+-- The quarantine after the steps that change allocations: `release`, `quar` (a), `grant`, `begin`.
 use Rattle.std.proofs.Common.{Bool, List, [], ap, arith, false, inl, inr, length, map, pow-suc, refl, subst, suc, sym}
 use Rattle.std.proofs.Common.{true, ℕ, ◌%◌, ◌*◌, ◌++◌, ◌+◌, ◌/◌, ◌<◌, ◌^◌, ◌∙◌, ◌∷◌, ◌≡◌, ◌≤◌, ◌⊎◌}
 use Rattle.std.specs.Prelude.{Option, Some, if◌then◌else◌, slice_index, slice_set}
@@ -27,7 +27,7 @@ use Rattle.mk_core.proofs.SmallCycles.{small}
 use Rattle.mk_core.proofs.WordBits.{added_here, added_other, sum_is_or}
 use Rattle.mk_protocol.specs.Protocol.{has_place}
 use Rattle.mk_layout.specs.Quarantine.{HasQuarantine, IsFreedCell, has_bit_of}
-use Rattle.mk_layout.specs.Scene.{is_released_in}
+use Rattle.mk_layout.specs.LayoutScene.{is_released_in}
 use Rattle.mk_protocol.specs.Ground.{Ground, ground_of}
 use Rattle.mk_layout.specs.Terrain.{IsCellOf}
 use Rattle.mk_layout.proofs.ByKind.{fresh_cells}
@@ -38,7 +38,7 @@ use Rattle.mk_layout.proofs.QuarantineSteps.{bit_cases, least_set}
 use Rattle.mk_layout.proofs.Released.{left_is, releasing_leaves}
 use Rattle.mk_layout.proofs.StandingClaims.{IsStanding}
 
--- A freed cell behind a change that leaves its allocation unreleased, and freed.
+-- A freed cell after a change that leaves its allocation unreleased, and freed.
 pub freed_behind : (c : Config) (g : PlacedAllocation → PlacedAllocation) (xs : List PlacedAllocation) (p k : ℕ)
     → LeavesCells g → (o : IsFreedCell c xs p k)
     → (g (placed_at xs o.number)).released ≡ false → (g (placed_at xs o.number)).freed ≡ true
@@ -54,7 +54,7 @@ freed_behind c g xs p k leaves o u f =
           ∙ same_cell c a (g a) (leaves.places.base a) (leaves.places.ty a) ∙ o.cell;
     }
 
--- An unreleased allocation behind a change, at its number before it.
+-- An unreleased allocation after a change, at its number before it.
 pub record BeforeChange (c : Config) (g : PlacedAllocation
     → PlacedAllocation) (xs : List PlacedAllocation) (i : ℕ) : Type 0 where
   pub now : placed_at (map g xs) i ≡ g (placed_at xs i)

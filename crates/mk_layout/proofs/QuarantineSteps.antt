@@ -1,4 +1,4 @@
--- The quarantine behind each kind of step.
+-- The quarantine after each kind of step.
 use Rattle.std.proofs.Common.{Bool, List, ap, arith, bit_and, false, inl, inr, length, min, refl, subst, sym, true, ℕ}
 use Rattle.std.proofs.Common.{◌-◌, ◌<◌, ◌^◌, ◌∙◌, ◌≡◌, ◌≢◌, ◌≤◌, ◌⊎◌}
 use Rattle.std.specs.Prelude.{Option, not, slice_index, slice_set, ◌&&◌}
@@ -22,7 +22,7 @@ use Rattle.mk_core.proofs.BitsWithout.{has_bit_without}
 use Rattle.mk_core.proofs.PageSteps.{Drops, left_bits}
 use Rattle.mk_core.proofs.WordBits.{fewer_bits, rest_bits}
 use Rattle.mk_layout.specs.Quarantine.{HasQuarantine, IsFreedCell}
-use Rattle.mk_layout.specs.Scene.{Among, Claim, is_released_in, used_on}
+use Rattle.mk_layout.specs.LayoutScene.{Among, Claim, is_released_in, used_on}
 use Rattle.mk_protocol.specs.Ground.{Ground, ground_of}
 use Rattle.mk_layout.specs.Terrain.{claims_of, claims_on, claims_placed}
 use Rattle.mk_layout.proofs.Claims.{claim_is}
@@ -65,7 +65,7 @@ least_set xs p n i lt l was = elim (set_cases xs p n i lt) [
   | inr other ↦ let e = other.1 in omega arith
 ]
 
--- a bit behind a change of a page's word
+-- a bit after a change of a page's word
 pub bit_cases : (xs : List ℕ) (p n q k : ℕ) → p < length xs
     → ((q ≡ p) × (has_bit (slice_index (slice_set xs p n) q) k ≡ has_bit n k))
     ⊎ ((q ≢ p) × (has_bit (slice_index (slice_set xs p n) q) k ≡ has_bit (slice_index xs q) k))
@@ -77,7 +77,7 @@ bit_cases xs p n q k lt = elim (set_cases xs p n q lt) [
 without_le : (x y : ℕ) → without x y ≤ x
 without_le x y = omega arith
 
--- what tells that a cell is released
+-- what says that a cell is released
 pub released_bits : (snapshot marks : List ℕ) (p k : ℕ) → is_released_in true snapshot marks p k ≡ true
     → (has_bit (slice_index snapshot p) k ≡ true) × (has_bit (slice_index marks p) k ≡ false)
 released_bits snapshot marks p k r =

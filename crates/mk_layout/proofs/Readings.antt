@@ -10,8 +10,8 @@ use Rattle.mk_core.specs.ObjectHeaders.{IsHeaderOf, ShowsPart}
 use Rattle.mk_core.specs.declared.seats.Object.{Object}
 use Rattle.mk_core.proofs.ObjectHeaders.{header_shows, part_head, part_not_free}
 use Rattle.mk_core.proofs.WordBits.{no_bit, zero_from_bits}
-use Rattle.mk_layout.specs.Scene.{Among, AreApart, Claim, HasHeader, IsLaidOn, IsOfOneCell, IsShown, Mapped, Mode}
-use Rattle.mk_layout.specs.Scene.{Scene, Unmapped, Unmapping, head_on, header_on, shows_on, used_on}
+use Rattle.mk_layout.specs.LayoutScene.{Among, AreApart, Claim, HasHeader, IsLaidOn, IsOfOneCell, IsShown, Mapped, Mode}
+use Rattle.mk_layout.specs.LayoutScene.{LayoutScene, Unmapped, Unmapping, head_on, header_on, shows_on, used_on}
 
 -- a word with no bit is 0, and 0 has none
 pub zero_where_none : (n : ℕ) → ((k : ℕ) → has_bit n k ≡ true → ⊥) → n ≡ 0
@@ -51,11 +51,12 @@ claimed_some pages x distance shown lt = part_not_free x.object distance (header
     (claimed pages x distance shown lt)
 
 -- a page without cells has no used bit
-pub cellless_unused : (s : Scene) (p : ℕ) → IsLaidOn s → cells_under (shows_on s.pages p) ≡ 0 → used_on s.pages p ≡ 0
+pub cellless_unused : (s : LayoutScene) (p : ℕ) → IsLaidOn s → cells_under (shows_on s.pages p) ≡ 0
+    → used_on s.pages p ≡ 0
 cellless_unused s p laid none =
     zero_where_none (used_on s.pages p) (λ k h. let t = laid.used p k h in let lt = t.0 in absurd (omega arith))
 
-pub free_unused : (s : Scene) (p : ℕ) → IsLaidOn s → header_on s.pages p ≡ 0 → used_on s.pages p ≡ 0
+pub free_unused : (s : LayoutScene) (p : ℕ) → IsLaidOn s → header_on s.pages p ≡ 0 → used_on s.pages p ≡ 0
 free_unused s p laid z = cellless_unused s p laid (ap (λ h. cells_under (header_of h)) z)
 
 -- two claims of one cell are one

@@ -18,9 +18,9 @@ use Rattle.mk_core.proofs.ChangedAllocations.{released_leaves}
 use Rattle.mk_core.proofs.PointedAllocations.{released_where_left}
 use Rattle.mk_core.proofs.Sizes.{large_cells}
 use Rattle.mk_protocol.proofs.Kept.{kept}
-use Rattle.mk_layout.specs.Scene.{Among, Claim, is_released_in}
+use Rattle.mk_layout.specs.LayoutScene.{Among, Claim, is_released_in}
 use Rattle.mk_protocol.specs.Ground.{ground_of}
-use Rattle.mk_layout.specs.Terrain.{RunStands, claim_of, claims_of, claims_placed, scene_of}
+use Rattle.mk_layout.specs.Terrain.{RunStands, claim_of, claims_of, claims_placed, layout_scene_of}
 use Rattle.mk_layout.proofs.Claims.{LeavesCells, apart_behind, cells_behind, changed_among, claim_among, claim_is}
 use Rattle.mk_layout.proofs.Claims.{was_claim}
 use Rattle.mk_layout.proofs.Joined.{among_back, among_front, among_parts, apart_across, apart_joined, apart_left}
@@ -84,7 +84,7 @@ pub released_terrain : (c : Config) (o : Object) (w : World) → IsWithinLimits 
     → Laid c o true w (record (ground_of w) { allocations = map (with_released c w.now.words) w.allocations })
 released_terrain c o w limits len st kept =
     record {
-      scene = layout_released (scene_of c o false w.now.words.marks (ground_of w))
+      scene = layout_released (layout_scene_of c o false w.now.words.marks (ground_of w))
           (claims_of c w.now.seats.holding.freed ys ++ placed) st.scene refl
           (record {
             fewer = λ x i. elim (among_parts (claims_of c w.now.seats.holding.freed ys) placed x i) [

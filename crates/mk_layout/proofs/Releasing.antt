@@ -15,15 +15,17 @@ use Rattle.mk_core.specs.Cells.{cells_under}
 use Rattle.mk_core.specs.Counts.{ends}
 use Rattle.mk_core.specs.NewPlaces.{header_made, pages_made, stands}
 use Rattle.mk_protocol.proofs.Kept.{kept}
-use Rattle.mk_layout.specs.Scene.{Among, AreApart, Claim, HasHeader, IsClaimed, IsLaidOn, IsShown, NoPlot, Plot}
-use Rattle.mk_layout.specs.Scene.{PlotStands, Plotted, Scene, head_on, header_on, is_released_in, is_released_on}
-use Rattle.mk_layout.specs.Scene.{run_count, shows_on, used_on}
+use Rattle.mk_layout.specs.LayoutScene.{Among, AreApart, Claim, HasHeader, IsClaimed, IsLaidOn, IsShown, NoPlot, Plot}
+use Rattle.mk_layout.specs.LayoutScene.{PlotStands, Plotted, LayoutScene, head_on, header_on, is_released_in}
+use Rattle.mk_layout.specs.LayoutScene.{is_released_on}
+use Rattle.mk_layout.specs.LayoutScene.{run_count, shows_on, used_on}
 use Rattle.mk_layout.proofs.PageSets.{headed_here, headed_other, headed_used, used_header, used_here, used_other}
 use Rattle.mk_layout.proofs.PageSets.{with_header_on, with_used_on}
 use Rattle.mk_layout.proofs.Readings.{cellless_unused, claimed_used, free_unused, none_set, zero_where_none}
 
 -- a page with nothing on it is on no claim's pages
-unclaimed : (s : Scene) (p : ℕ) → IsLaidOn s → used_on s.pages (head_on s.pages p) ≡ 0 → (x : Claim) → Among x s.claims
+unclaimed : (s : LayoutScene) (p : ℕ) → IsLaidOn s → used_on s.pages (head_on s.pages p) ≡ 0 → (x : Claim)
+    → Among x s.claims
     → (distance : ℕ) → distance < pages_made x.object
     → x.page + distance ≢ p
 unclaimed s p laid z x among distance lt e =
@@ -48,7 +50,7 @@ shown_beside pages p n x lt shown apart =
 pub head_of_other : (pages : List Page) (p n q : ℕ) → q ≢ p → head_on (with_header_on pages p n) q ≡ head_on pages q
 head_of_other pages p n q ne = ap (λ h. head_page_under (header_of h) q) (headed_other pages p n q ne)
 
-abbrev Emptied : Scene → ℕ → Scene
+abbrev Emptied : LayoutScene → ℕ → LayoutScene
 Emptied s p = record s { pages = with_header_on s.pages p 0 }
 
 plot_emptied : (pages : List Page) (p : ℕ) (plot : Plot) → p < length pages → PlotStands pages plot
@@ -68,7 +70,7 @@ plot_emptied pages p (Plotted first o) lt stands =
     }
 
 -- `head` (d): a page of which nothing is left is free
-pub layout_emptied : (s : Scene) (p : ℕ) → IsLaidOn s → p < length s.pages → s.releasing ≡ true
+pub layout_emptied : (s : LayoutScene) (p : ℕ) → IsLaidOn s → p < length s.pages → s.releasing ≡ true
     → used_on s.pages (head_on s.pages p) ≡ 0 → IsLaidOn (Emptied s p)
 layout_emptied s p laid lt on z =
     record {
@@ -117,14 +119,14 @@ layout_emptied s p laid lt on z =
         ∙ is in true≢false (let y : true ≡ false = cc in y)
 
 -- `used` (b): bits of released cells go
-abbrev GivenBack : Scene → ℕ → ℕ → Scene
+abbrev GivenBack : LayoutScene → ℕ → ℕ → LayoutScene
 GivenBack s p n = record s { pages = with_used_on s.pages p n }
 
-pub record Gives (s : Scene) (p n : ℕ) : Type 0 where
+pub record Gives (s : LayoutScene) (p n : ℕ) : Type 0 where
   pub fewer : (k : ℕ) → has_bit n k ≡ true → has_bit (used_on s.pages p) k ≡ true
   pub gone : (k : ℕ) → has_bit (used_on s.pages p) k ≡ true → has_bit n k ≡ false → is_released_on s p k ≡ true
 
-pub layout_given_back : (s : Scene) (p n : ℕ) → IsLaidOn s → p < length s.pages → s.releasing ≡ true → Gives s p n
+pub layout_given_back : (s : LayoutScene) (p n : ℕ) → IsLaidOn s → p < length s.pages → s.releasing ≡ true → Gives s p n
     → ((x : Claim) → Among x s.claims → is_released_on s x.page x.index ≡ false) → IsLaidOn (GivenBack s p n)
 layout_given_back s p n laid lt on gives kept =
     record {
@@ -193,16 +195,16 @@ layout_given_back s p n laid lt on gives kept =
         }
 
 -- `release`: some claims go, and their cells are released
-abbrev Released : Scene → List Claim → Scene
+abbrev Released : LayoutScene → List Claim → LayoutScene
 Released s claims = record s { claims = claims; releasing = true }
 
-pub record Releases (s : Scene) (claims : List Claim) : Type 0 where
+pub record Releases (s : LayoutScene) (claims : List Claim) : Type 0 where
   pub fewer : (x : Claim) → Among x claims → Among x s.claims
   pub apart : AreApart claims
   pub gone : (x : Claim) → Among x s.claims
       → Among x claims ⊎ (is_released_in true s.snapshot s.marks x.page x.index ≡ true)
 
-pub layout_released : (s : Scene) (claims : List Claim) → IsLaidOn s → s.releasing ≡ false → Releases s claims
+pub layout_released : (s : LayoutScene) (claims : List Claim) → IsLaidOn s → s.releasing ≡ false → Releases s claims
     → IsLaidOn (Released s claims)
 layout_released s claims laid off r =
     record {
@@ -228,14 +230,14 @@ layout_released s claims laid off r =
     ]
 
 -- `end`: nothing released is left, and no page without a used cell
-abbrev Ended : Scene → Scene
+abbrev Ended : LayoutScene → LayoutScene
 Ended s = record s { releasing = false }
 
-pub record Ends (s : Scene) : Type 0 where
+pub record Ends (s : LayoutScene) : Type 0 where
   pub none : (p k : ℕ) → p < length s.pages → is_released_on s p k ≡ false
   pub settled : (p : ℕ) → p < length s.pages → header_on s.pages p ≢ 0 → used_on s.pages (head_on s.pages p) ≢ 0
 
-pub layout_ended : (s : Scene) → IsLaidOn s → Ends s → IsLaidOn (Ended s)
+pub layout_ended : (s : LayoutScene) → IsLaidOn s → Ends s → IsLaidOn (Ended s)
 layout_ended s laid ends =
     record {
       shown = laid.shown;

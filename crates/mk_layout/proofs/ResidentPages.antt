@@ -18,7 +18,7 @@ use Rattle.mk_core.specs.declared.config.Config.{Config}
 use Rattle.mk_core.specs.declared.seats.Object.{Object}
 use Rattle.mk_core.specs.declared.seats.Placing.{Placing}
 use Rattle.mk_layout.specs.Room.{HasRoom, count_below, in_plot, is_taken_page}
-use Rattle.mk_layout.specs.Scene.{NoPlot, Plot, header_on, shows_on, used_on}
+use Rattle.mk_layout.specs.LayoutScene.{NoPlot, Plot, header_on, shows_on, used_on}
 use Rattle.mk_layout.specs.Terrain.{object_now, plot_of}
 use Rattle.mk_layout.proofs.Counts.{count_fewer, count_list}
 use Rattle.mk_layout.proofs.PageSets.{with_header_on, with_used_on}
@@ -71,7 +71,7 @@ room_same c o pages others placing fewer room =
       | inr i ↦ or_right (is_resident pages q) (in_plot (plot_of o placing) q) i
     ]) room
 
--- whether a page is resident is told by its header
+-- whether a page is resident is said by its header
 pub resident_use : (x : Option Header) (u v : ℕ) → is_resident_page (use_under x u) ≡ is_resident_page (use_under x v)
 resident_use None u v = refl
 resident_use (Some Free) u v = refl

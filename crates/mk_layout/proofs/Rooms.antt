@@ -1,4 +1,4 @@
--- No more pages are resident than may be, behind each event.
+-- No more pages are resident than may be, after each event.
 use Rattle.std.proofs.Common.{Bool, List, ap, arith, false, inl, inr, length, refl, subst, sym, true, ℕ, ◌+◌, ◌-◌, ◌<◌}
 use Rattle.std.proofs.Common.{◌∙◌, ◌≡◌}
 use Rattle.std.specs.Prelude.{None, Option, Some, if◌then◌else◌, nat_le, nat_lt, ◌==◌}
@@ -37,7 +37,7 @@ use Rattle.mk_protocol.proofs.Actors.{Meets}
 use Rattle.mk_protocol.proofs.Ground.{tally_ground}
 use Rattle.mk_protocol.proofs.OthersMoves.{WorldBehind}
 use Rattle.mk_layout.specs.Room.{HasRoom, count_below, in_plot}
-use Rattle.mk_layout.specs.Scene.{Among, NoPlot, Plotted, used_on}
+use Rattle.mk_layout.specs.LayoutScene.{Among, NoPlot, Plotted, used_on}
 use Rattle.mk_protocol.specs.Ground.{ground_of}
 use Rattle.mk_layout.specs.Terrain.{IsClaimedRun, IsLaidOut, RunStands, claims_of, claims_placed, object_now}
 use Rattle.mk_layout.specs.Terrain.{place_claim, plot_of}
@@ -52,7 +52,7 @@ use Rattle.mk_layout.proofs.ResidentPages.{RoomOn, is_resident, or_left, or_righ
 use Rattle.mk_layout.proofs.ResidentPages.{resident_other, resident_used, room_same, room_unplaced, unmapped_use}
 use Rattle.mk_layout.proofs.Serving.{Laid, own_claim, placed_claim}
 
--- The place is chosen, where so many pages are free.
+-- The place is chosen, where this many pages are free.
 chosen_room : (c : Config) (o : Object) (pages : List Page) (place : Place) → length pages ≡ c.pages
     → FitsOnFreePages c.resident pages o place → RoomOn c o pages (Chosen place)
 chosen_room c o pages place len fit =

@@ -6,7 +6,7 @@ use Rattle.mk_geom.specs.declared.headers.Header.{Header}
 use Rattle.mk_core.specs.declared.seats.Object.{Object}
 use Rattle.mk_core.specs.NewPlaces.{is_small_object, pages_made}
 use Rattle.mk_core.specs.ObjectHeaders.{ShowsPart, OfBlock, OfLeafBlock, OfRun, OfLeafRun, OfLater}
-use Rattle.mk_layout.specs.Scene.{run_count}
+use Rattle.mk_layout.specs.LayoutScene.{run_count}
 
 -- the head of a large object's run has its pages,
 pub part_count : (o : Object) (x : Option Header) → ShowsPart o 0 x → is_small_object o ≡ false

@@ -20,10 +20,11 @@ use Rattle.mk_core.proofs.PlacesNow.{AsChosen, AsUsed, ByFit, IsPlaced}
 use Rattle.mk_core.proofs.ServingSteps.{IsCellTaken, IsNextHeader}
 use Rattle.mk_core.proofs.Sizes.{cells_some, pages_some, small_pages}
 use Rattle.mk_core.proofs.WordBits.{fewer_bits}
-use Rattle.mk_layout.specs.Scene.{Among, Claim, InPlot, IsLaidOn, IsPlotShown, NoPlot, Plotted, Scene, is_released_in}
+use Rattle.mk_layout.specs.LayoutScene.{Among, Claim, InPlot, IsLaidOn, IsPlotShown, NoPlot, Plotted, LayoutScene}
+use Rattle.mk_layout.specs.LayoutScene.{is_released_in}
 use Rattle.mk_protocol.specs.Ground.{Ground, ground_of}
 use Rattle.mk_layout.specs.Terrain.{HasLayout, IsClaimedRun, RunStands, claims_of, claims_on, claims_placed}
-use Rattle.mk_layout.specs.Terrain.{place_claim, plot_of, scene_of}
+use Rattle.mk_layout.specs.Terrain.{place_claim, plot_of, layout_scene_of}
 use Rattle.mk_layout.proofs.Fits.{FitsOnFreePages, fits}
 use Rattle.mk_layout.proofs.Joined.{among_back, among_front}
 use Rattle.mk_layout.proofs.PageSets.{with_header_on, with_used_on}
@@ -58,9 +59,12 @@ pub head_empties : (c : Config) (o : Object) (w : World) (p n : ℕ) → p < len
 head_empties c o w p n lt st h =
     record {
       scene = subst (λ v. IsLaidOn
-          (scene_of c o true w.now.words.marks (record (ground_of w) { pages = with_header_on w.now.words.pages p v })))
+          (layout_scene_of c o true w.now.words.marks (record (ground_of w) {
+            pages =
+                with_header_on w.now.words.pages p v;
+          })))
           (sym h.is)
-          (layout_emptied (scene_of c o true w.now.words.marks (ground_of w)) p st.scene lt refl h.unused);
+          (layout_emptied (layout_scene_of c o true w.now.words.marks (ground_of w)) p st.scene lt refl h.unused);
       gone = st.gone;
       first = st.first;
       cells = st.cells;
@@ -84,13 +88,13 @@ head_unmaps c o releasing w p n st h =
     ap (λ k. unmapped_header k (p - h.run.page)) count ∙ sym next.is in
     record {
       scene = subst (λ q. IsLaidOn
-          (scene_of c o releasing w.now.words.marks
+          (layout_scene_of c o releasing w.now.words.marks
           (record (ground_of w) { pages = with_header_on w.now.words.pages q n }))) at
           (subst
-          (λ v. IsLaidOn (scene_of c o releasing w.now.words.marks
+          (λ v. IsLaidOn (layout_scene_of c o releasing w.now.words.marks
           (record (ground_of w) { pages = with_header_on w.now.words.pages (x.claim.page + (p - h.run.page)) v })))
           value
-          (layout_page_unmapped (scene_of c o releasing w.now.words.marks (ground_of w)) x.claim
+          (layout_page_unmapped (layout_scene_of c o releasing w.now.words.marks (ground_of w)) x.claim
           (p - h.run.page) st.scene
           (own_claim c o (ground_of w) x.claim x.among) x.mode x.large (omega arith)));
       gone = st.gone;
@@ -106,7 +110,10 @@ chosen_free : (c : Config) (o : Object) (releasing : Bool) (w : World) (place : 
 chosen_free c o releasing w place st is sized fit =
     let was = placed_as c o releasing w (ground_of w) Unplaced is st in
     record {
-      scene = layout_chosen (scene_of c o releasing w.now.words.marks (record (ground_of w) { placing = Unplaced }))
+      scene = layout_chosen (layout_scene_of c o releasing w.now.words.marks (record (ground_of w) {
+        placing =
+            Unplaced;
+      }))
           place.page o was.scene refl sized fit.within fit.free;
       gone = st.gone;
       first = fit.index;
@@ -123,16 +130,16 @@ carved_on c o w place p n st next =
     let at : place.page + (p - place.page) ≡ p = omega arith in
     record {
       scene = subst (λ q. IsLaidOn
-          (scene_of c o false w.now.words.marks
+          (layout_scene_of c o false w.now.words.marks
           (record (ground_of w) { pages = with_header_on w.now.words.pages q n; placing = Chosen place }))) at
           (subst
-          (λ v. IsLaidOn (scene_of c o false w.now.words.marks
+          (λ v. IsLaidOn (layout_scene_of c o false w.now.words.marks
           (record (ground_of w) {
             pages = with_header_on w.now.words.pages (place.page + (p - place.page)) v;
             placing = Chosen place;
           })))
           (sym next.is)
-          (layout_carved (scene_of c o false w.now.words.marks (record (ground_of w) { placing = Chosen place }))
+          (layout_carved (layout_scene_of c o false w.now.words.marks (record (ground_of w) { placing = Chosen place }))
           place.page o (p - place.page) st.scene refl refl
           (record {
             within = next.near;
@@ -214,13 +221,13 @@ taken_at : (c : Config) (o : Object) (releasing : Bool) (w : World) (placing : P
     → Laid c o releasing w (record (ground_of w) { pages = with_used_on w.now.words.pages p n; placing = Used place })
 taken_at c o releasing w placing place p n st none next sized index within plot =
     let xs : List Claim = claims_of c w.now.seats.holding.freed w.allocations in
-    let s : Scene = scene_of c o releasing w.now.words.marks (ground_of w) in
+    let s : LayoutScene = layout_scene_of c o releasing w.now.words.marks (ground_of w) in
     let was : IsLaidOn (record s { claims = xs ++ []; plot = plot_of o placing }) =
     subst (λ (ys : List Claim). IsLaidOn (record s { claims = xs ++ ys; plot = plot_of o placing })) none st.scene in
     record {
       scene =
           subst (λ q. IsLaidOn
-          (scene_of c o releasing w.now.words.marks
+          (layout_scene_of c o releasing w.now.words.marks
           (record (ground_of w) { pages = with_used_on w.now.words.pages q n; placing = Used place })))
           (sym next.at)
           (subst (λ (ys : List Claim). IsLaidOn
@@ -281,7 +288,7 @@ pub used_gives_back : (c : Config) (o : Object) (w : World) (p n : ℕ) → p < 
     → Laid c o true w (record (ground_of w) { pages = with_used_on w.now.words.pages p n })
 used_gives_back c o w p n lt st h apart =
     record {
-      scene = layout_given_back (scene_of c o true w.now.words.marks (ground_of w)) p n st.scene lt refl
+      scene = layout_given_back (layout_scene_of c o true w.now.words.marks (ground_of w)) p n st.scene lt refl
           (record {
             fewer = λ k bit. fewer_bits n (used_at w.now.words p) k h.fewer bit;
             gone = λ k bit out.

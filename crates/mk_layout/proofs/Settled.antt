@@ -3,7 +3,7 @@
 use Rattle.std.proofs.Common.{List, ap, append-nil, false, length, refl, subst, sym, true, ◌*◌, ◌++◌, ◌∙◌, ◌≡◌}
 use Rattle.std.specs.Prelude.{None, Option, Some}
 use Rattle.std.proofs.lemmas.Bool.{and_parts}
-use Rattle.mk_geom.specs.Storages.{place_of}
+use Rattle.mk_geom.specs.Storages.{place_among_storages}
 use Rattle.mk_geom.specs.declared.addresses.Cell.{Cell}
 use Rattle.mk_geom.proofs.Bridge.{same_places}
 use Rattle.mk_core.specs.Allocations.{PlacedAllocation, placed_at, unreleased_storage}
@@ -18,7 +18,7 @@ use Rattle.mk_core.specs.declared.seats.Placing.TheVariants.{Chosen, Granted, Un
 use Rattle.mk_core.specs.declared.seats.RunPages.{RunPages}
 use Rattle.mk_core.proofs.Lengths.{histories_keep_lengths}
 use Rattle.mk_protocol.specs.Protocol.{has_place}
-use Rattle.mk_layout.specs.Scene.{Claim, IsLaidOn, NoPlot, Plot}
+use Rattle.mk_layout.specs.LayoutScene.{Claim, IsLaidOn, NoPlot, Plot}
 use Rattle.mk_layout.specs.SettledPages.{FirstFitIsThePlace, HeadersStand, IsSettled, UnreleasedAreApart}
 use Rattle.mk_layout.specs.SettledPages.{UnreleasedStand}
 use Rattle.mk_protocol.specs.Ground.{ground_of}
@@ -108,5 +108,5 @@ pub first_fit_is_the_place : FirstFitIsThePlace
 first_fit_is_the_place c es o limits laid s =
     same_places (left c es).now.words.pages (unreleased_storage c (left c es).allocations) c.resident o.words o.leaf
     (headers_stand c es limits laid s)
-    ∙ ap (λ n. place_of n c.resident o.words o.leaf (unreleased_storage c (left c es).allocations))
+    ∙ ap (λ n. place_among_storages n c.resident o.words o.leaf (unreleased_storage c (left c es).allocations))
     (histories_keep_lengths c es).pages

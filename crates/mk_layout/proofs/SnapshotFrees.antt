@@ -1,4 +1,4 @@
--- What is fresh and what is in the snapshot, behind a `quar`.
+-- What is fresh and what is in the snapshot, after a `quar`.
 use Rattle.std.proofs.Common.{Bool, List, ap, arith, false, inl, inr, length, map, refl, subst, sym, true, ℕ, ◌%◌, ◌/◌}
 use Rattle.std.proofs.Common.{◌<◌, ◌^◌, ◌∙◌, ◌≡◌, ◌⊎◌}
 use Rattle.std.specs.Prelude.{None, Option, Some, if◌then◌else◌, not, slice_index, slice_set, ◌&&◌, ◌==◌}

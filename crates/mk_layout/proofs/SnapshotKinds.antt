@@ -1,4 +1,4 @@
--- What is fresh and what is in the snapshot, behind each kind of event.
+-- What is fresh and what is in the snapshot, after each kind of event.
 use Rattle.std.proofs.Common.{Bool, List, [], ap, arith, false, inl, inr, length, map, refl, subst, sym, true, ℕ, ◌++◌}
 use Rattle.std.proofs.Common.{◌+◌, ◌/◌, ◌<◌, ◌∙◌, ◌∷◌, ◌≡◌, ◌≤◌, ◌⊎◌}
 use Rattle.std.specs.Prelude.{not, slice_index, ◌&&◌, ◌==◌}
@@ -31,7 +31,7 @@ use Rattle.mk_protocol.proofs.Actors.{Meets, grants_new}
 use Rattle.mk_protocol.proofs.Ground.{tally_ground}
 use Rattle.mk_protocol.proofs.OthersMoves.{WorldBehind}
 use Rattle.mk_layout.specs.Quarantine.{HasSnapshot, IsQuarantined, KeepsSnapshot, has_bit_of, is_cycling}
-use Rattle.mk_layout.specs.Scene.{Among, is_released_in}
+use Rattle.mk_layout.specs.LayoutScene.{Among, is_released_in}
 use Rattle.mk_protocol.specs.Ground.{ground_of}
 use Rattle.mk_layout.specs.Terrain.{IsLaidOut, claims_of, claims_placed, object_now, place_claim}
 use Rattle.mk_layout.proofs.Before.{Before, reg_leaves_ground}

@@ -15,7 +15,7 @@ use Rattle.mk_core.specs.declared.seats.RunPages.{RunPages}
 use Rattle.mk_core.proofs.Sizes.{large_words, small_pages}
 use Rattle.mk_core.proofs.SmallCycles.{small}
 use Rattle.mk_core.proofs.StandingAllocations.{cell_ends_within, made_begins, placed_cell, run_begins, run_cell}
-use Rattle.mk_layout.specs.Scene.{IsShown}
+use Rattle.mk_layout.specs.LayoutScene.{IsShown}
 use Rattle.mk_layout.specs.Terrain.{IsAtCell, claim_of}
 use Rattle.mk_layout.proofs.Readings.{header_of_mode}
 

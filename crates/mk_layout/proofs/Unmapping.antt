@@ -14,16 +14,17 @@ use Rattle.mk_core.specs.declared.seats.Object.{Object}
 use Rattle.mk_core.proofs.ObjectHeaders.{later_part, made_shows, part_cells, part_head, same_cells, shown_later}
 use Rattle.mk_core.proofs.ObjectHeaders.{unmapped_shows}
 use Rattle.mk_core.proofs.Sizes.{large_cells, pages_some}
-use Rattle.mk_layout.specs.Scene.{Among, AreApart, Claim, HasHeader, HasItsHead, IsClaimed, IsLaidOn, IsOfOneCell}
-use Rattle.mk_layout.specs.Scene.{IsPlotShown, IsShown, Mode, NoPlot, Plot, PlotStands, Plotted, Scene, Unmapping}
-use Rattle.mk_layout.specs.Scene.{head_on, header_on, is_released_on, run_count, shows_on, used_on}
+use Rattle.mk_layout.specs.LayoutScene.{Among, AreApart, Claim, HasHeader, HasItsHead, IsClaimed, IsLaidOn, IsOfOneCell}
+use Rattle.mk_layout.specs.LayoutScene.{IsPlotShown, IsShown, Mode, NoPlot, Plot, PlotStands, Plotted, LayoutScene}
+use Rattle.mk_layout.specs.LayoutScene.{Unmapping}
+use Rattle.mk_layout.specs.LayoutScene.{head_on, header_on, is_released_on, run_count, shows_on, used_on}
 use Rattle.mk_layout.proofs.PageSets.{headed_here, headed_other, headed_used, with_header_on}
 use Rattle.mk_layout.proofs.Readings.{claimed, claimed_head, claimed_some, none_set, one_claim}
 use Rattle.mk_layout.proofs.Releasing.{head_of_other, shown_beside}
 use Rattle.mk_layout.proofs.RunCounts.{same_count}
 
 -- a claim's cells are those under its first page's header
-pub cells_at_claim : (s : Scene) (x : Claim) → IsShown s.pages x
+pub cells_at_claim : (s : LayoutScene) (x : Claim) → IsShown s.pages x
     → cells_under (shows_on s.pages x.page) ≡ cells_made x.object
 cells_at_claim s x shown =
     let zero : x.page + 0 ≡ x.page = omega arith in
@@ -32,7 +33,7 @@ cells_at_claim s x shown =
     (claimed s.pages x 0 shown (let some = pages_some x.object shown.sized in omega arith))
 
 -- a claim that shares a page with a run's is the run's
-pub shares_run : (s : Scene) (x y : Claim) (d e : ℕ) → IsLaidOn s → Among x s.claims → Among y s.claims
+pub shares_run : (s : LayoutScene) (x y : Claim) (d e : ℕ) → IsLaidOn s → Among x s.claims → Among y s.claims
     → is_small_object x.object ≡ false → d < pages_made x.object
     → e < pages_made y.object → y.page + e ≡ x.page + d → y ≡ x
 shares_run s x y d e laid ix iy large ld le at =
@@ -49,7 +50,7 @@ shares_run s x y d e laid ix iy large ld le at =
     one_claim s.claims y x laid.apart iy ix (page, omega arith)
 
 -- and the page isn't one of a plot
-pub apart_of_plot : (s : Scene) (x : Claim) (d first e : ℕ) (o : Object) → IsLaidOn s → Among x s.claims
+pub apart_of_plot : (s : LayoutScene) (x : Claim) (d first e : ℕ) (o : Object) → IsLaidOn s → Among x s.claims
     → d < pages_made x.object → IsPlotShown s.pages first o
     → e < pages_made o → first + e ≢ x.page + d
 apart_of_plot s x d first e o laid ix ld plot le at =
@@ -70,10 +71,10 @@ apart_of_plot s x d first e o laid ix ld plot le at =
         (laid.shown x ix).used
 
 -- `head` (c): a page of the run that is unmapping gets its header
-abbrev pub PageUnmapped : Scene → Claim → ℕ → Scene
+abbrev pub PageUnmapped : LayoutScene → Claim → ℕ → LayoutScene
 PageUnmapped s x d = record s { pages = with_header_on s.pages (x.page + d) (unmapped_header (pages_made x.object) d) }
 
-pub layout_page_unmapped : (s : Scene) (x : Claim) (d : ℕ) → IsLaidOn s → Among x s.claims → x.mode ≡ Unmapping
+pub layout_page_unmapped : (s : LayoutScene) (x : Claim) (d : ℕ) → IsLaidOn s → Among x s.claims → x.mode ≡ Unmapping
     → is_small_object x.object ≡ false → d < pages_made x.object
     → IsLaidOn (PageUnmapped s x d)
 layout_page_unmapped s x d laid ix mode large ld =
@@ -256,14 +257,14 @@ layout_page_unmapped s x d laid ix mode large ld =
         ∙ ap (λ i. Some (Later i was.0)) (sym at.0)))
 
 -- Claims that change how far they are unmapped, where the headers stand for that.
-pub record Changes (s : Scene) (claims : List Claim) : Type 0 where
+pub record Changes (s : LayoutScene) (claims : List Claim) : Type 0 where
   pub from : (y : Claim) → Among y claims → (m : Mode) × Among (record y { mode = m }) s.claims
   pub to : (x : Claim) → Among x s.claims → (m : Mode) × Among (record x { mode = m }) claims
   pub apart : AreApart claims
   pub headers : (y : Claim) → Among y claims → (d : ℕ) → d < pages_made y.object
       → HasHeader y.mode y.object d (header_on s.pages (y.page + d))
 
-pub layout_changed : (s : Scene) (claims : List Claim) → IsLaidOn s → Changes s claims
+pub layout_changed : (s : LayoutScene) (claims : List Claim) → IsLaidOn s → Changes s claims
     → IsLaidOn (record s { claims = claims })
 layout_changed s claims laid ch =
     record {

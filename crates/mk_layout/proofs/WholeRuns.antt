@@ -1,4 +1,4 @@
--- Runs are whole, behind each event.
+-- Runs are whole, after each event.
 use Rattle.std.proofs.Common.{Bool, List, ap, arith, false, inl, inr, length, length-set, refl, subst, sym, true, ℕ}
 use Rattle.std.proofs.Common.{◌+◌, ◌-◌, ◌<◌, ◌∙◌, ◌≡◌, ◌≢◌, ◌⊎◌}
 use Rattle.std.specs.Prelude.{None, Option, Some}
@@ -28,10 +28,11 @@ use Rattle.mk_core.proofs.WordBits.{fewer_bits}
 use Rattle.mk_protocol.proofs.Actors.{Meets}
 use Rattle.mk_protocol.proofs.Ground.{tally_ground}
 use Rattle.mk_protocol.proofs.OthersMoves.{WorldBehind}
-use Rattle.mk_layout.specs.Scene.{Among, Claim, InPlot, IsLaidOn, NoPlot, Plot, PlotStands, Plotted, Scene, head_on}
-use Rattle.mk_layout.specs.Scene.{header_on, is_released_in, run_count, shows_on, used_on}
+use Rattle.mk_layout.specs.LayoutScene.{Among, Claim, InPlot, IsLaidOn, NoPlot, Plot, PlotStands, Plotted, LayoutScene}
+use Rattle.mk_layout.specs.LayoutScene.{head_on}
+use Rattle.mk_layout.specs.LayoutScene.{header_on, is_released_in, run_count, shows_on, used_on}
 use Rattle.mk_protocol.specs.Ground.{ground_of}
-use Rattle.mk_layout.specs.Terrain.{IsLaidOut, object_now, plot_of, scene_of}
+use Rattle.mk_layout.specs.Terrain.{IsLaidOut, object_now, plot_of, layout_scene_of}
 use Rattle.mk_layout.specs.WholeRuns.{HasLaterPage, HaveWholeRuns, RunIsWhole, RunsAreWhole}
 use Rattle.mk_layout.proofs.Before.{Before, is_releasing_behind, page_within, reg_leaves_ground}
 use Rattle.mk_layout.proofs.Behind.{phase_kind}
@@ -73,7 +74,7 @@ later_at pages releasing plot p q d x page at (mapped, is, large) =
     inl (mapped, ap (λ i. shows_on pages (i + d)) (sym page) ∙ at ∙ is)
 
 -- from a claim at its head
-claimed_run : (s : Scene) (x : Claim) (p : ℕ) → IsLaidOn s → Among x s.claims → x.page ≡ p
+claimed_run : (s : LayoutScene) (x : Claim) (p : ℕ) → IsLaidOn s → Among x s.claims → x.page ≡ p
     → heads_run (shows_on s.pages p) ≡ true → RunIsWhole s.pages s.releasing s.plot p
 claimed_run s x p laid ix page h =
     let shown = laid.shown x ix in
@@ -93,7 +94,7 @@ claimed_run s x p laid ix page h =
     }
 
 -- from a plot, whose first page it is
-plotted_run : (s : Scene) (plot : Plot) (p : ℕ) → s.plot ≡ plot → PlotStands s.pages plot → InPlot plot p
+plotted_run : (s : LayoutScene) (plot : Plot) (p : ℕ) → s.plot ≡ plot → PlotStands s.pages plot → InPlot plot p
     → heads_run (shows_on s.pages p) ≡ true → RunIsWhole s.pages s.releasing plot p
 plotted_run s NoPlot p is stands here h = absurd here
 plotted_run s (Plotted first o) p is stands here h =
@@ -142,7 +143,7 @@ plotted_run s (Plotted first o) p is stands here h =
     by (inr e) = made e
 
 -- While the phase isn't releasing, they are whole in what is laid out.
-whole_quiet : (s : Scene) → IsLaidOn s → s.releasing ≡ false → HaveWholeRuns s.pages s.releasing s.plot
+whole_quiet : (s : LayoutScene) → IsLaidOn s → s.releasing ≡ false → HaveWholeRuns s.pages s.releasing s.plot
 whole_quiet s laid off p h = elim (find_bit (used_on s.pages p) (cells_under (shows_on s.pages p))) [
   | inr none ↦
       let empty : used_on s.pages p ≡ 0 =
@@ -289,6 +290,7 @@ whole_behind c w seat x b h whole laid =
           (whole_by_kind c w seat x plot b h on
           (replotted w.now.words.pages (plot_of (object_now c w.now) w.now.seats.holding.placing) plot
           (is_phase w.now.words 4) whole))
-      | inr off ↦ whole_quiet (scene_of c (object_now c v.now) (is_phase v.now.words 4) v.now.words.marks (ground_of v))
+      | inr off ↦ whole_quiet (layout_scene_of c (object_now c v.now) (is_phase v.now.words 4) v.now.words.marks
+          (ground_of v))
           laid.scene (phase_kind c w seat x h ∙ off)
     ]

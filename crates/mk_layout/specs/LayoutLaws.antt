@@ -1,4 +1,4 @@
--- What stands on the pages stays laid out behind each event, and the quarantine with it.
+-- What stands on the pages stays laid out after each event, and the quarantine with it.
 use Rattle.std.specs.Prelude.{List, Some, [], slice_index, true, ⊤, ◌∷◌, ◌≡◌, ◌≤◌}
 use Rattle.mk_geom.specs.PageUses.{resident_pages}
 use Rattle.mk_geom.specs.PageWords.{uses_of_pages}
@@ -18,7 +18,7 @@ use Rattle.mk_layout.specs.Terrain.{IsCellOf, IsLaidOut}
 use Rattle.mk_layout.specs.WholeRuns.{RunsAreWhole}
 
 -- what other groups say of a world, where a step asks for it
-pub record OthersSay (c : Config) (w : World) : Type 0 where
+pub record LayoutPremises (c : Config) (w : World) : Type 0 where
   -- The target of an admitted Free is the cell of an unreleased allocation.
   pub target : (seat : Seat) (cell : Cell) → target c.pages w.now.words (flight_of w.now seat) ≡ Some cell
       → IsCellOf c w.allocations cell
@@ -40,27 +40,27 @@ pub record StandsInOrder (c : Config) (w : World) : Type 0 where
 abbrev pub EventsKeepTheLayout : Type 0
 EventsKeepTheLayout =
     (c : Config) (es : List Event) (e : Event) → IsWithinLimits c → AreEnabled c es → IsEnabledBehind c es e
-    → OthersSay c (left c es)
+    → LayoutPremises c (left c es)
     → StandsInOrder c (left c es) → StandsInOrder c (world_behind c (left c es) e)
 
 -- The other groups say so before each event.
-unfoldable pub OthersSayFrom : Config → World → List Event → Type 0
-OthersSayFrom c w [] = ⊤
-OthersSayFrom c w (e ∷ es) = OthersSay c w × OthersSayFrom c (world_behind c w e) es
+unfoldable pub LayoutPremisesFrom : Config → World → List Event → Type 0
+LayoutPremisesFrom c w [] = ⊤
+LayoutPremisesFrom c w (e ∷ es) = LayoutPremises c w × LayoutPremisesFrom c (world_behind c w e) es
 
--- Then all is in order behind every list of enabled events.
+-- Then all is in order after every list of enabled events.
 abbrev pub HistoriesAreLaidOut : Type 0
 HistoriesAreLaidOut =
-    (c : Config) (es : List Event) → IsWithinLimits c → AreEnabled c es → OthersSayFrom c (first_world c) es
+    (c : Config) (es : List Event) → IsWithinLimits c → AreEnabled c es → LayoutPremisesFrom c (first_world c) es
     → StandsInOrder c (left c es)
 
--- So each page has a header word, and at most so many pages are resident.
+-- So each page has a header word, and at most this many pages are resident.
 abbrev pub PagesHaveHeaderWords : Type 0
 PagesHaveHeaderWords =
-    (c : Config) (es : List Event) → IsWithinLimits c → AreEnabled c es → OthersSayFrom c (first_world c) es
+    (c : Config) (es : List Event) → IsWithinLimits c → AreEnabled c es → LayoutPremisesFrom c (first_world c) es
     → HasHeaderWords (left c es)
 
 abbrev pub FewPagesAreResident : Type 0
 FewPagesAreResident =
-    (c : Config) (es : List Event) → IsWithinLimits c → AreEnabled c es → OthersSayFrom c (first_world c) es
+    (c : Config) (es : List Event) → IsWithinLimits c → AreEnabled c es → LayoutPremisesFrom c (first_world c) es
     → resident_pages (uses_of_pages (left c es).now.words.pages) ≤ c.resident

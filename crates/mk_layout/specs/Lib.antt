@@ -1,7 +1,7 @@
 pub mod LayoutLaws
 pub mod Quarantine
 pub mod Room
-pub mod Scene
+pub mod LayoutScene
 pub mod SettledPages
 pub mod Snapshots
 pub mod Terrain

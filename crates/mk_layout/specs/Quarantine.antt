@@ -9,7 +9,7 @@ use Rattle.mk_core.specs.Moments.{is_phase}
 use Rattle.mk_core.specs.Words.{phase_of}
 use Rattle.mk_core.specs.declared.config.Config.{Config}
 use Rattle.mk_core.specs.declared.seats.Placing.TheVariants.{Used}
-use Rattle.mk_layout.specs.Scene.{is_released_in}
+use Rattle.mk_layout.specs.LayoutScene.{is_released_in}
 use Rattle.mk_protocol.specs.Ground.{Ground, ground_of}
 
 -- The cell is that of an unreleased allocation that is freed.
@@ -54,7 +54,7 @@ FreedCellsAreKnown w = (p k : ℕ) → has_bit (slice_index w.now.words.freed p)
 abbrev pub is_cycling : ℕ → Bool
 is_cycling phase = nat_le 1 phase && nat_le phase 4
 
--- What is freed behind the last `begin` is fresh, and what was freed before it is the cycle's snapshot.
+-- What is freed after the last `begin` is fresh, and what was freed before it is the cycle's snapshot.
 pub record HasSnapshot (c : Config) (cycling : Bool) (snapshot : List ℕ) (xs : List PlacedAllocation) : Type 0 where
   -- A fresh allocation is freed, and not released.
   pub fresh : (i : ℕ) → (placed_at xs i).fresh ≡ true

@@ -9,7 +9,7 @@ use Rattle.mk_core.specs.declared.config.Config.{Config}
 use Rattle.mk_core.specs.Words.{header_at}
 use Rattle.mk_core.specs.NewPlaces.{pages_made}
 use Rattle.mk_core.specs.History.{World}
-use Rattle.mk_layout.specs.Scene.{Plot, NoPlot, Plotted}
+use Rattle.mk_layout.specs.LayoutScene.{Plot, NoPlot, Plotted}
 use Rattle.mk_layout.specs.Terrain.{plot_of, object_now}
 
 -- how many numbers below n pass

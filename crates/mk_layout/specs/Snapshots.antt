@@ -10,12 +10,12 @@ use Rattle.mk_core.specs.Allocations.{placed_at}
 use Rattle.mk_core.specs.Cycles.{At, is_begin, is_quarantined}
 use Rattle.mk_core.specs.History.{first_world, left, AreEnabled}
 use Rattle.mk_layout.specs.Quarantine.{is_cycling, has_bit_of}
-use Rattle.mk_layout.specs.LayoutLaws.{OthersSayFrom}
+use Rattle.mk_layout.specs.LayoutLaws.{LayoutPremisesFrom}
 
 -- So it is up to the cycle's `end`, for each allocation that isn't released yet.
 abbrev pub SnapshotsAreOfCycles : Type 0
 SnapshotsAreOfCycles =
-    (c : Config) (es : List Event) → IsWithinLimits c → AreEnabled c es → OthersSayFrom c (first_world c) es
+    (c : Config) (es : List Event) → IsWithinLimits c → AreEnabled c es → LayoutPremisesFrom c (first_world c) es
     → (begin : At is_begin es) → list_any (λ (e : Event). is_begin e.step) begin.behind ≡ false
     → is_cycling (phase_of (left c es).now.words) ≡ true → (i : ℕ)
     → (placed_at (left c es).allocations i).released ≡ false

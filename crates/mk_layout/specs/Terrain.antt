@@ -16,8 +16,9 @@ use Rattle.mk_core.specs.Allocations.{PlacedAllocation, placed_at, cell_of_alloc
 use Rattle.mk_core.specs.StandingAllocations.{object_placed, BeginsAtCell}
 use Rattle.mk_core.specs.History.{World}
 use Rattle.mk_protocol.specs.Ground.{Ground, ground_of}
-use Rattle.mk_layout.specs.Scene.{Mode, Mapped, Unmapping, Unmapped, Claim, Among, Plot, NoPlot, Plotted, Scene}
-use Rattle.mk_layout.specs.Scene.{IsLaidOn}
+use Rattle.mk_layout.specs.LayoutScene.{Mode, Mapped, Unmapping, Unmapped, Claim, Among, Plot, NoPlot, Plotted}
+use Rattle.mk_layout.specs.LayoutScene.{LayoutScene}
+use Rattle.mk_layout.specs.LayoutScene.{IsLaidOn}
 
 -- The call under way freed the run with its head there.
 abbrev pub is_unmapping : Option RunPages → ℕ → Bool
@@ -60,8 +61,8 @@ plot_of o _ = NoPlot
 abbrev pub claims_on : Config → Object → Ground → List Claim
 claims_on c o t = claims_of c t.run t.allocations ++ claims_placed o t.placing
 
-abbrev pub scene_of : Config → Object → Bool → List ℕ → Ground → Scene
-scene_of c o releasing marks t =
+abbrev pub layout_scene_of : Config → Object → Bool → List ℕ → Ground → LayoutScene
+layout_scene_of c o releasing marks t =
     record {
       pages = t.pages;
       claims = claims_on c o t;
@@ -101,7 +102,7 @@ IsFirst (Chosen place) = place.index ≡ 0
 IsFirst _ = Unit {0}
 
 pub record HasLayout (c : Config) (o : Object) (releasing : Bool) (marks : List ℕ) (t : Ground) : Type 0 where
-  pub scene : IsLaidOn (scene_of c o releasing marks t)
+  pub scene : IsLaidOn (layout_scene_of c o releasing marks t)
   pub gone : RunStands (claims_of c t.run t.allocations) t.run
   pub first : IsFirst t.placing
   pub cells : (i : ℕ) → (placed_at t.allocations i).released ≡ false → IsAtCell c (placed_at t.allocations i)

@@ -1,4 +1,4 @@
--- The pages of a run: its head, and the later pages behind it.
+-- The pages of a run: its head, and the later pages after it.
 use Rattle.std.specs.Prelude.{◌≡◌, ◌⊎◌, ℕ, ◌+◌, ◌<◌, ◌≤◌, Bool, true, List, length, Some}
 use Rattle.mk_geom.specs.declared.pages.Page.{Page}
 use Rattle.mk_geom.specs.declared.headers.Header.TheVariants.{Later}
@@ -6,10 +6,10 @@ use Rattle.mk_core.specs.declared.config.Config.{Config}
 use Rattle.mk_core.specs.Cells.{heads_run}
 use Rattle.mk_core.specs.Moments.{is_phase}
 use Rattle.mk_core.specs.History.{World}
-use Rattle.mk_layout.specs.Scene.{Plot, InPlot, header_on, used_on, shows_on, run_count}
+use Rattle.mk_layout.specs.LayoutScene.{Plot, InPlot, header_on, used_on, shows_on, run_count}
 use Rattle.mk_layout.specs.Terrain.{plot_of, object_now}
 
--- The page so far behind the head is a later one of the run. Before a New has used it, and while the phase is
+-- The page so far after the head is a later one of the run. Before a New has used it, and while the phase is
 -- releasing, it may be free, where no cell of the run is used.
 abbrev pub HasLaterPage : List Page → Bool → Plot → ℕ → ℕ → Type 0
 HasLaterPage pages releasing plot p distance =

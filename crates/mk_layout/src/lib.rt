@@ -12,7 +12,7 @@ pub fn events_keep_the_layout()
     ensures { EventsKeepTheLayout }
 {}
 
-/// So all is laid out behind every list of enabled events along which the other groups say so.
+/// So all is laid out after every list of enabled events along which the other groups say so.
 pub fn histories_are_laid_out()
     ensures { HistoriesAreLaidOut }
 {}

@@ -1,4 +1,4 @@
--- Looks at pages, one behind the other.
+-- Looks at pages, one after the other.
 use Rattle.std.proofs.Common.{◌≡◌, ◌≢◌, ◌⊎◌, ℕ, ◌+◌, ◌<◌, ◌≤◌, true, List, [], ◌∷◌, ◌++◌, refl, sym, ◌∙◌, ap, subst}
 use Rattle.std.proofs.Common.{inl, inr, append_assoc, arith}
 use Rattle.std.specs.Prelude.{not, Option, Some, None, IfSome, IfNone}
@@ -254,7 +254,7 @@ a_cell p page n a m b h d k between one marks two head shows history some bit =
       marked = still;
     }
 
--- two searches, one behind the other
+-- two searches, one after the other
 
 pub none_both : (r : Option MarkedCell) (p : PassState) (a b : ℕ) (q : PassState) (d e : ℕ) (t : PassState)
     (first end : ℕ) → LooksInVain p a b q

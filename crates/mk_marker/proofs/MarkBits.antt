@@ -20,7 +20,7 @@ use Rattle.mk_core.specs.Words.{header_at, phase_of}
 use Rattle.mk_core.specs.Cells.{header_in, cells_under}
 use Rattle.mk_core.specs.NewPlaces.{object_made, header_made, is_run_gone}
 use Rattle.mk_core.specs.ObjectHeaders.{IsSized, cells_made}
-use Rattle.mk_core.specs.TurnConditions.{place_now, words_held, is_decided, is_used_once}
+use Rattle.mk_core.specs.TurnConditions.{place_now, held_by_pages, is_decided, is_used_once}
 use Rattle.mk_core.specs.StopConditions.{marks_place}
 use Rattle.mk_core.specs.Effects.{chosen}
 use Rattle.mk_core.specs.Moments.{Moment, flight_of, is_phase, nothing_done}
@@ -105,7 +105,7 @@ module _ (c : Config) (w : World) (seat : Seat) (limits : IsWithinLimits c) (kno
       let new = placed_undecided c w.now seat known t (ap (λ (x : Placing). has_place x) is) in
       let decided = is_decided (flight_of w.now seat).stage in
       let gone = is_run_gone w.now.words w.now.seats.holding.freed in
-      let held = w.now.words.held == words_held w.now.words in
+      let held = w.now.words.held == held_by_pages w.now.words in
       let a = and_parts (decided && gone && held) (w.now.words.fresh == w.now.fresh_words) h.holder in
       let b = and_parts (decided && gone) held a.0 in
       let d = and_parts decided gone b.0 in
@@ -152,7 +152,7 @@ module _ (c : Config) (w : World) (seat : Seat) (limits : IsWithinLimits c) (kno
       (place_now c w.now (flight_of w.now seat)) place is)
   stays_chosen _ h = inl is
 
--- So a mark that was of a cell is of one behind a step: headers go on.
+-- So a mark that was of a cell is of one after a step: headers go on.
 pub still_a_cell : (c : Config) (w : World) (seat : Seat) (x : Step) (p k : ℕ) → IsWithinLimits c → Known c w.now
     → IsMarking w.now.words → Meets c w.now seat x
     → GoesOn c.pages (header_at w.now.words p) (header_at (WorldBehind c w seat x).now.words p)

@@ -27,14 +27,14 @@ use Rattle.mk_protocol.proofs.Actors.{Meets}
 use Rattle.mk_protocol.proofs.Known.{Known}
 use Rattle.mk_protocol.proofs.OthersMoves.{WorldBehind}
 use Rattle.mk_guard.specs.Guard.{GoesOn, Guard, IsMarking, MarksStand}
-use Rattle.mk_guard.specs.Kept.{OthersSay}
+use Rattle.mk_guard.specs.Kept.{GuardPremises}
 use Rattle.mk_guard.proofs.Changes.{headers_kind, is_head}
 use Rattle.mk_guard.proofs.FoundHeaders.{head_finds}
 use Rattle.mk_guard.proofs.Headers.{head_keeps}
 use Rattle.mk_guard.proofs.KeptGuard.{goes_equal}
 use Rattle.mk_guard.proofs.Phases.{is_phase_step, phase_stays, over_phase}
 use Rattle.mk_invariant.proofs.Joined.{told_to_guard}
-use Rattle.mk_layout.specs.Scene.{PlotStands, IsPlotShown}
+use Rattle.mk_layout.specs.LayoutScene.{PlotStands, IsPlotShown}
 use Rattle.mk_layout.specs.Terrain.{IsLaidOut, object_now, plot_of}
 use Rattle.mk_frames.proofs.LastEvents.{stands, comes_last}
 use Rattle.mk_marker.proofs.MarkBits.{MarksAreOfCells, IsCell, IsToCarve, made_has, marking_not_four, still_a_cell}
@@ -43,7 +43,7 @@ use Rattle.mk_marker.proofs.NewMarks.{new_mark}
 -- headers go on while a cycle marks
 headers_go_on : (c : Config) (w : World) (seat : Seat) (x : Step) → IsWithinLimits c → Known c w.now
     → AreOfPages c.pages w.now.words → IsMarking w.now.words
-    → OthersSay c w → Meets c w.now seat x → (p : ℕ)
+    → GuardPremises c w → Meets c w.now seat x → (p : ℕ)
     → GoesOn c.pages (header_at w.now.words p) (header_at (WorldBehind c w seat x).now.words p)
 headers_go_on c w seat (step.Head q n) limits known len early say h p =
     (head_keeps c w.now seat q n len h (head_finds c w seat q n limits known early say h)).headers p
@@ -54,7 +54,7 @@ headers_go_on c w seat x limits known len early say h p = rest x refl
     rest y no_head = goes_equal c.pages (header_at w.now.words p) (header_at (WorldBehind c w seat y).now.words p)
         (headers_kind c w.now seat y no_head p)
 
--- behind a `begin` nothing is marked
+-- after a `begin` nothing is marked
 nothing_marked : (c : Config) (w : World) (seat : Seat) → AreOfPages c.pages w.now.words
     → Meets c w.now seat step.Begin → (p k : ℕ)
     → has_bit (slice_index w.now.words.marks p) k ≡ true → ⊥
@@ -75,7 +75,7 @@ nothing_marked c w seat len h p k is = true≢false (sym is ∙ no_bit (slice_in
     ]
 
 cells_kept : (c : Config) (w : World) (seat : Seat) (x : Step) → IsWithinLimits c → Known c w.now
-    → AreOfPages c.pages w.now.words → IsLaidOut c w → OthersSay c w
+    → AreOfPages c.pages w.now.words → IsLaidOut c w → GuardPremises c w
     → Guard c w.now → IsMarking w.now.words → Meets c w.now seat x → MarksAreOfCells c w.now → (p k : ℕ)
     → has_bit (slice_index (WorldBehind c w seat x).now.words.marks p) k ≡ true
     → IsCell c (WorldBehind c w seat x).now p k
@@ -89,7 +89,7 @@ cells_kept c w seat x limits known len laid say guard early h all p k is =
 
 -- One event, whatever it is.
 marks_behind : (c : Config) (w : World) (seat : Seat) (x : Step) → IsWithinLimits c → Known c w.now
-    → AreOfPages c.pages w.now.words → IsLaidOut c w → OthersSay c w
+    → AreOfPages c.pages w.now.words → IsLaidOut c w → GuardPremises c w
     → MarksStand c w.now → Meets c w.now seat x → MarksAreOfCells c w.now
     → MarksAreOfCells c (WorldBehind c w seat x).now
 marks_behind c w seat step.Begin limits known len laid say g h all early p k is = absurd

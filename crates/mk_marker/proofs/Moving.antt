@@ -106,7 +106,7 @@ look_shows p x n q has history f =
     let d = made p (step.Mlook x) q f.makes has history in
     f.finds ∙ sym (ap (λ (w : World). named_word w.now.words x) d.world)
 
--- a step of which the number that it found isn't told
+-- a step of which the number that it found isn't said
 pub moved : (p : PassState) (s : Step) (q : PassState) → Has p.seats p.seat → IsHistory q.table.config q.seen
     → (m : Makes p s q)
     → marker_in q ≡ marker_behind p.table.config (found_by m) s (marker_in p) → Moved p s q
@@ -212,7 +212,7 @@ may_claim_seen w p cell of at page index few =
       holder = refl;
     }))
 
--- behind its `mblack` the cell is black
+-- after its `mblack` the cell is black
 pub blackened : (p : PassState) (page k : ℕ) (q : PassState) → Has p.seats p.seat → IsHistory q.table.config q.seen
     → Makes p step.Mblack q
     → IsScanOf (marker_in p) page k → page < p.table.config.pages → k < 64 → IsBlackIn q page k

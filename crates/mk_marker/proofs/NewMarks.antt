@@ -41,7 +41,7 @@ use Rattle.mk_protocol.proofs.Known.{Known}
 use Rattle.mk_protocol.proofs.OthersMoves.{WorldBehind}
 use Rattle.mk_guard.specs.Guard.{GoesOn, MarkerStands, IsMarking}
 use Rattle.mk_guard.proofs.Changes.{Table, reg_table, tally_table}
-use Rattle.mk_layout.specs.Scene.{Among}
+use Rattle.mk_layout.specs.LayoutScene.{Among}
 use Rattle.mk_layout.specs.Terrain.{IsLaidOut, object_now, place_claim, claims_placed}
 use Rattle.mk_protocol.specs.Ground.{ground_of}
 use Rattle.mk_layout.proofs.Serving.{placed_claim}

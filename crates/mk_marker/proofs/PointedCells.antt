@@ -15,7 +15,7 @@ use Rattle.mk_core.specs.Cells.{cells_under, header_in, pointed_cell}
 use Rattle.mk_core.specs.History.{World}
 use Rattle.mk_core.specs.Moments.{is_phase}
 use Rattle.mk_core.proofs.PointedPages.{LiesUnder, lies_under, found_under}
-use Rattle.mk_layout.specs.Scene.{run_count}
+use Rattle.mk_layout.specs.LayoutScene.{run_count}
 use Rattle.mk_layout.specs.Terrain.{IsLaidOut}
 
 -- a header that heads a run has one cell

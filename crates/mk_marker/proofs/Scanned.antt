@@ -1,4 +1,4 @@
--- The steps of a scan, one behind the other.
+-- The steps of a scan, one after the other.
 use Rattle.std.proofs.Common.{◌≡◌, ℕ, ◌+◌, Bool, true, false, List, [], ◌∷◌, ◌++◌, refl, ◌∙◌, ap, subst}
 use Rattle.std.specs.Prelude.{◌&&◌, cond}
 use Rattle.std.proofs.lemmas.List.Sums.{sum_by-append}

@@ -39,7 +39,7 @@ pub record Moves (p : PassState) (s : Step) (n : ℕ) (q : PassState) : Type 0 w
 abbrev pub Moved : PassState → Step → PassState → Type 0
 Moved p s q = (n : ℕ) × Moves p s n q
 
--- The cell is marked behind what the pass has seen.
+-- The cell is marked after what the pass has seen.
 abbrev pub IsMarkedIn : PassState → ℕ → ℕ → Type 0
 IsMarkedIn p page index = has_bit (slice_index (now_of p).words.marks page) index ≡ true
 
@@ -81,7 +81,7 @@ pub record ClaimsMarked (p : PassState) (cell : MarkedCell) (q : PassState) : Ty
   pub moves : Moves p (step.Claim cell.page cell.index) found q
   pub marked : has_bit found cell.index ≡ true
 
--- The pass made these steps of a scan, with so many loads, and is still scanning.
+-- The pass made these steps of a scan, with this many loads, and is still scanning.
 pub record GoesOn (p : PassState) (loads : ℕ) (q : PassState) : Type 0 where
   pub steps : List Finding
   pub did : Did p steps q

@@ -31,7 +31,7 @@ pub record FindsPhase (p : PassState) (phase : ℕ) (q : PassState) : Type 0 whe
   pub other : phase ≢ 1
   pub out : IsOut q
 
--- Loads of a page's mark and black word show no cell that is marked and not black; or a load of its header behind them
+-- Loads of a page's mark and black word show no cell that is marked and not black; or a load of its header after them
 -- shows that the page has no cell.
 pub record SeesNoWork (s : Seat) (page : ℕ) (xs : List Finding) : Type 0 where
   pub before : List Finding
@@ -62,7 +62,7 @@ pub record SeesACell (s : Seat) (page index header : ℕ) (xs : List Finding) : 
   pub not_black : has_bit blacks index ≡ false
   pub cell : index < cells_under (header_of header)
 
--- The cell is black behind what the pass has seen.
+-- The cell is black after what the pass has seen.
 abbrev pub IsBlackIn : PassState → ℕ → ℕ → Type 0
 IsBlackIn p page index = has_bit (slice_index (now_of p).words.blacks page) index ≡ true
 

@@ -5,7 +5,7 @@ ghost use Rattle.mk_marker.specs.Markers.{IsMarkers, IsOut};
 use crate::{Marker, Work};
 use mk_words::{Pass, Words};
 
-/// Marks for the cycle that is on, as long as there is work and no close is wanted, but at most so many cells. The
+/// Marks for the cycle that is on, as long as there is work and no close is wanted, but at most this many cells. The
 /// pass is out again then.
 pub(crate) fn mark_some(words: &Words, pass: Pass, most: u64) -> Pass
     requires one_table { pass.table ≡ words.now }

@@ -28,7 +28,7 @@ pub(crate) fn words_scanned(header: u64) -> u64
     }
 }
 
-/// The page that a value points to, in a heap of so many pages; none where it is no address of the heap.
+/// The page that a value points to, in a heap of this many pages; none where it is no address of the heap.
 pub(crate) fn page_of(pages: u64, value: u64) -> Option<u64>
     ensures page { IfSome result (λ page. page ≡ page_at_address value) }
     ensures within { IfSome result (λ page. page < pages) }

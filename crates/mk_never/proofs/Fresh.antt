@@ -1,4 +1,4 @@
--- A New's allocation is behind all that were there before.
+-- A New's allocation is after all that were there before.
 use Rattle.std.proofs.Common.{ℕ, ◌+◌, ◌*◌, ◌<◌, ◌≤◌, List, [], length, refl, arith, length-append}
 use Rattle.std.proofs.lemmas.List.{get_or-set_same, get_or_at}
 use Rattle.mk_never.specs.declared.values.Value.TheVariants.{Null, Ptr}

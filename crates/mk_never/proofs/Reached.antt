@@ -4,13 +4,13 @@ use Rattle.std.proofs.Common.{◌≡◌, ℕ, zero, suc, Bool, true, false, [], 
 use Rattle.std.proofs.lemmas.Bool.{false≢true}
 use Rattle.mk_never.specs.declared.values.Value.TheVariants.{Null, Num, Ptr}
 use Rattle.mk_never.specs.NeverHeap.{NeverState}
-use Rattle.mk_never.specs.Reach.{LeadsTo, WordLeadsTo, IsReached, by_register, by_global, by_word}
+use Rattle.mk_never.specs.Reach.{LeadsTo, WordLeadsTo, IsReachable, by_register, by_global, by_word}
 use Rattle.mk_never.specs.Reach.{IsClosedUnderPointers, ReachIsLeast}
 
-pub reach_is_closed : (n : NeverState) → IsClosedUnderPointers n (IsReached n)
+pub reach_is_closed : (n : NeverState) → IsClosedUnderPointers n (IsReachable n)
 reach_is_closed n = record { registers = by_register; globals = by_global; words = by_word }
 
-pub reached_is_in : (n : NeverState) (S : ℕ → Type 0) → IsClosedUnderPointers n S → (number : ℕ) → IsReached n number
+pub reached_is_in : (n : NeverState) (S : ℕ → Type 0) → IsClosedUnderPointers n S → (number : ℕ) → IsReachable n number
     → S number
 reached_is_in n S closed _ (by_register r number leads) = closed.registers r number leads
 reached_is_in n S closed _ (by_global g number leads) = closed.globals g number leads
@@ -33,10 +33,10 @@ example = record {
   globals = [];
 }
 
-pub first_is_reached : IsReached example 0
+pub first_is_reached : IsReachable example 0
 first_is_reached = by_register 0 0 refl
 
-pub second_is_reached : IsReached example 1
+pub second_is_reached : IsReachable example 1
 second_is_reached = by_word 0 0 1 first_is_reached (refl, refl)
 
 -- the first two
@@ -56,7 +56,7 @@ words_lead_to_both zero (suc place) number inside leads = absurd leads.1
 words_lead_to_both (suc zero) place number inside leads = absurd (false≢true (sym leads.0))
 words_lead_to_both (suc (suc from)) place number inside leads = absurd (false≢true inside)
 
-pub third_is_not_reached : IsReached example 2 → ⊥
+pub third_is_not_reached : IsReachable example 2 → ⊥
 third_is_not_reached reached =
     false≢true
     (reach_is_least example both

@@ -1,4 +1,4 @@
--- `is_same` tells whether two values are equal.
+-- `is_same` says whether two values are equal.
 use Rattle.std.proofs.Common.{◌≡◌, ◌≢◌, ◌↔◌, ℕ, Bool, true, false, refl, ap, arith}
 use Rattle.std.proofs.lemmas.Bool.{eqb-true, eq-eqb, and_parts, and_from, false≢true, false_from_ne_true}
 use Rattle.mk_never.specs.declared.values.Value.{Value}

@@ -17,7 +17,7 @@ use Rattle.mk_never.specs.NeverHeap.{NeverState, Call, no_allocation, register_a
 use Rattle.mk_never.specs.NeverHeap.{with_register, with_global, with_word, with_freed, with_new, is_same, is_unmapped}
 use Rattle.mk_never.specs.NeverHeap.{is_granted, target_of, left_at, moved_on, after_free, after_op}
 use Rattle.mk_never.specs.Laws.{Continues, Reaches}
-use Rattle.mk_never.specs.Reach.{LeadsTo, WordLeadsTo, IsReached, by_register, by_global, by_word, AccessIsToReached}
+use Rattle.mk_never.specs.Reach.{LeadsTo, WordLeadsTo, IsReachable, by_register, by_global, by_word, AccessIsToReached}
 use Rattle.mk_never.specs.Reach.{ReachGrowsByGrants, UnreachedStays}
 use Rattle.mk_never.proofs.Edits.{left_at_by, if_by, set_by}
 use Rattle.mk_never.proofs.Later.{op_stays}
@@ -25,11 +25,11 @@ use Rattle.mk_never.proofs.Reached.{reached_is_in}
 
 -- The value leads to what is reached alone.
 abbrev LeadsToReached : NeverState → Value → Type 0
-LeadsToReached n v = (number : ℕ) → LeadsTo v number → IsReached n number
+LeadsToReached n v = (number : ℕ) → LeadsTo v number → IsReachable n number
 
 -- Nothing is reached in m but what is in n.
 abbrev ReachesNoMore : NeverState → NeverState → Type 0
-ReachesNoMore n m = (number : ℕ) → IsReached m number → IsReached n number
+ReachesNoMore n m = (number : ℕ) → IsReachable m number → IsReachable n number
 
 -- what holds of the appended element and of what stood at the place holds of what stands there
 push_keeps : {A : Type 0} (P : A → Type 0) (xs : List A) (x d : A) (k : ℕ) → P x → P (get_or xs k d)
@@ -79,35 +79,35 @@ module _ (n : NeverState) where
 
   register_adds_none : (c d : ℕ) (v : Value) → LeadsToReached n v → ReachesNoMore n (with_register n c d v)
   register_adds_none c d v only =
-      reached_is_in (with_register n c d v) (IsReached n)
+      reached_is_in (with_register n c d v) (IsReachable n)
       record {
         registers = λ k number. set_by (λ x. LeadsTo x number
-            → IsReached n number) n.registers (8 * c + d) k v Null (λ e. only number) (by_register k number);
+            → IsReachable n number) n.registers (8 * c + d) k v Null (λ e. only number) (by_register k number);
         globals = by_global;
         words = by_word;
       }
 
   global_adds_none : (g : ℕ) (v : Value) → LeadsToReached n v → ReachesNoMore n (with_global n g v)
   global_adds_none g v only =
-      reached_is_in (with_global n g v) (IsReached n)
+      reached_is_in (with_global n g v) (IsReachable n)
       record {
         registers = by_register;
         globals = λ k number. set_by (λ x. LeadsTo x number
-            → IsReached n number) n.globals g k v Null (λ e. only number) (by_global k number);
+            → IsReachable n number) n.globals g k v Null (λ e. only number) (by_global k number);
         words = by_word;
       }
 
   word_adds_none : (a w : ℕ) (v : Value) → LeadsToReached n v → ReachesNoMore n (with_word n a w v)
   word_adds_none a w v only =
-      reached_is_in (with_word n a w v) (IsReached n)
+      reached_is_in (with_word n a w v) (IsReachable n)
       record {
         registers = by_register;
         globals = by_global;
         words = λ from place number reached leads.
             set_by (λ b. is_unmapped b ≡ false → LeadsTo (get_or b.words place Null) number
-            → IsReached n number) n.allocations a from _ no_allocation
+            → IsReachable n number) n.allocations a from _ no_allocation
             (λ e mapped. set_by (λ x. LeadsTo x number
-            → IsReached n number) (words_of n a) w place v Null (λ e'. only number)
+            → IsReachable n number) (words_of n a) w place v Null (λ e'. only number)
             (λ leads'. by_word from place number reached (subst (λ j. WordLeadsTo n j place number) (sym e) (
               subst (λ l. ((allocation_at n a).freed && nat_lt 32 l) ≡ false) (length-set (words_of n a) w v) mapped,
               leads',
@@ -117,13 +117,13 @@ module _ (n : NeverState) where
 
   freed_adds_none : (a : ℕ) → ReachesNoMore n (with_freed n a)
   freed_adds_none a =
-      reached_is_in (with_freed n a) (IsReached n)
+      reached_is_in (with_freed n a) (IsReachable n)
       record {
         registers = by_register;
         globals = by_global;
         words = λ from place number reached leads.
             set_by (λ b. is_unmapped b ≡ false → LeadsTo (get_or b.words place Null) number
-            → IsReached n number) n.allocations a from _ no_allocation
+            → IsReachable n number) n.allocations a from _ no_allocation
             (λ e mapped leads'. by_word from place number reached
             (subst (λ j. WordLeadsTo n j place number) (sym e) (was_mapped _ _ mapped, leads')))
             (λ mapped leads'. by_word from place number reached (mapped, leads')) leads.0 leads.1;
@@ -134,12 +134,12 @@ module _ (n : NeverState) where
   free_adds_none (Num m) = λ number reached. reached
   free_adds_none (Ptr a ty offset) = freed_adds_none a
 
-  -- A New's allocation and what was reached have the pointers behind it.
+  -- A New's allocation and what was reached have the pointers after it.
   abbrev IsReachedOrNew : ℕ → Type 0
-  IsReachedOrNew number = IsReached n number ⊎ (number ≡ length n.allocations)
+  IsReachedOrNew number = IsReachable n number ⊎ (number ≡ length n.allocations)
 
   new_adds_one : (c d ty number : ℕ)
-      → IsReached (with_register (with_new n ty) c d (Ptr (length n.allocations) ty 0)) number → IsReachedOrNew number
+      → IsReachable (with_register (with_new n ty) c d (Ptr (length n.allocations) ty 0)) number → IsReachedOrNew number
   new_adds_one c d ty =
       reached_is_in (with_register (with_new n ty) c d (Ptr (length n.allocations) ty 0)) IsReachedOrNew
       record {
@@ -197,7 +197,7 @@ module _ (n : NeverState) (c : ℕ) where
   new_grows : (d ty : ℕ) (full : Bool) (number : ℕ) → ReachGrowsByGrants n c (New d ty full) number
   new_grows d ty true number reached = inl reached
   new_grows d ty false number reached = granted (new_adds_one n c d ty number reached) where
-    granted : IsReachedOrNew n number → IsReached n number ⊎ ((true ≡ true) × (number ≡ length n.allocations))
+    granted : IsReachedOrNew n number → IsReachable n number ⊎ ((true ≡ true) × (number ≡ length n.allocations))
     granted (inl old) = inl old
     granted (inr new) = inr (refl, new)
 
@@ -234,6 +234,7 @@ unreached_stays n (x ∷ xs) number there reached =
     let there' : number < length (after_op n x.caller x.op).allocations = omega (arith, stays.count) in
     was_there (reach_grows_by_grants n x.caller x.op number
     (unreached_stays (after_op n x.caller x.op) xs number there' reached)) where
-      was_there : IsReached n number ⊎ (IsTrue (is_granted x.op) × (number ≡ length n.allocations)) → IsReached n number
+      was_there : IsReachable n number ⊎ (IsTrue (is_granted x.op) × (number ≡ length n.allocations))
+          → IsReachable n number
       was_there (inl old) = old
       was_there (inr granted) = let new : number ≡ length n.allocations = granted.1 in absurd (omega arith)

@@ -78,7 +78,7 @@ IsBase (Num m) = ⊥
 IsBase (Ptr number ty offset) = offset ≡ 0
 
 -- What the operation stores has the type and the offset of the place, and what it frees is a whole allocation.
--- Global g has the type at place g of the list; a global behind the list has none.
+-- Global g has the type at place g of the list; a global after the list has none.
 abbrev pub StoreIsAdmitted : List ℕ → NeverState → ℕ → Op → Type 0
 StoreIsAdmitted globals n c (New d ty full) = Unit {0}
 StoreIsAdmitted globals n c (Free p) = IsBase (register_at n c p)

@@ -33,7 +33,7 @@ TypeStays n m number =
 abbrev pub FreedStays : NeverState → NeverState → ℕ → Type 0
 FreedStays n m number = IsTrue (allocation_at n number).freed → IsTrue (allocation_at m number).freed
 
--- A Same tells whether its two registers hold one value.
+-- A Same says whether its two registers hold one value.
 abbrev pub SameTells : NeverState → ℕ → ℕ → ℕ → Type 0
 SameTells n caller p q = (reply_of n caller (Same p q) ≡ Number 1) ↔ (register_at n caller p ≡ register_at n caller q)
 
@@ -158,16 +158,16 @@ LoadGivesStored n caller op calls number place =
     → NoneStoresTo (after_op n caller op) calls number place
     → LoadsGive (after_calls (after_op n caller op) calls) number place (stored_value n caller op)
 
--- Calls leave what the later ones leave behind the earlier.
+-- Calls leave what the later ones leave after the earlier.
 abbrev pub LeavesInParts : NeverState → List Call → List Call → Type 0
 LeavesInParts n earlier later = after_calls n (earlier ++ later) ≡ after_calls (after_calls n earlier) later
 
--- Calls have the replies to the earlier ones, and then those to the later ones behind them.
+-- Calls have the replies to the earlier ones, and then those to the later ones after them.
 abbrev pub RepliesInParts : NeverState → List Call → List Call → Type 0
 RepliesInParts n earlier later = replies_of n (earlier ++ later)
     ≡ replies_of n earlier ++ replies_of (after_calls n earlier) later
 
--- Calls are admitted where the earlier ones are, and the later ones behind them.
+-- Calls are admitted where the earlier ones are, and the later ones after them.
 abbrev pub AdmittedInParts : List ℕ → NeverState → List Call → List Call → Type 0
 AdmittedInParts globals n earlier later =
     AreAdmitted globals n (earlier ++ later)

@@ -19,10 +19,10 @@ abbrev pub WordLeadsTo : NeverState → ℕ → ℕ → ℕ → Type 0
 WordLeadsTo n from place number = (is_unmapped (allocation_at n from) ≡ false) × LeadsTo (word_at n from place) number
 
 -- A register of any caller leads to the allocation, a global does, or a word of an allocation that is reached.
-pub data IsReached (n : NeverState) : ℕ → Type 0 where
-  by_register : (r number : ℕ) → LeadsTo (slice_index_or n.registers r Null) number → IsReached n number
-  by_global : (g number : ℕ) → LeadsTo (global_at n g) number → IsReached n number
-  by_word : (from place number : ℕ) → IsReached n from → WordLeadsTo n from place number → IsReached n number
+pub data IsReachable (n : NeverState) : ℕ → Type 0 where
+  by_register : (r number : ℕ) → LeadsTo (slice_index_or n.registers r Null) number → IsReachable n number
+  by_global : (g number : ℕ) → LeadsTo (global_at n g) number → IsReachable n number
+  by_word : (from place number : ℕ) → IsReachable n from → WordLeadsTo n from place number → IsReachable n number
 
 -- The set has each allocation that a register, a global or a word of an allocation of the set leads to.
 pub record IsClosedUnderPointers (n : NeverState) (S : ℕ → Type 0) : Type 0 where
@@ -32,20 +32,20 @@ pub record IsClosedUnderPointers (n : NeverState) (S : ℕ → Type 0) : Type 0 
 
 -- A set that is closed under pointers has all that is reached.
 abbrev pub ReachIsLeast : NeverState → (ℕ → Bool) → Type 0
-ReachIsLeast n S = IsClosedUnderPointers n (λ number. IsTrue (S number)) → (number : ℕ) → IsReached n number
+ReachIsLeast n S = IsClosedUnderPointers n (λ number. IsTrue (S number)) → (number : ℕ) → IsReachable n number
     → IsTrue (S number)
 
 -- An access gets to words of reached allocations alone.
 abbrev pub AccessIsToReached : NeverState → ℕ → ℕ → ℕ → ℕ → ℕ → Type 0
-AccessIsToReached n caller q i number place = Reaches n (register_at n caller q) i number place → IsReached n number
+AccessIsToReached n caller q i number place = Reaches n (register_at n caller q) i number place → IsReachable n number
 
--- Behind an operation nothing is reached but what was before, and what the operation grants.
+-- After an operation nothing is reached but what was before, and what the operation grants.
 abbrev pub ReachGrowsByGrants : NeverState → ℕ → Op → ℕ → Type 0
 ReachGrowsByGrants n caller op number =
-    IsReached (after_op n caller op) number
-    → IsReached n number ⊎ (IsTrue (is_granted op) × (number ≡ length n.allocations))
+    IsReachable (after_op n caller op) number
+    → IsReachable n number ⊎ (IsTrue (is_granted op) × (number ≡ length n.allocations))
 
--- An old allocation that is reached behind the calls was reached before: what isn't reached never is again.
+-- An old allocation that is reached after the calls was reached before: what isn't reached never is again.
 abbrev pub UnreachedStays : NeverState → List Call → ℕ → Type 0
-UnreachedStays n calls number = number < length n.allocations → IsReached (after_calls n calls) number
-    → IsReached n number
+UnreachedStays n calls number = number < length n.allocations → IsReachable (after_calls n calls) number
+    → IsReachable n number

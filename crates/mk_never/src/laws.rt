@@ -7,7 +7,7 @@ ghost use Rattle.mk_never.specs.Laws.{Continues, TypeStays, FreedStays, SameTell
 ghost use Rattle.mk_never.specs.Laws.{KeepsRegisters, UnstoredStays, StoreIsInside, StoreLeaves, LoadGivesStored};
 ghost use Rattle.mk_never.specs.Laws.{LeavesInParts, RepliesInParts, AdmittedInParts};
 ghost use Rattle.mk_never.specs.Typed.{IsTyped, KeepsTyped, StaysTyped};
-ghost use Rattle.mk_never.specs.Reach.{IsReached, IsClosedUnderPointers, ReachIsLeast, AccessIsToReached};
+ghost use Rattle.mk_never.specs.Reach.{IsReachable, IsClosedUnderPointers, ReachIsLeast, AccessIsToReached};
 ghost use Rattle.mk_never.specs.Reach.{ReachGrowsByGrants, UnreachedStays};
 
 use crate::{Kind, Op, Value};
@@ -62,7 +62,7 @@ pub fn others_leave_registers()
         → AreNotBy caller calls → KeepsRegisters caller n (after_calls n calls) }
 {}
 
-/// A comparison tells whether two values are equal, so it tells two allocations apart.
+/// A comparison says whether two values are equal, so it tells two allocations apart.
 #[tactic(auto, using(crate::proofs::Sameness::same_compares, crate::proofs::Sameness::apart, crate::proofs::Sameness::same_tells))]
 pub fn same_compares_values()
     ensures values { (v w : Value) → IsTrue (is_same v w) ↔ (v ≡ w) }
@@ -86,7 +86,7 @@ pub fn a_load_gives_what_was_last_stored()
 /// freed large allocation leads on.
 #[tactic(auto, using(crate::proofs::Reached::reach_is_closed, crate::proofs::Reached::reach_is_least))]
 pub fn what_is_reached()
-    ensures closed { (n : NeverState) → IsClosedUnderPointers n (IsReached n) }
+    ensures closed { (n : NeverState) → IsClosedUnderPointers n (IsReachable n) }
     ensures least { (n : NeverState) (S : ℕ → Bool) → ReachIsLeast n S }
 {}
 
@@ -99,7 +99,7 @@ pub fn the_unreached_stays_so()
     ensures stays { (n : NeverState) (calls : List Call) (number : ℕ) → UnreachedStays n calls number }
 {}
 
-/// Calls in two parts leave, reply and are admitted as the earlier ones and then, behind these, the later ones.
+/// Calls in two parts leave, reply and are admitted as the earlier ones and then, after these, the later ones.
 #[tactic(auto, using(crate::proofs::Parts::after_append, crate::proofs::Parts::replies_append, crate::proofs::Parts::admitted_append))]
 pub fn calls_in_two_parts()
     ensures left { (n : NeverState) (earlier later : List Call) → LeavesInParts n earlier later }

@@ -170,7 +170,7 @@ impl NeverHeap {
         object.words[place as usize] = value;
     }
 
-    /// The word `i` words behind a word of an object.
+    /// The word `i` words after a word of an object.
     fn place_behind(&self, number: u64, offset: u64, i: u64) -> u64
         requires { offset + i < length (words_of self.now number) }
         ensures { result ≡ offset + i }

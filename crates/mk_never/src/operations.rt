@@ -15,7 +15,7 @@ pub enum Op {
     SetPtr { q: u8, i: u64, p: u8 },
     /// Sets the word to the value in `r` where it is the value in `p`.
     CasPtr { q: u8, i: u64, p: u8, r: u8 },
-    /// Sets `d` to a pointer `i` words behind that in `q`.
+    /// Sets `d` to a pointer `i` words after that in `q`.
     Lea { d: u8, q: u8, i: u64 },
     Move { d: u8, q: u8 },
     Clear { d: u8 },

@@ -5,7 +5,7 @@ use Rattle.std.proofs.lemmas.List.Sums.{sum_by_push}
 use Rattle.mk_core.specs.declared.config.Config.{Config}
 use Rattle.mk_core.specs.declared.events.Event.{Event}
 use Rattle.mk_core.specs.Accesses.{caller_number}
-use Rattle.mk_core.specs.Counts.{ends, fulls}
+use Rattle.mk_core.specs.Counts.{ends, full_answers}
 use Rattle.mk_core.specs.Cycles.{is_end}
 use Rattle.mk_core.specs.Decided.{Decided}
 use Rattle.mk_core.specs.Effects.{answer_decided}
@@ -29,6 +29,6 @@ counts_more c es e no_end no_full =
     let empty : fulls_of ds ≡ 0 =
     entry_fulls (caller_number e.seat) (flight_of (left c es).now e.seat).op (answer_decided c (left c es).now e)
     no_full in
-    let filled : fulls c (es ++ e ∷ []) ≡ fulls c es + fulls_of ds =
+    let filled : full_answers c (es ++ e ∷ []) ≡ full_answers c es + fulls_of ds =
     ap (λ (xs : List Decided). fulls_of xs) (calls_more c (first_world c) es e) ∙ fulls_append (calls c es) ds in
     record { ends = omega arith; fulls = omega arith }

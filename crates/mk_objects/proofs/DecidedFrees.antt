@@ -1,4 +1,4 @@
--- A Free is decided, and parts of its turn come before that and behind it.
+-- A Free is decided, and parts of its turn come before that and after it.
 use Rattle.std.proofs.Common.{◌≡◌, ℕ, ◌+◌, Bool, true, false, List, [], ◌∷◌, map, refl, sym, ◌∙◌, ap, subst}
 use Rattle.std.specs.Prelude.{Some, cond}
 use Rattle.std.proofs.lemmas.List.Sums.{sum_by-cons}
@@ -308,7 +308,7 @@ decides_before p q r a d s =
     (λ x. StaysSo x.seat (world_of x)) (IsDecidedAt p.seat (world_of p)) (entry_for p a) d s
     (λ v one two. decided_then p.seat (world_of p) _ v one two)
 
--- and so it is behind a part that leaves the call as it was.
+-- and so it is after a part that leaves the call as it was.
 
 decided_behind : (s : Seat) (w u v : World) → StaysSo s w u → IsDecidedAt s u v → IsDecidedAt s w v
 decided_behind s w u v a b =

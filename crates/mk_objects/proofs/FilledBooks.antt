@@ -32,7 +32,7 @@ pub all_filled : (pages book : List Page) (count : ℕ) → length book ≡ coun
     → ((k : ℕ) → k < count → slice_index_or book k free_page ≡ slice_index_or pages k free_page) → book ≡ pages
 all_filled pages book count a b each = ext_get_or free_page book pages (a ∙ sym b) (λ k lt. each k (omega arith))
 
--- what two looks behind looks found is the page as it was
+-- what two looks after looks found is the page as it was
 pub page_found : (p q r : PassState) (page h u : ℕ) → OnlyLooks p q → OnlyLooks p r
     → h ≡ header_at (now_of q).words page → u ≡ used_at (now_of r).words page
     → ◌≡◌ {A = Page} (record { header = h; used = u }) (page_of (now_of p).words page)

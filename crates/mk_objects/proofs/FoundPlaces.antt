@@ -14,7 +14,7 @@ use Rattle.mk_geom.specs.declared.pages.Page.{Page}
 use Rattle.mk_geom.specs.declared.pages.Place.{Place}
 use Rattle.mk_geom.specs.Classes.{cells_of, class_words_of}
 use Rattle.mk_geom.specs.Headers.{header_of}
-use Rattle.mk_geom.specs.PageUses.{PageUse, is_free_page, words_held_among, words_held_by}
+use Rattle.mk_geom.specs.PageUses.{PageUse, is_free_page, held_by_uses, held_by_use}
 use Rattle.mk_geom.specs.PageWords.{bits_of, use_of_page, use_under, uses_of_pages}
 use Rattle.mk_geom.specs.Places.{MayTakeCell}
 use Rattle.mk_geom.specs.Storages.{free_page}
@@ -25,7 +25,7 @@ use Rattle.mk_core.specs.Bits.{has_bit}
 use Rattle.mk_core.specs.NewPlaces.{class_made, is_small_object, place_on_pages}
 use Rattle.mk_core.specs.ObjectHeaders.{IsSized}
 use Rattle.mk_core.proofs.Sizes.{class_for_small, large_pages, pages_some}
-use Rattle.mk_layout.specs.Scene.{header_on, used_on}
+use Rattle.mk_layout.specs.LayoutScene.{header_on, used_on}
 use Rattle.mk_books.proofs.UsedBitLemmas.{length-bits_of}
 
 bit_told : (count used k : ℕ) → slice_get (bits_of count used) k ≡ Some false → has_bit used k ≡ false
@@ -79,14 +79,14 @@ found_clear limit pages o place sized at some = elim (cases_Bool (is_small_objec
 ]
 
 -- No page holds more than its words.
-cells_hold : (class u : ℕ) (leaf : Bool) → words_held_by (PageUse.Cells class leaf (bits_of (cells_of class) u)) ≤ 64
+cells_hold : (class u : ℕ) (leaf : Bool) → held_by_use (PageUse.Cells class leaf (bits_of (cells_of class) u)) ≤ 64
 cells_hold class u leaf =
     let few : count_by (λ cell. cell) (bits_of (cells_of class) u) ≤ cells_of class =
     subst (λ n. count_by (λ cell. cell) (bits_of (cells_of class) u) ≤ n) (length-bits_of (cells_of class) u)
     (count_by-le-length (λ cell. cell) (bits_of (cells_of class) u)) in
     omega (arith, mul-le-mul_left (class_words_of class) few, mul-div-le 64 (class_words_of class))
 
-page_holds : (x : Option Header) (u : ℕ) → words_held_by (use_under x u) ≤ 64
+page_holds : (x : Option Header) (u : ℕ) → held_by_use (use_under x u) ≤ 64
 page_holds (Some Free) u = omega arith
 page_holds None u = omega arith
 page_holds (Some (Block k)) u = cells_hold k u false
@@ -97,13 +97,13 @@ page_holds (Some (LeafRun n)) u = omega arith
 page_holds (Some (Later d true)) u = omega arith
 page_holds (Some (Later d false)) u = omega arith
 
-pub pages_hold_few : (pages : List Page) → words_held_among (uses_of_pages pages) ≤ 64 * length pages
+pub pages_hold_few : (pages : List Page) → held_by_uses (uses_of_pages pages) ≤ 64 * length pages
 pages_hold_few [] = omega arith
 pages_hold_few (page ∷ pages) = omega (
   arith,
   page_holds
       (header_of page.header) page.used,
   pages_hold_few pages,
-  sum_by-cons words_held_by (use_of_page page)
+  sum_by-cons held_by_use (use_of_page page)
       (uses_of_pages pages),
 )

@@ -21,9 +21,9 @@ use Rattle.mk_core.specs.History.{IsHistory, World, bases_of, left, never_behind
 use Rattle.mk_core.specs.Image.{image_of}
 use Rattle.mk_core.specs.Moments.{flight_of}
 use Rattle.mk_core.specs.NewPlaces.{is_undecided_free}
-use Rattle.mk_images.specs.Images.{CarriesOwn, scene_of}
+use Rattle.mk_images.specs.Images.{CarriesOwn, image_scene_of}
 use Rattle.mk_images.specs.Mirrors.{Mirrors}
-use Rattle.mk_images.specs.OthersSay.{OthersSay}
+use Rattle.mk_images.specs.ImagePremises.{ImagePremises}
 use Rattle.mk_images.specs.SafeSets.{IsSafe}
 use Rattle.mk_images.proofs.Before.{ready_of}
 use Rattle.mk_images.proofs.FreeMoves.{pointer_cell}
@@ -43,12 +43,12 @@ pub record PointsAt (c : Config) (w : World) (n : NeverState) (k : ℕ) (f : Fli
   pub unreleased : (placed_at w.allocations number).released ≡ false
   pub cell : pointed_cell c.pages w.now.words.pages f.p ≡ Some (cell_of_allocation c (placed_at w.allocations number))
 
-module _ (c : Config) (w : World) (n : NeverState) (known : KnownWorld c w) (others : OthersSay c w)
+module _ (c : Config) (w : World) (n : NeverState) (known : KnownWorld c w) (others : ImagePremises c w)
     (mirrors : Mirrors c w n) where
   st : Stands c w.now.words w.allocations
   st = stands_of c w known.limits others
 
-  ready : Ready c.globals mirrors.safe.0 (scene_of w) n
+  ready : Ready c.globals mirrors.safe.0 (image_scene_of w) n
   ready = ready_of c w n known mirrors st mirrors.safe.0 mirrors.safe.1
 
   by_value : (k : ℕ) (f : Flight) (v : Value) → register_at n k (p_of f.op) ≡ v → IsSound n v → IsSafe mirrors.safe.0 v

@@ -14,7 +14,7 @@ use Rattle.mk_core.specs.declared.events.Seat.{Seat}
 use Rattle.mk_core.specs.declared.seats.Flight.{Flight}
 use Rattle.mk_core.specs.declared.seats.Object.{Object}
 use Rattle.mk_core.specs.Accesses.{caller_number}
-use Rattle.mk_core.specs.Allocations.{PlacedAllocation, cell_of_allocation, freed_where_it_stands, held_words}
+use Rattle.mk_core.specs.Allocations.{PlacedAllocation, cell_of_allocation, freed_where_it_stands, held_by_allocations}
 use Rattle.mk_core.specs.Allocations.{is_mapped, never_granted, placed_at, stands_in, storage_words}
 use Rattle.mk_core.specs.Calls.{p_of}
 use Rattle.mk_core.specs.Cells.{first_word, header_in, heads_run, is_freed, is_unmapped_header, words_under}
@@ -29,7 +29,7 @@ use Rattle.mk_core.proofs.ObjectHeaders.{made_is_mapped, part_heads_run, small_h
 use Rattle.mk_core.proofs.Sizes.{large_count, large_is_not_small}
 use Rattle.mk_core.proofs.StandingAllocations.{cells_begin, first_page_shows, run_begins, typed_size}
 use Rattle.mk_images.proofs.KnownWorlds.{known_world}
-use Rattle.mk_images.specs.OthersSay.{IsLaidOut, OthersSay}
+use Rattle.mk_images.specs.ImagePremises.{IsLaidOut, ImagePremises}
 use Rattle.mk_invariant.proofs.Histories.{histories_keep_the_invariant}
 use Rattle.mk_invariant.proofs.Joined.{told_to_images}
 use Rattle.mk_words.specs.States.{PassState, call_of, now_of, world_of}
@@ -80,7 +80,7 @@ module _ (p : PassState) (r : ℕ) (cell : Cell) (h : IsHistory p.table.config p
   abbrev pub object : Object
   object = object_placed p.table.config own
 
-  others : OthersSay p.table.config (world_of p)
+  others : ImagePremises p.table.config (world_of p)
   others =
       told_to_images p.table.config (world_of p) (never_behind p.table.config p.seen)
       (known_world p.table.config p.seen h.within_limits h.enabled)
@@ -144,27 +144,30 @@ module _ (p : PassState) (r : ℕ) (cell : Cell) (h : IsHistory p.table.config p
       ≡ slice_set (world_of p).allocations x.number (freed_and_fresh own)
   it_is_freed = freed_one (now_of p).words cell (world_of p).allocations x.number granted stands alone
 
-  -- what is held behind it
+  -- what is held after it
 
-  held_behind : held_words p.table.config (map (freed_where_it_stands (now_of p).words (Some cell))
+  held_behind : held_by_allocations p.table.config (map (freed_where_it_stands (now_of p).words (Some cell))
       (world_of p).allocations) + held_part p.table.config own
-      ≡ held_words p.table.config (world_of p).allocations + held_part p.table.config (freed_and_fresh own)
+      ≡ held_by_allocations p.table.config (world_of p).allocations + held_part p.table.config (freed_and_fresh own)
   held_behind =
-      ap (λ (xs : List PlacedAllocation). held_words p.table.config xs + held_part p.table.config own) it_is_freed
+      ap (λ (xs : List PlacedAllocation). held_by_allocations p.table.config xs + held_part p.table.config own)
+      it_is_freed
       ∙ held_set p.table.config (world_of p).allocations x.number (freed_and_fresh own) granted
 
   pub small_held : heads_run (header_in (now_of p).words cell.page) ≡ false
-      → held_words p.table.config (map (freed_where_it_stands (now_of p).words (Some cell)) (world_of p).allocations)
-      ≡ held_words p.table.config (world_of p).allocations
+      → held_by_allocations p.table.config (map (freed_where_it_stands (now_of p).words (Some cell))
+      (world_of p).allocations)
+      ≡ held_by_allocations p.table.config (world_of p).allocations
   small_held small =
       let same = small_part p.table.config own (sym its_size ∙ small) in
       let behind = held_behind in
       omega arith
 
   pub large_held : heads_run (header_in (now_of p).words cell.page) ≡ true → own.freed ≡ false
-      → held_words p.table.config (map (freed_where_it_stands (now_of p).words (Some cell)) (world_of p).allocations)
+      → held_by_allocations p.table.config (map (freed_where_it_stands (now_of p).words (Some cell))
+      (world_of p).allocations)
       + words_under (header_in (now_of p).words cell.page)
-      ≡ held_words p.table.config (world_of p).allocations
+      ≡ held_by_allocations p.table.config (world_of p).allocations
   large_held large live =
       let none = large_part p.table.config own (sym its_size ∙ large) in
       let some = live_part p.table.config own x.unreleased live in

@@ -61,7 +61,7 @@ others_free_none c s es e h holds other = elim (cases_Bool (is_quar e.step)) [
       (holds_turn c m s orderly holds)))
 ]
 
--- nothing behind a list
+-- nothing after a list
 frees_at_once : (c : Config) (seen : List Event) (xs : List PlacedAllocation) → FreesOnly c seen xs seen
 frees_at_once c seen xs before e behind is frees = absurd (none_behind seen before e behind is)
 
@@ -81,7 +81,7 @@ frees_more c seen es xs e only last before x behind is frees =
           ∙ frees)
     ]
 
--- and a list behind another
+-- and a list after another
 frees_then : (c : Config) (seen more rest : List Event) (xs : List PlacedAllocation)
     → FreesOnly c seen xs (seen ++ more)
     → FreesOnly c (seen ++ more) xs (seen ++ more ++ rest) → FreesOnly c seen xs (seen ++ more ++ rest)
@@ -205,7 +205,7 @@ once_behind kinds p q r not d h holds o =
               there.only));
         }
 
--- and with one behind it, which leaves the allocations.
+-- and with one after it, which leaves the allocations.
 pub once_before : (kinds : Step → Bool) (p q r : PassState) → FreesNot kinds → FreesOnce p q → p.table ≡ q.table
     → Does kinds q r
     → IsHistory r.table.config r.seen → Holds q.table.config (now_of q) q.seat

@@ -10,7 +10,7 @@ use Rattle.mk_core.specs.History.{IsHistory, World, left}
 use Rattle.mk_core.specs.Moments.{is_phase}
 use Rattle.mk_layout.specs.LayoutLaws.{StandsInOrder}
 use Rattle.mk_layout.specs.Quarantine.{IsFreedCell}
-use Rattle.mk_layout.specs.Scene.{is_released_in}
+use Rattle.mk_layout.specs.LayoutScene.{is_released_in}
 use Rattle.mk_layout.proofs.Settled.{unreleased_are_apart}
 use Rattle.mk_invariant.proofs.Histories.{histories_keep_the_invariant}
 

@@ -1,4 +1,4 @@
--- A New behind its mark, its grant and its tally.
+-- A New after its mark, its grant and its tally.
 use Rattle.std.proofs.Common.{◌≡◌, ℕ, ◌+◌, ◌*◌, ◌<◌, ◌≤◌, ◌^◌, ◌%◌, true, false, List, [], ◌∷◌, ◌++◌, length, refl, sym}
 use Rattle.std.proofs.Common.{ap, ◌∙◌, arith}
 use Rattle.std.specs.Prelude.{not, ◌==◌, Option, Some, slice_index, slice_set, bit_or}
@@ -109,7 +109,7 @@ carving_unmarked c s o place w v at none free =
       marked = or_left (not (is_phase v.now.words 1)) _ (ap (λ n. not (n == 1)) none);
     }
 
--- the grant, the tally, and what others do behind them
+-- the grant, the tally, and what others do after them
 
 pub granted_left : (c : Config) (s : Seat) (place : Place) (w u v : World) → d_of (flight_of w.now s).op < 8
     → IsGrantedAt c s place w u

@@ -8,9 +8,10 @@ use Rattle.std.proofs.lemmas.List.Sums.{sum_by-cons, sum_by-set}
 use Rattle.mk_never.specs.Types.{is_large, kinds_of}
 use Rattle.mk_geom.specs.declared.addresses.Cell.{Cell}
 use Rattle.mk_geom.specs.Storages.{Storage}
-use Rattle.mk_geom.specs.StorageWords.{mapped_words}
+use Rattle.mk_geom.specs.StorageWords.{held_by_storages}
 use Rattle.mk_core.specs.declared.config.Config.{Config}
-use Rattle.mk_core.specs.Allocations.{PlacedAllocation, freed_where_it_stands, held_words, is_mapped, never_granted}
+use Rattle.mk_core.specs.Allocations.{PlacedAllocation, freed_where_it_stands, held_by_allocations, is_mapped}
+use Rattle.mk_core.specs.Allocations.{never_granted}
 use Rattle.mk_core.specs.Allocations.{placed_at, stands_in, storage_of, storage_words, unreleased_storage}
 use Rattle.mk_core.specs.Words.{Words}
 use Rattle.mk_core.proofs.ChangedAllocations.{changed_at, freed_leaves}
@@ -24,14 +25,14 @@ abbrev words_mapped : Storage → ℕ
 words_mapped s = if s.mapped then s.words else 0
 
 held_first : (c : Config) (a : PlacedAllocation) (xs : List PlacedAllocation) (b : Bool) → a.released ≡ b
-    → mapped_words (if b then unreleased_storage c xs else storage_of c a ∷ unreleased_storage c xs) ≡ held_part c
-    a + held_words c xs
+    → held_by_storages (if b then unreleased_storage c xs else storage_of c a ∷ unreleased_storage c xs) ≡ held_part c
+    a + held_by_allocations c xs
 held_first c a xs true is =
     let none : held_part c a ≡ 0 = ap (λ r. if not r && not
     (a.freed && is_large (kinds_of c.types a.ty)) then storage_words c a else 0) is in omega arith
 held_first c a xs false is = sum_by-cons words_mapped (storage_of c a) (unreleased_storage c xs)
 
-pub held_sum : (c : Config) (xs : List PlacedAllocation) → held_words c xs ≡ sum_by (held_part c) xs
+pub held_sum : (c : Config) (xs : List PlacedAllocation) → held_by_allocations c xs ≡ sum_by (held_part c) xs
 unfolding unreleased_storage
 held_sum c [] = refl
 held_sum c (a ∷ xs) =
@@ -39,7 +40,7 @@ held_sum c (a ∷ xs) =
     ∙ sym (sum_by-cons (held_part c) a xs)
 
 pub held_set : (c : Config) (xs : List PlacedAllocation) (n : ℕ) (y : PlacedAllocation) → n < length xs
-    → held_words c (slice_set xs n y) + held_part c (placed_at xs n) ≡ held_words c xs + held_part c y
+    → held_by_allocations c (slice_set xs n y) + held_part c (placed_at xs n) ≡ held_by_allocations c xs + held_part c y
 held_set c xs n y lt =
     let one = sum_by-set (held_part c) xs n y never_granted lt in
     let before = held_sum c xs in

@@ -1,13 +1,14 @@
--- How many words are held before a grant, and behind it.
+-- How many words are held before a grant, and after it.
 use Rattle.std.proofs.Common.{◌≡◌, ℕ, ◌+◌, ◌*◌, ◌≤◌, false, List, [], ◌∷◌, ◌++◌, refl, ap, ◌∙◌, arith}
 use Rattle.std.specs.Prelude.{sum_by, if◌then◌else◌}
 use Rattle.std.proofs.lemmas.List.Sums.{sum_by-cons, sum_by-append}
 use Rattle.mk_geom.specs.Storages.{Storage}
-use Rattle.mk_geom.specs.StorageWords.{mapped_words}
+use Rattle.mk_geom.specs.StorageWords.{held_by_storages}
 use Rattle.mk_geom.proofs.HeldWords.{pages_hold_mapped_words}
 use Rattle.mk_core.specs.declared.config.Config.{Config}
 use Rattle.mk_core.specs.declared.events.Event.{Event}
-use Rattle.mk_core.specs.Allocations.{PlacedAllocation, held_words, storage_of, storage_words, unreleased_storage}
+use Rattle.mk_core.specs.Allocations.{PlacedAllocation, held_by_allocations, storage_of, storage_words}
+use Rattle.mk_core.specs.Allocations.{unreleased_storage}
 use Rattle.mk_core.specs.History.{IsHistory, left}
 use Rattle.mk_core.proofs.Lengths.{histories_keep_lengths}
 use Rattle.mk_core.proofs.UnreleasedStorage.{unreleased_more}
@@ -21,18 +22,18 @@ words_mapped s = if s.mapped then s.words else 0
 -- A live object is held besides.
 pub held_one_more : (c : Config) (xs : List PlacedAllocation) (a : PlacedAllocation) → a.released ≡ false
     → a.freed ≡ false
-    → held_words c (xs ++ a ∷ []) ≡ held_words c xs + storage_words c a
+    → held_by_allocations c (xs ++ a ∷ []) ≡ held_by_allocations c xs + storage_words c a
 held_one_more c xs a unreleased live =
-    ap mapped_words (unreleased_more c xs a unreleased)
+    ap held_by_storages (unreleased_more c xs a unreleased)
     ∙ sum_by-append words_mapped (unreleased_storage c xs) (storage_of c a ∷ [])
-    ∙ ap (λ n. held_words c xs + n) (one ∙ rw (unreleased, live) refl)
+    ∙ ap (λ n. held_by_allocations c xs + n) (one ∙ rw (unreleased, live) refl)
   where
     one : sum_by words_mapped (storage_of c a ∷ []) ≡ words_mapped (storage_of c a)
     one = sum_by-cons words_mapped (storage_of c a) [] ∙ omega arith
 
 -- No more is held than the pages have.
 pub held_is_little : (c : Config) (es : List Event) → IsHistory c es → IsSettled (left c es)
-    → held_words c (left c es).allocations ≤ 64 * c.pages
+    → held_by_allocations c (left c es).allocations ≤ 64 * c.pages
 held_is_little c es h settled =
     let shown = pages_hold_mapped_words (left c es).now.words.pages (unreleased_storage c (left c es).allocations)
     (pages_show_the_storage c es h settled) in

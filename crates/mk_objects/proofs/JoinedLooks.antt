@@ -1,4 +1,4 @@
--- Looks one after the other, and a part of a turn behind looks.
+-- Looks one after the other, and a part of a turn after looks.
 use Rattle.std.proofs.Common.{◌≡◌, ◌^◌, ◌%◌, inl, inr, Bool, true, List, [], ◌∷◌, ◌++◌, refl, sym, ◌∙◌, ap, subst}
 use Rattle.std.proofs.Common.{append-nil}
 use Rattle.std.specs.Prelude.{Some}
@@ -15,12 +15,12 @@ use Rattle.mk_core.specs.declared.seats.Holding.{Holding}
 use Rattle.mk_core.specs.declared.seats.Placing.{Placing}
 use Rattle.mk_core.specs.declared.seats.Stage.TheVariants as stage
 use Rattle.mk_core.specs.Accesses.{caller_number}
-use Rattle.mk_core.specs.Allocations.{held_words}
+use Rattle.mk_core.specs.Allocations.{held_by_allocations}
 use Rattle.mk_core.specs.Calls.{d_of}
 use Rattle.mk_core.specs.Decided.{Decided, entry_of}
 use Rattle.mk_core.specs.Frames.{Steady, steady_of}
 use Rattle.mk_core.specs.Moments.{flight_of}
-use Rattle.mk_core.specs.NewPlaces.{base_made, is_undecided_new, object_made, place_in, place_on_pages}
+use Rattle.mk_core.specs.NewPlaces.{base_made, is_undecided_new, object_made, place_by_placing, place_on_pages}
 use Rattle.mk_core.specs.Words.{phase_of, register_word}
 use Rattle.mk_core.specs.Growing.{Finding}
 use Rattle.mk_core.specs.History.{World}
@@ -61,7 +61,7 @@ looks_place _ h = cc
 pub looks_nothing : (p : PassState) → OnlyLooks p p
 looks_nothing p = reaches_nothing is_look p (IsAsLeft p.seat (world_of p)) (left_same p.seat (world_of p))
 
--- behind looks all is as it was
+-- after looks all is as it was
 pub looks_left : (p q : PassState) → OnlyLooks p q → IsAsLeft p.seat (world_of p) (world_of q)
 looks_left p q a = subst (λ (x : PassState). IsAsLeft p.seat (world_of p) (world_of x)) (sym a.same) a.world
 
@@ -84,7 +84,7 @@ looks_joined p q r a b = by (subst (λ (x : PassState). OnlyLooks x r) a.same b)
           counts = counts_then p.table.config p.seen q.seen r.seen a.counts b.counts;
         }
 
--- What is granted behind looks is granted.
+-- What is granted after looks is granted.
 granted_over : (c : Config) (s : Seat) (place : Place) (w u v : World) → IsAsLeft s w u → IsGrantedAt c s place u v
     → IsGrantedAt c s place w v
 granted_over c s place w u v a b =
@@ -145,8 +145,8 @@ pub looks_exact : (p q : PassState) → OnlyLooks p q → HeldIsExact p → Held
 looks_exact p q a exact =
     let kept = looks_left p q a in
     ap (λ (x : Steady). x.held) kept.steady ∙ exact
-    ∙ ap (λ (x : Steady). held_words p.table.config x.allocations) (sym kept.steady)
-    ∙ ap (λ (t : WordsState). held_words t.config (world_of q).allocations) (sym (looks_table p q a))
+    ∙ ap (λ (x : Steady). held_by_allocations p.table.config x.allocations) (sym kept.steady)
+    ∙ ap (λ (t : WordsState). held_by_allocations t.config (world_of q).allocations) (sym (looks_table p q a))
 
 pub looks_object : (p q : PassState) → OnlyLooks p q → object_for q ≡ object_for p
 looks_object p q a =
@@ -163,6 +163,7 @@ pub goes_to : (p : PassState) (place : Place) → IsUnplaced p
 goes_to p place u fit =
     record {
       unplaced = u;
-      goes = rw u.new (ap (λ (x : Placing). place_in p.table.config.resident (now_of p).words.pages (object_for p) x)
+      goes = rw u.new (ap (λ (x : Placing). place_by_placing p.table.config.resident (now_of p).words.pages
+          (object_for p) x)
           u.placing ∙ fit);
     }

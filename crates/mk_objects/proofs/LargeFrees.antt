@@ -12,7 +12,7 @@ use Rattle.mk_core.specs.declared.events.Answer.TheVariants as answer
 use Rattle.mk_core.specs.declared.events.Tally.TheVariants as tally
 use Rattle.mk_core.specs.declared.seats.Holding.{Holding}
 use Rattle.mk_core.specs.declared.seats.RunPages.{RunPages}
-use Rattle.mk_core.specs.Allocations.{PlacedAllocation, freed_where_it_stands, fresh_words_of, held_words}
+use Rattle.mk_core.specs.Allocations.{PlacedAllocation, freed_where_it_stands, fresh_words_of, held_by_allocations}
 use Rattle.mk_core.specs.Cells.{header_in, heads_run, run_headed, words_under}
 use Rattle.mk_core.specs.Counts.{in_a_word}
 use Rattle.mk_core.specs.Effects.{words_freed}
@@ -82,7 +82,7 @@ module _ (p : PassState) (reg u : ℕ) (cell : Cell) (count : ℕ) (may : MayFre
   pub run_is : HasRun p reg cell before object count
   run_is = its_run p reg cell before object count heads.heads live (sym heads.words)
 
-  pub held_then : held_words p.table.config (map (freed_where_it_stands (now_of p).words (Some cell))
+  pub held_then : held_by_allocations p.table.config (map (freed_where_it_stands (now_of p).words (Some cell))
       (world_of p).allocations) + 64 * count
       ≡ (now_of p).words.held
   held_then =
@@ -155,12 +155,12 @@ module _ (p : PassState) (reg u : ℕ) (cell : Cell) (count : ℕ) (may : MayFre
           (holds_then : Holds a.table.config (now_of a) a.seat)
           (behind : IsHistory r.table.config r.seen) (is : n + 64 * count ≡ (now_of p).words.held)
           (found : fresh ≡ (now_of r).words.fresh) (fits : n < 2 ^ 64) (is_due : IsTrue due ↔ (n < 4 * fresh)) where
-        held_exact : n ≡ held_words p.table.config (world_of r).allocations
+        held_exact : n ≡ held_by_allocations p.table.config (world_of r).allocations
         held_exact =
             let sum = held_then in
-            let first : n ≡ held_words p.table.config (map (freed_where_it_stands (now_of p).words (Some cell))
+            let first : n ≡ held_by_allocations p.table.config (map (freed_where_it_stands (now_of p).words (Some cell))
             (world_of p).allocations) = omega arith in
-            first ∙ ap (λ (xs : List PlacedAllocation). held_words p.table.config xs) (sym allocations_now)
+            first ∙ ap (λ (xs : List PlacedAllocation). held_by_allocations p.table.config xs) (sym allocations_now)
 
         fresh_exact : (now_of r).words.fresh ≡ in_a_word (fresh_words_of p.table.config (world_of r).allocations)
         fresh_exact =

@@ -30,7 +30,7 @@ in_parts (a ∷ xs) more (y ∷ ys) x zs is =
           inr (record { rest = b.rest; is = front })
     ]
 
--- No element stands behind a whole list,
+-- No element stands after a whole list,
 pub none_behind : {A : Type 0} (xs ys : List A) (x : A) (zs : List A) → xs ≡ xs ++ ys ++ x ∷ zs → ⊥
 none_behind xs ys x zs is =
     let all : length xs ≡ length (xs ++ ys ++ x ∷ zs) = ap length is in
@@ -38,7 +38,7 @@ none_behind xs ys x zs is =
     let inner = length-append xs ys in
     omega arith
 
--- and behind a list with one element more, that one.
+-- and after a list with one element more, that one.
 alone : {A : Type 0} (e : A) (ys : List A) (x : A) (zs : List A) → e ∷ [] ≡ ys ++ x ∷ zs → (ys ≡ []) × (e ≡ x)
 alone e [] x zs is = let it : e ≡ x = cc in (refl, it)
 alone e (y ∷ ys) x zs is =

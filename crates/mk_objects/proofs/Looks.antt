@@ -83,7 +83,7 @@ look_reaches p q o x turn acts plain a own history =
     (reaches_nothing is_look p (IsAsLeft p.seat (world_of p)) (left_same p.seat (world_of p))) a own history refl refl
     (acting_caller p acts) (plain_is_idle x plain) (looks_on p x (acting_now p o turn acts) plain)
 
--- What a look found is there behind it.
+-- What a look found is there after it.
 pub found_there : (p q : PassState) (x : Word) (n : ℕ) → Finds p (step.Look x) n q → named_word (now_of q).words x ≡ n
 found_there p q x n f =
     ap (λ (r : PassState). named_word (now_of r).words x) f.makes.is

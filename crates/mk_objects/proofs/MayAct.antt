@@ -18,7 +18,7 @@ use Rattle.mk_core.specs.declared.events.Word.TheVariants as word
 use Rattle.mk_core.specs.declared.seats.Stage.{Stage}
 use Rattle.mk_core.specs.declared.seats.Stage.TheVariants as stage
 use Rattle.mk_core.specs.Words.{phase_of}
-use Rattle.mk_core.specs.Cells.{is_released, is_unmapped_header, pointed_cell}
+use Rattle.mk_core.specs.Cells.{is_released_cell, is_unmapped_header, pointed_cell}
 use Rattle.mk_core.specs.Enabled.{IsEnabled, marker_may, holder_may}
 use Rattle.mk_core.specs.Moments.{Moment, flight_of, is_held, is_number_of, marker_at, is_phase, others_are_held}
 use Rattle.mk_core.specs.NewPlaces.{is_new_at, is_run_gone, is_undecided_free, is_undecided_new, target, object_made}
@@ -208,4 +208,4 @@ module _ (c : Config) (m : Moment) (s : Seat) (at : IsActing c m s) where
   may_wipe n within gone =
       may_by (step.Wipe n) refl (order_of_acting c m s (step.Wipe n) at.acts refl) (lt-ltb n (64 * c.pages) within) refl
       refl refl
-      (or_right (is_some_and (is_released m.words) (pointed_cell c.pages m.words.pages (address_of n))) _ gone)
+      (or_right (is_some_and (is_released_cell m.words) (pointed_cell c.pages m.words.pages (address_of n))) _ gone)

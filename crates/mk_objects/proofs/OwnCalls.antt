@@ -60,7 +60,7 @@ others_add_none c k es others of_others =
     ∙ ap (λ (l : List Decided). calls_by k (calls c es) ++ l) (calls_of_others c k (left c es) others of_others)
     ∙ append-nil (calls_by k (calls c es))
 
--- A caller's step behind events of others adds the entry that it decides, if it decides one.
+-- A caller's step after events of others adds the entry that it decides, if it decides one.
 pub own_step_adds : (c : Config) (k : ℕ) (es others : List Event) (x : Step) (o : Op) (a : Option Answer)
     → AreOfOthers (Caller k ∷ []) others
     → (flight_of (left c (es ++ others)).now (Caller k)).op ≡ o

@@ -1,11 +1,11 @@
--- What is asked of a New, and where it goes, by what its turn tells.
+-- What is asked of a New, and where it goes, by what its turn says.
 use Rattle.std.proofs.Common.{◌≡◌, ℕ, ◌<◌, true, List, length, refl, sym, ◌∙◌, ap, arith}
 use Rattle.std.specs.Prelude.{◌&&◌, nat_lt, Option, Some}
 use Rattle.std.proofs.lemmas.Bool.{and_parts}
 use Rattle.mk_never.specs.declared.operations.Op.{Op}
 use Rattle.mk_geom.specs.declared.pages.Page.{Page}
 use Rattle.mk_geom.specs.declared.pages.Place.{Place}
-use Rattle.mk_geom.specs.PageUses.{place_among}
+use Rattle.mk_geom.specs.PageUses.{place_on_uses}
 use Rattle.mk_geom.specs.PageWords.{uses_of_pages}
 use Rattle.mk_core.specs.declared.config.Config.{Config}
 use Rattle.mk_core.specs.declared.events.Seat.{Seat}
@@ -67,7 +67,7 @@ shape_asked p w x y shape table turn new same made =
 pub fit_found : (p : PassState) (w : WordsState) (pages : List Page) (resident : ℕ) (shape : Shape) (x : Option Place)
     → p.table ≡ w
     → resident ≡ w.config.resident → pages ≡ (now_of p).words.pages → object_shaped shape ≡ object_for p
-    → x ≡ place_among resident shape.words shape.leaf (uses_of_pages pages)
+    → x ≡ place_on_uses resident shape.words shape.leaf (uses_of_pages pages)
     → place_on_pages p.table.config.resident (now_of p).words.pages (object_for p) ≡ x
 fit_found p w pages resident shape x table limit filled is found =
     ap (λ n. place_on_pages n (now_of p).words.pages (object_for p)) (ap (λ (t : WordsState). t.config.resident) table
@@ -80,13 +80,13 @@ pub fit_sought : (p : PassState) (w : WordsState) (x y : Option Op) (shape : Sha
     → IsTurn p x
     → is_undecided_new (call_of p) ≡ true
     → y ≡ x → ((o : Op) → y ≡ Some o → object_shaped shape ≡ object_made w.config o)
-    → found ≡ place_among w.config.resident shape.words shape.leaf (uses_of_pages (now_of p).words.pages)
+    → found ≡ place_on_uses w.config.resident shape.words shape.leaf (uses_of_pages (now_of p).words.pages)
     → place_on_pages p.table.config.resident (now_of p).words.pages (object_for p) ≡ found
 fit_sought p w x y shape found table turn new same made is =
     fit_found p w (now_of p).words.pages w.config.resident shape found table refl refl
     (shape_asked p w x y shape table turn new same made) is
 
--- It is where the New goes, behind looks too,
+-- It is where the New goes, after looks too,
 pub goes_behind : (p q : PassState) (place : Place) → OnlyLooks p q → IsUnplaced p
     → place_on_pages p.table.config.resident (now_of p).words.pages (object_for p) ≡ Some place → GoesTo q place
 goes_behind p q place a u fit =

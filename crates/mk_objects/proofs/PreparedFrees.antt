@@ -1,5 +1,5 @@
 -- What comes before a Free's `quar` leaves its turn as it was, but for gates: what is asked stays so, and what is freed
--- behind it is freed.
+-- after it is freed.
 use Rattle.std.proofs.Common.{◌≡◌, ℕ, ◌<◌, Bool, true, false, List, [], map, sym, ◌∙◌, ap, subst}
 use Rattle.std.specs.Prelude.{◌↔◌, not, IsTrue, Some}
 use Rattle.mk_geom.specs.declared.addresses.Cell.{Cell}
@@ -87,7 +87,7 @@ module _ (kinds : Step → Bool) (p q : PassState) (a : Prepares kinds p q) wher
         exactly = subst (λ (t : WordsState). IsExactly t due (world_of r).allocations) (sym prepared_table) f.exactly;
       }
 
--- No gate is held behind it where none was.
+-- No gate is held after it where none was.
 pub still_open : (p q : PassState) → p.table ≡ q.table
     → ((j : ℕ) → is_held (now_of q).words j ≡ is_held (now_of p).words j)
     → none_is_held p.table.config.callers (now_of p).words ≡ true

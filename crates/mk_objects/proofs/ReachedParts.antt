@@ -1,4 +1,4 @@
--- A part of a turn behind another, and what a part that is reached tells of the pass.
+-- A part of a turn after another, and what a part that is reached says of the pass.
 use Rattle.std.proofs.Common.{◌≡◌, Bool, true, List, [], ◌++◌, sym, ◌∙◌, ap, subst, append-nil, append_assoc}
 use Rattle.mk_core.specs.declared.events.Step.{Step}
 use Rattle.mk_core.specs.Decided.{Decided}
@@ -62,7 +62,7 @@ module _ (one two kinds : Step → Bool) (ones : AreAmong one kinds) (twos : Are
   reaches_after p q r A B C ds a b joined =
       reaches_named kinds p r C (ds ++ []) ds (append-nil ds) (reaches_then p q r A B C ds (λ x. []) a b joined)
 
--- what is known of the pass behind it
+-- what is known of the pass after it
 module _ (kinds : Step → Bool) (p q : PassState) (A : World → Type 0) (ds : List Decided) (a : Reaches kinds p A ds q)
   where
     pub reached_there : (claim : PassState → Type 0) → claim (seeing p q.seen) → claim q

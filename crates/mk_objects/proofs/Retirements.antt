@@ -17,7 +17,8 @@ use Rattle.mk_core.specs.declared.seats.Holding.{Holding}
 use Rattle.mk_core.specs.declared.seats.RunPages.{RunPages}
 use Rattle.mk_core.specs.declared.seats.Stage.TheVariants as stage
 use Rattle.mk_core.specs.Accesses.{caller_number}
-use Rattle.mk_core.specs.Allocations.{PlacedAllocation, freed_where_it_stands, fresh_words_of, held_words, placed_at}
+use Rattle.mk_core.specs.Allocations.{PlacedAllocation, freed_where_it_stands, fresh_words_of, held_by_allocations}
+use Rattle.mk_core.specs.Allocations.{placed_at}
 use Rattle.mk_core.specs.Bits.{has_bit}
 use Rattle.mk_core.specs.Cells.{is_freed}
 use Rattle.mk_core.specs.Counts.{TalliesAreExact, TalliesAreTidy, in_a_word, releases}
@@ -212,7 +213,7 @@ module _ (p q : PassState) (f : Flight) (a : Answer)
       (λ j lt. now.gates j ∙ none_held p gates j lt)
       (exact_from p q table
       (ap (λ (x : Steady). x.held) now.steady ∙ exact.held
-      ∙ ap (λ (x : Steady). held_words p.table.config x.allocations) (sym now.steady))
+      ∙ ap (λ (x : Steady). held_by_allocations p.table.config x.allocations) (sym now.steady))
       (ap (λ (x : Steady). x.fresh) now.steady ∙ exact.fresh
       ∙ ap (λ (x : Steady). in_a_word (fresh_words_of p.table.config x.allocations)) (sym now.steady)))
 
@@ -429,7 +430,7 @@ module _ (p q : PassState) (r u : ℕ) (cell : Cell) (unloaded : IsUnloaded p r)
         none_freed = ap (λ (h : Holding). h.freed) (now.holding ∙ nothing);
         exact = exact_from p s (come_table p s f there)
             (ap (λ (y : Steady). y.held) now.steady ∙ exact.held
-            ∙ ap (λ (y : Steady). held_words p.table.config y.allocations) (sym now.steady))
+            ∙ ap (λ (y : Steady). held_by_allocations p.table.config y.allocations) (sym now.steady))
             (ap (λ (y : Steady). y.fresh) now.steady ∙ exact.fresh
             ∙ ap (λ (y : Steady). in_a_word (fresh_words_of p.table.config y.allocations)) (sym now.steady));
       }

@@ -18,7 +18,7 @@ use Rattle.mk_core.specs.Bits.{has_bit}
 use Rattle.mk_core.specs.Frames.{Steady}
 use Rattle.mk_core.specs.History.{World, IsHistory, left}
 use Rattle.mk_core.specs.Moments.{Moment, flight_of}
-use Rattle.mk_core.specs.NewPlaces.{bits_made, header_made, is_undecided_new, object_made, pages_made, place_in}
+use Rattle.mk_core.specs.NewPlaces.{bits_made, header_made, is_undecided_new, object_made, pages_made, place_by_placing}
 use Rattle.mk_core.specs.NewPlaces.{place_on_pages}
 use Rattle.mk_core.specs.ObjectHeaders.{IsSized}
 use Rattle.mk_core.specs.TurnConditions.{is_used_once, place_now}
@@ -31,7 +31,7 @@ use Rattle.mk_protocol.proofs.Known.{known_left}
 use Rattle.mk_layout.proofs.Fits.{FitsInBlock, FitsOnFreePages, fits}
 use Rattle.mk_layout.proofs.Holders.{made_sized}
 use Rattle.mk_layout.proofs.Readings.{free_unused}
-use Rattle.mk_layout.specs.Terrain.{object_now, scene_of}
+use Rattle.mk_layout.specs.Terrain.{object_now, layout_scene_of}
 use Rattle.mk_protocol.specs.Ground.{ground_of}
 use Rattle.mk_core.specs.Moments.{is_phase}
 use Rattle.mk_invariant.proofs.Histories.{histories_keep_the_invariant}
@@ -67,10 +67,10 @@ fit_of : (c : Config) (m : Moment) (f : Flight) (place : Place) → is_undecided
     → m.seats.holding.placing ≡ Unplaced
     → place_now c m f ≡ Some place → place_on_pages c.resident m.words.pages (object_made c f.op) ≡ Some place
 fit_of c m f place new at placed = sym (ap
-    (λ (x : Placing). place_in c.resident m.words.pages (object_made c f.op) x) at) ∙ sym (under new) ∙ placed
+    (λ (x : Placing). place_by_placing c.resident m.words.pages (object_made c f.op) x) at) ∙ sym (under new) ∙ placed
   where
     under : is_undecided_new f ≡ true
-        → place_now c m f ≡ place_in c.resident m.words.pages (object_made c f.op) m.seats.holding.placing
+        → place_now c m f ≡ place_by_placing c.resident m.words.pages (object_made c f.op) m.seats.holding.placing
     under is = rw is refl
 
 within_of : (limit : ℕ) (pages : List Page) (o : Object) (place : Place) (n : ℕ) → IsSized o → length pages ≡ n
@@ -105,7 +105,7 @@ knows_place p o place turn h goes =
       };
       fit = fit;
       unused = λ z.
-          free_unused (scene_of c (object_now c (now_of p)) (is_phase (now_of p).words 4) (now_of p).words.marks
+          free_unused (layout_scene_of c (object_now c (now_of p)) (is_phase (now_of p).words 4) (now_of p).words.marks
           (ground_of (world_of p))) place.page order.laid.scene z;
       within = within_of c.resident (now_of p).words.pages (object_for p) place c.pages sized lengths found;
       fits = found;

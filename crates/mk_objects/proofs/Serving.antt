@@ -21,7 +21,7 @@ use Rattle.mk_core.specs.Frames.{Steady, steady_of}
 use Rattle.mk_core.specs.History.{World, world_behind}
 use Rattle.mk_core.specs.Moments.{Moment, flight_of, is_phase}
 use Rattle.mk_core.specs.NewPlaces.{bits_made, header_made, is_next_header, is_undecided_new, object_made, pages_made}
-use Rattle.mk_core.specs.NewPlaces.{place_in, stands}
+use Rattle.mk_core.specs.NewPlaces.{place_by_placing, stands}
 use Rattle.mk_core.specs.ObjectHeaders.{IsSized}
 use Rattle.mk_core.specs.TurnConditions.{carves, is_marked_first, is_used_once, place_now, takes_cell}
 use Rattle.mk_core.specs.Words.{Words, header_at, used_at}
@@ -84,7 +84,7 @@ carving_left c s o place w u v n at left =
 -- The first step that serves fixes the place.
 
 chosen_place : (resident : ℕ) (pages : List Page) (o : Object) (placing : Placing) (place : Place)
-    → place_in resident pages o placing ≡ Some place
+    → place_by_placing resident pages o placing ≡ Some place
     → is_used_once placing ≡ false → chosen placing (Some place) ≡ Chosen place
 chosen_place resident pages o Unplaced place h once = refl
 chosen_place resident pages o (Chosen x) place h once = cc
@@ -100,7 +100,7 @@ new_placed c m f place new placed once =
     ∙ placed) once
   where
     under : is_undecided_new f ≡ true
-        → place_now c m f ≡ place_in c.resident m.words.pages (object_made c f.op) m.seats.holding.placing
+        → place_now c m f ≡ place_by_placing c.resident m.words.pages (object_made c f.op) m.seats.holding.placing
     under is = rw is refl
 
 pub chosen_now : (c : Config) (m : Moment) (f : Flight) (place : Place) → is_undecided_new f ≡ true

@@ -97,7 +97,7 @@ module _ (p q : PassState) (o : Option Op) (gate : ℕ) (turn : IsTurn p o) (act
       let many = pages.gates in
       open_behind p.table.config p.seat (world_of p) v gate kept (has_call v kept known.orderly.flights) (omega arith))
 
--- one part behind another
+-- one part after another
 
 pub but_gates_then : (s : Seat) (w u v : World) → IsButGates s w u → IsButGates s u v → IsButGates s w v
 but_gates_then s w u v a b = record {
@@ -219,7 +219,7 @@ pub opens_none : (p : PassState)
     → SetsGates is_settling p (held_from p.seat 0) p
 opens_none p held = sets_first is_settling p (held_from p.seat 0) (λ j lt. held j lt ∙ sym (all_from p.seat j))
 
--- what the passes are behind it
+-- what the passes are after it
 pub set_acting : (kinds : Step → Bool) (p q : PassState) (gates : ℕ → Bool) → SetsGates kinds p gates q
     → is_acting (call_of p).stage ≡ true
     → is_acting (call_of q).stage ≡ true
@@ -245,7 +245,7 @@ set_phase kinds p q gates a low =
     (ap (λ (x : PassState). phase_of (now_of x).words) a.same ∙ ap (λ (x : Steady). x.phase) a.world.but_gates.steady)
     low
 
--- What is asked of a pass is asked of the pass behind it.
+-- What is asked of a pass is asked of the pass after it.
 pub one_there : (kinds : Step → Bool) (p q : PassState) (gate : ℕ) (held : Bool) → SetsGate kinds p gate held q
     → (claim : PassState → Type 0)
     → claim (seeing p q.seen) → claim q

@@ -14,7 +14,7 @@ use Rattle.mk_core.specs.declared.seats.Flight.{Flight}
 use Rattle.mk_core.specs.declared.seats.Holding.{Holding}
 use Rattle.mk_core.specs.declared.seats.RunPages.{RunPages}
 use Rattle.mk_core.specs.declared.seats.Stage.TheVariants as stage
-use Rattle.mk_core.specs.Allocations.{PlacedAllocation, freed_where_it_stands, fresh_words_of, held_words}
+use Rattle.mk_core.specs.Allocations.{PlacedAllocation, freed_where_it_stands, fresh_words_of, held_by_allocations}
 use Rattle.mk_core.specs.Cells.{header_in, heads_run, run_headed, words_under}
 use Rattle.mk_core.specs.Counts.{TalliesAreExact, in_a_word}
 use Rattle.mk_core.specs.Effects.{words_freed}
@@ -41,7 +41,7 @@ use Rattle.mk_objects.proofs.GoneRuns.{IsGoneIn, still_gone}
 use Rattle.mk_objects.proofs.JoinedLooks.{looks_left}
 use Rattle.mk_objects.proofs.ReachedParts.{reached_world, same_kinds}
 
--- Behind a `quar` the call is decided.
+-- After a `quar` the call is decided.
 pub freed_now : (p q : PassState) (cell : Cell) → HasFreed p cell q
     → IsFreedAt p.table.config p.seat cell (world_of p) (world_of q)
 freed_now p q cell a = reached_world is_freeing p q (IsFreedAt p.table.config p.seat cell (world_of p))
@@ -57,9 +57,10 @@ freed_call p q cell a = ap (λ (x : PassState). call_of x) a.same ∙ a.world.ca
 pub freed_acting : (p q : PassState) (cell : Cell) → HasFreed p cell q → is_acting (call_of q).stage ≡ true
 freed_acting p q cell a = ap (λ (f : Flight). is_acting f.stage) (freed_call p q cell a)
 
--- the tallies behind it
+-- the tallies after it
 
-pub over_quarter : (c : Config) (xs : List PlacedAllocation) (held fresh : ℕ) (due : Bool) → held ≡ held_words c xs
+pub over_quarter : (c : Config) (xs : List PlacedAllocation) (held fresh : ℕ) (due : Bool)
+    → held ≡ held_by_allocations c xs
     → fresh ≡ in_a_word (fresh_words_of c xs) → held < 2 ^ 64 → IsTrue due ↔ (held < 4 * fresh)
     → IsTrue due ↔ IsOverQuarter c xs
 over_quarter c xs held fresh due is_held is_fresh fits is = (
@@ -84,12 +85,12 @@ fresh_told_by p q cell before behind table exact is =
 
 -- The tallies are exact by what is known from the pass before.
 pub exact_from : (p q : PassState) → p.table ≡ q.table
-    → (now_of q).words.held ≡ held_words p.table.config (world_of q).allocations
+    → (now_of q).words.held ≡ held_by_allocations p.table.config (world_of q).allocations
     → (now_of q).words.fresh ≡ in_a_word (fresh_words_of p.table.config (world_of q).allocations)
     → TalliesAreExact q.table.config q.seen
 exact_from p q table held fresh =
     record {
-      held = held ∙ ap (λ (t : WordsState). held_words t.config (world_of q).allocations) table;
+      held = held ∙ ap (λ (t : WordsState). held_by_allocations t.config (world_of q).allocations) table;
       fresh = fresh ∙ ap (λ (t : WordsState). in_a_word (fresh_words_of t.config (world_of q).allocations)) table;
     }
 
@@ -174,11 +175,11 @@ module _ (p q a b r : PassState) (reg u : ℕ) (cell : Cell) (n : ℕ) (may : Ma
           ∙ ap (λ i. min ((now_of p).words.fresh + i) (2 ^ 64 - 1)) (sym (small_words p cell small))
           ∙ fresh_told_by p r cell before behind table_then may.exact (stays.fresh_words ∙ now.fresh)
 
-      held_exact : (now_of r).words.held ≡ held_words p.table.config (world_of r).allocations
+      held_exact : (now_of r).words.held ≡ held_by_allocations p.table.config (world_of r).allocations
       held_exact =
           held_now ∙ may.exact.held
           ∙ sym (small_held p reg cell before (object_at p reg u cell before may.free may.some may.target) small)
-          ∙ ap (λ (xs : List PlacedAllocation). held_words p.table.config xs) (sym allocations_now)
+          ∙ ap (λ (xs : List PlacedAllocation). held_by_allocations p.table.config xs) (sym allocations_now)
 
       pub frees_small : FreesCell p cell due r
       frees_small =

@@ -1,4 +1,4 @@
--- What the pages that were looked at tell of the place of a small object.
+-- What the pages that were looked at say of the place of a small object.
 use Rattle.std.proofs.Common.{◌≡◌, ◌≢◌, ℕ, ◌+◌, ◌<◌, ◌≤◌, Bool, true, false, not, ◌&&◌, nat_eq, List, [], length}
 use Rattle.std.proofs.Common.{◌∷◌, get_or, zero-add, refl, sym, ap, ◌∙◌, inl, inr, arith}
 use Rattle.std.specs.Prelude.{Option, Some, None, is_some, option_map, cond, nat_le, nat_lt, if◌then◌else◌}
@@ -99,7 +99,7 @@ cells_under_other h u class leaf other = by (header_of h) refl
         (λ e sort. other (sym (word_of-header_of h (LeafBlock k) is).1
         ∙ (λ i. word_of (block_header (sym e i) (sym sort i)))))
 
--- What a page's header word tells.
+-- What a page's header word says.
 
 pub resident_told : (pages : List Page) (n header : ℕ) (b : Bool) → header ≡ (slice_index_or pages n free_page).header
     → b ≡ is_resident_page (use_under (header_of header) 0)
@@ -119,20 +119,20 @@ taken_told pages n header head some =
     taken_under_other (slice_index_or pages n free_page).header (slice_index_or pages n free_page).used
     (λ z. some (head ∙ z))
 
--- There are as many pages as the words tell.
+-- There are as many pages as the words say.
 pub pages_long : (p : PassState) (w : WordsState) (pages : ℕ) → p.table ≡ w → pages ≡ w.config.pages
     → length (now_of p).words.pages ≡ pages
 pages_long p w pages table is =
     (histories_keep_lengths p.table.config p.seen).pages ∙ ap (λ (x : WordsState). x.config.pages) table ∙ sym is
 
--- What a look behind others finds in a header word stood there before.
+-- What a look after others finds in a header word stood there before.
 pub header_seen : (p q : PassState) (n found : ℕ) → OnlyLooks p q
     → found ≡ (slice_index_or (now_of q).words.pages n free_page).header
     → found ≡ (slice_index_or (now_of p).words.pages n free_page).header
 header_seen p q n found looks is =
     is ∙ ap (λ (ps : List Page). (slice_index_or ps n free_page).header) (looks_pages p q looks)
 
--- The pages before one were looked at, and so many of them are resident.
+-- The pages before one were looked at, and this many of them are resident.
 pub record IsCountedTo (was now : TurnState) (resident page : ℕ) : Type 0 where
   pub op : now.op ≡ was.op
   pub looks : OnlyLooks was.pass now.pass
@@ -304,7 +304,7 @@ place_of_any limit class n leaf first pages past few cells free =
         sym (ap (λ b. if b then option_map carved (first_where is_free_page (uses_of_pages pages)) else None)
         (lt-ltb (resident_pages (uses_of_pages pages)) limit (omega (arith, less, few))))
 
--- The pages before one were looked at, and no range of so many free ones ends among them.
+-- The pages before one were looked at, and no range of this many free ones ends among them.
 pub record IsRangedTo (was now : TurnState) (count range page : ℕ) : Type 0 where
   pub op : now.op ≡ was.op
   pub looks : OnlyLooks was.pass now.pass
@@ -326,7 +326,7 @@ ranged_none t count some =
       starts = more_none (range_start count (uses_of_pages (now_of t.pass).words.pages));
     }
 
--- So with a range of so many of them no more are resident than there are pages.
+-- So with a range of this many of them no more are resident than there are pages.
 
 room : (count : ℕ) (pages : List PageUse) → is_some (range_start count pages) ≡ true
     → resident_pages pages + count ≤ length pages

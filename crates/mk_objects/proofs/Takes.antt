@@ -18,7 +18,7 @@ use Rattle.mk_core.specs.declared.events.Tally.TheVariants as tally
 use Rattle.mk_core.specs.declared.seats.Flight.{Flight}
 use Rattle.mk_core.specs.declared.seats.Object.{Object}
 use Rattle.mk_core.specs.Accesses.{caller_number}
-use Rattle.mk_core.specs.Allocations.{PlacedAllocation, held_words, storage_words}
+use Rattle.mk_core.specs.Allocations.{PlacedAllocation, held_by_allocations, storage_words}
 use Rattle.mk_core.specs.Bits.{bit_for, has_bit}
 use Rattle.mk_core.specs.Calls.{d_of, has_operands}
 use Rattle.mk_core.specs.Decided.{entry_of}
@@ -105,7 +105,7 @@ unplaced_settled p at caller unplaced h = settled p.seat caller.number caller.is
         (off_four (now_of p) unplaced.phase) unplaced.placing
 
 pub few_held : (p : PassState) (place : Place) → KnowsPlace p place → GoesTo p place → IsHistory p.table.config p.seen
-    → held_words p.table.config (world_of p).allocations ≤ 64 * p.table.config.pages
+    → held_by_allocations p.table.config (world_of p).allocations ≤ 64 * p.table.config.pages
 few_held p place k goes h =
     held_is_little p.table.config p.seen h (unplaced_settled p k.acting k.caller goes.unplaced h)
 
@@ -270,7 +270,7 @@ module _ (p : PassState) (place : Place) (goes : GoesTo p place) (k : KnowsPlace
   object_words : storage_words c (object_at_place c (call_of p) place) ≡ words_made (object_for p)
   object_words = ap (λ (o : Object). words_made o) (granted_object c (now_of p) (call_of p) goes.unplaced.new)
 
-  pub counted_held : (r : PassState) (held size : ℕ) → held ≡ held_words c (world_of p).allocations
+  pub counted_held : (r : PassState) (held size : ℕ) → held ≡ held_by_allocations c (world_of p).allocations
       → size ≡ words_made (object_for p)
       → HasCounted (held + size) r → HeldIsExact r
   counted_held r held size before words reached =
@@ -279,6 +279,6 @@ module _ (p : PassState) (place : Place) (goes : GoesTo p place) (k : KnowsPlace
       (λ (x : Steady). x.allocations) reached.world.0.steady in
       subst (λ (x : PassState). HeldIsExact x) (sym reached.same)
       (reached.world.1 ∙ ap (λ n. n + size) before
-      ∙ ap (λ n. held_words c (world_of p).allocations + n) (words ∙ sym object_words)
+      ∙ ap (λ n. held_by_allocations c (world_of p).allocations + n) (words ∙ sym object_words)
       ∙ sym (held_one_more c (world_of p).allocations (object_at_place c (call_of p) place) refl refl)
-      ∙ ap (λ (ys : List PlacedAllocation). held_words c ys) (sym xs))
+      ∙ ap (λ (ys : List PlacedAllocation). held_by_allocations c ys) (sym xs))

@@ -1,4 +1,4 @@
--- What stays as it was: behind looks, and one part after the other.
+-- What stays as it was: after looks, and one part after the other.
 use Rattle.std.proofs.Common.{◌≡◌, ℕ, ◌<◌, true, length, refl, sym, subst, ◌∙◌}
 use Rattle.std.proofs.lemmas.List.{get_or-set_same}
 use Rattle.std.proofs.lemmas.Bool.{ltb-true}
@@ -41,7 +41,7 @@ left_joined s w u v a b =
       gates = λ j. b.gates j ∙ a.gates j;
     }
 
--- Behind a step of its own a caller's call is what the step makes of it.
+-- After a step of its own a caller's call is what the step makes of it.
 pub call_behind : (c : Config) (m : Moment) (k : ℕ) (x : Step) → k < length m.seats.flights
     → flight_of (moment_behind c m (record { seat = Caller k; step = x })) (Caller k)
     ≡ (progress c m (flight_of m (Caller k)) (found c m (record { seat = Caller k; step = x })) x).flight

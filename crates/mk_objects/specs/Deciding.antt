@@ -1,4 +1,4 @@
--- How a Free's call comes to be decided, and what stays so behind that.
+-- How a Free's call comes to be decided, and what stays so after that.
 use Rattle.std.specs.Prelude.{◌≡◌, ◌↔◌, ◌==◌, ℕ, ◌<◌, Bool, true, false, IsTrue, [], map, Some, None}
 use Rattle.mk_geom.specs.declared.addresses.Cell.{Cell}
 use Rattle.mk_core.specs.declared.events.Answer.TheVariants as answer
@@ -18,7 +18,7 @@ use Rattle.mk_objects.specs.Dues.{FreesOnce, IsOverQuarter}
 use Rattle.mk_objects.specs.Placing.{IsOutOfStop, Reaches, entry_for}
 use Rattle.mk_objects.specs.Retiring.{IsFreeAt, is_freeing, loaded_free}
 
--- the kinds of step that come behind the `quar`
+-- the kinds of step that come after the `quar`
 abbrev pub is_following : Step → Bool
 is_following (step.Look x) = true
 is_following (step.Open j) = true

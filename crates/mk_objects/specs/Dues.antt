@@ -2,7 +2,7 @@
 use Rattle.std.specs.Prelude.{◌≡◌, ◌*◌, ◌<◌, Bool, true, List, [], ◌∷◌, ◌++◌}
 use Rattle.mk_core.specs.declared.config.Config.{Config}
 use Rattle.mk_core.specs.declared.events.Event.{Event}
-use Rattle.mk_core.specs.Allocations.{PlacedAllocation, fresh_words_of, held_words}
+use Rattle.mk_core.specs.Allocations.{PlacedAllocation, fresh_words_of, held_by_allocations}
 use Rattle.mk_core.specs.Counts.{decides_freed}
 use Rattle.mk_core.specs.History.{left}
 use Rattle.mk_core.specs.Moments.{flight_of}
@@ -10,13 +10,13 @@ use Rattle.mk_words.specs.States.{PassState, world_of}
 
 -- More than a quarter of the held words is fresh.
 abbrev pub IsOverQuarter : Config → List PlacedAllocation → Type 0
-IsOverQuarter c xs = held_words c xs < 4 * fresh_words_of c xs
+IsOverQuarter c xs = held_by_allocations c xs < 4 * fresh_words_of c xs
 
 -- The event decides that a Free has freed its object.
 abbrev pub event_frees : Config → List Event → Event → Bool
 event_frees c es e = decides_freed c (left c es).now (flight_of (left c es).now e.seat) e.step
 
--- Each event behind the first list that frees an object leaves these allocations.
+-- Each event after the first list that frees an object leaves these allocations.
 abbrev pub FreesOnly : Config → List Event → List PlacedAllocation → List Event → Type 0
 FreesOnly c seen xs es =
     (before : List Event) (e : Event) (behind : List Event) → es ≡ seen ++ before ++ e ∷ behind

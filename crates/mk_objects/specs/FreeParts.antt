@@ -15,7 +15,7 @@ use Rattle.mk_core.specs.NewPlaces.{is_run_unmapped}
 use Rattle.mk_words.specs.States.{PassState, now_of, world_of}
 use Rattle.mk_objects.specs.Placing.{Reaches}
 
--- kinds of step: by which gates are held, a run's pages and words are looked at and cleared, and what comes behind that
+-- kinds of step: by which gates are held, a run's pages and words are looked at and cleared, and what comes after that
 
 abbrev pub is_holding : Step → Bool
 is_holding (step.Hold j) = true
@@ -70,7 +70,7 @@ HoldsOthers p = (j : ℕ) → j < p.table.config.callers → is_held (now_of p).
 abbrev pub run_on : ℕ → ℕ → RunPages
 run_on page count = record { page = page; count = count }
 
--- A run of so many pages is headed on this page.
+-- A run of this many pages is headed on this page.
 abbrev pub HasRunAt : PassState → ℕ → ℕ → Type 0
 HasRunAt p page count = run_headed (header_in (now_of p).words page) page ≡ Some (run_on page count)
 

@@ -15,14 +15,14 @@ use Rattle.mk_core.specs.declared.seats.Object.{Object}
 use Rattle.mk_core.specs.declared.seats.Placing.TheVariants.{Unplaced, Granted}
 use Rattle.mk_core.specs.declared.seats.Stage.TheVariants as stage
 use Rattle.mk_core.specs.Accesses.{caller_number}
-use Rattle.mk_core.specs.Allocations.{PlacedAllocation, held_words, type_made}
+use Rattle.mk_core.specs.Allocations.{PlacedAllocation, held_by_allocations, type_made}
 use Rattle.mk_core.specs.Calls.{d_of}
 use Rattle.mk_core.specs.Decided.{Decided, entry_of}
 use Rattle.mk_core.specs.Frames.{CountsAreLeft, Steady, steady_of}
 use Rattle.mk_core.specs.History.{World, left}
 use Rattle.mk_core.specs.Moments.{Moment, flight_of}
 use Rattle.mk_core.specs.NewPlaces.{base_made, is_undecided_new, object_made}
-use Rattle.mk_core.specs.Placement.{place_for}
+use Rattle.mk_core.specs.Placement.{place_after}
 use Rattle.mk_core.specs.Words.{phase_of, register_word}
 use Rattle.mk_words.specs.States.{PassState, call_of, now_of, world_of}
 use Rattle.mk_turns.specs.Doing.{Does}
@@ -43,7 +43,7 @@ pub record IsUnplaced (p : PassState) : Type 0 where
 
 -- The tally of held words is that of the allocations.
 abbrev pub HeldIsExact : PassState → Type 0
-HeldIsExact p = (now_of p).words.held ≡ held_words p.table.config (world_of p).allocations
+HeldIsExact p = (now_of p).words.held ≡ held_by_allocations p.table.config (world_of p).allocations
 
 -- the object that its New makes, and the place that first fit gives it now
 
@@ -51,7 +51,7 @@ abbrev pub object_for : PassState → Object
 object_for p = object_made p.table.config (call_of p).op
 
 abbrev pub place_now_for : PassState → Option Place
-place_now_for p = place_for p.table.config p.seen (object_for p)
+place_now_for p = place_after p.table.config p.seen (object_for p)
 
 -- kinds of step: looks, and those that serve a New besides
 
@@ -132,7 +132,7 @@ pub record GoesTo (p : PassState) (place : Place) : Type 0 where
   pub unplaced : IsUnplaced p
   pub goes : place_now p.table.config (now_of p) (call_of p) ≡ Some place
 
--- So many pages of the place have their headers; its cell may be taken.
+-- This many pages of the place have their headers; its cell may be taken.
 
 abbrev pub HasCarved : PassState → Place → ℕ → PassState → Type 0
 HasCarved p place n q = Reaches is_placing p (λ w. Carving p.table.config p.seat (object_for p) place (world_of p) w n)

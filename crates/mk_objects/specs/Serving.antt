@@ -22,7 +22,7 @@ pub record Serving (c : Config) (s : Seat) (o : Object) (place : Place) (w v : W
   pub used : used_at v.now.words place.page ≡ used_at w.now.words place.page
   pub pages : length v.now.words.pages ≡ c.pages
 
--- So many of the place's pages have their headers, the others none.
+-- This many of the place's pages have their headers, the others none.
 pub record Carving (c : Config) (s : Seat) (o : Object) (place : Place) (w v : World) (n : ℕ) : Type 0 where
   pub serving : Serving c s o place w v
   pub stand : (d : ℕ) → d < n → header_at v.now.words (place.page + d) ≡ header_made o d

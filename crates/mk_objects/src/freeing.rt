@@ -25,7 +25,7 @@ use mk_words::{Turn, Words};
 use std::sync::Wait;
 use std::thread::Threads;
 
-/// What a free tells: whether a cycle is due.
+/// What a free says: whether a cycle is due.
 #[derive(Clone, Copy, Debug, PartialEq, Eq)]
 pub struct Freed {
     pub due: bool,
@@ -47,7 +47,7 @@ fn set_tally(words: &Words, turn: &mut Turn, tally: Tally, value: u64)
     turn.is_in_order();
 }
 
-/// Frees an object that takes a cell of a block, of so many words, and says whether that is due.
+/// Frees an object that takes a cell of a block, of this many words, and says whether that is due.
 fn free_small(
     words: &Words,
     turn: &mut Turn,
@@ -76,8 +76,8 @@ fn free_small(
     due(fresh, held)
 }
 
-/// Frees a large object, whose run has so many pages, while the gates of all other callers are held. They are opened
-/// behind it. Says whether that is due.
+/// Frees a large object, whose run has this many pages, while the gates of all other callers are held. They are opened
+/// after it. Says whether that is due.
 fn free_stopped(
     words: &Words,
     turn: &mut Turn,
@@ -114,7 +114,7 @@ fn free_stopped(
     due(fresh, held)
 }
 
-/// Frees a large object, whose run has so many pages, once all other callers are in no call. Says whether that is due.
+/// Frees a large object, whose run has this many pages, once all other callers are in no call. Says whether that is due.
 fn free_run<R: Wait>(
     rt: &R,
     words: &Words,

@@ -106,7 +106,7 @@ impl Shape {
         }
     }
 
-    /// The header word of its page so far behind the first.
+    /// The header word of its page so far after the first.
     pub(crate) fn header_word(self, distance: u64) -> u64
         requires sized { IsSized (object_shaped self) }
         requires within { distance < pages_made (object_shaped self) }

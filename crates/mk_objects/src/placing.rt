@@ -108,7 +108,7 @@ fn serve(
     turn.is_in_order();
 }
 
-/// Gives the object its place, with what two looks more tell.
+/// Gives the object its place, with what two looks more say.
 fn serve_now(words: &Words, turn: &mut Turn, shape: Shape, place: Place, page: Page)
     requires one_table { turn.old.pass.table ≡ words.now }
     requires shape { object_shaped shape ≡ object_for turn.old.pass }

@@ -5,7 +5,7 @@ ghost use Rattle.std.specs.Prelude.{◌≡◌, ◌+◌, ◌<◌, ◌≤◌, ◌^
 ghost use Rattle.std.specs.Prelude.{option_map};
 ghost use Rattle.mk_geom.specs.Classes.{cells_of};
 ghost use Rattle.mk_geom.specs.Headers.{header_of, word_of};
-ghost use Rattle.mk_geom.specs.PageUses.{cells_taken, first_where, is_resident_page, place_among, small_place};
+ghost use Rattle.mk_geom.specs.PageUses.{cells_taken, first_where, is_resident_page, place_on_uses, small_place};
 ghost use Rattle.mk_geom.specs.PageUses.{large_place, carved, range_start, resident_pages};
 ghost use Rattle.mk_geom.specs.PageWords.{bits_of, use_of_page, use_under, uses_of_pages};
 ghost use Rattle.mk_geom.specs.Storages.{block_header};
@@ -162,7 +162,7 @@ fn seek_small(words: &Words, turn: &mut Turn, class: u64, leaf: bool) -> Option<
     free_place(first_free, resident, limit)
 }
 
-/// A range of so many free pages, as a place, where with it no more pages are resident than may be.
+/// A range of this many free pages, as a place, where with it no more pages are resident than may be.
 fn free_range(first: Option<u64>, resident: u64, count: u64, limit: u64) -> Option<Place>
     requires room { resident + count < 2 ^ 64 }
     ensures { result ≡ (if nat_le (resident + count) limit then option_map carved first else None) }
@@ -174,7 +174,7 @@ fn free_range(first: Option<u64>, resident: u64, count: u64, limit: u64) -> Opti
     }
 }
 
-/// Where the lowest range of so many free pages begins.
+/// Where the lowest range of this many free pages begins.
 fn first_range(words: &Words, turn: &mut Turn, count: u64) -> Option<u64>
     requires one_table { turn.old.pass.table ≡ words.now }
     requires acting { is_acting (call_of turn.old.pass).stage ≡ true }
@@ -197,7 +197,7 @@ fn first_range(words: &Words, turn: &mut Turn, count: u64) -> Option<u64>
     None
 }
 
-/// The place of a run of so many pages. Where all pages may be resident it doesn't matter how many are.
+/// The place of a run of this many pages. Where all pages may be resident it doesn't matter how many are.
 fn seek_large(words: &Words, turn: &mut Turn, count: u64) -> Option<Place>
     requires one_table { turn.old.pass.table ≡ words.now }
     requires acting { is_acting (call_of turn.old.pass).stage ≡ true }
@@ -225,7 +225,7 @@ pub(crate) fn seek(words: &Words, turn: &mut Turn, shape: Shape) -> Option<Place
     ensures op { turn.new.op ≡ turn.old.op }
     ensures looks { OnlyLooks turn.old.pass turn.new.pass }
     ensures place { result
-        ≡ place_among words.now.config.resident shape.words shape.leaf
+        ≡ place_on_uses words.now.config.resident shape.words shape.leaf
         (uses_of_pages (now_of turn.old.pass).words.pages) }
 {
     if shape.words <= SMALL_WORDS {

@@ -1,4 +1,4 @@
--- The count of fresh words that is kept beside the table is that of the allocations, behind each kind of event.
+-- The count of fresh words that is kept beside the table is that of the allocations, after each kind of event.
 use Rattle.std.proofs.Common.{◌≡◌, ◌≢◌, ℕ, ◌+◌, ◌-◌, ◌<◌, ◌^◌, Bool, true, false, List, map, length, refl, sym, ◌∙◌, ap}
 use Rattle.std.proofs.Common.{subst, arith, inl, inr}
 use Rattle.std.specs.Prelude.{None, Option, Some, min, not, slice_index, ◌&&◌, ◌||◌, ◌==◌, if◌then◌else◌}

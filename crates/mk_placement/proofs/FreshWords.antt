@@ -50,7 +50,7 @@ none_fresh c (a ∷ xs) =
     omega arith
 
 module _ (c : Config) (change : PlacedAllocation → PlacedAllocation) where
-  -- The allocation counts behind the change what it did.
+  -- The allocation counts after the change what it did.
   abbrev pub CountsAsBefore : PlacedAllocation → Type 0
   CountsAsBefore a = fresh_part c (change a) ≡ fresh_part c a
 

@@ -8,7 +8,7 @@ use Rattle.mk_core.proofs.HistoryParts.{earlier_part_is_history, enabled_in_part
 use Rattle.mk_protocol.proofs.Actors.{Meets}
 use Rattle.mk_invariant.specs.Theorems.{OfHistories}
 
--- The events before one of a history are a history, behind which it meets the conditions.
+-- The events before one of a history are a history, after which it meets the conditions.
 pub before_it : (c : Config) (es before : List Event) (e : Event) (behind : List Event) → IsHistory c es
     → es ≡ before ++ e ∷ behind → IsHistory c before × Meets c (left c before).now e.seat e.step
 unfolding AreEnabledFrom

@@ -89,7 +89,7 @@ longer_first t e on first =
       serves = first.serves;
     }
 
--- what the turn's events leave, from behind its `take` on
+-- what the turn's events leave, from after its `take` on
 pub left_in_turn : (c : Config) (s : Seat) (es : List Event) (t : TurnOf c s es)
     → left_from c (left c (t.before ++ taken t ∷ [])) t.behind ≡ left c es
 left_in_turn c s es t =

@@ -99,7 +99,7 @@ cycle_step c w seat step.Quit h = Stays (record { close = refl; release = refl; 
 cycle_step c w seat step.Over h = Overs (over_phase c w seat h) refl
 cycle_step c w seat _ h = Stays (record { close = refl; release = refl; end = refl }) refl refl
 
--- So what is told of the events is told with one more.
+-- So what is said of the events is told with one more.
 module _ (es : List Event) (e : Event) (phase now : ℕ) where
   on_way : MovesNothing e.step → now ≡ phase → UnderWay es phase → UnderWay (es ++ e ∷ []) now
   on_way off same (Marks at begin none) =

@@ -22,7 +22,7 @@ use Rattle.mk_core.specs.Calls.{at_rest}
 use Rattle.mk_core.specs.Effects.{chosen, progress, taken}
 use Rattle.mk_core.specs.History.{World}
 use Rattle.mk_core.specs.Moments.{Moment, flight_of, is_phase}
-use Rattle.mk_core.specs.NewPlaces.{is_undecided_new, object_made, place_in, place_on_pages}
+use Rattle.mk_core.specs.NewPlaces.{is_undecided_new, object_made, place_by_placing, place_on_pages}
 use Rattle.mk_core.specs.Placement.{serves}
 use Rattle.mk_core.specs.StopConditions.{marks_place}
 use Rattle.mk_core.specs.TurnConditions.{carves, is_used_once, place_now, takes_cell, unmaps}
@@ -57,7 +57,8 @@ none_to_serve c m f x out = by x
   where
     none : place_now c m f ≡ None
     none =
-        ap (λ b. if b then place_in c.resident m.words.pages (object_made c f.op) m.seats.holding.placing else None) out
+        ap (λ b. if b then place_by_placing c.resident m.words.pages
+        (object_made c f.op) m.seats.holding.placing else None) out
 
     by : (x : Step) → serves c m f x ≡ false
     by (step.Head p n) =

@@ -13,8 +13,8 @@ use Rattle.mk_core.specs.declared.events.Step.TheVariants as step
 use Rattle.mk_core.specs.declared.seats.Flight.{Flight}
 use Rattle.mk_core.specs.declared.seats.Stage.{Stage}
 use Rattle.mk_core.specs.Accesses.{caller_number}
-use Rattle.mk_core.specs.Allocations.{PlacedAllocation, fresh_words_of, held_words, unreleased_storage}
-use Rattle.mk_core.specs.Counts.{IsTidy, TalliesAreExact, TalliesAreTidy, ends, fulls, in_a_word, releases}
+use Rattle.mk_core.specs.Allocations.{PlacedAllocation, fresh_words_of, held_by_allocations, unreleased_storage}
+use Rattle.mk_core.specs.Counts.{IsTidy, TalliesAreExact, TalliesAreTidy, ends, full_answers, in_a_word, releases}
 use Rattle.mk_core.specs.Cycles.{is_end}
 use Rattle.mk_core.specs.Decided.{Decided}
 use Rattle.mk_core.specs.Effects.{answer_decided}
@@ -23,7 +23,7 @@ use Rattle.mk_core.specs.History.{world_behind}
 use Rattle.mk_core.specs.Moments.{Moment, flight_of}
 use Rattle.mk_core.specs.NewPlaces.{is_run_gone, is_undecided_new}
 use Rattle.mk_core.specs.Readings.{TalliesTell}
-use Rattle.mk_core.specs.TurnConditions.{is_decided, words_held}
+use Rattle.mk_core.specs.TurnConditions.{is_decided, held_by_pages}
 use Rattle.mk_core.specs.Words.{Words, phase_of}
 use Rattle.mk_core.proofs.Histories.{calls_more, left_more}
 use Rattle.mk_core.proofs.Lengths.{histories_keep_lengths}
@@ -48,7 +48,7 @@ use Rattle.mk_placement.proofs.Histories.{KeptByEvents, before_it, holds_of_hist
 use Rattle.mk_placement.proofs.TallySteps.{CountsNothing, Gives, Leaves, Takes, TurnStep, give_counts_nothing}
 use Rattle.mk_placement.proofs.TallySteps.{others_count_nothing, turn_step}
 
--- The fresh count of the moment is that of the allocations, behind every history.
+-- The fresh count of the moment is that of the allocations, after every history.
 
 abbrev pub FreshIsTold : Config → List Event → Type 0
 FreshIsTold c es = FreshTold c (left c es)
@@ -98,7 +98,7 @@ exact_at_give c es seat h meets =
     } in
     let shown = pages_show_the_storage c es h settled in
     record {
-      held = eqb-true m.words.held (words_held m.words) b.1
+      held = eqb-true m.words.held (held_by_pages m.words) b.1
           ∙ pages_hold_mapped_words m.words.pages (unreleased_storage c (left c es).allocations) shown;
       fresh = eqb-true m.words.fresh m.fresh_words a.1 ∙ fresh_is_told c es h;
     }
@@ -116,7 +116,7 @@ exact_at_give c es seat h meets =
     gone = is_run_gone m.words m.seats.holding.freed
 
     held : Bool
-    held = m.words.held == words_held m.words
+    held = m.words.held == held_by_pages m.words
 
 pub tallies_are_exact_at_gives : OfHistories TalliesAreExactAtGives
 tallies_are_exact_at_gives c es h before e behind is gives =
@@ -142,13 +142,13 @@ module _ (c : Config) (es : List Event) (e : Event) (nothing : CountsNothing c (
       sum_by_push (λ (x : Event). cond {A = ℕ} (is_end x.step) 1 0) es e in
       omega arith
 
-  same_fulls : fulls c es ≡ fulls c (es ++ e ∷ [])
+  same_fulls : full_answers c es ≡ full_answers c (es ++ e ∷ [])
   same_fulls =
       let ds : List Decided = call_decided c (left c es).now e in
       let m : Moment = (left c es).now in
       let last : fulls_of ds ≡ 0 =
       entry_fulls (caller_number e.seat) (flight_of m e.seat).op (answer_decided c m e) nothing.no_full in
-      let pushed : fulls c (es ++ e ∷ []) ≡ fulls c es + fulls_of ds =
+      let pushed : full_answers c (es ++ e ∷ []) ≡ full_answers c es + fulls_of ds =
       ap (λ (xs : List Decided). fulls_of xs) (calls_more c (first_world c) es e) ∙ fulls_append (calls c es) ds in
       omega arith
 
@@ -156,7 +156,7 @@ module _ (c : Config) (es : List Event) (e : Event) (nothing : CountsNothing c (
   exact_more exact =
       record {
         held = tally (λ (w : Words). w.held) _ nothing.alike.tallies.held exact.held
-            ∙ ap (λ (xs : List PlacedAllocation). held_words c xs) same_allocations;
+            ∙ ap (λ (xs : List PlacedAllocation). held_by_allocations c xs) same_allocations;
         fresh = tally (λ (w : Words). w.fresh) _ nothing.alike.tallies.fresh exact.fresh
             ∙ ap (λ (xs : List PlacedAllocation). in_a_word (fresh_words_of c xs)) same_allocations;
       }

@@ -20,8 +20,9 @@ use Rattle.mk_core.specs.Accesses.{granted_base}
 use Rattle.mk_core.specs.History.{IsHistory, World, left}
 use Rattle.mk_core.specs.Moments.{Moment, flight_of, is_phase}
 use Rattle.mk_core.specs.NewPlaces.{is_undecided_new, place_on_pages}
-use Rattle.mk_core.specs.Placement.{FullsFitNowhere, GrantsStandAtTheirPlaces, IsFull, StandsAtItsPlace, object_at}
-use Rattle.mk_core.specs.TurnConditions.{is_full, is_used_once}
+use Rattle.mk_core.specs.Placement.{FullsFitNowhere, GrantsStandAtTheirPlaces, FindsNoPlace, StandsAtItsPlace}
+use Rattle.mk_core.specs.Placement.{object_at}
+use Rattle.mk_core.specs.TurnConditions.{may_answer_full, is_used_once}
 use Rattle.mk_core.specs.Words.{phase_of}
 use Rattle.mk_protocol.proofs.Actors.{Meets, fills_new, grants_new}
 use Rattle.mk_protocol.proofs.NewPlace.{held_place, new_holds}
@@ -80,7 +81,7 @@ grants_stand_at_their_places c es h before e behind is =
 -- `full`
 
 full_is : (resident : ℕ) (pages : List Page) (o : Object) (placing : Placing) (cycle : OwnCycle)
-    → is_full resident pages o placing cycle ≡ true
+    → may_answer_full resident pages o placing cycle ≡ true
     → (placing ≡ Unplaced) × (cycle ≡ Ended) × (is_none (place_on_pages resident pages o) ≡ true)
 full_is resident pages o Unplaced Ended h = (refl, refl, h)
 full_is resident pages o _ _ h = cc
@@ -90,7 +91,7 @@ none_is_there None is some = true≢false (sym some)
 none_is_there (Some place) is some = true≢false (sym is)
 
 full_there : (c : Config) (es : List Event) (k : ℕ) → IsHistory c es → k < c.callers → HasNew (left c es) k
-    → Meets c (left c es).now (Caller k) step.Full → IsFull c es (Caller k)
+    → Meets c (left c es).now (Caller k) step.Full → FindsNoPlace c es (Caller k)
 full_there c es k h lt new meets =
     let w : World = left c es in
     let o : Object = object_at c es (Caller k) in
@@ -108,4 +109,4 @@ full_there c es k h lt new meets =
 
 pub fulls_fit_nowhere : OfHistories FullsFitNowhere
 fulls_fit_nowhere c es h before e behind is =
-    at_each c step.Full (IsFull c) (fills_new c) (full_there c) es before e behind h is
+    at_each c step.Full (FindsNoPlace c) (fills_new c) (full_there c) es before e behind h is

@@ -1,4 +1,4 @@
--- What is told of a turn while its New is undecided, behind every history.
+-- What is said of a turn while its New is undecided, after every history.
 use Rattle.std.proofs.Common.{◌≡◌, ℕ, ◌<◌, true, false, List, [], ◌∷◌, ◌++◌, refl, sym, ◌∙◌, ap, subst, arith}
 use Rattle.std.specs.Prelude.{None, Option, Some, ◌&&◌, ◌==◌}
 use Rattle.std.proofs.lemmas.Bool.{and_parts, eqb-true, false_from_ne_true, true≢false}
@@ -22,7 +22,7 @@ use Rattle.mk_core.specs.Cycles.{TurnOf, is_give}
 use Rattle.mk_core.specs.History.{IsHistory, World, first_world, left, left_from, world_behind}
 use Rattle.mk_core.specs.Moments.{flight_of, is_phase}
 use Rattle.mk_core.specs.NewPlaces.{is_run_gone, is_undecided_new, object_made, place_on_pages}
-use Rattle.mk_core.specs.Placement.{FirstServed, NoneServesFrom, before_served, event_serves, place_for}
+use Rattle.mk_core.specs.Placement.{FirstServed, NoneServesFrom, before_served, event_serves, place_after}
 use Rattle.mk_core.specs.Words.{phase_of}
 use Rattle.mk_core.proofs.Histories.{left_more}
 use Rattle.mk_core.proofs.PlacesNow.{undecided_new}
@@ -46,14 +46,14 @@ use Rattle.mk_placement.proofs.Undecided.{HasNew, IsTaken, NewCame, WasNew, new_
 pub record ServedFirst (c : Config) (s : Seat) {es : List Event} (t : TurnOf c s es) (o : Object) (place : Place)
     : Type 0 where
   pub first : FirstServed c t
-  pub fits : place_for c (before_served t first) o ≡ Some place
+  pub fits : place_after c (before_served t first) o ≡ Some place
 
--- what is told of the turn's steps by the place that its New holds, or by none
+-- what is said of the turn's steps by the place that its New holds, or by none
 abbrev pub HasPlace : (c : Config) (s : Seat) {es : List Event} (t : TurnOf c s es) → Object → Option Place → Type 0
 HasPlace c s t o None = NoneServesFrom c (left c (t.before ++ taken t ∷ [])) t.behind
 HasPlace c s t o (Some place) = ServedFirst c s t o place
 
--- The turn of a caller behind a list that leaves this world: where its New is, and how far a cycle of its own.
+-- The turn of a caller after a list that leaves this world: where its New is, and how far a cycle of its own.
 pub record Tracked (c : Config) (es : List Event) (w : World) (k : ℕ) : Type 0 where
   pub turn : TurnOf c (Caller k) es
   pub placed : HasPlace c (Caller k) turn (new_object c w k) (held_place w.now.seats.holding.placing)
@@ -62,7 +62,7 @@ pub record Tracked (c : Config) (es : List Event) (w : World) (k : ℕ) : Type 0
 abbrev pub NewsAreTracked : Config → List Event → Type 0
 NewsAreTracked c es = (k : ℕ) → k < c.callers → HasNew (left c es) k → Tracked c es (left c es) k
 
--- The event gives no turn back of a caller whose New is undecided behind it.
+-- The event gives no turn back of a caller whose New is undecided after it.
 gives_off : (c : Config) (w : World) (seat : Seat) (x : Step) (k : ℕ) → Known c w.now → k < c.callers
     → HasNew (WorldBehind c w seat x) k → gives_turn (Caller k) (record { seat = seat; step = x }) ≡ false
 gives_off c w (Marker j) x k known lt new = refl
@@ -98,14 +98,14 @@ unplaced_settles c es k h lt new off at =
 abbrev FitsHere : Config → List Event → Object → Type 0
 FitsHere c es o =
     (place : Place) → is_phase (left c es).now.words 4 ≡ false → (left c es).now.seats.holding.placing ≡ Unplaced
-    → place_on_pages c.resident (left c es).now.words.pages o ≡ Some place → place_for c es o ≡ Some place
+    → place_on_pages c.resident (left c es).now.words.pages o ≡ Some place → place_after c es o ≡ Some place
 
 fits_here : (c : Config) (es : List Event) (k : ℕ) (o : Object) → IsHistory c es → k < c.callers → HasNew (left c es) k
     → FitsHere c es o
 fits_here c es k o h lt new place off at found =
     sym (first_fit_finds_the_place c es h o (unplaced_settles c es k h lt new off at)) ∙ found
 
--- So what is told of the turn's steps is told with one more.
+-- So what is said of the turn's steps is told with one more.
 module _ (c : Config) (es : List Event) (e : Event) (k : ℕ) (o : Object) (t : TurnOf c (Caller k) es)
     (on : gives_turn (Caller k) e ≡ false) where
   to_place : (now place : Option Place) → now ≡ place → HasPlace c (Caller k) (longer_turn t e on) o place
@@ -122,7 +122,7 @@ module _ (c : Config) (es : List Event) (e : Event) (k : ℕ) (o : Object) (t : 
       none_serves_more c _ t.behind e has (ap (λ (w : World). event_serves c w e) here ∙ none)
   stays none (Some place) has = goes_on place has
 
-  fixes : (place : Place) → event_serves c (left c es) e ≡ true → place_for c es o ≡ Some place
+  fixes : (place : Place) → event_serves c (left c es) e ≡ true → place_after c es o ≡ Some place
       → HasPlace c (Caller k) t o None → ServedFirst c (Caller k) (longer_turn t e on) o place
   fixes place is fits none =
       let here : left c (t.before ++ taken t ∷ t.behind) ≡ left c es = ap (λ (xs : List Event). left c xs) (sym t.is) in
@@ -148,7 +148,7 @@ module _ (c : Config) (es : List Event) (e : Event) (k : ℕ) (o : Object) (t : 
       to_place now (Some place) there
       (goes_on place (subst (λ (p : Option Place). HasPlace c (Caller k) t o p) here has))
 
--- One event: the `take` of the New, or one behind it.
+-- One event: the `take` of the New, or one after it.
 
 abbrev TrackedBehind : Config → List Event → Seat → Step → ℕ → Type 0
 TrackedBehind c es seat x k =

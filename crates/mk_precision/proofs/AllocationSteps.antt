@@ -73,7 +73,7 @@ of_one_same a b e =
 pub of_one_joined : (a b d : PlacedAllocation) → AreOfOne a b → AreOfOne b d → AreOfOne a d
 of_one_joined a b d x y = record { base = y.base ∙ x.base; ty = y.ty ∙ x.ty }
 
--- Where allocation i is unreleased behind a step, it was there and unreleased, or it is the one granted.
+-- Where allocation i is unreleased after a step, it was there and unreleased, or it is the one granted.
 pub data Came (xs ys : List PlacedAllocation) (x : Step) (i : ℕ) : Type 0 where
   Stayed : (placed_at xs i).released ≡ false → AreOfOne (placed_at xs i) (placed_at ys i) → Came xs ys x i
   IsNew : x ≡ step.Grant → i ≡ length xs → Came xs ys x i

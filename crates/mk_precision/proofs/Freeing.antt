@@ -1,4 +1,4 @@
--- Behind a cycle's `end` what its `release` released counts as free: no unreleased storage has a word of it.
+-- After a cycle's `end` what its `release` released counts as free: no unreleased storage has a word of it.
 use Rattle.std.proofs.Common.{List, [], ap, append-nil, append_assoc, arith, false, refl, subst, sym, ℕ, ◌%◌, ◌++◌, ◌≤◌}
 use Rattle.std.proofs.Common.{◌∙◌, ◌∷◌, ◌≡◌}
 use Rattle.std.specs.Prelude.{Contains, not}
@@ -33,7 +33,7 @@ use Rattle.mk_precision.proofs.Stopped.{AtRelease, at_the_release, last_begin, r
 use Rattle.mk_precision.proofs.Stretches.{along_without, at_end, at_release, history_through}
 use Rattle.mk_precision.proofs.Worlds.{stands}
 
--- what stands so many events behind the `release`
+-- what stands this many events after the `release`
 record WhileReleasing (c : Config) (start more : List Event) : Type 0 where
   phase : phase_of (left c (start ++ more)).now.words ≡ 4
   older : AreOlder (left c start).allocations (left c (start ++ more)).allocations

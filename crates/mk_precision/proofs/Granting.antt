@@ -1,4 +1,4 @@
--- The allocation that a grant adds is touched: its caller's register points to it at the moment behind.
+-- The allocation that a grant adds is touched: its caller's register points to it at the moment after.
 use Rattle.std.proofs.Common.{Bool, ap, arith, false, length, subst, sym, true, ℕ, ◌%◌, ◌*◌, ◌+◌, ◌/◌, ◌<◌, ◌^◌, ◌∙◌}
 use Rattle.std.proofs.Common.{◌≡◌}
 use Rattle.std.specs.Prelude.{slice_index, slice_index_or, ◌&&◌}
@@ -121,7 +121,7 @@ new_is_touched c w n Host step.Grant after T i s is at u = absurd (no_host (host
     no_host false e = cc
 new_is_touched c w n seat _ after T i s is at u = cc
 
--- What pointed into members alone still does behind a step.
+-- What pointed into members alone still does after a step.
 pub points_behind : (c : Config) (w : World) (n : NeverState) (seat : Seat) (x : Step) (after : NeverState)
     (T : ℕ → Type 0) (v : ℕ) → Steps c w n seat x after T
     → PointsOnlyInto c w.allocations T v → PointsOnlyInto c (WorldBehind c w seat x).allocations T v

@@ -1,4 +1,4 @@
--- What a marker holds is touched, and what it scans has no leaf, behind each step.
+-- What a marker holds is touched, and what it scans has no leaf, after each step.
 use Rattle.std.proofs.Common.{Bool, ap, arith, false, inl, inr, refl, subst, sym, true, ℕ, ◌+◌, ◌<◌, ◌≤◌, ◌∙◌, ◌≡◌, ◌≢◌}
 use Rattle.std.specs.Prelude.{None, Option, Some, if◌then◌else◌, is_none, nat_lt, slice_index, ◌&&◌, ◌==◌}
 use Rattle.std.proofs.lemmas.Bool.{and_parts, eqb-true, ltb-true}
@@ -34,12 +34,14 @@ use Rattle.mk_protocol.proofs.OthersMoves.{WorldBehind}
 use Rattle.mk_guard.specs.Guard.{EndsItsCell, MarkerStands, ScanStands, cell_scanned}
 use Rattle.mk_precision.proofs.Granting.{points_behind}
 use Rattle.mk_precision.proofs.NoLeaves.{no_leaf_behind, scanned_has_none}
-use Rattle.mk_precision.proofs.Precise.{HasNoLeaf, IsPrecise, MarkerIsPrecise, PointsOnlyInto, Scene, Steps, scene_of}
+use Rattle.mk_precision.proofs.Precise.{HasNoLeaf, IsPrecise, MarkerIsPrecise, PointsOnlyInto, PrecisionScene, Steps}
+use Rattle.mk_precision.proofs.Precise.{precision_scene_of}
 use Rattle.mk_precision.proofs.ScannedWords.{scanned_cell}
 use Rattle.mk_precision.proofs.Worlds.{IsHeld, Told, held}
 
 -- A marker that is in the middle of nothing holds and has seen nothing.
-pub idle_is_precise : (c : Config) (s : Scene) (T : ℕ → Type 0) (x : MarkerState) → IsIdle x → MarkerIsPrecise c s T x
+pub idle_is_precise : (c : Config) (s : PrecisionScene) (T : ℕ → Type 0) (x : MarkerState) → IsIdle x
+    → MarkerIsPrecise c s T x
 idle_is_precise c s T x idle =
     record {
       hand = λ v is. absurd (none-some _ (sym idle.hand ∙ is));
@@ -47,11 +49,11 @@ idle_is_precise c s T x idle =
       seen = λ z is. absurd (none-some _ (sym idle.seen ∙ is));
     }
 
--- what goes on behind a step of another, or of its own
+-- what goes on after a step of another, or of its own
 pub marker_kept : (c : Config) (w : World) (n : NeverState) (seat : Seat) (x : Step) (after : NeverState)
     (T : ℕ → Type 0) (y : MarkerState) → Steps c w n seat x after T
-    → MarkerStands c w.now y → MarkerIsPrecise c (scene_of w) T y
-    → MarkerIsPrecise c (scene_of (WorldBehind c w seat x)) T y
+    → MarkerStands c w.now y → MarkerIsPrecise c (precision_scene_of w) T y
+    → MarkerIsPrecise c (precision_scene_of (WorldBehind c w seat x)) T y
 marker_kept c w n seat x after T y s stand precise =
     record {
       hand = λ v is. points_behind c w n seat x after T v s (precise.hand v is);
@@ -65,8 +67,8 @@ marker_kept c w n seat x after T y s stand precise =
 
 -- `mlook`
 look_precise : (c : Config) (w : World) (n : NeverState) (T : ℕ → Type 0) (y : MarkerState) (p f : ℕ) → Told c w n
-    → f ≡ header_at w.now.words p → MarkerIsPrecise c (scene_of w) T y
-    → MarkerIsPrecise c (scene_of w) T (behind_mlook c f (word.Head p) y)
+    → f ≡ header_at w.now.words p → MarkerIsPrecise c (precision_scene_of w) T y
+    → MarkerIsPrecise c (precision_scene_of w) T (behind_mlook c f (word.Head p) y)
 look_precise c w n T y p f t is m =
     record {
       hand = λ v at. m.hand v (kept y.hand v at);
@@ -88,27 +90,28 @@ look_precise c w n T y p f t is m =
         by true at = absurd (none-some _ at)
         by false at = at
 
-unseen_precise : (c : Config) (w : World) (T : ℕ → Type 0) (y : MarkerState) → MarkerIsPrecise c (scene_of w) T y
-    → MarkerIsPrecise c (scene_of w) T (record y { seen = None })
+unseen_precise : (c : Config) (w : World) (T : ℕ → Type 0) (y : MarkerState)
+    → MarkerIsPrecise c (precision_scene_of w) T y
+    → MarkerIsPrecise c (precision_scene_of w) T (record y { seen = None })
 unseen_precise c w T y m = record { hand = m.hand; scan = m.scan; seen = λ s is. absurd (none-some _ is) }
 
 looks : (c : Config) (w : World) (n : NeverState) (T : ℕ → Type 0) (y : MarkerState) (x : Word) (f : ℕ) → Told c w n
-    → ((p : ℕ) → x ≡ word.Head p → f ≡ header_at w.now.words p) → MarkerIsPrecise c (scene_of w) T y
-    → MarkerIsPrecise c (scene_of w) T (behind_mlook c f x y)
+    → ((p : ℕ) → x ≡ word.Head p → f ≡ header_at w.now.words p) → MarkerIsPrecise c (precision_scene_of w) T y
+    → MarkerIsPrecise c (precision_scene_of w) T (behind_mlook c f x y)
 looks c w n T y (word.Head p) f t is m = look_precise c w n T y p f t (is p refl) m
 looks c w n T y _ f t is m = unseen_precise c w T y m
 
 -- `claim`: words are scanned only under a header that shows no leaf
 claim_precise : (c : Config) (w : World) (T : ℕ → Type 0) (y : MarkerState) (p k marks : ℕ)
-    → has_seen_cell y.seen p k ≡ true → MarkerIsPrecise c (scene_of w) T y
-    → MarkerIsPrecise c (scene_of w) T (record y { scan = scan_claimed p k marks y.seen })
+    → has_seen_cell y.seen p k ≡ true → MarkerIsPrecise c (precision_scene_of w) T y
+    → MarkerIsPrecise c (precision_scene_of w) T (record y { scan = scan_claimed p k marks y.seen })
 claim_precise c w T y p k marks own m =
     record { hand = m.hand; scan = λ s is lt. by y.seen own m.seen s is lt; seen = m.seen }
   where
     by : (seen : Option SeenHeader) → has_seen_cell seen p k ≡ true
         → ((z : SeenHeader) → seen ≡ Some z → cells_under (header_of z.header) ≢ 0
-        → has_no_pointers (header_of z.header) ≡ false → HasNoLeaf c (scene_of w) z.page)
-        → (s : Scan) → scan_claimed p k marks seen ≡ Some s → s.next < s.end → HasNoLeaf c (scene_of w) s.page
+        → has_no_pointers (header_of z.header) ≡ false → HasNoLeaf c (precision_scene_of w) z.page)
+        → (s : Scan) → scan_claimed p k marks seen ≡ Some s → s.next < s.end → HasNoLeaf c (precision_scene_of w) s.page
     by None own none s is lt = cc
     by (Some z) own none s is lt = marked (has_bit marks k) is
       where
@@ -128,21 +131,21 @@ claim_precise c w T y p k marks own m =
         scanned false e less = e
 
         marked : (b : Bool) → (if b then Some (scan_begun p k z.header) else None) ≡ Some s
-            → HasNoLeaf c (scene_of w) s.page
+            → HasNoLeaf c (precision_scene_of w) s.page
         marked false is = absurd (none-some _ is)
         marked true is =
             let e : scan_begun p k z.header ≡ s = same_Some _ _ is in
             let less : (scan_begun p k z.header).next < (scan_begun p k z.header).end =
             subst (λ (q : Scan). q.next < q.end) (sym e) lt in
-            subst (λ (q : Scan). HasNoLeaf c (scene_of w) q.page) e
-            (subst (λ q. HasNoLeaf c (scene_of w) q) (eqb-true z.page p parts.0)
+            subst (λ (q : Scan). HasNoLeaf c (precision_scene_of w) q.page) e
+            (subst (λ q. HasNoLeaf c (precision_scene_of w) q) (eqb-true z.page p parts.0)
             (none z refl some (scanned (has_no_pointers (header_of z.header)) refl less)))
 
 -- `mload`: a word of a marked cell that isn't leaf
 loaded_points : (c : Config) (w : World) (n : NeverState) (seat : Seat) (x : Step) (after : NeverState)
     (T : ℕ → Type 0) (hand : Option ℕ) (z : Scan)
     → Steps c w n seat x after T → IsPrecise c w T → ScanStands c w.now hand z → z.next < z.end
-    → HasNoLeaf c (scene_of w) z.page
+    → HasNoLeaf c (precision_scene_of w) z.page
     → PointsOnlyInto c w.allocations T (slice_index w.now.words.heap z.next)
 loaded_points c w n seat x after T hand z s precise st less none b points =
     s.here.words o.number z.next touched (o.unreleased, leaf, o.word) b points
@@ -177,8 +180,8 @@ loaded_points c w n seat x after T hand z s precise st less none b points =
 load_precise : (c : Config) (w : World) (n : NeverState) (seat : Seat) (x : Step) (after : NeverState)
     (T : ℕ → Type 0) (y : MarkerState)
     → Steps c w n seat x after T → IsPrecise c w T → MarkerStands c w.now y → has_next_word y.scan ≡ true
-    → MarkerIsPrecise c (scene_of w) T y
-    → MarkerIsPrecise c (scene_of w) T
+    → MarkerIsPrecise c (precision_scene_of w) T y
+    → MarkerIsPrecise c (precision_scene_of w) T
     (record y { scan = scan_onward y.scan; hand = open_hand c (slice_index w.now.words.heap (next_word y.scan)) })
 load_precise c w n seat x after T y s precise stand more m =
     record {
@@ -189,7 +192,7 @@ load_precise c w n seat x after T y s precise stand more m =
   where
     opened : (scan : Option Scan) → has_next_word scan ≡ true
         → ((z : Scan) → scan ≡ Some z → ScanStands c w.now y.hand z)
-        → ((z : Scan) → scan ≡ Some z → z.next < z.end → HasNoLeaf c (scene_of w) z.page)
+        → ((z : Scan) → scan ≡ Some z → z.next < z.end → HasNoLeaf c (precision_scene_of w) z.page)
         → (v : ℕ) → open_hand c (slice_index w.now.words.heap (next_word scan)) ≡ Some v
         → PointsOnlyInto c w.allocations T v
     opened None more st none v is = cc
@@ -204,27 +207,28 @@ load_precise c w n seat x after T y s precise stand more m =
             subst (λ u. PointsOnlyInto c w.allocations T u) e
             (loaded_points c w n seat x after T y.hand z s precise (st z refl) less (none z refl less))
 
-    onward : (scan : Option Scan) → ((z : Scan) → scan ≡ Some z → z.next < z.end → HasNoLeaf c (scene_of w) z.page)
-        → (z : Scan) → scan_onward scan ≡ Some z → z.next < z.end → HasNoLeaf c (scene_of w) z.page
+    onward : (scan : Option Scan) → ((z : Scan) → scan ≡ Some z → z.next < z.end
+        → HasNoLeaf c (precision_scene_of w) z.page)
+        → (z : Scan) → scan_onward scan ≡ Some z → z.next < z.end → HasNoLeaf c (precision_scene_of w) z.page
     onward None none z is less = absurd (none-some _ is)
     onward (Some q) none z is less =
         let e : record q { next = q.next + 1 } ≡ z = same_Some _ _ is in
         let page : q.page ≡ z.page = ap (λ (k : Scan). k.page) e in
         let next : q.next + 1 ≡ z.next = ap (λ (k : Scan). k.next) e in
         let end : q.end ≡ z.end = ap (λ (k : Scan). k.end) e in
-        subst (λ k. HasNoLeaf c (scene_of w) k) page (none q refl (omega arith))
+        subst (λ k. HasNoLeaf c (precision_scene_of w) k) page (none q refl (omega arith))
 
 -- a marker's own step, seen from before it
 own_marker : (c : Config) (w : World) (n : NeverState) (k : ℕ) (x : Step) (after : NeverState) (T : ℕ → Type 0)
     → Steps c w n (Marker k) x after T → IsPrecise c w T
     → MarkerStands c w.now (marker_of w.now k)
-    → MarkerIsPrecise c (scene_of (WorldBehind c w (Marker k) x)) T
+    → MarkerIsPrecise c (precision_scene_of (WorldBehind c w (Marker k) x)) T
     (marker_behind c (found c w.now (record { seat = Marker k; step = x })) x (marker_of w.now k))
 own_marker c w n k step.Attend after T s precise stand =
-    idle_is_precise c (scene_of (WorldBehind c w (Marker k) step.Attend)) T _
+    idle_is_precise c (precision_scene_of (WorldBehind c w (Marker k) step.Attend)) T _
     (record { scan = refl; hand = refl; seen = refl })
 own_marker c w n k step.Quit after T s precise stand =
-    idle_is_precise c (scene_of (WorldBehind c w (Marker k) step.Quit)) T _
+    idle_is_precise c (precision_scene_of (WorldBehind c w (Marker k) step.Quit)) T _
     (record { scan = refl; hand = refl; seen = refl })
 own_marker c w n k (step.Mlook x) after T s precise stand =
     looks c w n T (marker_of w.now k) x (found c w.now (record { seat = Marker k; step = step.Mlook x })) s.before
@@ -247,7 +251,7 @@ own_marker c w n k _ after T s precise stand = let kind = s.meets.kind in cc
 pub markers_behind : (c : Config) (w : World) (n : NeverState) (seat : Seat) (x : Step) (after : NeverState)
     (T : ℕ → Type 0) → Steps c w n seat x after T → IsPrecise c w T
     → ((j : ℕ) → MarkerStands c w.now (marker_of w.now j)) → (j : ℕ)
-    → MarkerIsPrecise c (scene_of (WorldBehind c w seat x)) T (marker_of (WorldBehind c w seat x).now j)
+    → MarkerIsPrecise c (precision_scene_of (WorldBehind c w seat x)) T (marker_of (WorldBehind c w seat x).now j)
 markers_behind c w n (Caller k) x after T s precise stand j =
     marker_kept c w n (Caller k) x after T (marker_of w.now j) s (stand j) (precise.markers j)
 markers_behind c w n Host x after T s precise stand j =
@@ -255,6 +259,6 @@ markers_behind c w n Host x after T s precise stand j =
 markers_behind c w n (Marker k) x after T s precise stand j =
     marker_set w.now.seats.markers k j
     (marker_behind c (found c w.now (record { seat = Marker k; step = x })) x (marker_of w.now k))
-    (λ (y : MarkerState). MarkerIsPrecise c (scene_of (WorldBehind c w (Marker k) x)) T y)
+    (λ (y : MarkerState). MarkerIsPrecise c (precision_scene_of (WorldBehind c w (Marker k) x)) T y)
     (λ lt. own_marker c w n k x after T s precise (stand k))
     (marker_kept c w n (Marker k) x after T (marker_of w.now j) s (stand j) (precise.markers j))

@@ -26,7 +26,7 @@ use Rattle.mk_precision.proofs.PhaseSteps.{marking_goes_on}
 use Rattle.mk_precision.proofs.Precise.{IsClosedIn, IsPrecise, Steps}
 use Rattle.mk_precision.proofs.Worlds.{Told}
 
--- what is known behind a history
+-- what is known after a history
 pub told : (c : Config) (es : List Event) → IsHistory c es → Told c (left c es) (never_behind c es)
 told c es h = record { known = known_world c es h.within_limits h.enabled; all = histories_keep_the_invariant c es h }
 
@@ -139,7 +139,7 @@ along c es k done (e ∷ rest) is h none unswept at =
           (list_any (λ (x : Event). is_release x.step) rest) on.released end.released;
     }
 
--- behind the `begin`
+-- after the `begin`
 at_begin : (c : Config) (es : List Event) (k : Marking es) → IsHistory c (through k.begin)
     → AtMoment c (IsTouched c k) (through k.begin)
 at_begin c es k h =

@@ -34,12 +34,12 @@ use Rattle.mk_guard.proofs.Changes.{headers_kind, is_head}
 use Rattle.mk_invariant.proofs.Joined.{told_to_guard}
 use Rattle.mk_precision.proofs.StepKinds.{neither}
 use Rattle.mk_precision.proofs.AllocationSteps.{Came, IsNew, Stayed}
-use Rattle.mk_precision.proofs.Precise.{HasNoLeaf, Steps, came_behind, same_leaf, scene_of}
+use Rattle.mk_precision.proofs.Precise.{HasNoLeaf, Steps, came_behind, same_leaf, precision_scene_of}
 use Rattle.mk_precision.proofs.Worlds.{Told, headers, not_leaf, sized}
 
 -- What a header that is scanned shows.
 pub scanned_has_none : (c : Config) (w : World) (n : NeverState) (p : ℕ) → Told c w n
-    → has_no_pointers (header_in w.now.words p) ≡ false → HasNoLeaf c (scene_of w) p
+    → has_no_pointers (header_in w.now.words p) ≡ false → HasNoLeaf c (precision_scene_of w) p
 scanned_has_none c w n p t scanned =
     record {
       header =
@@ -144,8 +144,8 @@ module _ (c : Config) (w : World) (n : NeverState) (seat : Seat) (x : Step) (aft
               → is_leaf_header (header_in (WorldBehind c w seat y).now.words p) ≡ false
           rest y out = ap (λ z. is_leaf_header (header_of z)) (headers_kind c w.now seat y out p) ∙ none
 
-  pub no_leaf_behind : (p : ℕ) → cells_under (header_in w.now.words p) ≢ 0 → HasNoLeaf c (scene_of w) p
-      → HasNoLeaf c (scene_of (WorldBehind c w seat x)) p
+  pub no_leaf_behind : (p : ℕ) → cells_under (header_in w.now.words p) ≢ 0 → HasNoLeaf c (precision_scene_of w) p
+      → HasNoLeaf c (precision_scene_of (WorldBehind c w seat x)) p
   no_leaf_behind p cells none =
       record {
         header = header_behind p cells none.header;

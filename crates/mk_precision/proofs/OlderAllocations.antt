@@ -1,4 +1,4 @@
--- Allocations behind events that grant none: what is unreleased was so before, and each keeps its place.
+-- Allocations after events that grant none: what is unreleased was so before, and each keeps its place.
 use Rattle.std.proofs.Common.{List, [], ap, append-nil, append_assoc, false, refl, subst, sym, ℕ, ◌++◌, ◌<◌, ◌∙◌, ◌∷◌}
 use Rattle.std.proofs.Common.{◌≡◌, length}
 use Rattle.std.proofs.lemmas.Bool.{true≢false}
@@ -60,7 +60,7 @@ pub record IsKept (w : World) (i : ℕ) : Type 0 where
   pub there : i < length w.allocations
   pub unreleased : (placed_at w.allocations i).released ≡ false
 
--- It stays so behind events that aren't a `release`.
+-- It stays so after events that aren't a `release`.
 pub kept_along : (c : Config) (start rest : List Event) (i : ℕ) → IsHistory c (start ++ rest)
     → None_of is_release rest → IsKept (left c start) i
     → IsKept (left c (start ++ rest)) i

@@ -1,4 +1,4 @@
--- One step of a cycle, whatever it is: behind `begin` nothing is marked or held, and each step keeps it touched.
+-- One step of a cycle, whatever it is: after `begin` nothing is marked or held, and each step keeps it touched.
 use Rattle.std.proofs.Common.{arith, inl, inr, sym, true, ℕ, ◌∙◌, ◌≡◌}
 use Rattle.std.specs.Prelude.{slice_index, ◌&&◌, ◌==◌}
 use Rattle.std.proofs.lemmas.Bool.{and_parts, cases_Bool, cases_lt, eqb-true, true≢false}
@@ -28,7 +28,7 @@ use Rattle.mk_images.proofs.KnownWorlds.{KnownWorld}
 use Rattle.mk_precision.proofs.HandSteps.{hand_behind}
 use Rattle.mk_precision.proofs.MarkSteps.{marked_behind}
 use Rattle.mk_precision.proofs.MarkerSteps.{idle_is_precise, markers_behind}
-use Rattle.mk_precision.proofs.Precise.{IsPrecise, MarkerIsPrecise, Scene, Steps, scene_of}
+use Rattle.mk_precision.proofs.Precise.{IsPrecise, MarkerIsPrecise, PrecisionScene, Steps, precision_scene_of}
 
 -- What markers are in the middle of stands, whether they attend or not.
 
@@ -58,7 +58,7 @@ precise_behind c w n seat x after T s precise =
       markers = markers_behind c w n seat x after T s precise stand;
     }
 
--- behind `begin`
+-- after `begin`
 pub precise_begun : (c : Config) (w : World) (seat : Seat) (T : ℕ → Type 0) → KnownWorld c w
     → Meets c w.now seat step.Begin
     → IsPrecise c (WorldBehind c w seat step.Begin) T
@@ -86,7 +86,7 @@ precise_begun c w seat T known h =
       | inr past ↦ get_or_past w.now.words.marks p 0 (omega (arith, known.lengths.marks))
     ]
 
-    quiet : (j : ℕ) (s : Scene) → MarkerIsPrecise c s T (marker_of w.now j)
+    quiet : (j : ℕ) (s : PrecisionScene) → MarkerIsPrecise c s T (marker_of w.now j)
     quiet j s = elim (cases_Bool (is_attending (marker_of w.now j).presence)) [
       | inr out ↦ idle_is_precise c s T (marker_of w.now j) (known.now.orderly.idle j out)
       | inl at ↦
@@ -95,8 +95,8 @@ precise_begun c w seat T known h =
     ]
 
     by : (seat : Seat) → Meets c w.now seat step.Begin → (j : ℕ)
-        → MarkerIsPrecise c (scene_of (WorldBehind c w seat step.Begin)) T
+        → MarkerIsPrecise c (precision_scene_of (WorldBehind c w seat step.Begin)) T
         (marker_of (WorldBehind c w seat step.Begin).now j)
-    by (Caller k) on j = quiet j (scene_of (WorldBehind c w (Caller k) step.Begin))
-    by Host on j = quiet j (scene_of (WorldBehind c w Host step.Begin))
+    by (Caller k) on j = quiet j (precision_scene_of (WorldBehind c w (Caller k) step.Begin))
+    by Host on j = quiet j (precision_scene_of (WorldBehind c w Host step.Begin))
     by (Marker k) on j = let kind = on.kind in cc

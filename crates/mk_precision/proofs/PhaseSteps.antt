@@ -59,7 +59,7 @@ marking_goes_on c m seat x early h other = rest x refl
           released = none_releases x stays;
         }
 
--- Behind the `close` neither a `begin` nor a grant comes: the phase waits for the `release`, and then for the `end`.
+-- After the `close` neither a `begin` nor a grant comes: the phase waits for the `release`, and then for the `end`.
 pub record Waits (c : Config) (m : Moment) (seat : Seat) (x : Step) (p : ℕ) : Type 0 where
   pub phase : phase_of (Behind c m seat x).words ≡ p
   pub begun : is_begin x ≡ false

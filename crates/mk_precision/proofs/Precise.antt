@@ -24,7 +24,7 @@ use Rattle.mk_core.specs.declared.seats.Scan.{Scan}
 use Rattle.mk_core.specs.declared.seats.SeenHeader.{SeenHeader}
 use Rattle.mk_never.specs.Types.{kinds_of}
 use Rattle.mk_geom.specs.declared.pages.Page.{Page}
-use Rattle.mk_layout.specs.Scene.{shows_on}
+use Rattle.mk_layout.specs.LayoutScene.{shows_on}
 use Rattle.mk_protocol.proofs.Actors.{Meets}
 use Rattle.mk_protocol.proofs.OthersMoves.{WorldBehind}
 use Rattle.mk_guard.specs.Guard.{IsMarking}
@@ -45,21 +45,21 @@ pub record IsClosedIn (c : Config) (w : World) (n : NeverState) (T : ℕ → Typ
       → PointsOnlyInto c w.allocations T (slice_index w.now.words.heap x)
 
 -- what is read of a world
-pub record Scene : Type 0 where
+pub record PrecisionScene : Type 0 where
   pub pages : List Page
   pub allocations : List PlacedAllocation
 
-abbrev pub scene_of : World → Scene
-scene_of w = record { pages = w.now.words.pages; allocations = w.allocations }
+abbrev pub precision_scene_of : World → PrecisionScene
+precision_scene_of w = record { pages = w.now.words.pages; allocations = w.allocations }
 
--- The page shows no leaf header, and no unreleased leaf begins there: an unmapped run doesn't tell whether it was one.
-pub record HasNoLeaf (c : Config) (s : Scene) (p : ℕ) : Type 0 where
+-- The page shows no leaf header, and no unreleased leaf begins there: an unmapped run doesn't say whether it was one.
+pub record HasNoLeaf (c : Config) (s : PrecisionScene) (p : ℕ) : Type 0 where
   pub header : is_leaf_header (shows_on s.pages p) ≡ false
   pub allocations : (a : ℕ) → (placed_at s.allocations a).released ≡ false → (placed_at s.allocations a).base / 64 ≡ p
       → (storage_of c (placed_at s.allocations a)).leaf ≡ false
 
 -- what a marker holds and has seen
-pub record MarkerIsPrecise (c : Config) (s : Scene) (T : ℕ → Type 0) (x : Marker) : Type 0 where
+pub record MarkerIsPrecise (c : Config) (s : PrecisionScene) (T : ℕ → Type 0) (x : Marker) : Type 0 where
   pub hand : (v : ℕ) → x.hand ≡ Some v → PointsOnlyInto c s.allocations T v
   pub scan : (z : Scan) → x.scan ≡ Some z → z.next < z.end → HasNoLeaf c s z.page
   pub seen : (z : SeenHeader) → x.seen ≡ Some z → cells_under (header_of z.header) ≢ 0
@@ -71,7 +71,7 @@ pub record IsPrecise (c : Config) (w : World) (T : ℕ → Type 0) : Type 0 wher
       → is_marked w.now.words (cell_of_allocation c (placed_at w.allocations b)) ≡ true → T b
   pub hand : (h : Hand) → w.now.seats.holding.hand ≡ Some h → is_unmarked h.source ≡ false
       → PointsOnlyInto c w.allocations T h.value
-  pub markers : (j : ℕ) → MarkerIsPrecise c (scene_of w) T (marker_of w.now j)
+  pub markers : (j : ℕ) → MarkerIsPrecise c (precision_scene_of w) T (marker_of w.now j)
 
 -- one step while the cycle marks, which isn't a sweeping mark, between two worlds in which the set is closed
 pub record Steps (c : Config) (w : World) (n : NeverState) (seat : Seat) (x : Step) (after : NeverState)
@@ -104,7 +104,7 @@ pub points_before : (c : Config) (a b : PlacedAllocation) (v : ℕ) → AreOfOne
     → PointsInto v (storage_of c a)
 points_before c a b v e into = (into.0, same_word c a b (heap_word_at v) e into.1)
 
--- An unreleased allocation behind a step came with it, or was there before.
+-- An unreleased allocation after a step came with it, or was there before.
 pub came_behind : (c : Config) (w : World) (seat : Seat) (x : Step) (i : ℕ)
     → (placed_at (WorldBehind c w seat x).allocations i).released ≡ false
     → Came w.allocations (WorldBehind c w seat x).allocations x i

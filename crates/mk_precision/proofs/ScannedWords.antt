@@ -20,7 +20,7 @@ use Rattle.mk_core.specs.declared.config.Config.{Config}
 use Rattle.mk_core.proofs.PointedAllocations.{word_points}
 use Rattle.mk_core.proofs.PointedPages.{pointed_head}
 use Rattle.mk_core.proofs.StandingAllocations.{cells_begin}
-use Rattle.mk_layout.specs.Scene.{run_count}
+use Rattle.mk_layout.specs.LayoutScene.{run_count}
 use Rattle.mk_precision.proofs.Worlds.{Told, headers, stands}
 
 -- A number lies in one of the pieces of a length.

@@ -46,7 +46,7 @@ IsMarkedOnly c w T =
     (b : ℕ) → (placed_at w.allocations b).released ≡ false → is_marked w.now.words
     (cell_of_allocation c (placed_at w.allocations b)) ≡ true → T b
 
--- what stands so many events behind the `close`
+-- what stands this many events after the `close`
 record AtStop (c : Config) (T : ℕ → Type 0) (start more : List Event) : Type 0 where
   phase : phase_of (left c (start ++ more)).now.words ≡ 3
   marked : IsMarkedOnly c (left c (start ++ more)) T
@@ -93,7 +93,7 @@ stop_goes_on c T start more e h other at =
       begun = none_joined is_begin more (e ∷ []) at.begun (both_fail (is_begin e.step) false waits.begun refl);
     }
 
--- behind the `close`
+-- after the `close`
 stop_begins : (c : Config) (T : ℕ → Type 0) (front : List Event) (e : Event) → IsHistory c (front ++ e ∷ [])
     → is_close e.step ≡ true
     → IsMarkedOnly c (left c front) T → AtStop c T (front ++ e ∷ []) []

@@ -53,7 +53,7 @@ history_through c es xs ys e h is =
     earlier_part_is_history c (xs ++ e ∷ []) ys
     (subst (λ (zs : List Event). IsHistory c zs) (is ∙ sym (append_assoc xs (e ∷ []) ys)) h)
 
--- What each event that isn't of a kind keeps, stands behind a list without one.
+-- What each event that isn't of a kind keeps, stands after a list without one.
 pub along_without : (c : Config) (kind : Step → Bool) (P : List Event → Type 0) (start done rest : List Event)
     → ((more : List Event) (e : Event) → IsHistory c ((start ++ more) ++ e ∷ []) → kind e.step ≡ false → P more → P
     (more ++ e ∷ []))

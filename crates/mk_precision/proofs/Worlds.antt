@@ -26,9 +26,9 @@ use Rattle.mk_core.proofs.PointedPages.{PointsTo, points_to}
 use Rattle.mk_core.proofs.Sizes.{large_words}
 use Rattle.mk_core.proofs.StandingAllocations.{first_page_shows, pointers_hit, run_begins, standing_has_storage}
 use Rattle.mk_core.proofs.StandingAllocations.{typed_size}
-use Rattle.mk_layout.specs.Scene.{run_count}
-use Rattle.mk_images.specs.OthersSay as images
-use Rattle.mk_images.specs.OthersSay.{MayHoldWords, OfFreedRun, OfMapped, OfReleased}
+use Rattle.mk_layout.specs.LayoutScene.{run_count}
+use Rattle.mk_images.specs.ImagePremises as images
+use Rattle.mk_images.specs.ImagePremises.{MayHoldWords, OfFreedRun, OfMapped, OfReleased}
 use Rattle.mk_images.proofs.KnownWorlds.{KnownWorld}
 use Rattle.mk_guard.specs.Guard.{IsMarking}
 use Rattle.mk_zeros.proofs.MappedWords.{mapped_stays}
@@ -61,7 +61,7 @@ part_count o x d (OfLeafRun first large leaf) lt = (large, lt)
 part_count o x d (OfLater mapped some large) lt = absurd (omega arith)
 
 module _ (c : Config) (w : World) (n : NeverState) (t : Told c w n) where
-  others : images.OthersSay c w
+  others : images.ImagePremises c w
   others = told_to_images c w n t.known t.all
 
   pub stands : (b : ℕ) → (placed_at w.allocations b).released ≡ false → StandsOnHeap c (placed_at w.allocations b)

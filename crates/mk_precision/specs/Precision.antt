@@ -42,7 +42,7 @@ pub record CountsAsFree (storages : List Storage) (s : Storage) : Type 0 where
   -- and that nothing stands on the pages of a large one.
   pub pages : is_small s ≡ false → (page : ℕ) → stands_on page s ≡ true → use_of_storages storages page ≡ Nothing
 
--- Behind the cycle's `end` its storage counts as free in place and fits.
+-- After the cycle's `end` its storage counts as free in place and fits.
 
 abbrev pub FreesUntouched : Config → {es : List Event} → Cycle es → Type 0
 FreesUntouched c k =

@@ -10,7 +10,7 @@ pub fn untouched_is_released()
     ensures released { OfHistories ReleasesTheUntouched }
 {}
 
-/// Behind the cycle's `end`, its storage counts as free in place and fits.
+/// After the cycle's `end`, its storage counts as free in place and fits.
 pub fn what_is_released_is_free()
     ensures { OfHistories FreesTheUntouched }
 {}

@@ -20,7 +20,7 @@ use Rattle.mk_core.specs.Calls.{steps_of, stage_behind, is_under_turn, begun, at
 use Rattle.mk_core.specs.Calls.{progress_reg}
 use Rattle.mk_core.specs.Moments.{Moment, flight_of}
 use Rattle.mk_core.specs.Order.{group_of}
-use Rattle.mk_core.specs.Accesses.{found, access, reached, register_met, reg_access}
+use Rattle.mk_core.specs.Accesses.{found, access, word_accessed, register_met, reg_access}
 use Rattle.mk_protocol.proofs.Standings.{Standing, Resting, InCall, UnderTurn, Astray, standing_at, standing, is_astray}
 use Rattle.mk_protocol.proofs.Stages.{is_call_stage, is_reg_stage, goes_on, calls_stand, onward_stands, refused_stands}
 use Rattle.mk_protocol.proofs.Stages.{regs_work, loads_under_turn, begun_in_call, read_stands, either_stands}
@@ -72,7 +72,8 @@ enter_move c m k o lt was out = elim (cases_eq (slice_index m.words.gates k) 0) 
 reg_move : (c : Config) (m : Moment) (k : ℕ) → k < c.callers → is_reg_stage (flight_of m (Caller k)).stage ≡ true
     → is_astray (standing (flight_of m (Caller k))) ≡ false → Moves c m (Caller k) step.Reg
 reg_move c m k lt is a =
-    with_words c (view_of m) (Caller k) m.words (accessed m.words (reached c m e) (access c m e)) _ m.seats.holding
+    with_words c (view_of m) (Caller k) m.words (accessed m.words (word_accessed c m e)
+    (access c m e)) _ m.seats.holding
     m.seats.markers
     (reg_keeps m.words k (register_met f f.stage) (reg_access f f.stage))
     (by (standing f) refl (reg_stands f.stage f.op f.q f.p f.r f.loaded (found c m e) is a))

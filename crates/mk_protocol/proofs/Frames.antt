@@ -70,7 +70,7 @@ others_marker c w Host (Marker k) x ne = refl
 others_marker c w seat (Caller k) x ne = refl
 others_marker c w seat Host x ne = refl
 
--- A seat that holds the turn holds it still, behind an event of another.
+-- A seat that holds the turn holds it still, after an event of another.
 others_out : (c : Config) (w : World) (seat s : Seat) (x : Step) → Known c w.now → Meets c w.now seat x → seat ≢ s
     → Holds c w.now s
     → OthersMove c w seat (WorldBehind c w seat x)

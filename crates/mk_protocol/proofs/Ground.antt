@@ -46,7 +46,7 @@ with_header w p n = slice_set w.pages p (record { header = n; used = used_at w p
 abbrev pub with_used : Words → ℕ → ℕ → List Page
 with_used w p n = slice_set w.pages p (record { header = header_at w p; used = n })
 
--- the ground behind a `quar` that frees that cell, or none
+-- the ground after a `quar` that frees that cell, or none
 abbrev pub with_quarantine : World → ℕ → ℕ → Option Cell → Ground
 with_quarantine w p n cell =
     record (ground_of w) {
@@ -56,7 +56,7 @@ with_quarantine w p n cell =
       allocations = map (freed_where_it_stands w.now.words cell) w.allocations;
     }
 
--- the ground behind a `head`, a `used`, a `mark` and a `take`, by what decides where a New's place is
+-- the ground after a `head`, a `used`, a `mark` and a `take`, by what decides where a New's place is
 
 abbrev pub headed : Config → World → Flight → ℕ → ℕ → Bool → Ground
 headed c w f p n b =

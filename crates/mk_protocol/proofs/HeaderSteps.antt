@@ -73,7 +73,7 @@ header_step c m seat step.Reg k h lt ne one =
     (reg_access (flight_of m seat) (flight_of m seat).stage))) KeepsPages
 header_step c m seat _ k h lt ne one = KeepsPages
 
--- a page's header behind a change of one page
+-- a page's header after a change of one page
 pub page_set : (ps : List Page) (p q : ℕ) (x : Page) → (P : ℕ → Type 0) → (p < length ps → P x.header)
     → P (slice_index_or ps q free_page).header
     → P (slice_index_or (slice_set ps p x) q free_page).header

@@ -19,8 +19,8 @@ use Rattle.mk_core.specs.declared.seats.Placing.TheVariants.{Unplaced, Granted}
 use Rattle.mk_core.specs.Words.{Words}
 use Rattle.mk_core.specs.Calls.{still}
 use Rattle.mk_core.specs.Cells.{pointed_cell}
-use Rattle.mk_core.specs.NewPlaces.{is_undecided_new, is_undecided_free, place_in, object_made, target}
-use Rattle.mk_core.specs.TurnConditions.{place_now, cell_freed, frees, is_full}
+use Rattle.mk_core.specs.NewPlaces.{is_undecided_new, is_undecided_free, place_by_placing, object_made, target}
+use Rattle.mk_core.specs.TurnConditions.{place_now, cell_freed, frees, may_answer_full}
 use Rattle.mk_core.specs.Moments.{Moment, is_phase}
 use Rattle.mk_core.specs.Effects.{progress_freed, sees_double, decided, chosen, taken, run_of_cell}
 use Rattle.mk_protocol.specs.Protocol.{is_granted}
@@ -36,7 +36,8 @@ where_some false x h = cc
 pub placed_new : (c : Config) (m : Moment) (f : Flight) (place : Place) → place_now c m f ≡ Some place
     → is_undecided_new f ≡ true
 placed_new c m f place e =
-    (where_some (is_undecided_new f) (place_in c.resident m.words.pages (object_made c f.op) m.seats.holding.placing)
+    (where_some (is_undecided_new f) (place_by_placing c.resident m.words.pages
+    (object_made c f.op) m.seats.holding.placing)
     (ap (λ (x : Option Place). is_some x) e)).0
 
 pub target_free : (pages : ℕ) (w : Words) (f : Flight) → is_some (target pages w f) ≡ true → is_undecided_free f ≡ true
@@ -115,6 +116,6 @@ quarantines pages w f h p v = by (cell_freed pages w f p v) refl
 
 -- `full` comes where there is no place
 pub full_unplaced : (resident : ℕ) (pages : List Page) (o : Object) (placing : Placing) (cycle : OwnCycle)
-    → is_full resident pages o placing cycle ≡ true → placing ≡ Unplaced
+    → may_answer_full resident pages o placing cycle ≡ true → placing ≡ Unplaced
 full_unplaced resident pages o Unplaced cycle h = refl
 full_unplaced resident pages o _ cycle h = cc

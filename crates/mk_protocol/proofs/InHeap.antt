@@ -1,4 +1,4 @@
--- Runs, places and scans lie in the heap, behind every enabled list.
+-- Runs, places and scans lie in the heap, after every enabled list.
 use Rattle.std.proofs.Common.{◌≡◌, ℕ, ◌<◌, true, List, [], ◌∷◌, refl, sym, subst}
 use Rattle.std.specs.Prelude.{nat_lt}
 use Rattle.std.proofs.lemmas.Bool.{ltb-true, and_parts}
@@ -16,7 +16,7 @@ use Rattle.mk_core.specs.Config.{IsWithinLimits}
 use Rattle.mk_core.specs.Layout.{AreOfPages}
 use Rattle.mk_core.specs.Moments.{Moment, first_moment, outside, flight_of, marker_of}
 use Rattle.mk_core.specs.Ranges.{is_in_range}
-use Rattle.mk_core.specs.Accesses.{reached, access, found}
+use Rattle.mk_core.specs.Accesses.{word_accessed, access, found}
 use Rattle.mk_core.specs.Effects.{marker_behind}
 use Rattle.mk_core.specs.History.{World, first_world, world_behind, left_from, left, AreEnabledFrom, AreEnabled}
 use Rattle.mk_core.proofs.Conditions.{enabled_meets}
@@ -68,7 +68,7 @@ in_heap_behind : (c : Config) (w : World) (seat : Seat) (x : Step) → Known c w
 in_heap_behind c w seat x known in_heap h =
     let e : Event = record { seat = seat; step = x } in
     record {
-      lengths = accessed_lengths c.pages w.now.words (reached c w.now e) (access c w.now e) in_heap.lengths;
+      lengths = accessed_lengths c.pages w.now.words (word_accessed c w.now e) (access c w.now e) in_heap.lengths;
       runs =
           runs_behind c w (flight_of w.now seat) (ground_of (WorldBehind c w seat x))
           (λ place now. place_fits_now c w.now seat x place in_heap.lengths.pages in_heap.places h now) in_heap.runs

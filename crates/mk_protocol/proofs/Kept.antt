@@ -84,7 +84,7 @@ held_or gs j b lt other = elim (cases_eq b j) [
   | inr ne ↦ get_or-set_other gs j b 2 0 ne ∙ other ne
 ]
 
--- a marker attends only in these phases, behind a change of one
+-- a marker attends only in these phases, after a change of one
 attends_set : (v : View) (p k : ℕ) (x : MarkerState)
     → (is_attending x.presence ≡ true → (v.phase % 8 ≡ 1) ⊎ (v.phase % 8 ≡ 2))
     → ((b : ℕ) → is_attending (marker_in v b).presence ≡ true → (v.phase % 8 ≡ 1) ⊎ (v.phase % 8 ≡ 2)) → p ≡ v.phase % 8

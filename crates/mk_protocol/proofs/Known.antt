@@ -1,4 +1,4 @@
--- All that is known of a moment behind an enabled list, of whatever calls.
+-- All that is known of a moment after an enabled list, of whatever calls.
 use Rattle.std.proofs.Common.{◌≡◌, ◌≤◌, true, List, [], ◌∷◌, refl, sym, ◌∙◌, subst}
 use Rattle.mk_core.specs.declared.config.Config.{Config}
 use Rattle.mk_core.specs.declared.events.Seat.{Seat}

@@ -52,7 +52,7 @@ pub count_in-at : (xs : List MarkerState) (k : ℕ) → k < length xs → is_in 
     → 1 ≤ count_in xs
 count_in-at xs k lt is = let e = counted_less xs k outside lt is refl in omega arith
 
--- a marker behind a change of one
+-- a marker after a change of one
 pub marker_set : (xs : List MarkerState) (k b : ℕ) (x : MarkerState) → (P : MarkerState → Type 0)
     → (k < length xs → P x) → P (slice_index_or xs b outside)
     → P (slice_index_or (slice_set xs k x) b outside)

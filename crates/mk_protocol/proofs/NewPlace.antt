@@ -20,7 +20,8 @@ use Rattle.mk_core.specs.declared.seats.Placing.{Placing}
 use Rattle.mk_core.specs.declared.seats.Placing.TheVariants.{Unplaced, Chosen, Used, Granted}
 use Rattle.mk_core.specs.declared.seats.Stage.TheVariants as stage
 use Rattle.mk_core.specs.Calls.{at_rest}
-use Rattle.mk_core.specs.NewPlaces.{object_made, is_small_object, place_on_pages, place_in, is_new_at, is_undecided_new}
+use Rattle.mk_core.specs.NewPlaces.{object_made, is_small_object, place_on_pages, place_by_placing, is_new_at}
+use Rattle.mk_core.specs.NewPlaces.{is_undecided_new}
 use Rattle.mk_core.specs.TurnConditions.{place_now}
 use Rattle.mk_core.specs.Effects.{chosen, taken}
 use Rattle.mk_core.specs.Moments.{Moment, flight_of}
@@ -65,7 +66,7 @@ first_fits resident pages o place is large =
 
 in_fits : (c : Config) (pages : List Page) (o : Op) (placing : Placing) (place : Place) → length pages ≡ c.pages
     → ((y : Place) → held_place placing ≡ Some y → PlaceFits c o y)
-    → place_in c.resident pages (object_made c o) placing ≡ Some place → PlaceFits c o place
+    → place_by_placing c.resident pages (object_made c o) placing ≡ Some place → PlaceFits c o place
 in_fits c pages o Unplaced place count held is =
     λ large. subst (λ n. place.page + run_pages_of (object_made c o).words ≤ n) count
     (first_fits c.resident pages (object_made c o) place is large)
@@ -75,14 +76,14 @@ in_fits c pages o Granted place count held is = cc
 
 now_is : (c : Config) (m : Moment) (f : Flight) (place : Place) → place_now c m f ≡ Some place
     → (is_undecided_new f ≡ true)
-    × (place_in c.resident m.words.pages (object_made c f.op) m.seats.holding.placing ≡ Some place)
+    × (place_by_placing c.resident m.words.pages (object_made c f.op) m.seats.holding.placing ≡ Some place)
 now_is c m f place e = by (is_undecided_new f) refl e
   where
     by : (b : Bool) → is_undecided_new f ≡ b
-        → (if b then place_in c.resident m.words.pages (object_made c f.op) m.seats.holding.placing else None)
+        → (if b then place_by_placing c.resident m.words.pages (object_made c f.op) m.seats.holding.placing else None)
         ≡ Some place
         → (is_undecided_new f ≡ true)
-        × (place_in c.resident m.words.pages (object_made c f.op) m.seats.holding.placing ≡ Some place)
+        × (place_by_placing c.resident m.words.pages (object_made c f.op) m.seats.holding.placing ≡ Some place)
     by true is h = (is, h)
     by false is h = cc
 

@@ -74,7 +74,7 @@ holders_flight c v (Marker k) h t = absurd t
 holders_flight c v Host h t =
     get_or_past v.flights (v.turn - 1) at_rest (let e : v.turn ≡ 1 + c.callers = t in omega (arith, h.flights))
 
--- what the holder shows behind its step, where it goes on, where it gives the turn, and where it takes it
+-- what the holder shows after its step, where it goes on, where it gives the turn, and where it takes it
 
 pub holder_shows : (c : Config) (v : View) (seat : Seat) (f : Flight) → Orderly c v → HoldsTurn c v seat
     → (standing (flight_at v.flights seat) ≡ UnderTurn → standing f ≡ UnderTurn)

@@ -22,7 +22,7 @@ use Rattle.mk_core.specs.Moments.{Moment, flight_of, marker_at, outside, is_numb
 use Rattle.mk_core.specs.MarkerConditions.{has_next_word, is_scanned}
 use Rattle.mk_core.specs.NewPlaces.{is_undecided_new}
 use Rattle.mk_core.specs.Order.{seat_exists}
-use Rattle.mk_core.specs.Accesses.{caller_number, tally_word, word_reached, access_by, reached, access}
+use Rattle.mk_core.specs.Accesses.{caller_number, tally_word, word_reached, access_by, word_accessed, access}
 use Rattle.mk_core.specs.History.{left}
 use Rattle.mk_core.specs.Readings.{Holds}
 use Rattle.mk_core.proofs.Conditions.{enabled_meets}
@@ -92,7 +92,7 @@ other_gate c seat j small h = let lt =
     ltb-true j c.callers (and_parts (nat_lt j c.callers) (not (is_number_of seat j)) h).0 in omega arith
 
 reaches : (c : Config) (m : Moment) (seat : Seat) (x : Step) → Known c m → InHeap c m → Meets c m seat x
-    → IsOfTable c.pages (reached c m (record { seat = seat; step = x }))
+    → IsOfTable c.pages (word_accessed c m (record { seat = seat; step = x }))
 reaches c m seat (step.Enter o) known heap h = number_small c seat known.small h.seat
 reaches c m seat step.Leave known heap h = number_small c seat known.small h.seat
 reaches c m seat step.Reg known heap h = (

@@ -1,4 +1,4 @@
--- What a look at the turn, at a gate and at the phase tells.
+-- What a look at the turn, at a gate and at the phase says.
 use Rattle.std.proofs.Common.{◌≡◌, ℕ, ◌-◌, ◌/◌, ◌<◌, ◌≤◌, true, false, List, length, refl, sym, ◌∙◌, ap, inl, inr}
 use Rattle.std.proofs.Common.{arith}
 use Rattle.std.specs.Prelude.{not}

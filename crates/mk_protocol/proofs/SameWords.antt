@@ -1,4 +1,4 @@
--- The moment behind an event, and steps that leave the words of the protocol as they are.
+-- The moment after an event, and steps that leave the words of the protocol as they are.
 use Rattle.std.proofs.Common.{◌≡◌, ℕ, List, refl, sym, subst}
 use Rattle.mk_core.specs.declared.config.Config.{Config}
 use Rattle.mk_core.specs.declared.accesses.Access.{Access}

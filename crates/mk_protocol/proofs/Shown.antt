@@ -1,4 +1,4 @@
--- What all callers show, behind a change of a gate or of a call.
+-- What all callers show, after a change of a gate or of a call.
 use Rattle.std.proofs.Common.{◌≡◌, ◌≢◌, ℕ, ◌<◌, List, length, length-set, refl, sym, subst, inl, inr, arith}
 use Rattle.std.specs.Prelude.{slice_index, slice_index_or, slice_set}
 use Rattle.std.proofs.lemmas.Bool.{cases_eq}
@@ -42,7 +42,7 @@ all_but_gate n t k x gs fs lt mine others b lb = elim (cases_eq b k) [
       (sym (get_or-set_other gs k b x 0 ne)) (others b lb (λ e. ne (sym e)))
 ]
 
--- what the seat itself is to show behind its step
+-- what the seat itself is to show after its step
 abbrev pub OwnShows : Config → List Flight → ℕ → List ℕ → Seat → Standing → Type 0
 OwnShows c fs t gs (Caller k) s = (k < length fs) × Shows t (slice_index gs k) k s
 OwnShows c fs t gs _ s = Unit {0}

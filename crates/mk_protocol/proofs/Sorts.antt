@@ -82,7 +82,7 @@ host_takes c m = elim (cases_eq m.words.turn 0) [
 
 -- the holder, whose seat is a caller's or the host's
 
--- the view behind, with a call that goes on so, and with the markers as they were
+-- the view after, with a call that goes on so, and with the markers as they were
 abbrev with_call : Moment → Seat → Flight → View → View
 with_call m seat f v = record v { flights = flights_with m.seats.flights seat f; markers = m.seats.markers }
 

@@ -48,7 +48,7 @@ pub shown_not_astray : (t g k : ℕ) (s : Standing) → Shows t g k s → is_ast
 shown_not_astray t g k Astray h = absurd h
 shown_not_astray t g k _ h = refl
 
--- what it tells of the call
+-- what it says of the call
 
 in_call_by : (b u : Bool) → is_astray (standing_in b u) ≡ false
     → is_standing_in_call (standing_in b u) ≡ (true && not u)
@@ -115,7 +115,7 @@ shows_opened t b n InCall ne is h = let e = h.0 in absurd (omega arith)
 shows_opened t b n UnderTurn ne is h = let e = h.1 in absurd (ne (omega arith))
 shows_opened t b n Astray ne is h = h
 
--- what the two words tell
+-- what the two words say
 pub shows_turn : (t g k : ℕ) (s : Standing) → Shows t g k s → (t ≡ 1 + k) ↔ (is_standing_under_turn s ≡ true)
 shows_turn t g k Resting h = (λ e. absurd (h.3 e), λ e. cc)
 shows_turn t g k InCall h = (λ e. absurd (h.1 e), λ e. cc)

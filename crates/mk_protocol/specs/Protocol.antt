@@ -1,4 +1,4 @@
--- Who holds what: the turn, the gates, the phase and the markers, behind every enabled list of events.
+-- Who holds what: the turn, the gates, the phase and the markers, after every enabled list of events.
 use Rattle.std.specs.Prelude.{◌≡◌, ◌≢◌, ◌⊎◌, ◌↔◌, ℕ, ◌+◌, ◌/◌, ◌<◌, ◌≤◌, Bool, true, false, List, length, slice_index}
 use Rattle.std.specs.Prelude.{Some, None, count_by}
 use Rattle.std.specs.List.{list_any}
@@ -103,6 +103,6 @@ pub record Protocol (c : Config) (m : Moment) : Type 0 where
   -- Only a Free that is decided unmaps a run.
   pub freed : (run : RunPages) → m.seats.holding.freed ≡ Some run → SomeCaller c m is_decided_free
 
--- So it is behind every enabled list within limits, whether its calls are admitted or not.
+-- So it is after every enabled list within limits, whether its calls are admitted or not.
 abbrev pub ListsKeepTheProtocol : Type 0
 ListsKeepTheProtocol = (c : Config) (es : List Event) → IsWithinLimits c → AreEnabled c es → Protocol c (left c es).now

@@ -4,7 +4,7 @@ use Rattle.mk_core.specs.declared.config.Config.{Config}
 use Rattle.mk_core.specs.declared.events.Event.{Event}
 use Rattle.mk_core.specs.Config.{IsWithinLimits}
 use Rattle.mk_core.specs.Layout.{IsOfTable}
-use Rattle.mk_core.specs.Accesses.{reached, access}
+use Rattle.mk_core.specs.Accesses.{word_accessed, access}
 use Rattle.mk_core.specs.History.{left, AreEnabled, IsEnabledBehind}
 use Rattle.mk_core.specs.Growing.{AreOfOthers}
 
@@ -12,11 +12,11 @@ use Rattle.mk_core.specs.Growing.{AreOfOthers}
 abbrev pub EventsReachTheTable : Type 0
 EventsReachTheTable =
     (c : Config) (es : List Event) (e : Event) → IsWithinLimits c → AreEnabled c es → IsEnabledBehind c es e
-    → IsOfTable c.pages (reached c (left c es).now e)
+    → IsOfTable c.pages (word_accessed c (left c es).now e)
 
--- What an event reaches behind the one list, it reaches behind the other, and in the same way.
+-- What an event reaches after the one list, it reaches after the other, and in the same way.
 pub record ReachesTheSame (c : Config) (es fs : List Event) (e : Event) : Type 0 where
-  pub word : reached c (left c fs).now e ≡ reached c (left c es).now e
+  pub word : word_accessed c (left c fs).now e ≡ word_accessed c (left c es).now e
   pub access : access c (left c fs).now e ≡ access c (left c es).now e
 
 -- whatever other seats do before it.

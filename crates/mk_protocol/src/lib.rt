@@ -1,4 +1,4 @@
-//! Who holds what, behind every enabled list of events: facts alone, with no code.
+//! Who holds what, after every enabled list of events: facts alone, with no code.
 #![tactic(auto)]
 
 ghost use Rattle.mk_core.specs.Frames.{OthersLeave};
@@ -6,13 +6,13 @@ ghost use Rattle.mk_protocol.specs.Protocol.{ListsKeepTheProtocol};
 ghost use Rattle.mk_protocol.specs.Reaching.{EventsReachTheTable, OthersLeaveAccesses};
 ghost use Rattle.mk_protocol.specs.Readings.{WordsTell};
 
-/// Behind any enabled events: who holds the turn, whose gate is held, which phase may stand, and how far
+/// After any enabled events: who holds the turn, whose gate is held, which phase may stand, and how far
 /// callers, the holder and the markers may be.
 pub fn lists_keep_the_protocol()
     ensures protocol { ListsKeepTheProtocol }
 {}
 
-/// What a look at the turn, at a gate and at the phase tells.
+/// What a look at the turn, at a gate and at the phase says.
 pub fn words_tell_who_holds_what()
     ensures told { WordsTell }
 {}

@@ -103,7 +103,7 @@ pub bit_is_of_a_quarantined_one : (i : ℕ) × (is_quarantined (placed_at (left 
 unfolding left_from all_below pointed_cell begun_in_stop three_objects marked_in_stop event_number at_number
 bit_is_of_a_quarantined_one = told.is third_cell refl
 
--- The first `release` releases the object that was freed before the `begin`, and not the one freed behind it.
+-- The first `release` releases the object that was freed before the `begin`, and not the one freed after it.
 
 pub first_is_released : (allocation_behind one_page first_cycle.releasing 0).released ≡ true
 unfolding by c0 host all_below pointed_cell one_page freed_after_begin left_from event_number at_number first_cycle
@@ -170,7 +170,7 @@ given_back_is_zero =
     cells.free_cells_are_zero one_page freed_after_begin freed_is_history (λ e. eqb-false 0 4 refl e) second_cell
     (ltb-true 1 2 refl) (λ a. stands_there a.number a.stands)
 
--- one of the four behind ten cells of 6 words,
+-- one of the four after ten cells of 6 words,
 pub behind_cells_is_zero : slice_index (left two_pages granted_while_marking).now.words.heap 126 ≡ 0
 unfolding by c0 all_below pointed_cell two_pages granted_while_marking left_from
 behind_cells_is_zero =

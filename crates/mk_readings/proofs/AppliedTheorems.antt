@@ -44,7 +44,7 @@ use Rattle.mk_invariant.proofs.Histories.{events_keep_the_invariant, histories_k
 use Rattle.mk_invariant.proofs.Quarantines as quarantines
 use Rattle.mk_invariant.proofs.Theorems as theorems
 
--- The invariant behind the first of two lists goes on to the second by one event.
+-- The invariant after the first of two lists goes on to the second by one event.
 pub invariant_by_one_event : KeepsTheInvariant pointer_page (before_the_sweep ++ sweeping_mark ∷ [])
 invariant_by_one_event =
     events_keep_the_invariant pointer_page before_the_sweep sweeping_mark swept_is_history
@@ -159,7 +159,7 @@ owed_by_one (DirtyIsOwed k owes) = (k, owes)
 pub a_call_owes_dirty : (k : ℕ) × OwesDirty beside.now k 0
 a_call_owes_dirty = owed_by_one written_is_guarded
 
--- Before a `close` the word that leads from the first object to the second points well, and behind it too.
+-- Before a `close` the word that leads from the first object to the second points well, and after it too.
 
 pub word_points_well_at_close : word_points_well small.pages (stopped 47).now.words 0 ≡ true
 unfolding left_from all_below pointed_cell begun_in_stop three_objects marked_in_stop
@@ -187,7 +187,7 @@ unfolding one_page
 one_is_resident = quarantines.few_pages_are_resident one_page full_then_reused full_is_history
 
 -- Before the first `close` the first object, which was freed before the `begin`, has its snapshot bit; the second,
--- freed behind it, has none.
+-- freed after it, has none.
 
 begun_since : IsHistory one_page (take 31 freed_after_begin)
 unfolding by c0 host freed_after_begin

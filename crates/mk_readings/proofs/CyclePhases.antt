@@ -37,7 +37,7 @@ phase_asked c m seat step.End h = eqb-true (phase_of m.words) 4 h.phase
 phase_asked c m seat step.Over h = over_phase c m seat h
 phase_asked c m seat _ h = tt
 
--- and the phase behind it
+-- and the phase after it
 
 abbrev pub phase_behind : Step → ℕ → ℕ
 phase_behind step.Begin p = 1

@@ -1,4 +1,4 @@
--- The words of a cell in which no unreleased allocation stands, and those behind a page's cells, are of none.
+-- The words of a cell in which no unreleased allocation stands, and those after a page's cells, are of none.
 use Rattle.std.proofs.Common.{◌≡◌, ◌≢◌, ◌⊎◌, ℕ, zero, suc, ◌+◌, ◌-◌, ◌*◌, ◌/◌, ◌%◌, ◌<◌, ◌≤◌, Bool, true, refl, sym}
 use Rattle.std.proofs.Common.{◌∙◌, ap, subst, inl, inr, arith, le_refl}
 use Rattle.std.specs.Prelude.{not, ◌==◌, slice_index, Option, Some, None}
@@ -24,7 +24,7 @@ use Rattle.mk_core.proofs.AllBelow.{all_below_more_is, all_below_zero_is}
 use Rattle.mk_core.proofs.ObjectHeaders.{header_shows, later_cells, part_not_free, part_words, shown_later}
 use Rattle.mk_core.proofs.Sizes.{small_cells, small_words}
 use Rattle.mk_core.proofs.StandingAllocations.{run_begins, typed_size}
-use Rattle.mk_layout.specs.Scene.{run_count}
+use Rattle.mk_layout.specs.LayoutScene.{run_count}
 use Rattle.mk_layout.proofs.StandingClaims.{ends_on_pages}
 use Rattle.mk_images.proofs.KnownWorlds.{KnownWorld}
 use Rattle.mk_invariant.specs.Invariant.{Invariant}
@@ -194,7 +194,7 @@ module _ (c : Config) (w : World) (n : NeverState) (known : KnownWorld c w) (all
             omega arith
       ]
 
-  -- So a word of a cell that isn't 0 tells that the cell is taken.
+  -- So a word of a cell that isn't 0 says that the cell is taken.
   pub cell_of_word : phase_of w.now.words ≢ 4 → (cell : Cell)
       → cell.index < cells_under (header_in w.now.words cell.page)
       → (i : ℕ) → i < cell_words w.now.words cell → slice_index w.now.words.heap (first_word w.now.words cell + i) ≢ 0

@@ -17,9 +17,9 @@ use Rattle.mk_core.specs.Words.{Words, phase_of}
 use Rattle.mk_core.proofs.AllBelow.{all_below-at}
 use Rattle.mk_core.proofs.Sizes.{large_words}
 use Rattle.mk_core.proofs.StandingAllocations.{run_begins}
-use Rattle.mk_images.specs.OthersSay.{run_of_allocation}
+use Rattle.mk_images.specs.ImagePremises.{run_of_allocation}
 use Rattle.mk_images.proofs.KnownWorlds.{KnownWorld, known_world}
-use Rattle.mk_zeros.specs.Zeros.{IsFreedWord, IsMappedWord, MayHold, OfFreedRun, OfMapped, OfReleased, scene_of}
+use Rattle.mk_zeros.specs.Zeros.{IsFreedWord, IsMappedWord, MayHold, OfFreedRun, OfMapped, OfReleased, zero_scene_of}
 use Rattle.mk_zeros.proofs.ChangedScenes.{none_released}
 use Rattle.mk_zeros.proofs.MappedWords.{mapped_stays}
 use Rattle.mk_invariant.specs.Invariant.{Invariant}
@@ -90,9 +90,9 @@ module _ (c : Config) (w : World) (n : NeverState) (known : KnownWorld c w) (all
   pub of_one : phase_of w.now.words ≢ 4 → (x : ℕ) → slice_index w.now.words.heap x ≢ 0 → IsOfOne c w x
   of_one quiet x some = by (all.zeros x some)
     where
-      by : MayHold c (scene_of w) x → IsOfOne c w x
+      by : MayHold c (zero_scene_of w) x → IsOfOne c w x
       by (OfMapped m) = of_mapped x m
-      by (OfReleased r) = absurd (none_released c (scene_of w) x (not_releasing w quiet) r)
+      by (OfReleased r) = absurd (none_released c (zero_scene_of w) x (not_releasing w quiet) r)
       by (OfFreedRun f) = of_freed_run x f
 
   -- and of a mapped one, where the freed run is gone.
@@ -100,9 +100,9 @@ module _ (c : Config) (w : World) (n : NeverState) (known : KnownWorld c w) (all
       → (x : ℕ) → slice_index w.now.words.heap x ≢ 0 → IsMappedWord c w.allocations x
   of_one_mapped quiet gone x some = by (all.zeros x some)
     where
-      by : MayHold c (scene_of w) x → IsMappedWord c w.allocations x
+      by : MayHold c (zero_scene_of w) x → IsMappedWord c w.allocations x
       by (OfMapped m) = m
-      by (OfReleased r) = absurd (none_released c (scene_of w) x (not_releasing w quiet) r)
+      by (OfReleased r) = absurd (none_released c (zero_scene_of w) x (not_releasing w quiet) r)
       by (OfFreedRun f) =
           let there = ap (λ (r : Option RunPages). is_run_gone w.now.words r) (sym f.there) ∙ gone in
           absurd (some (gone_word w.now.words f.run x f.word there))
@@ -119,7 +119,7 @@ module _ (c : Config) (w : World) (n : NeverState) (known : KnownWorld c w) (all
     | inr some ↦ let one = of_one_mapped quiet gone x some in absurd (none one.number one.mapped one.word)
   ]
 
--- Both of all histories; this is how the invariant is behind each.
+-- Both of all histories; this is how the invariant is after each.
 pub of_worlds : {claim : Config → World → Type 0}
     → ((c : Config) (w : World) (n : NeverState) → KnownWorld c w → Invariant c w n → claim c w)
     → OfHistories (Leaves claim)

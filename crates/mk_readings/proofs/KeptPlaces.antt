@@ -27,7 +27,7 @@ pub record StaysPut (a b : PlacedAllocation) : Type 0 where
 pub keeps_cell : (c : Config) (a b : PlacedAllocation) → StaysPut a b → cell_of_allocation c b ≡ cell_of_allocation c a
 keeps_cell c a b put = same_cell c a b put.base put.ty
 
--- behind a change of each allocation that leaves the places and releases none
+-- after a change of each allocation that leaves the places and releases none
 changed_puts : (g : PlacedAllocation → PlacedAllocation) (xs : List PlacedAllocation) (i : ℕ) → LeavesPlaces g
     → (g (placed_at xs i)).released ≡ false → StaysPut (placed_at xs i) (placed_at (map g xs) i)
 changed_puts g xs i leaves u =

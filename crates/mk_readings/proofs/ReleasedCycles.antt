@@ -120,7 +120,7 @@ so_far seat _ p es asks k =
       closed = λ e. closed_longer es _ refl (k.closed e);
     }
 
--- behind each enabled list
+-- after each enabled list
 along : (c : Config) (done es : List Event) → AreEnabledFrom c (left c done) es
     → CycleSoFar (phase_of (left c done).now.words) done
     → CycleSoFar (phase_of (left c (done ++ es)).now.words) (done ++ es)

@@ -6,7 +6,7 @@ use Rattle.std.specs.List.{list_any}
 use Rattle.std.proofs.lemmas.Bool.{and_from, and_parts, not-true}
 use Rattle.std.proofs.lemmas.List.Folds.{list_any-append}
 use Rattle.mk_never.specs.NeverHeap.{NeverState, after_calls}
-use Rattle.mk_never.specs.Reach.{IsReached}
+use Rattle.mk_never.specs.Reach.{IsReachable}
 use Rattle.mk_geom.specs.declared.addresses.Cell.{Cell}
 use Rattle.mk_core.specs.declared.config.Config.{Config}
 use Rattle.mk_core.specs.declared.events.Event.{Event}
@@ -196,11 +196,11 @@ module _ (c : Config) (es : List Event) (h : IsHistory c es) (r : Releasing es) 
     λ both. released_is i u ∙ and_from (in_snapshot i) (not (marked i)) both.0 (ap not both.1),
   )
 
-  pub none_reached : (number : ℕ) → IsReached (never_behind c front) number
+  pub none_reached : (number : ℕ) → IsReachable (never_behind c front) number
       → (allocation_behind c r number).released ≡ false
   none_reached number reached =
       reach_is_kept c (front ++ last.event ∷ []) behind_is_history number
-      (subst (λ (n : NeverState). IsReached n number) (sym (never_stays c front last.event last.of_kind)) reached)
+      (subst (λ (n : NeverState). IsReachable n number) (sym (never_stays c front last.event last.of_kind)) reached)
 
 pub releases_are_exact : OfHistories ReleasesAreExact
 releases_are_exact c es h r = exact c es h r

@@ -43,7 +43,7 @@ unreleased_cycles p u =
     let most = u.most in
     (and_from (nat_le 1 p) (nat_le p 4) (le-leb 1 p least) (le-leb p 4 (omega arith)), λ e. absurd (omega arith))
 
--- what stands behind a `begin` where nothing was released since
+-- what stands after a `begin` where nothing was released since
 pub begun_world : (c : Config) (w : World) (e : Event) (es : List Event) → AreEnabledFrom c w (e ∷ es)
     → is_begin e.step ≡ true
     → list_any (λ (x : Event). is_release x.step) es ≡ false → NoneIsReleased c (world_behind c w e) es

@@ -1,4 +1,4 @@
--- What headers and freed bits tell of the allocations, behind each history.
+-- What headers and freed bits say of the allocations, after each history.
 use Rattle.std.proofs.Common.{◌≡◌, ◌≢◌, ◌⊎◌, ℕ, ◌<◌, ◌≤◌, Bool, true, false, refl, sym, ◌∙◌, ap, inl, inr, arith}
 use Rattle.std.specs.Prelude.{Option, Some, ◌-◌, ◌==◌, not}
 use Rattle.std.proofs.lemmas.Bool.{and_parts, ne_eqb, not-true, true≢false}
@@ -18,7 +18,7 @@ use Rattle.mk_core.proofs.CellsOfAllocations.{stands_in_its_cell}
 use Rattle.mk_core.proofs.PointedAllocations.{taken_cell_is}
 use Rattle.mk_core.proofs.StandingAllocations.{typed_size}
 use Rattle.mk_layout.specs.Quarantine.{IsFreedCell}
-use Rattle.mk_layout.specs.Scene.{HasItsHead, is_released_in, run_count}
+use Rattle.mk_layout.specs.LayoutScene.{HasItsHead, is_released_in, run_count}
 use Rattle.mk_images.proofs.KnownWorlds.{KnownWorld, known_world}
 use Rattle.mk_invariant.specs.Invariant.{Invariant}
 use Rattle.mk_invariant.specs.Theorems.{OfHistories}

@@ -47,7 +47,7 @@ words_in_cells (Some (Block class)) = cells_of class * class_words_of class
 words_in_cells (Some (LeafBlock class)) = cells_of class * class_words_of class
 words_in_cells _ = 64
 
--- and those that a page has behind its cells.
+-- and those that a page has after its cells.
 abbrev pub WordsBehindCellsAreZero : Config → World → Type 0
 WordsBehindCellsAreZero c w =
     phase_of w.now.words ≢ 4 → (n : ℕ) → words_in_cells (header_in w.now.words (n / 64)) ≤ n % 64

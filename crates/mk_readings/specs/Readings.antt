@@ -1,4 +1,4 @@
--- What looks at headers and quarantine words tell of what a list of events leaves: mk_core states it of a world.
+-- What looks at headers and quarantine words say of what a list of events leaves: mk_core states it of a world.
 use Rattle.std.specs.Prelude.{List}
 use Rattle.mk_core.specs.declared.config.Config.{Config}
 use Rattle.mk_core.specs.declared.events.Event.{Event}

@@ -1,6 +1,6 @@
 -- What a cycle's `release` releases: the allocations of its snapshot whose cells have no mark, and no others.
 use Rattle.std.specs.Prelude.{◌≡◌, ◌↔◌, ℕ, true, false, List, [], ◌∷◌, ◌++◌}
-use Rattle.mk_never.specs.Reach.{IsReached}
+use Rattle.mk_never.specs.Reach.{IsReachable}
 use Rattle.mk_core.specs.declared.config.Config.{Config}
 use Rattle.mk_core.specs.declared.events.Event.{Event}
 use Rattle.mk_core.specs.declared.events.Seat.{Seat}
@@ -10,7 +10,7 @@ use Rattle.mk_core.specs.Allocations.{PlacedAllocation, placed_at, cell_of_alloc
 use Rattle.mk_core.specs.Cycles.{Releasing, IsInSnapshot, before_release, is_release}
 use Rattle.mk_core.specs.History.{left, never_behind}
 
--- an allocation before a cycle's `release`, and behind it
+-- an allocation before a cycle's `release`, and after it
 
 abbrev pub allocation_before : Config → {es : List Event} → Releasing es → ℕ → PlacedAllocation
 allocation_before c r i = placed_at (left c (before_release r)).allocations i
@@ -29,7 +29,7 @@ ReleasesAreExact c es =
 -- and none that a program can get to.
 abbrev pub ReleasesNoneReached : Config → List Event → Type 0
 ReleasesNoneReached c es =
-    (r : Releasing es) (number : ℕ) → IsReached (never_behind c (before_release r)) number
+    (r : Releasing es) (number : ℕ) → IsReachable (never_behind c (before_release r)) number
     → (allocation_behind c r number).released ≡ false
 
 -- No other kind of event releases any.

@@ -1,4 +1,4 @@
-//! What looks at the table's words tell, what a cycle releases, and which words are 0, in all histories: facts
+//! What looks at the table's words say, what a cycle releases, and which words are 0, in all histories: facts
 //! alone, with no code.
 #![tactic(auto)]
 
@@ -10,7 +10,7 @@ ghost use Rattle.mk_readings.specs.Readings.{HeadersAndQuarantineTell};
 ghost use Rattle.mk_readings.specs.Releases.{NoOthersRelease, ReleasesAreExact, ReleasesAreOfCycles};
 ghost use Rattle.mk_readings.specs.Releases.{ReleasesNoneReached};
 
-/// What a look at a header word and at the freed bits of a quarantine word tells.
+/// What a look at a header word and at the freed bits of a quarantine word says.
 pub fn words_tell_what_stands()
     ensures { OfHistories HeadersAndQuarantineTell }
 {}
@@ -29,7 +29,7 @@ pub fn releases_are_exact()
     ensures of_cycles { OfHistories ReleasesAreOfCycles }
 {}
 
-/// While the phase isn't releasing, words are 0 in cells without an allocation, behind the cells of a page, and on
+/// While the phase isn't releasing, words are 0 in cells without an allocation, after the cells of a page, and on
 /// free pages.
 pub fn free_cells_are_zero()
     ensures of_none { OfHistories (Leaves WordsOfNoneAreZero) }

@@ -111,7 +111,7 @@ begins_so program k given form.Take (Some y) s f next order = next
 begins_so program k given form.Take None s f next order = tt
 begins_so program k given x o s f next order = tt
 
--- what caller k has called behind a history, as its script asks for it
+-- what caller k has called after a history, as its script asks for it
 abbrev pub AsksBehind : List Item → List Event → ℕ → Type 0
 AsksBehind program es k =
     Asks program k (flight_of (left (config_of program 8) es).now (Caller k)) (ended_calls k es)

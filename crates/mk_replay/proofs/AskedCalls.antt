@@ -128,7 +128,7 @@ BeginsAsAsked program k given _ = ⊤
 
 module _ (program : List Item) (k : ℕ) (f : Flight) (n : ℕ) (answers : List Answer) (calls : List Call)
     (h : Asks program k f n answers calls) where
-  -- behind a step that decides nothing
+  -- after a step that decides nothing
   quiet : (new : Flight) (i : ℕ)
       → (length answers ≡ i → new.stage ≢ stage.Idle → next_op program k answers ≡ Some new.op)
       → Asks program k new i (answers ++ []) (calls ++ [])
@@ -137,7 +137,7 @@ module _ (program : List Item) (k : ℕ) (f : Flight) (n : ℕ) (answers : List 
       (append-nil calls)
       (record { noted = h.noted; next = next })
 
-  -- behind one that isn't its call's first or last one
+  -- after one that isn't its call's first or last one
   decides : (new : Flight) (a : Option Answer) → new.op ≡ f.op → f.stage ≢ stage.Idle
       → ((b : Answer) → a ≡ Some b → length answers ≡ n)
       → Asks program k new n (answers ++ as_list a) (calls ++ asked (entry_of k f.op a))

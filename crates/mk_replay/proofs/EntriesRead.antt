@@ -1,4 +1,4 @@
--- The events of lines, one line behind the others.
+-- The events of lines, one line after the others.
 use Rattle.std.proofs.Common.{◌≡◌, ◌≢◌, ℕ, ◌+◌, ◌<◌, ◌≤◌, List, ◌∷◌, ◌++◌, length, get_or, drop, Bor, Ok, Err, Result}
 use Rattle.std.proofs.Common.{refl, ap, sym, ◌∙◌, append_assoc, arith}
 use Rattle.std.proofs.lemmas.List.{append-nil, at_drop_more, at_drop_all}
@@ -12,7 +12,7 @@ use Rattle.mk_replay.specs.Entries.{AddsEntries, IsStopOf}
 use Rattle.mk_replay.specs.Reading.{stop_at}
 use Rattle.mk_replay.specs.Schedules.{go_on, entries_of_line, entries_of_lines}
 
--- events behind others, and those of later lines behind both
+-- events after others, and those of later lines after both
 behind_both : (first line : ℕ) (before events : List Entry) (later : Result (List Entry) TextStop)
     → go_on first (Ok before) (go_on line (Ok events) later) ≡ go_on first (Ok (before ++ events)) later
 behind_both first line before events (Ok later) = ap (λ all. Ok all) (sym (append_assoc before events later))

@@ -1,4 +1,4 @@
--- A text as its script part and the lines behind its schedule line.
+-- A text as its script part and the lines after its schedule line.
 use Rattle.std.proofs.Common.{◌≡◌, ℕ, ◌+◌, ◌-◌, ◌≤◌, List, length, take, drop, Bor, ap, sym, ◌∙◌, arith, length-take}
 use Rattle.std.proofs.Common.{length-drop}
 use Rattle.std.proofs.lemmas.List.{take_all}
@@ -17,7 +17,7 @@ not_too_long text short = cond-true _ _ _ (le-leb _ _ short)
 replay_short : (text : List ℕ) → length text ≤ 1048576 → replay_of text ≡ replay_of_lines (lines_of text)
 replay_short text short = cond-true _ _ _ (le-leb _ _ short)
 
--- lines of a text that are borrowed: the first of them, and those behind them
+-- lines of a text that are borrowed: the first of them, and those after them
 taken : (lines : List (Bor (List ℕ))) (text : List ℕ) (count : ℕ) → texts_of lines ≡ lines_of text
     → texts_of (take count lines) ≡ take count (lines_of text)
 taken lines text count are = sym (take-map (λ line. line.now) count lines) ∙ ap (take count) are
@@ -51,7 +51,7 @@ entries_behind lines place stands =
     ap (schedule_behind (length (script_lines lines))) stands.behind
     ∙ ap (λ n. entries_of_lines (n + 2) (drop (place + 1) lines)) count
 
--- A text is read as its bytes before the schedule line and as the lines behind it.
+-- A text is read as its bytes before the schedule line and as the lines after it.
 pub two_parts : (lines : List (Bor (List ℕ))) (text : List ℕ) (place end : ℕ) → length text ≤ 1048576
     → texts_of lines ≡ lines_of text → StandsAt (lines_of text) place
     → end ≡ text_length (texts_of (take place lines))

@@ -150,7 +150,7 @@ texts_push program es texts t h new = λ k d less.
       | inr ne ↦ (let lt : k < length texts = omega arith in rw (get_or_append_left texts (t ∷ []) d k lt) (h k d lt))
     ]
 
--- The players behind an event that decides this answer.
+-- The players after an event that decides this answer.
 players_more : (program : List Item) (es : List Event) (e : Event) (a : Option Answer) (players new : List Player)
     → length new ≡ length players → AreEnabled (config_of program 8) (es ++ e ∷ [])
     → a ≡ answer_decided (config_of program 8) (left (config_of program 8) es).now e
@@ -162,7 +162,7 @@ players_more program es e a players new count enabled is takes h = λ k d less.
     (ap (λ (b : Option Answer). served_by k e b (served_to c es k)) is ∙ sym (served_more c es k e enabled))
     (takes program k d (served_to c es k) lt (h k d lt))
 
--- A run goes on behind an event of the core.
+-- A run goes on after an event of the core.
 pub run_goes : (program : List Item) (es : List Event) (x : Entry) (old new : Run) (core : CoreState) (e : Event)
     (a : Option Answer)
     → IsRunOf program es old → (IsTrue (seat_exists (config_of program 8) x.seat) → e ≡ event_of program es x)

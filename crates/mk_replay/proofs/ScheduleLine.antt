@@ -1,4 +1,4 @@
--- The first line whose only word is `schedule`, and the lines before it and behind it.
+-- The first line whose only word is `schedule`, and the lines before it and after it.
 use Rattle.std.proofs.Common.{◌≡◌, ℕ, suc, ◌+◌, Bool, true, false, cond, List, [], ◌∷◌, drop, Some, None, refl, ap, sym}
 use Rattle.std.proofs.Common.{subst, ◌∙◌, arith}
 use Rattle.std.specs.List.{position_from}

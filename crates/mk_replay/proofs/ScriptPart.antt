@@ -74,7 +74,7 @@ at_most_one : (is_empty : Bool) (line : List ℕ) → length (if is_empty then [
 at_most_one true line = omega arith
 at_most_one false line = omega arith
 
--- a text without a newline has no line behind its first
+-- a text without a newline has no line after its first
 one_line : (text : List ℕ) → length text ≤ position_or_len is_newline text → length (lines_of text) ≤ 1
 one_line text none =
     let without : All (λ byte. is_newline byte ≡ false) text =

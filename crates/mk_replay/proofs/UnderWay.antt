@@ -1,4 +1,4 @@
--- A run behind the first entries of a schedule.
+-- A run after the first entries of a schedule.
 use Rattle.std.proofs.Common.{◌≡◌, ℕ, ◌+◌, ◌<◌, ◌≤◌, false, List, [], ◌∷◌, ◌++◌, length, drop, get_or, refl, sym, ◌∙◌}
 use Rattle.std.proofs.Common.{ap, subst, arith, add-one, drop-cons}
 use Rattle.std.specs.Prelude.{Some, None, ◌==◌}

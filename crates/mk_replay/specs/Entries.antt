@@ -10,7 +10,7 @@ use Rattle.mk_replay.specs.declared.lines.LineStop.TheVariants.{Text, NoMemory}
 use Rattle.mk_replay.specs.Forms.{both}
 use Rattle.mk_replay.specs.Schedules.{pieces_of}
 
--- the expected entries stand behind the old ones
+-- the expected entries stand after the old ones
 pub record AddsEntries (expected : Result (List Entry) TextKind) (old new : List Entry) : Type 0 where
   pub entries : List Entry
   pub are : expected ≡ Ok entries

@@ -30,26 +30,26 @@ pub record Served : Type 0 where
   pub answers : List Answer
   pub kept : Option Answer
 
--- behind one of the caller's steps, which may be its call's last one, and may decide an answer
+-- after one of the caller's steps, which may be its call's last one, and may decide an answer
 abbrev pub served_behind : Bool → Option Answer → Served → Served
 served_behind true decided x = record { answers = x.answers ++ cons_option (option_or decided x.kept) []; kept = None }
 served_behind false decided x = record { answers = x.answers; kept = option_or decided x.kept }
 
--- caller k behind an event that decides this answer, if any
+-- caller k after an event that decides this answer, if any
 abbrev pub served_by : ℕ → Event → Option Answer → Served → Served
 served_by k e decided x = if is_same_seat (Caller k) e.seat then served_behind (ends_call e.step) decided x else x
 
 abbrev pub served_to : Config → List Event → ℕ → Served
 served_to c es k = record { answers = answers_given c es k; kept = answer_waiting c es k }
 
--- A feed that is where script k of a program is behind these answers. One that has ended took none of those behind
+-- A feed that is where script k of a program is after these answers. One that has ended took none of those after
 -- its end.
 pub record IsFed (program : List Item) (k : ℕ) (s : FeedState) (answers : List Answer) : Type 0 where
   pub taken : List Answer
   pub stands : FeedStandsFor program k s taken
   pub same : feed program k taken ≡ feed program k answers
 
--- Whatever answers the first had, the second has those and the one behind them.
+-- Whatever answers the first had, the second has those and the one after them.
 abbrev pub FeedsOn : Answer → FeedState → FeedState → Type 0
 FeedsOn a old new = (program : List Item) (k : ℕ) (answers : List Answer)
     → IsFed program k old answers → IsFed program k new (answers ++ a ∷ [])
@@ -61,12 +61,12 @@ pub record IsPlayerOf (program : List Item) (k : ℕ) (x : Served) (p : Player) 
   pub ops : p.ops ≡ length x.answers
   pub refused : p.refused ≡ count_by is_refusal x.answers
 
--- Whatever the first stands for, the second stands for that with the answer behind it.
+-- Whatever the first stands for, the second stands for that with the answer after it.
 abbrev pub TakesAnswer : Answer → Player → Player → Type 0
 TakesAnswer a old new = (program : List Item) (k : ℕ) (x : Served)
     → IsPlayerOf program k x old → IsPlayerOf program k (record x { answers = x.answers ++ a ∷ [] }) new
 
--- Whatever the first was served, the second was served that and the step behind it.
+-- Whatever the first was served, the second was served that and the step after it.
 abbrev pub TakesStep : Bool → Option Answer → Player → Player → Type 0
 TakesStep last decided old new = (program : List Item) (k : ℕ) (x : Served)
     → IsPlayerOf program k x old → IsPlayerOf program k (served_behind last decided x) new
@@ -79,7 +79,7 @@ pub record HasRoom (p : Player) : Type 0 where
 abbrev pub EachHasRoom : List Player → Type 0
 EachHasRoom players = (k : ℕ) (d : Player) → k < length players → HasRoom (slice_index_or players k d)
 
--- the players behind an event that decides this answer, if any
+-- the players after an event that decides this answer, if any
 abbrev pub TakeEvent : Event → Option Answer → List Player → List Player → Type 0
 TakeEvent e decided old new = (program : List Item) (k : ℕ) (d : Player) (x : Served) → k < length old
     → IsPlayerOf program k x (slice_index_or old k d)
@@ -89,14 +89,14 @@ abbrev pub ArePlayersOf : List Item → List Event → List Player → Type 0
 ArePlayersOf program es players = (k : ℕ) (d : Player) → k < length players
     → IsPlayerOf program k (served_to (config_of program 8) es k) (slice_index_or players k d)
 
--- a run behind events
+-- a run after events
 pub record IsRunOf (program : List Item) (es : List Event) (run : Run) : Type 0 where
   pub config : run.core.config ≡ config_of program 8
   pub stands : CoreStandsFor run.core es
   pub count : length run.players.items ≡ length (script_names program)
   pub players : ArePlayersOf program es run.players.items
 
--- The entry's event is enabled, and the run goes on behind it.
+-- The entry's event is enabled, and the run goes on after it.
 pub record TakesEntry (program : List Item) (es : List Event) (x : Entry) (new : Run) : Type 0 where
   pub enabled : failing_entry program es x ≡ 0
   pub run : IsRunOf program (es ++ event_of program es x ∷ []) new
@@ -106,7 +106,7 @@ pub record IsNotEnabled (program : List Item) (es : List Event) (x : Entry) (sto
   pub condition : 1 ≤ failing_entry program es x
   pub says : stop ≡ NotEnabled x.line x.place (failing_entry program es x)
 
--- the run behind the first entries of a schedule
+-- the run after the first entries of a schedule
 pub record IsUnderWay (program : List Item) (schedule : List Entry) (count : ℕ) (run : Run) : Type 0 where
   pub events : List Event
   pub is_run : IsRunOf program events run

@@ -18,7 +18,7 @@ pub record HasNone (lines : List (List ℕ)) : Type 0 where
   pub before : script_lines lines ≡ lines
   pub behind : schedule_lines lines ≡ None
 
--- the length of lines with a newline behind each
+-- the length of lines with a newline after each
 abbrev pub text_length : List (List ℕ) → ℕ
 text_length [] = 0
 text_length (line ∷ lines) = length line + 1 + text_length lines

@@ -74,11 +74,11 @@ step_of form.Mmark o = step.Mmark
 step_of form.Mblack o = step.Mblack
 step_of form.Over o = step.Over
 
--- an entry's event behind others
+-- an entry's event after others
 abbrev pub event_of : List Item → List Event → Entry → Event
 event_of program es x = record { seat = x.seat; step = step_of x.form (op_for program es x.seat) }
 
--- the events of a schedule, with the operations of the scripts, behind others
+-- the events of a schedule, with the operations of the scripts, after others
 unfoldable pub history_from : List Item → List Event → List Entry → List Event
 history_from program es [] = es
 history_from program es (x ∷ xs) = history_from program (es ++ event_of program es x ∷ []) xs
@@ -86,7 +86,7 @@ history_from program es (x ∷ xs) = history_from program (es ++ event_of progra
 abbrev pub history_of : List Item → List Entry → List Event
 history_of program schedule = history_from program [] schedule
 
--- the first condition of an entry's event that fails behind others, or 0
+-- the first condition of an entry's event that fails after others, or 0
 abbrev pub failing_entry : List Item → List Event → Entry → ℕ
 failing_entry program es x = failing (config_of program 8) (left (config_of program 8) es).now (event_of program es x)
 

@@ -47,7 +47,7 @@ entries_of_pieces line ((seat ∷ words) ∷ pieces) = both (entries_from line 1
 abbrev pub entries_of_line : ℕ → List ℕ → Result (List Entry) TextKind
 entries_of_line line text = entries_of_pieces line (map words_of (pieces_of text))
 
--- goes on behind a line's events, or ends with its fault
+-- goes on after a line's events, or ends with its fault
 abbrev pub go_on : ℕ → Result (List Entry) TextKind → Result (List Entry) TextStop → Result (List Entry) TextStop
 go_on line (Err fault) later = Err (stop.Text line fault)
 go_on line (Ok entries) (Err fault) = Err fault
@@ -66,7 +66,7 @@ is_only_word words = false
 abbrev pub is_schedule_line : List ℕ → Bool
 is_schedule_line line = is_only_word (words_of line)
 
--- the lines before the first of these, which are the script part, and those behind it
+-- the lines before the first of these, which are the script part, and those after it
 unfoldable pub script_lines : List (List ℕ) → List (List ℕ)
 script_lines [] = []
 script_lines (line ∷ lines) = if is_schedule_line line then [] else line ∷ script_lines lines
@@ -75,7 +75,7 @@ unfoldable pub schedule_lines : List (List ℕ) → Option (List (List ℕ))
 schedule_lines [] = None
 schedule_lines (line ∷ lines) = if is_schedule_line line then Some lines else schedule_lines lines
 
--- the events behind a script part of so many lines
+-- the events after a script part of this many lines
 abbrev pub schedule_behind : ℕ → Option (List (List ℕ)) → Result (List Entry) TextStop
 schedule_behind count None = Err (stop.Text count kind.End)
 schedule_behind count (Some lines) = entries_of_lines (count + 2) lines

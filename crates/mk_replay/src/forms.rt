@@ -96,7 +96,7 @@ fn listed<T: Copy>(table: &[(&[u8], T)], word: &[u8]) -> Result<T, TextKind>
     Err(TextKind::Word)
 }
 
-/// An event of one word behind its name.
+/// An event of one word after its name.
 fn one_operand(name: &[u8], operand: &[u8]) -> Result<Form, TextKind>
     ensures { result ≡ spec.one_operand name.now operand.now }
 {
@@ -117,7 +117,7 @@ fn one_operand(name: &[u8], operand: &[u8]) -> Result<Form, TextKind>
     }
 }
 
-/// An event of two words behind its name.
+/// An event of two words after its name.
 fn two_operands(name: &[u8], first: &[u8], second: &[u8]) -> Result<Form, TextKind>
     ensures { result ≡ spec.two_operands name.now first.now second.now }
 {
@@ -202,7 +202,7 @@ fn register_word(name: &[u8], caller: &[u8], register: &[u8]) -> Result<Word, Te
     Ok(Word::Reg { caller, register })
 }
 
-/// A word of the table with one number behind its name.
+/// A word of the table with one number after its name.
 fn word_of_number(name: &[u8], operand: &[u8]) -> Result<Word, TextKind>
     ensures { result ≡ spec.with_number (spec.value_among spec.words_of_number name.now) operand.now }
 {

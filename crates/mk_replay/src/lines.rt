@@ -110,7 +110,7 @@ fn read_words(
     }
 }
 
-/// The forms of a line whose first piece has these words behind the seat, or its fault.
+/// The forms of a line whose first piece has these words after the seat, or its fault.
 fn forms(
     alloc: Global,
     words: &[&[u8]],
@@ -132,7 +132,7 @@ fn forms(
     }
 }
 
-/// Adds a piece's form behind those so far, or makes of its fault and theirs the one to be named.
+/// Adds a piece's form after those so far, or makes of its fault and theirs the one to be named.
 fn add_form(
     forms: &mut Vec<Form>,
     fault: Option<TextKind>,

@@ -65,7 +65,7 @@ impl Run {
     ghost use Rattle.mk_core.specs.declared.events.Event.{Event};
     ghost use Rattle.mk_script.specs.declared.items.Item.{Item};
 
-    /// The program's scripts and heap behind no event.
+    /// The program's scripts and heap after no event.
     fn start(alloc: Global, program: &Checked) -> Result<Run, NoMemory>
         ensures { IfOk result (IsRunOf program.now []) }
     {

@@ -15,7 +15,7 @@ use mk_script::{
 use std::alloc::{AllocError, Global};
 
 /// The program and the schedule of a text, or its first fault, those of the script part before those
-/// behind it. `NoMemory` says nothing of the text.
+/// after it. `NoMemory` says nothing of the text.
 pub fn parse_replay(alloc: Global, bytes: &[u8]) -> Result<(Program, Schedule), TextStop>
     ensures parts { IfOk result (λ parts. replay_of bytes.now ≡ Ok parts) }
     ensures fault { IfErr result (λ stop. stop ≢ TextStop.NoMemory → replay_of bytes.now ≡ Err stop) }

@@ -18,7 +18,7 @@ use Rattle.mk_check.proofs.FeedLaws.{feed_push}
 use Rattle.mk_run.specs.declared.scripts.Script.{Script}
 use Rattle.mk_run.specs.Scripts.{as_told, IsFedWith}
 
--- What is told of an answer does to a script what the answer does.
+-- What is said of an answer does to a script what the answer does.
 
 flagged_so : (o : Op) (a : Answer) → flagged o (as_told a) ≡ flagged o a
 flagged_so (op.New d ty full) (answer.Word w) = refl

@@ -1,5 +1,5 @@
 -- The host's last cycle, by the events of the whole list: where its turn and its cycle stand, and that no other `close`
--- stands behind.
+-- stands after.
 use Rattle.std.proofs.Common.{◌≡◌, ℕ, ◌<◌, ◌≤◌, true, false, List, [], ◌∷◌, ◌++◌, refl, sym, ◌∙◌, ap, subst, inl}
 use Rattle.std.proofs.Common.{inr, arith, append-nil, append_assoc}
 use Rattle.std.specs.Prelude.{None}
@@ -66,7 +66,7 @@ closes_none c w (e ∷ es) on out none =
     or_from (is_close e.step) (has_step is_close es) one.1
     (closes_none c (world_behind c w e) es moves.2 (subst IsBeside (sym moves.1) one.0) parts.1)
 
--- Directly behind a `close` it is so.
+-- Directly after a `close` it is so.
 closes_no_more : (c : Config) (es : List Event) (close : Event) (more : List Event)
     → IsHistory c (es ++ close ∷ more) → is_close close.step ≡ true → Lacks is_begin more → Lacks is_close more
 closes_no_more c es close more history closes none =
@@ -88,7 +88,7 @@ unfinished_unclosed (e ∷ es) h =
     by step.Close h = cc
     by _ h = refl
 
--- what is behind the first event
+-- what is after the first event
 behind_first : (kind : SomeKind) (e : Event) (es : List Event) → Lacks kind (e ∷ es) → Lacks kind es
 behind_first kind e es h = (or_parts (kind e.step) (has_step kind es) h).1
 
@@ -324,7 +324,7 @@ module _ (tells : Config → World → Type 0) (p q : PassState) (m : MakesToldC
     };
   }
 
-  -- No cycle is begun in the turn behind this one's `close`.
+  -- No cycle is begun in the turn after this one's `close`.
 
   abbrev finished : List Event
   finished = ends.ends.to_release ++ ends.ends.release ∷ (ends.ends.to_end ++ ends.ends.end ∷ ends.ends.behind)
@@ -346,7 +346,7 @@ module _ (tells : Config → World → Type 0) (p q : PassState) (m : MakesToldC
       subst (λ (l : List Event). Lacks is_begin l) behind_is
       (lacks_append is_begin finished given finished_begins_none given_begins_none)
 
-  -- The world before the `close` is that of which the engine tells.
+  -- The world before the `close` is that of which the engine says.
 
   ended_config : begun.table.config ≡ p.table.config
   ended_config =
@@ -421,7 +421,7 @@ module _ (tells : Config → World → Type 0) (p q : PassState) (m : MakesToldC
       (sym (ap (λ (r : PassState). r.seen) ended_moves.is) ∙ q_is
       ∙ ap (λ (l : List Event). (l ++ given) ++ give_of p.seat ∷ []) ended_is ∙ simp append_assoc)
 
-  -- So it is in a longer list, in which nobody begins a cycle and no caller steps behind the turn.
+  -- So it is in a longer list, in which nobody begins a cycle and no caller steps after the turn.
   module _ (host : p.seat ≡ Host) (home : HasCallers p.table.config p.seats) (tail : List Event)
       (whole : IsHistory p.table.config (q.seen ++ tail)) (begins_no_more : Lacks is_begin tail)
       (still : (k : ℕ) → k < p.table.config.callers → AreOfOthers (Caller k ∷ []) tail) where

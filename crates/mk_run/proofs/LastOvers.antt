@@ -1,4 +1,4 @@
--- Behind the host's last cycle: it says that all is over, and markers are joined. No cycle is begun there.
+-- After the host's last cycle: it says that all is over, and markers are joined. No cycle is begun there.
 use Rattle.std.proofs.Common.{◌≡◌, ℕ, ◌<◌, true, false, List, [], ◌∷◌, ◌++◌, refl, sym, ◌∙◌, ap, subst, inl, inr}
 use Rattle.std.proofs.Common.{append_assoc}
 use Rattle.std.specs.Prelude.{None}

@@ -116,7 +116,7 @@ none_then_answers on p q o told r h entered g = record {
   beside = λ besides. beside_then p q r h.is h.beside (g.beside entered);
 }
 
--- What stays admitted is admitted behind a list to which the caller added no call.
+-- What stays admitted is admitted after a list to which the caller added no call.
 pub still_admitted : (on : Bool) (p : PassState) (o : Op) (q : PassState) → StaysAdmitted p o → MakesNoCall on p q
     → IsHistory q.table.config q.seen → Admits q o
 still_admitted on p o q stays h history =

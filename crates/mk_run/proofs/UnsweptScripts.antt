@@ -33,7 +33,7 @@ before_all c s = tt
 pub first_sweeps : (c : Config) (s : Seat) (es : List Event) → es ≡ [] → SeatSweepsNothing c s es
 first_sweeps c s es is = subst (λ (l : List Event). SeatSweepsNothing c s l) (sym is) (before_all c s)
 
--- behind more of its own, and behind events of others
+-- after more of its own, and after events of others
 pub seat_on : (p q : PassState) → SweepsNothing p q → SeatSweepsNothing p.table.config p.seat p.seen
     → SeatSweepsNothing p.table.config p.seat q.seen
 seat_on p q more before =

@@ -22,7 +22,7 @@ use Rattle.mk_run.specs.declared.outcomes.Outcome.{Outcome}
 use Rattle.mk_run.specs.Running.{answers_in, IsRunOf}
 use Rattle.mk_run.specs.Unswept.{IsUnswept}
 
--- Whether the cycle that a Free begins goes on behind its call: where there are markers to work on it.
+-- Whether the cycle that a Free begins goes on after its call: where there are markers to work on it.
 abbrev pub cycles_go_on : ℕ → Bool
 cycles_go_on markers = nat_lt 0 markers
 
@@ -32,7 +32,7 @@ pub record RunsToItsEnd (program : List Item) (k : ℕ) (answers : List Answer) 
   pub none_left : length (feed program k answers).ops ≡ length answers
 
 -- Whatever the interleaving of callers and markers, the replies of a program's scripts stand in one history of a heap
--- that never reuses storage, each script's operations there once and in order. The bytes are what is told of it.
+-- that never reuses storage, each script's operations there once and in order. The bytes are what is said of it.
 pub record StandsInOneHistory (program : List Item) (markers : ℕ) (sweep : Bool)
     (tell : Config → List Event → List ℕ) (bytes : List ℕ) : Type 0 where
   -- There is a list of events.
@@ -40,7 +40,7 @@ pub record StandsInOneHistory (program : List Item) (markers : ℕ) (sweep : Boo
   -- It is a history of one heap of the program's configuration, and tidy, and no call of it is in flight.
   pub whole : IsWhole (config_of program markers) history
   -- Its answers are those of the heap that never reuses storage: a dangling load gives the freed object's own word, or
-  -- Fault for a freed large run. Full stands only where nothing fits beside live and quarantined storage, behind a
+  -- Fault for a freed large run. Full stands only where nothing fits beside live and quarantined storage, after a
   -- cycle begun and ended in that call; every other object stands at its place. Marks are closed at each `close`, and
   -- what is released was freed before its cycle and isn't reached.
   pub promises : KeepsAllPromises (config_of program markers) history
@@ -56,16 +56,16 @@ pub record StandsInOneHistory (program : List Item) (markers : ℕ) (sweep : Boo
       (k : ℕ) → IsScript program k
       → TurnsOfAreExact (cycles_go_on markers) (config_of program markers) (Caller k) history
   -- Unless a sweep makes the marks, each cycle releases all of its snapshot that no pointer led to from the `begin` to
-  -- the `close`, and behind its `end` that storage counts as free.
+  -- the `close`, and after its `end` that storage counts as free.
   pub precise : sweep ≡ false → CyclesArePrecise (config_of program markers) history
-  -- This is told of it, whole.
+  -- This is said of it, whole.
   pub told : bytes ≡ tell (config_of program markers) history
 
--- The texts of an outcome, one behind the other.
+-- The texts of an outcome, one after the other.
 abbrev pub printed : Outcome → List ℕ
 printed outcome = flat_map (λ (text : Text). text.bytes.items) outcome.texts.items
 
--- The history of a run is such a history, whatever is told of it.
+-- The history of a run is such a history, whatever is said of it.
 abbrev pub RunsStandInOneHistory : Type 0
 RunsStandInOneHistory =
     (program : List Item) (markers : ℕ) (sweep : Bool) (outcome : Outcome) (tell : Config → List Event → List ℕ)

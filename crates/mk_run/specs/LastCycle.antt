@@ -14,8 +14,8 @@ use Rattle.mk_alloc.specs.TurnCycles.{has_step, within_turn}
 abbrev pub give_of : Seat → Event
 give_of s = record { seat = s; step = step.Give }
 
--- In one turn of its own the seat begins and ends a cycle, and gives the turn back. Behind the turn's `take` no caller
--- steps, and behind the cycle's `close` no other stands. This is told of the world left before that `close`.
+-- In one turn of its own the seat begins and ends a cycle, and gives the turn back. After the turn's `take` no caller
+-- steps, and after the cycle's `close` no other stands. This is said of the world left before that `close`.
 pub record MakesLastCycle (s : Seat) (tells : Config → World → Type 0) (c : Config) (es : List Event) : Type 0 where
   pub before : List Event
   pub behind : List Event
@@ -26,6 +26,6 @@ pub record MakesLastCycle (s : Seat) (tells : Config → World → Type 0) (c : 
   pub last : has_step is_close (cycle.releasing.marking.close.at.behind ++ behind) ≡ false
   pub told : tells c (left c (within_turn turn (before_close cycle.releasing.marking)))
 
--- The host makes the last cycle, behind the last step of every script, and this is told of it at its `close`.
+-- The host makes the last cycle, after the last step of every script, and this is said of it at its `close`.
 abbrev pub EndsWithCycle : (Config → World → Type 0) → Config → List Event → Type 0
 EndsWithCycle tells c es = MakesLastCycle Host tells c es

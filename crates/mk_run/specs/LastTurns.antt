@@ -14,7 +14,7 @@ use Rattle.mk_heap.specs.Ending.{MakesToldCycle, SaysOver}
 abbrev pub CallersAreStill : PassState → List Event → Type 0
 CallersAreStill p es = (k : ℕ) → Has p.seats (Caller k) → Grows (Caller k ∷ []) p.seen es
 
--- With all callers home the host made a cycle of which this is told, and said that all is over. Since then it has seen
+-- With all callers home the host made a cycle of which this is said, and said that all is over. Since then it has seen
 -- no step of the seats that were home, which still are.
 pub record TakesLastTurns (tells : Config → World → Type 0) (w : WordsState) (p : PassState) : Type 0 where
   pub joined : PassState

@@ -107,7 +107,7 @@ fn call_until_open<R: Wait>(rt: &R, caller: &mut Caller, op: Op) -> Answer
     unreachable!()
 }
 
-/// Carries out an operation, and tells its answer. Which pointer was loaded isn't told.
+/// Carries out an operation, and tells its answer. Which pointer was loaded isn't said.
 pub fn answer_to<E: Engine, R: Threads + Wait + Sync>(
     rt: &R,
     caller: &mut Caller,

@@ -35,7 +35,7 @@ fn cycle_and_over<E: Engine, R: Threads + Wait + Sync>(
     host.over(rt, heap, bench);
 }
 
-/// Says to the markers that all is over, where asked behind a last cycle.
+/// Says to the markers that all is over, where asked after a last cycle.
 pub(crate) fn take_last_turns<E: Engine, R: Threads + Wait + Sync>(
     rt: &R,
     heap: &Heap,

@@ -8,10 +8,10 @@ use std::sync::{MutexGuard, Wait};
 /// no loop of a script keeps step with it.
 const OPERATIONS_IN_A_ROW: u64 = 1021;
 
-/// After so many operations the place is given up wherever the script is.
+/// After this many operations the place is given up wherever the script is.
 const OPERATIONS_AT_MOST: u64 = 2 * OPERATIONS_IN_A_ROW;
 
-/// The place is given up before that, after so many operations in a row that don't take the turn.
+/// The place is given up before that, after this many operations in a row that don't take the turn.
 const OPERATIONS_BESIDE: u64 = 16;
 
 /// A script's place in the line. Who wants the turn stands in line, and sleeps until it is first. No promise rests on it:

@@ -64,7 +64,7 @@ pub(crate) struct Ended<E: Engine> {
     pub(crate) bench: Bench<E>,
 }
 
-/// Runs all scripts and joins them, and says to the markers that all is over, where asked behind a last cycle.
+/// Runs all scripts and joins them, and says to the markers that all is over, where asked after a last cycle.
 fn run_scripts<E: Engine + Send, P: Pace + Sync, R: Threads + Wait + Sync>(
     rt: &R,
     alloc: Global,

@@ -3,7 +3,7 @@
 use mk_check::Text;
 use mk_heap::Report;
 
-/// The scripts' texts, in the order of the program, and what is told of the heap, which is closed.
+/// The scripts' texts, in the order of the program, and what is said of the heap, which is closed.
 #[derive(Drop)]
 pub struct Outcome {
     pub texts: Vec<Text>,

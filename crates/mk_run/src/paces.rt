@@ -1,6 +1,6 @@
 //! What is called round the instructions of scripts: tests hold threads back by it.
 
-/// Is called round each memory instruction of a script, counted from 0 in its script, and behind each cell that a
+/// Is called round each memory instruction of a script, counted from 0 in its script, and after each cell that a
 /// marker scanned.
 pub trait Pace {
     /// Before the instruction is carried out.

@@ -18,7 +18,7 @@ use std::alloc::Global;
 use std::sync::Wait;
 use std::thread::Threads;
 
-/// So many benches for a heap of so many pages.
+/// This many benches for a heap of this many pages.
 fn benches<E: Engine>(alloc: Global, count: u64, pages: u64) -> Result<Vec<Bench<E>>, NoMemory>
     ensures count { IfOk result (λ benches. length benches.items ≡ count) }
     ensures made_for { IfOk result (λ benches. All (λ bench. E.made_for bench.engine ≡ pages) benches.items) }
@@ -32,7 +32,7 @@ fn benches<E: Engine>(alloc: Global, count: u64, pages: u64) -> Result<Vec<Bench
 }
 
 /// Runs all and closes the heap. Where asked, the host makes a last cycle when the scripts are joined, of which its
-/// bench tells.
+/// bench says.
 fn run<E: Engine + Send, P: Pace + Sync, R: Threads + Wait + Sync>(
     rt: &R,
     alloc: Global,

@@ -10,7 +10,7 @@ use Rattle.mk_script.specs.Lines.{ends_rightly, has_none}
 use Rattle.mk_script.specs.Grammar.{IsOfSomeText}
 use Rattle.mk_script.proofs.PassedLines.{ArePassed, is_whole}
 
--- Behind these open blocks no line ends one that isn't open, and at the end none is.
+-- After these open blocks no line ends one that isn't open, and at the end none is.
 abbrev pub Closes : List Bool → List Item → Type 0
 Closes blocks [] = blocks ≡ []
 Closes blocks (Repeat rounds ∷ items) = Closes (false ∷ blocks) items

@@ -1,4 +1,4 @@
--- What each line of a program of some text keeps, behind the lines before it.
+-- What each line of a program of some text keeps, after the lines before it.
 use Rattle.std.proofs.Common.{◌≡◌, ℕ, ◌+◌, Bool, true, false, List, [], ◌∷◌, ◌++◌, length, refl, ap, sym, ◌∙◌, subst}
 use Rattle.std.proofs.Common.{append_assoc, Ok, Err}
 use Rattle.std.specs.Prelude.{Option, Some, None, if◌then◌else◌, nat_le}
@@ -14,7 +14,7 @@ use Rattle.mk_script.specs.Lines.{line_of, line_item, checked_item, or_item, lim
 use Rattle.mk_script.specs.Lines.{has_script, has_none}
 use Rattle.mk_script.specs.Grammar.{go_on, items_behind, items_of_lines, IsOfSomeText}
 
--- A line behind these: what its words say; it passes no limit, and ends no block that isn't open.
+-- A line after these: what its words say; it passes no limit, and ends no block that isn't open.
 pub record IsPassed (before : List Item) (item : Item) : Type 0 where
   pub words : List (List ℕ)
   pub reads : line_of before words ≡ Ok item
@@ -32,7 +32,7 @@ pub record IsWhole (items : List Item) : Type 0 where
   pub script : has_script items ≡ true
   pub closed : has_none (open_blocks items) ≡ true
 
--- what lines behind these give
+-- what lines after these give
 record Behind (before items : List Item) : Type 0 where
   rest : List Item
   all : before ++ rest ≡ items

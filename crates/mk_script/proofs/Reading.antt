@@ -1,4 +1,4 @@
--- Lines, one behind the others.
+-- Lines, one after the others.
 use Rattle.std.proofs.Common.{◌≡◌, ◌≢◌, ◌<◌, ◌+◌, ℕ, Bool, true, false, if◌then◌else◌, List, [], ◌∷◌, ◌++◌, length}
 use Rattle.std.proofs.Common.{get_or, drop, Bor, Option, Some, None, Ok, Err, Result, refl, ap, sym, ◌∙◌, arith}
 use Rattle.std.specs.Result.{IfOk, IfErr, MatchResult}

@@ -13,7 +13,7 @@ use Rattle.mk_script.proofs.CanonicalLines.{lines_of_items, HaveWords, lines_of-
 use Rattle.mk_script.proofs.LinesAgain.{line_again}
 use Rattle.mk_script.proofs.PassedLines.{ArePassed, IsWhole, is_whole}
 
--- each item is said again by its own words, behind the ones before it
+-- each item is said again by its own words, after the ones before it
 pub record IsSaidAgain (before : List Item) (line : Item) : Type 0 where
   pub reads : line_of before (words_of_item line) ≡ Ok line
   pub apart : AreWords (words_of_item line)

@@ -24,7 +24,7 @@ abbrev pub numbers_before : ℕ → List (List ℕ) → List (List ℕ)
 numbers_before zero fields = fields
 numbers_before (suc more) fields = numbers_text (suc more) ∷ fields
 
--- the fields of a type, behind so many numbers
+-- the fields of a type, after this many numbers
 abbrev pub fields_behind : List TypeWord → ℕ → List (List ℕ)
 fields_behind [] count = numbers_before count []
 fields_behind (Number ∷ words) count = fields_behind words (count + 1)
@@ -63,7 +63,7 @@ words_of_item (If number) = codes "if" ∷ number ∷ []
 words_of_item Else = codes "else" ∷ []
 words_of_item End = codes "end" ∷ []
 
--- words with a space between them, and a newline behind the last
+-- words with a space between them, and a newline after the last
 abbrev pub line_text : List (List ℕ) → List ℕ
 line_text [] = codes "\n"
 line_text (word ∷ []) = word ++ codes "\n"

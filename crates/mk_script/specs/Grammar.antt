@@ -29,7 +29,7 @@ abbrev pub go_on : {A : Type 0} → ℕ → Result Item LineFault → (Item → 
 go_on line (Ok item) next = next item
 go_on line (Err fault) next = Err (fault_at line fault)
 
--- the items of all lines, where these stand behind the ones that were read
+-- the items of all lines, where these stand after the ones that were read
 abbrev pub items_behind : List (List ℕ) → List Item → Result (List Item) TextStop
 items_behind [] before = at_end before
 items_behind (line ∷ lines) before =

@@ -49,7 +49,7 @@ keyword_among (k ∷ ks) word = if bytes_eq word k.0 then Some k.1 else keyword_
 abbrev pub keyword_of : List ℕ → Option Keyword
 keyword_of word = keyword_among keywords word
 
--- whether a line of this form has so many words behind its first
+-- whether a line of this form has this many words after its first
 abbrev pub has_operands : Keyword → ℕ → Bool
 has_operands Heap count = count == 2
 has_operands TypeLine count = nat_le 2 count

@@ -1,4 +1,4 @@
--- What a line is, behind the lines before it: its item, or the first fault by the order of the six steps.
+-- What a line is, after the lines before it: its item, or the first fault by the order of the six steps.
 use Rattle.std.specs.Prelude.{ℕ, ◌+◌, ◌-◌, ◌^◌, min, Bool, true, false, not, ◌&&◌, nat_le, if◌then◌else◌, List, [], ◌∷◌}
 use Rattle.std.specs.Prelude.{◌++◌, length, Option, Some, None, Ok, Err}
 use Rattle.std.specs.declared.result.Result.{Result}
@@ -26,7 +26,7 @@ use Rattle.mk_script.specs.Scopes.{is_instruction, this_script, OpenBlock, InRep
 abbrev pub has_script : List Item → Bool
 has_script before = list_any is_script before
 
--- whether a line of the form may stand behind these
+-- whether a line of the form may stand after these
 abbrev pub is_placed : List Item → Keyword → Bool
 is_placed before keyword.Heap = false
 is_placed before keyword.TypeLine = not (has_script before)

@@ -18,7 +18,7 @@ is_name word =
 abbrev pub name_of : List ℕ → Option (List ℕ)
 name_of word = if is_name word then Some word else None
 
--- the number that digits stand for, behind others that stand for high
+-- the number that digits stand for, after others that stand for high
 abbrev pub value_from : ℕ → List ℕ → ℕ
 value_from high [] = high
 value_from high (digit ∷ digits) = value_from (10 * high + (digit - 48)) digits

@@ -33,7 +33,7 @@ pub record BeginsScript (old : Scope) (name : List ℕ) (new : Scope) : Type 0 w
       new
       ≡ record old { has_script = true; has_instruction = false; scripts = new.scripts; pointers = []; numbers = [] }
 
--- a line was read behind others: there is its item more, and the scope is of all of them
+-- a line was read after others: there is its item more, and the scope is of all of them
 pub record ReadsLine (before : List Item) (words : List (List ℕ)) (items : List Item) (scope : Scope) : Type 0 where
   pub item : Item
   pub is_item : line_of before words ≡ Ok item

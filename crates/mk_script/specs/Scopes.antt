@@ -65,7 +65,7 @@ is_script (If number) = false
 is_script Else = false
 is_script End = false
 
--- whether it is a line of a script, behind its declarations
+-- whether it is a line of a script, after its declarations
 abbrev pub is_instruction : Item → Bool
 is_instruction (Heap pages resident) = false
 is_instruction (TypeLine name words) = false
@@ -97,7 +97,7 @@ is_instruction (If number) = true
 is_instruction Else = true
 is_instruction End = true
 
--- the lines of the last script, behind its first
+-- the lines of the last script, after its first
 abbrev pub this_script : List Item → List Item
 this_script items = fold (λ lines item. if is_script item then [] else lines ++ item ∷ []) [] items
 
@@ -111,7 +111,7 @@ abbrev pub behind_end : List OpenBlock → List OpenBlock
 behind_end [] = []
 behind_end (block ∷ blocks) = blocks
 
--- the open blocks behind a line, the innermost first
+-- the open blocks after a line, the innermost first
 abbrev pub open_behind : List OpenBlock → Item → List OpenBlock
 open_behind blocks (Heap pages resident) = blocks
 open_behind blocks (TypeLine name words) = blocks

@@ -6,7 +6,7 @@ use Rattle.mk_script.specs.Canonical.{at_text}
 use Rattle.mk_script.specs.declared.printing.Operand.{Operand}
 use Rattle.mk_script.specs.declared.printing.Operand.TheVariants.{Name, Number, At}
 
--- words behind another, each with a space before it
+-- words after another, each with a space before it
 abbrev pub spaced_words : List (List ℕ) → List ℕ
 spaced_words [] = []
 spaced_words (word ∷ words) = codes " " ++ (word ++ spaced_words words)

@@ -18,7 +18,7 @@ Gives expected (Ok item) = expected ≡ Ok item
 Gives expected (Err (Fault fault)) = expected ≡ Err fault
 Gives expected (Err NoMemory) = Unit {0}
 
--- what is found, where it may stand behind these
+-- what is found, where it may stand after these
 abbrev pub checked_behind : List Item → Result Item LineFault → Result Item LineFault
 checked_behind before found = found >>= checked_item before
 

@@ -13,7 +13,7 @@ use crate::numbers::parse_number;
 use crate::operands::at;
 use std::alloc::{AllocError, Global};
 
-/// The words that a field stands for: so many numbers, or a pointer.
+/// The words that a field stands for: this many numbers, or a pointer.
 #[derive(Drop)]
 pub enum Field {
     Numbers(u64),

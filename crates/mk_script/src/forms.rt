@@ -118,7 +118,7 @@ fn with_five(
     }
 }
 
-/// Line 1, behind its first word.
+/// Line 1, after its first word.
 pub fn heap(pages: &[u8], resident: &[u8]) -> Result<Item, LineFault>
     ensures { result ≡ says2 (λ pages resident. Item.Heap pages resident)
         (spec.number pages.now) (spec.number resident.now) }

@@ -26,7 +26,7 @@ pub fn within(least: u64, found: u64, greatest: u64, which: Which) -> Option<Lin
     }
 }
 
-/// The limit that a heap of so many pages passes, so many of which may be resident.
+/// The limit that a heap of this many pages passes, this many of which may be resident.
 pub fn heap_limit(pages: u64, resident: u64) -> Option<LineFault>
     ensures { result ≡ spec.heap_limit pages resident }
 {

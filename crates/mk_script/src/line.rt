@@ -1,4 +1,4 @@
-//! One line, behind others.
+//! One line, after others.
 ghost use Rattle.std.specs.Prelude.{◌≡◌, ◌≢◌, ◌-◌, ◌^◌, List, ◌∷◌, length, min, true, Some};
 ghost use Rattle.mk_script.specs.Lines as spec;
 ghost use Rattle.mk_script.specs.Lines.{checked_item, placed_item, line_of};
@@ -17,7 +17,7 @@ use crate::operands::name;
 use crate::scope::Scope;
 use std::alloc::Global;
 
-/// What a line of these words says behind the lines of the scope.
+/// What a line of these words says after the lines of the scope.
 pub fn item(alloc: Global, scope: &Scope, words: &[&[u8]]) -> Result<Item, LineStop>
     ensures { (before : List Item) → IsScopeOf scope.now before → Gives (line_of before (texts_of words.now)) result }
 {

@@ -36,7 +36,7 @@ pub fn at(word: &[u8]) -> Result<At, LineFault>
     Ok(At { name, offset })
 }
 
-/// What stands before the first `+`, and what behind it.
+/// What stands before the first `+`, and what after it.
 fn split_at_plus(word: &[u8]) -> Option<(&[u8], &[u8])>
     ensures { MatchOption result (list_any is_plus word.now ≡ false)
         (λ parts. IsCutAtPlus word.now parts.0.now parts.1.now) }

@@ -47,7 +47,7 @@ fn items(alloc: Global, text: &[u8]) -> Result<Vec<Item>, TextStop>
     at_end(&scope, items)
 }
 
-/// Reads a line behind those of the items and their scope.
+/// Reads a line after those of the items and their scope.
 fn read_line(
     alloc: Global,
     scope: &mut Scope,
@@ -64,7 +64,7 @@ fn read_line(
     Ok(items.push(item)?)
 }
 
-/// The items, where the text may end behind them.
+/// The items, where the text may end after them.
 fn at_end(scope: &Scope, items: Vec<Item>) -> Result<Vec<Item>, TextStop>
     ensures { IsScopeOf scope.now items.items
         → MatchResult result (λ kept. spec.at_end items.items ≡ Ok kept.items)

@@ -18,7 +18,7 @@ struct Printer {
     alloc: Global,
 }
 
-/// What stands behind a line's first word.
+/// What stands after a line's first word.
 #[derive(Clone, Copy)]
 enum Operand<'a> {
     Name(&'a Name),
@@ -71,14 +71,14 @@ impl Printer {
         named.piece(b"+")?.digits(at.offset)
     }
 
-    /// Appends a word behind another.
+    /// Appends a word after another.
     fn word(self, word: &[u8]) -> Result<Printer, NoMemory>
         ensures { IfOk result (λ printer. printer ≡ self ++ (codes " " ++ word.now)) }
     {
         self.piece(b" ")?.piece(word)
     }
 
-    /// Appends an operand behind another word.
+    /// Appends an operand after another word.
     fn operand(self, operand: &Operand) -> Result<Printer, NoMemory>
         ensures { IfOk result (λ printer. printer ≡ self ++ (codes " " ++ operand_text operand.now)) }
     {
@@ -90,7 +90,7 @@ impl Printer {
         }
     }
 
-    /// Appends the field of so many neighbouring numbers, if there are any.
+    /// Appends the field of this many neighbouring numbers, if there are any.
     fn numbers(self, count: u64) -> Result<Printer, NoMemory>
         ensures { IfOk result (λ printer. printer ≡ self ++ spaced_words (numbers_before count [])) }
     {
@@ -119,7 +119,7 @@ impl Printer {
         printer.numbers(count)
     }
 
-    /// Appends operands behind another word.
+    /// Appends operands after another word.
     fn operands(self, operands: &[Operand]) -> Result<Printer, NoMemory>
         ensures { IfOk result (λ printer. printer ≡ self ++ spaced_words (map operand_text operands.now)) }
     {
@@ -130,7 +130,7 @@ impl Printer {
         Ok(printer)
     }
 
-    /// Appends a line's first word, and operands behind it.
+    /// Appends a line's first word, and operands after it.
     fn line_words(self, keyword: &[u8], operands: &[Operand]) -> Result<Printer, NoMemory>
         ensures { IfOk result (λ printer. printer ≡ self ++ joined_words
             (keyword.now ∷ map operand_text operands.now)) }
@@ -324,7 +324,7 @@ impl Printer {
 }
 
 /// The canonical text of a program: the words of each line with a space between them, and a newline
-/// behind it. It is refused only where memory runs out.
+/// after it. It is refused only where memory runs out.
 pub fn print(alloc: Global, program: &Program) -> Result<Vec<u8>, NoMemory>
     ensures { IfOk result (λ text. text.items ≡ canonical_text program.now) }
 {

@@ -20,7 +20,7 @@ pub enum OpenBlock {
     InRepeat,
     /// An `if` in its first branch.
     InFirst,
-    /// An `if` behind its `else`.
+    /// An `if` after its `else`.
     InSecond,
 }
 
@@ -119,7 +119,7 @@ impl Scope {
         self.pointers.contains(name) || self.numbers.contains(name)
     }
 
-    /// The limit that is passed by a type of so many words.
+    /// The limit that is passed by a type of this many words.
     pub fn type_limit_fault(&self, words: u64) -> Option<LineFault>
         ensures { (before : List Item) → IsScopeOf self.now before
             → result ≡ option_or (spec.at_most (length (type_names before) + 1) 64 Which.Types)

@@ -1,4 +1,4 @@
--- Behind the sweep the marks are closed: each cell's words were looked at, or are 0, or aren't scanned.
+-- After the sweep the marks are closed: each cell's words were looked at, or are 0, or aren't scanned.
 use Rattle.std.proofs.Common.{◌≡◌, ◌∙◌, ℕ, ◌+◌, ◌<◌, Bool, true, false, List, refl, sym, ap, subst, arith}
 use Rattle.std.specs.Prelude.{◌==◌, slice_index}
 use Rattle.std.proofs.lemmas.Bool.{eqb-true}

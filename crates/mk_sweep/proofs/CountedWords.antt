@@ -97,7 +97,7 @@ one_part size i j n from to low high = elim (cases_order i j) [
   | inr (inr above) ↦ absurd (omega (arith, mul-le (suc j) size i size above (le_refl size)))
 ]
 
--- a used cell of a page, of so many words, that has the word
+-- a used cell of a page, of this many words, that has the word
 pub record HasInCell (page size used cells n : ℕ) : Type 0 where
   pub index : ℕ
   pub known : index < cells

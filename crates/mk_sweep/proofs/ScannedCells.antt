@@ -32,8 +32,8 @@ use Rattle.mk_core.proofs.Sizes.{large_count, large_is_not_small, pages_some, wo
 use Rattle.mk_core.proofs.StandingAllocations.{cell_is_known, cells_begin, first_page_shows, typed_size}
 use Rattle.mk_protocol.specs.Ground.{ground_of}
 use Rattle.mk_protocol.specs.Protocol.{has_place}
-use Rattle.mk_layout.specs.Scene.{Among, Claim, HasHeader, IsClaimed, IsShown, Mode, Unmapped, header_on}
-use Rattle.mk_layout.specs.Scene.{is_released_in}
+use Rattle.mk_layout.specs.LayoutScene.{Among, Claim, HasHeader, IsClaimed, IsShown, Mode, Unmapped, header_on}
+use Rattle.mk_layout.specs.LayoutScene.{is_released_in}
 use Rattle.mk_layout.specs.SettledPages.{IsSettled, StandsUsed}
 use Rattle.mk_layout.specs.Terrain.{IsCellOf, claim_of, claims_of, claims_on, claims_placed, mode_of, object_now}
 use Rattle.mk_layout.proofs.Claims.{claim_among, claim_is}

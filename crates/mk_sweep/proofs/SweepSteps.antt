@@ -103,7 +103,7 @@ sweeps_then t u v ns ms one two =
           ∙ ap (λ xs. xs ++ heap_looks two.traces.does) one.looked ∙ ap (λ xs. ns ++ xs) two.looked;
     }
 
--- A part that looks at no heap word, before or behind.
+-- A part that looks at no heap word, before or after.
 
 pub quiet_then : (t u v : TurnState) (ms : List ℕ) → SweepsOn t u [] → SweepsOn u v ms → SweepsOn t v ms
 quiet_then t u v ms one two = sweeps_then t u v [] ms one two
@@ -111,7 +111,7 @@ quiet_then t u v ms one two = sweeps_then t u v [] ms one two
 pub then_quiet : (t u v : TurnState) (ns : List ℕ) → SweepsOn t u ns → SweepsOn u v [] → SweepsOn t v ns
 then_quiet t u v ns one two = subst (λ xs. SweepsOn t v xs) (append-nil ns) (sweeps_then t u v ns [] one two)
 
--- Nothing is on its way behind it.
+-- Nothing is on its way after it.
 pub settled_kept : (p q : PassState) → q ≡ record p { seen = q.seen } → untouched_of (world_of q) ≡ untouched_of
     (world_of p)
     → phase_of (now_of q).words ≡ 2 → IsSettled (world_of p) → IsSettled (world_of q)

@@ -80,7 +80,7 @@ waits w c m (step.Look (word.Heap n)) h = cc
 waits w c m (step.Mark p v) h = cc
 waits w c m _ h = tt
 
--- Behind the wait the sweep may begin.
+-- After the wait the sweep may begin.
 pub sweeping_behind : (p q : PassState) → Counted is_waiting TracesReached is_want p q 1 → IsWanted q
     → IsFreeForCycle p → phase_of (now_of p).words ≡ 1 → IsSweeping q
 sweeping_behind p q waited wanted free one =

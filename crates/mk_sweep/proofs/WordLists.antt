@@ -16,7 +16,7 @@ use Rattle.mk_tracing.specs.Grays.{MarksMore}
 use Rattle.mk_tracing.proofs.MoreMarks.{well_more}
 use Rattle.mk_sweep.specs.Sweeping.{PointWell, words_below, words_if, words_of_cells, words_on}
 
--- The head of a page's run doesn't lie behind it.
+-- The head of a page's run doesn't lie after it.
 
 head_under : (x : Option Header) (p : ℕ) → head_page_under x p ≤ p
 head_under (Some (Later distance mapped)) p = omega arith

@@ -65,7 +65,7 @@ pub record IsReachedCell (p : PassState) (cell : Cell) : Type 0 where
 abbrev pub words_if : Bool → ℕ → ℕ → List ℕ
 words_if used first size = if used then range_with_len first size else []
 
--- those of a page's first cells, of so many words each
+-- those of a page's first cells, of this many words each
 
 abbrev pub words_of_cells : ℕ → ℕ → ℕ → ℕ → List ℕ
 words_of_cells page size used zero = []

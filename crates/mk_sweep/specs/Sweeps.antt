@@ -15,7 +15,7 @@ pub record Sweeps (p q : PassState) (looks : ℕ) : Type 0 where
   pub never_twice : (n : ℕ) → count_by (λ k. k == n) (heap_looks traces.does) ≤ 1
   pub each : (n : ℕ) → IsScannedWord p.table.config (world_of p).allocations n
       → count_by (λ k. k == n) (heap_looks traces.does) ≡ 1
-  -- These are so many: the words of these allocations.
+  -- These are this many: the words of these allocations.
   pub counted : looks ≡ length (heap_looks traces.does)
   pub words : looks ≡ scanned_words p.table.config (world_of p).allocations
   -- What is swept is marked.

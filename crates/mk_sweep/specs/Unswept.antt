@@ -23,7 +23,7 @@ OthersLeaveUnmarked c s cell w (e ∷ es) =
     → is_marked (world_behind c w e).now.words cell ≡ false)
     × OthersLeaveUnmarked c s cell (world_behind c w e) es
 
--- Then the cell of an unreleased allocation that isn't swept is unmarked behind a sweep, if it was so before.
+-- Then the cell of an unreleased allocation that isn't swept is unmarked after a sweep, if it was so before.
 abbrev pub UnsweptStaysUnmarked : Type 0
 UnsweptStaysUnmarked =
     (p q : PassState) (n : ℕ) (s : Sweeps p q n) (i : ℕ)

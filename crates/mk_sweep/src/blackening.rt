@@ -1,4 +1,4 @@
-//! Behind the sweep each marked cell is blackened: its words were looked at, or are 0, or aren't scanned.
+//! After the sweep each marked cell is blackened: its words were looked at, or are 0, or aren't scanned.
 ghost use Rattle.std.specs.Prelude.{◌≡◌, ℕ, ◌<◌, ◌≤◌, [], true, slice_index};
 ghost use Rattle.mk_core.specs.Cells.{cells_under, header_in};
 ghost use Rattle.mk_core.specs.StopConditions.{may_turn_black};
@@ -30,7 +30,7 @@ fn blacken_if_marked(words: &Words, stop: &mut Stopped, marked: bool, cell: Cell
     blacken_cell(words, stop, cell);
 }
 
-/// Blackens the marked ones among a page's cells, where there are so many and these are its marks.
+/// Blackens the marked ones among a page's cells, where there are this many and these are its marks.
 fn blacken_cells(words: &Words, stop: &mut Stopped, page: u64, count: u64, marks: u64)
     requires one_table { stop.old.pass.table ≡ words.now }
     requires sweeping { IsSweeping stop.old.pass }

@@ -1,7 +1,7 @@
 //! Laws of sweeps: facts alone, with no code.
 ghost use Rattle.mk_sweep.specs.Unswept.{UnsweptStaysUnmarked, UnsweptIsReleased};
 
-/// What isn't swept is unmarked behind a sweep, where it was so before and no other seat marks it meanwhile.
+/// What isn't swept is unmarked after a sweep, where it was so before and no other seat marks it meanwhile.
 pub fn what_is_not_swept_stays_unmarked()
     ensures { UnsweptStaysUnmarked }
 {}

@@ -18,7 +18,7 @@ use mk_words::{Stopped, Words};
 
 const PAGE_WORDS: u64 = 64;
 
-/// Looks at so many words, from the first one on, and marks what each points into.
+/// Looks at this many words, from the first one on, and marks what each points into.
 fn sweep_words(words: &Words, stop: &mut Stopped, first: u64, size: u64)
     requires one_table { stop.old.pass.table ≡ words.now }
     requires sweeping { IsSweeping stop.old.pass }

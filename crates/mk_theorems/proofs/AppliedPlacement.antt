@@ -2,14 +2,14 @@
 use Rattle.std.proofs.Common.{◌≡◌, ℕ, true, List, take, drop, Some, refl, sym}
 use Rattle.mk_geom.specs.declared.pages.Place.{Place}
 use Rattle.mk_core.specs.declared.events.Event.{Event}
-use Rattle.mk_core.specs.Allocations.{FitsAmongAllocations, fresh_words_of, held_words}
+use Rattle.mk_core.specs.Allocations.{FitsAmongAllocations, fresh_words_of, held_by_allocations}
 use Rattle.mk_core.specs.Bounded.{all_below}
 use Rattle.mk_core.specs.Cells.{pointed_cell}
 use Rattle.mk_core.specs.Counts.{in_a_word}
 use Rattle.mk_core.specs.Cycles.{BeginsAndEndsIn, TurnOf}
 use Rattle.mk_core.specs.History.{left, left_from}
 use Rattle.mk_core.specs.NewPlaces.{base_made}
-use Rattle.mk_core.specs.Placement.{IsFull, StandsAtItsPlace, before_served, object_at, place_for}
+use Rattle.mk_core.specs.Placement.{FindsNoPlace, StandsAtItsPlace, before_served, object_at, place_after}
 use Rattle.mk_core.specs.StopConditions.{may_turn_black}
 use Rattle.mk_core.specs.Counts.{TalliesAreExact}
 use Rattle.mk_core.proofs.EvaluatedHistories.{full_is_history}
@@ -32,7 +32,7 @@ second_grant = kept.placed (take 8 full_then_reused) (event_number 8 full_then_r
 pub record HadItsPlaceAt (base : ℕ) : Type 0 where
   pub front : List Event
   pub place : Place
-  pub fits : place_for one_page front (object_at one_page (take 8 full_then_reused) c0) ≡ Some place
+  pub fits : place_after one_page front (object_at one_page (take 8 full_then_reused) c0) ≡ Some place
   pub is : base_made (object_at one_page (take 8 full_then_reused) c0) place ≡ base
 
 pub second_had_its_place : HadItsPlaceAt 32
@@ -47,7 +47,7 @@ second_had_its_place =
 
 -- The third New is full: a cycle was begun and ended in its turn, and no place is left.
 
-third_full : IsFull one_page (take 31 full_then_reused) c0
+third_full : FindsNoPlace one_page (take 31 full_then_reused) c0
 unfolding by c0 event_number one_page full_then_reused
 third_full = kept.full (take 31 full_then_reused) (event_number 31 full_then_reused) (drop 32 full_then_reused) refl
     refl
@@ -60,14 +60,14 @@ pub third_fits_nowhere : FitsAmongAllocations one_page 32 true (left one_page (t
 unfolding by c0 all_below pointed_cell may_turn_black one_page full_then_reused left_from
 third_fits_nowhere = third_full.no_fit
 
--- Behind that cycle two objects are held and none is fresh, as the tallies have it at the `give`.
+-- After that cycle two objects are held and none is fresh, as the tallies have it at the `give`.
 
 third_give : TalliesAreExact one_page (take 33 full_then_reused)
 unfolding by c0 event_number one_page full_then_reused
 third_give = kept.tallies (take 33 full_then_reused) (event_number 33 full_then_reused) (drop 34 full_then_reused) refl
     refl
 
-pub two_are_held : held_words one_page (left one_page (take 33 full_then_reused)).allocations ≡ 64
+pub two_are_held : held_by_allocations one_page (left one_page (take 33 full_then_reused)).allocations ≡ 64
 unfolding by c0 all_below pointed_cell may_turn_black one_page full_then_reused left_from
 two_are_held = sym third_give.held
 

@@ -16,7 +16,7 @@ use Rattle.mk_readings.specs.FreeWords.{FreeCellsAreZero, Leaves, WordsBehindCel
 use Rattle.mk_readings.specs.Readings.{HeadersAndQuarantineTell}
 use Rattle.mk_readings.specs.Releases.{NoOthersRelease, ReleasesAreExact, ReleasesNoneReached}
 
--- It holds behind each front of the list.
+-- It holds after each front of the list.
 abbrev pub AtEachMoment : (Config → List Event → Type 0) → Config → List Event → Type 0
 AtEachMoment claim c es = (front more : List Event) → es ≡ front ++ more → claim c front
 
@@ -26,7 +26,7 @@ pub record KeepsAllPromises (c : Config) (es : List Event) : Type 0 where
   -- Reach is kept: what pointers lead to from registers and globals isn't released.
   pub reach : AtEachMoment KeepsTheReach c es
   -- Disjoint and zero: unreleased allocations stand on the heap, no two have a word in common, and while the phase
-  -- isn't releasing the words of cells without an allocation, and those behind a page's cells, are 0.
+  -- isn't releasing the words of cells without an allocation, and those after a page's cells, are 0.
   pub stand : AtEachMoment AllocationsStand c es
   pub disjoint : AtEachMoment AllocationsAreDisjoint c es
   pub zero_cells : AtEachMoment (Leaves FreeCellsAreZero) c es
@@ -37,7 +37,7 @@ pub record KeepsAllPromises (c : Config) (es : List Event) : Type 0 where
   pub first_fit : AtEachMoment FirstFitFindsThePlace c es
   pub told : AtEachMoment HeadersAndQuarantineTell c es
   pub resident : AtEachMoment FewPagesAreResident c es
-  -- Exact placement: each object is granted at its place, and a Full stands where nothing fits, behind a cycle that was
+  -- Exact placement: each object is granted at its place, and a Full stands where nothing fits, after a cycle that was
   -- begun and ended in its call.
   pub placed : GrantsStandAtTheirPlaces c es
   pub full : FullsFitNowhere c es
@@ -53,7 +53,7 @@ pub record KeepsAllPromises (c : Config) (es : List Event) : Type 0 where
   -- Guarded: while a cycle marks, each word of a black cell points into nothing or into a marked cell, or its page is
   -- dirty, or its dirty mark is owed.
   pub guarded : AtEachMoment GuardsBlackCells c es
-  -- Precision: a cycle without a sweeping mark releases what it doesn't touch, and behind its `end` that storage counts
+  -- Precision: a cycle without a sweeping mark releases what it doesn't touch, and after its `end` that storage counts
   -- as free.
   pub precise : ReleasesTheUntouched c es
   pub freed : FreesTheUntouched c es

@@ -1,4 +1,4 @@
--- Lines one behind the other: what one more gives, or where it stops.
+-- Lines one after the other: what one more gives, or where it stops.
 use Rattle.std.proofs.Common.{◌≡◌, ℕ, ◌+◌, List, [], ◌∷◌, Ok, Err, Result, ap, sym, ◌∙◌, arith}
 use Rattle.mk_trace.specs.declared.faults.TraceStop.{TraceStop}
 use Rattle.mk_trace.specs.Grammar.{go_on, along}

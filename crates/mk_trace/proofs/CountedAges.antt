@@ -49,7 +49,7 @@ counted_more ages more =
     all (fold with_age [] ages) more
     ∙ ap (λ (l : List (ℕ × ℕ)). in_words l) (sym (fold-append with_age [] ages more))
 
--- One age behind the other
+-- One age after the other
 
 less_is : (n k : ℕ) → n < k → nat_lt n k ≡ true
 less_is n k lt = grind (arith, nat_tests, lt)
@@ -81,7 +81,7 @@ at_more : (p : ℕ × ℕ) (pairs : List (ℕ × ℕ)) (age : ℕ) → p.0 < age
 at_more p pairs age gt =
     other p pairs age false (λ e. omega (arith, e, gt)) (not_less_is age p.0 (omega (arith, gt)))
 
--- Behind a greater one the least stands first yet.
+-- After a greater one the least stands first yet.
 least_first : (p : ℕ × ℕ) (pairs : List (ℕ × ℕ)) (a b : ℕ) → a < b → a < p.0
     → with_age (with_age (p ∷ pairs) b) a ≡ (a, 1) ∷ with_age (p ∷ pairs) b
 least_first p pairs a b lt first = elim (cases_lt b p.0) [

@@ -117,7 +117,7 @@ beside_lacks c w elsewhere (e ∷ es) all mine beside =
     or_from (changes e.step) (has_step changes es) (beside_changes_none e.step parts.0)
     (beside_lacks c (world_behind c w e) elsewhere es all (mine_parts c elsewhere (e ∷ []) es mine).1 parts.1)
 
--- Of calls of which one is decided, none is decided behind the event that decides it.
+-- Of calls of which one is decided, none is decided after the event that decides it.
 
 no_more : (xs ys zs : List Decided) (x : Decided) → xs ++ (ys ++ zs) ≡ x ∷ [] → list_any is_free_call ys ≡ true
     → zs ≡ []

@@ -125,7 +125,7 @@ one_second xs ys one b =
       of_kind = b.of_kind;
     })
 
--- One part behind another.
+-- One part after another.
 
 none_twice : (c : Config) (es fs gs : List Event) → EndsNone c es fs → EndsNone c fs gs → EndsNone c es gs
 none_twice c es fs gs h g =
@@ -310,7 +310,7 @@ leaves_then c es more on none =
       allocations = ap (λ (x : World). x.allocations) there ∙ h.allocations;
     }
 
--- One behind the other.
+-- One after the other.
 
 pub leaves_twice : (c : Config) (es fs gs : List Event) → LeavesAllocations c es fs → LeavesAllocations c fs gs
     → LeavesAllocations c es gs

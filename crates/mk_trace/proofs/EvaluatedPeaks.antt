@@ -8,7 +8,7 @@ use Rattle.mk_core.proofs.Schedules.{by, c0, host, one_page, freed_after_begin}
 use Rattle.mk_core.proofs.LargeSchedule.{three_pages, large_freed}
 use Rattle.mk_trace.specs.Peaks.{greatest_from, found_by_ends_from, peaks_of}
 
--- Of two objects of 32 words the first is freed before a cycle begins, and the second behind its begin. Both are
+-- Of two objects of 32 words the first is freed before a cycle begins, and the second after its begin. Both are
 -- quarantined when it ends. The first is released by it, and the second by the next one.
 pub peaks_freed : peaks_of one_page freed_after_begin
     ≡ record { held = 64; quarantined = 64; reserved = 0; cycles = 2; ages = (1, 1) ∷ (2, 1) ∷ [] }

@@ -1,4 +1,4 @@
--- What looks between calls tell of cells and of the objects in them.
+-- What looks between calls say of cells and of the objects in them.
 use Rattle.std.proofs.Common.{◌≡◌, ◌≢◌, ℕ, ◌+◌, ◌-◌, ◌*◌, ◌/◌, ◌%◌, ◌<◌, ◌≤◌, Bool, true, false, List, refl, sym}
 use Rattle.std.proofs.Common.{◌∙◌, ap, arith}
 use Rattle.std.specs.Prelude.{not, nat_le, Option, Some, None, option_map, slice_index, if◌then◌else◌}
@@ -28,7 +28,7 @@ use Rattle.mk_trace.proofs.EndsInLists.{leaves_twice}
 use Rattle.mk_trace.proofs.FoundObjects.{PointsToCell, frees_nothing, points_to_cell}
 use Rattle.mk_trace.proofs.LookedTables.{leaves_then}
 
--- looks, one behind the other
+-- looks, one after the other
 
 pub looks_none : (c : Config) (es : List Event) → OnlyLooks c es es
 looks_none c es = record {

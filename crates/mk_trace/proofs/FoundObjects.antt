@@ -8,7 +8,7 @@ use Rattle.mk_never.specs.declared.values.Value.{Value}
 use Rattle.mk_never.specs.declared.values.Value.TheVariants.{Null, Num, Ptr}
 use Rattle.mk_never.specs.NeverHeap.{NeverState, allocation_at, global_at}
 use Rattle.mk_never.specs.Reach.{LeadsTo}
-use Rattle.mk_never.specs.Reach.IsReached.{by_global}
+use Rattle.mk_never.specs.Reach.IsReachable.{by_global}
 use Rattle.mk_never.specs.Typed.{IsPlaceIn, IsSound}
 use Rattle.mk_never.specs.Types.{kinds_of, is_large}
 use Rattle.mk_geom.specs.declared.addresses.Cell.{Cell}

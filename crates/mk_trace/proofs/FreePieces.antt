@@ -83,7 +83,7 @@ module _ (on : Bool) (p : PassState) (r : ℕ) (a : Answer) (q : PassState) (h :
             ≡ true) (within_is on p (op.Free r) a q h d.before) d.due.decides;
       }
 
-  -- A cycle begins in the turn, behind what frees, or nothing is released.
+  -- A cycle begins in the turn, after what frees, or nothing is released.
   pub releases_late : ReleasesLate c p.seen more
   releases_late = elim (cases_Bool (has_step is_begin acts)) [
     | inl begins ↦ inr (frees_before (exact.first (exact.begins.0 (next_of is_begin acts begins).at)))

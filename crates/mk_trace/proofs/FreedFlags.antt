@@ -1,4 +1,4 @@
--- Which allocations are freed behind a history says the heap that never reuses storage, and so what an operation frees.
+-- Which allocations are freed after a history says the heap that never reuses storage, and so what an operation frees.
 use Rattle.std.proofs.Common.{◌≡◌, ℕ, ◌<◌, ◌≤◌, Bool, true, false, List, length, refl, sym, ◌∙◌, ap, subst}
 use Rattle.std.proofs.Common.{arith, inl, inr}
 use Rattle.std.specs.Prelude.{Some, None, if◌then◌else◌, slice_index_or}

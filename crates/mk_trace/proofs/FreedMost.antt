@@ -9,8 +9,8 @@ use Rattle.mk_never.specs.declared.operations.Op.{Op}
 use Rattle.mk_never.specs.declared.operations.Op.TheVariants as op
 use Rattle.mk_never.specs.declared.values.Value.{Value}
 use Rattle.mk_never.specs.NeverHeap.{NeverState, after_calls, after_free, register_at}
-use Rattle.mk_never.specs.Reach.{IsReached}
-use Rattle.mk_never.specs.Reach.IsReached.{by_register}
+use Rattle.mk_never.specs.Reach.{IsReachable}
+use Rattle.mk_never.specs.Reach.IsReachable.{by_register}
 use Rattle.mk_geom.specs.declared.addresses.Cell.{Cell}
 use Rattle.mk_core.specs.declared.config.Config.{Config}
 use Rattle.mk_core.specs.declared.events.Answer.{Answer}
@@ -97,7 +97,7 @@ module _ (weight : ℕ → ℕ) (c : Config) (es more : List Event) (r : ℕ) (a
       never_in_parts c es more
       ∙ ap (λ (l : List Decided). after_calls (never_behind c es) (asked l)) one
 
-  reached : (number : ℕ) → unfreed (never_behind c es) value ≡ Some number → IsReached (never_behind c es) number
+  reached : (number : ℕ) → unfreed (never_behind c es) value ≡ Some number → IsReachable (never_behind c es) number
   reached number is = by_register (8 * 0 + r) number (points_there (never_behind c es) value number is)
 
   adds : has_step is_release more ≡ false

@@ -6,7 +6,7 @@ use Rattle.std.proofs.lemmas.Bool.{cases_lt}
 use Rattle.std.proofs.lemmas.List.{get_or_past}
 use Rattle.mk_never.specs.declared.values.Value.{Value}
 use Rattle.mk_never.specs.NeverHeap.{NeverState, after_free, allocation_at}
-use Rattle.mk_never.specs.Reach.{IsReached}
+use Rattle.mk_never.specs.Reach.{IsReachable}
 use Rattle.mk_core.specs.declared.config.Config.{Config}
 use Rattle.mk_core.specs.declared.events.Event.{Event}
 use Rattle.mk_core.specs.Allocations.{PlacedAllocation, never_granted, placed_at}
@@ -29,7 +29,7 @@ part_by weight a b freed released ty =
     ∙ ap (λ (n : ℕ). if b.freed && not b.released then weight n else 0) ty
 
 module _ (c : Config) (es fs : List Event) (history : IsHistory c es) (whole : IsHistory c fs) (v : Value)
-    (reached : (number : ℕ) → unfreed (never_behind c es) v ≡ Some number → IsReached (never_behind c es) number)
+    (reached : (number : ℕ) → unfreed (never_behind c es) v ≡ Some number → IsReachable (never_behind c es) number)
     (never : never_behind c fs ≡ after_free (never_behind c es) v)
     (later : AreLater (left c es).allocations (left c fs).allocations)
     (same : SameReleased (left c es).allocations (left c fs).allocations) where

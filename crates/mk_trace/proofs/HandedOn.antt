@@ -1,4 +1,4 @@
--- What is told of an error that a `?` hands on, and of a success.
+-- What is said of an error that a `?` hands on, and of a success.
 use Rattle.std.proofs.Common.{◌≡◌, Ok, Err, Result, sym, subst}
 use Rattle.std.specs.Result.{IfErr, IsErrAnd, OnOk}
 

@@ -10,7 +10,7 @@ use Rattle.mk_core.specs.declared.events.Seat.{Seat}
 use Rattle.mk_core.specs.declared.events.Seat.TheVariants.{Caller, Host}
 use Rattle.mk_core.specs.declared.events.Word.{Word}
 use Rattle.mk_core.specs.declared.events.Word.TheVariants as word
-use Rattle.mk_core.specs.Allocations.{held_words}
+use Rattle.mk_core.specs.Allocations.{held_by_allocations}
 use Rattle.mk_core.specs.Calls.{is_under_turn}
 use Rattle.mk_core.specs.Counts.{in_a_word}
 use Rattle.mk_core.specs.Growing.{AreOfOthers, Grows}
@@ -89,7 +89,7 @@ module _ (h : HostState) (on : Bool) (o : Op) (told : Answer) (q : PassState)
   pub held_at_end : Calls c h.pass.seen o told fs → HoldsMostAtEnd c h.pass.seen fs
   held_at_end made =
       subst (λ (l : List Event). HoldsMostAtEnd c h.pass.seen l) (sym own.is)
-      (most_then c (held_words c) (held_falls_at c) (held_rises_at c) h.pass.seen own.more
+      (most_then c (held_by_allocations c) (held_falls_at c) (held_rises_at c) h.pass.seen own.more
       (last_by o a.in_turn (λ other.
       others_grant_none c h.pass.seen own.more o made.answer whole
       (ap (λ (l : List Event). calls c l) (sym own.is) ∙ made.entry) other)))
@@ -127,7 +127,7 @@ module _ (w : WordsState) (h : HostState) (home : IsHome w h) (host : h.pass.sea
       subst (λ (y : WordsState). n ≡ held_behind y.config h.pass.seen) home.table
       (told_is_held h.pass k.pass x n tells own all history is)
 
--- A look behind a call is no call.
+-- A look after a call is no call.
 pub calls_looked : (c : Config) (es : List Event) (o : Op) (told : Answer) (fs gs : List Event) → Calls c es o told fs
     → SameCalls c fs gs → Calls c es o told gs
 calls_looked c es o told fs gs made same = record {

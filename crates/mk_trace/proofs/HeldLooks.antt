@@ -1,4 +1,4 @@
--- The host looks at the tally of held words: it tells what is held, and nothing is granted or let go meanwhile.
+-- The host looks at the tally of held words: it reports what is held, and nothing is granted or let go meanwhile.
 use Rattle.std.proofs.Common.{◌≡◌, ℕ, Bool, true, false, List, [], ◌∷◌, ◌++◌, refl, sym, ◌∙◌, ap, subst, append-nil}
 use Rattle.std.specs.Prelude.{◌||◌, None}
 use Rattle.mk_core.specs.declared.config.Config.{Config}
@@ -8,7 +8,7 @@ use Rattle.mk_core.specs.declared.events.Step.TheVariants as step
 use Rattle.mk_core.specs.declared.events.Word.{Word}
 use Rattle.mk_core.specs.declared.events.Word.TheVariants as word
 use Rattle.mk_core.specs.Accesses.{found}
-use Rattle.mk_core.specs.Allocations.{held_words}
+use Rattle.mk_core.specs.Allocations.{held_by_allocations}
 use Rattle.mk_core.specs.Counts.{TalliesAreExact}
 use Rattle.mk_core.specs.Growing.{AreOfOthers}
 use Rattle.mk_core.specs.History.{World, IsHistory, left}
@@ -166,10 +166,10 @@ module _ (p q : PassState) (x : Word) (n : ℕ) (h : Tells p x n q) (own : Has p
       (apart.take (step.Take None) refl))
 
   -- No more was held meanwhile,
-  pub told_holds_no_more : greatest c (held_words c) q.seen ≡ greatest c (held_words c) p.seen
+  pub told_holds_no_more : greatest c (held_by_allocations c) q.seen ≡ greatest c (held_by_allocations c) p.seen
   told_holds_no_more =
-      ap (λ (l : List Event). greatest c (held_words c) l) seen_is
-      ∙ no_more c (held_words c) (held_falls_at c) (held_rises_at c) p.seen (first ++ behind)
+      ap (λ (l : List Event). greatest c (held_by_allocations c) l) seen_is
+      ∙ no_more c (held_by_allocations c) (held_falls_at c) (held_rises_at c) p.seen (first ++ behind)
       (lacks_append is_grant first behind (first_lacks is_grant grants_apart) (behind_lacks is_grant grants_apart))
 
   history_taken : IsHistory taken.table.config taken.seen
@@ -178,11 +178,12 @@ module _ (p q : PassState) (x : Word) (n : ℕ) (h : Tells p x n q) (own : Has p
       (earlier_part_is_history c taken.seen behind
       (subst (λ (l : List Event). IsHistory c l) behind_seen history))
 
-  exact : (left taken.table.config taken.seen).now.words.held ≡ held_words c (left c taken.seen).allocations
+  exact : (left taken.table.config taken.seen).now.words.held ≡ held_by_allocations c (left c taken.seen).allocations
   exact =
       (exact_taken p taken h.takes (subst (λ (r : PassState). Has r.seats r.seat) (sym waited_same) own)
       history_taken).held
-      ∙ ap (λ (r : PassState). held_words r.table.config (left r.table.config taken.seen).allocations) taken_same
+      ∙ ap (λ (r : PassState). held_by_allocations r.table.config
+      (left r.table.config taken.seen).allocations) taken_same
 
   pub looks_alone : h.looks.makes.others ≡ []
   looks_alone =
@@ -191,11 +192,11 @@ module _ (p q : PassState) (x : Word) (n : ℕ) (h : Tells p x n q) (own : Has p
       (mine_parts c [] looking giving mine.1).0).0
       (of_pass taken h.looks.makes.others taken_same h.looks.makes.of_others)
 
-  -- and the tally tells how much is held.
-  pub told_is_held : x ≡ word.Held → n ≡ held_words c (left c p.seen).allocations
+  -- and the tally says how much is held.
+  pub told_is_held : x ≡ word.Held → n ≡ held_by_allocations c (left c p.seen).allocations
   told_is_held is =
       h.looks.finds ∙ held_found taken x h.looks.makes.others is looks_alone ∙ exact
-      ∙ ap (λ (w : World). held_words c w.allocations)
+      ∙ ap (λ (w : World). held_by_allocations c w.allocations)
       (ap (λ (l : List Event). left c l) taken_seen ∙ left_in_parts c p.seen first)
-      ∙ stays c (held_words c) (held_falls_at c) (held_rises_at c) (left c p.seen) first
+      ∙ stays c (held_by_allocations c) (held_falls_at c) (held_rises_at c) (left c p.seen) first
       (first_lacks is_grant grants_apart) (first_lacks lets_go lets_go_apart)

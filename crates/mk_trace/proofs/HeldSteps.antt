@@ -10,7 +10,8 @@ use Rattle.mk_core.specs.declared.events.Event.{Event}
 use Rattle.mk_core.specs.declared.events.Step.{Step}
 use Rattle.mk_core.specs.declared.events.Step.TheVariants as step
 use Rattle.mk_core.specs.declared.seats.Flight.{Flight}
-use Rattle.mk_core.specs.Allocations.{PlacedAllocation, allocations_by, freed_where_it_stands, granted, held_words}
+use Rattle.mk_core.specs.Allocations.{PlacedAllocation, allocations_by, freed_where_it_stands, granted}
+use Rattle.mk_core.specs.Allocations.{held_by_allocations}
 use Rattle.mk_core.specs.Allocations.{no_longer_fresh, stands_in, storage_words, with_released}
 use Rattle.mk_core.specs.Bounded.{is_some_and}
 use Rattle.mk_core.specs.Cells.{is_left_unmarked, pointed_cell}
@@ -36,7 +37,7 @@ sum_falls c change falls (a ∷ xs) =
 
 held_falls : (c : Config) (change : PlacedAllocation → PlacedAllocation)
     → ((a : PlacedAllocation) → held_part c (change a) ≤ held_part c a)
-    → (xs : List PlacedAllocation) → held_words c (map change xs) ≤ held_words c xs
+    → (xs : List PlacedAllocation) → held_by_allocations c (map change xs) ≤ held_by_allocations c xs
 held_falls c change falls xs =
     let before = held_sum c xs in
     let behind = held_sum c (map change xs) in
@@ -75,7 +76,8 @@ release_falls c w a =
 stale_falls : (c : Config) (a : PlacedAllocation) → held_part c (no_longer_fresh a) ≤ held_part c a
 stale_falls c a = omega arith
 
-stale_rises : (c : Config) (xs : List PlacedAllocation) → held_words c xs ≤ held_words c (map no_longer_fresh xs)
+stale_rises : (c : Config) (xs : List PlacedAllocation)
+    → held_by_allocations c xs ≤ held_by_allocations c (map no_longer_fresh xs)
 stale_rises c xs =
     let before = held_sum c xs in
     let behind = held_sum c (map no_longer_fresh xs) in
@@ -90,7 +92,7 @@ stale_rises c xs =
         ∙ ap (λ n. held_part c a + n) (sums c xs) ∙ sym (sum_by-cons (held_part c) a xs)
 
 more_rises : (c : Config) (xs : List PlacedAllocation) (a : PlacedAllocation)
-    → held_words c xs ≤ held_words c (xs ++ a ∷ [])
+    → held_by_allocations c xs ≤ held_by_allocations c (xs ++ a ∷ [])
 more_rises c xs a =
     let before = held_sum c xs in
     let behind = held_sum c (xs ++ a ∷ []) in
@@ -100,7 +102,7 @@ more_rises c xs a =
 -- One step.
 
 step_falls : (c : Config) (m : Moment) (f : Flight) (s : Step) (xs : List PlacedAllocation) → is_grant s ≡ false
-    → held_words c (allocations_by c m f s xs) ≤ held_words c xs
+    → held_by_allocations c (allocations_by c m f s xs) ≤ held_by_allocations c xs
 step_falls c m f step.Grant xs h = cc
 step_falls c m f (step.Quar p v) xs h = held_falls c (freed_where_it_stands m.words (cell_freed c.pages m.words f p v))
     (free_falls c m.words (cell_freed c.pages m.words f p v)) xs
@@ -109,7 +111,7 @@ step_falls c m f step.Release xs h = held_falls c (with_released c m.words) (rel
 step_falls c m f s xs h = omega arith
 
 step_rises : (c : Config) (m : Moment) (f : Flight) (s : Step) (xs : List PlacedAllocation) → lets_go s ≡ false
-    → held_words c xs ≤ held_words c (allocations_by c m f s xs)
+    → held_by_allocations c xs ≤ held_by_allocations c (allocations_by c m f s xs)
 step_rises c m f (step.Quar p v) xs h = cc
 step_rises c m f step.Release xs h = cc
 step_rises c m f step.Grant xs h = more_rises c xs (granted c m f)
@@ -119,9 +121,9 @@ step_rises c m f s xs h = omega arith
 -- One event.
 
 pub held_falls_at : (c : Config) (w : World) (e : Event) → is_grant e.step ≡ false
-    → held_words c (world_behind c w e).allocations ≤ held_words c w.allocations
+    → held_by_allocations c (world_behind c w e).allocations ≤ held_by_allocations c w.allocations
 held_falls_at c w e none = step_falls c w.now (flight_of w.now e.seat) e.step w.allocations none
 
 pub held_rises_at : (c : Config) (w : World) (e : Event) → lets_go e.step ≡ false
-    → held_words c w.allocations ≤ held_words c (world_behind c w e).allocations
+    → held_by_allocations c w.allocations ≤ held_by_allocations c (world_behind c w e).allocations
 held_rises_at c w e none = step_rises c w.now (flight_of w.now e.seat) e.step w.allocations none

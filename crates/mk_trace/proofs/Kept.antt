@@ -1,4 +1,4 @@
--- What lines keep one behind the other, and what their results tell.
+-- What lines keep one after the other, and what their results say.
 use Rattle.std.proofs.Common.{◌≡◌, ℕ, ◌+◌, Bool, true, false, ◌&&◌, nat_le, List, [], ◌∷◌, Ok, Err, Result, refl, subst}
 use Rattle.std.proofs.Common.{arith}
 use Rattle.std.specs.Prelude.{Option, Some, None, if◌then◌else◌}

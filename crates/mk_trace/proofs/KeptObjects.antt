@@ -1,4 +1,4 @@
--- The kept objects are those of the quarantined allocations: over a call that frees one, or none, and behind it, where
+-- The kept objects are those of the quarantined allocations: over a call that frees one, or none, and after it, where
 -- those are let go that were released.
 use Rattle.std.proofs.Common.{◌≡◌, ◌≢◌, inl, inr, ℕ, ◌+◌, ◌≤◌, ◌<◌, Bool, true, false, List, [], ◌∷◌, ◌++◌, length, map}
 use Rattle.std.proofs.Common.{refl, sym, ◌∙◌, ap, subst, arith, append-nil}
@@ -68,7 +68,7 @@ object_by c found xs ys i base ty =
       age = age_in_a_word found i;
     }) (sym ty)
 
--- behind one end more
+-- after one end more
 aged_by : (c : Config) (found later : List (List PlacedAllocation)) (xs : List PlacedAllocation) (i : ℕ)
     → age_of i later ≡ age_of i found + 1 → aged (aged_object c found xs i) ≡ aged_object c later xs i
 aged_by c found later xs i one =
@@ -189,7 +189,7 @@ module _ (c : Config) (es fs : List Event) (x : Option ℕ)
       → AreObjectsOf c found xs was_kept (objects ++ one_or_none (option_map (object_of c xs) x))
   noted found objects ends kept = noted_by found objects x refl ends kept
 
-  -- and behind it.
+  -- and after it.
 
   exists : (numbers : List ℕ) → AreThose was_kept numbers → (i : ℕ) → 1 ≤ times i numbers
       → ((placed_at ys i).freed ≡ true) × ((placed_at xs i).released ≡ false) × (i < length xs)
@@ -249,7 +249,7 @@ module _ (c : Config) (es fs : List Event) (x : Option ℕ)
         none_left true = refl
         none_left false = refl
 
-    -- One end was behind what had been found.
+    -- One end was after what had been found.
     module _ (found later : List (List PlacedAllocation))
         (one : (i : ℕ) → was_kept i ≡ true → age_of i later ≡ age_of i found + 1)
         (objects : List FreedObject) (kept : AreObjectsOf c found xs was_kept objects) where

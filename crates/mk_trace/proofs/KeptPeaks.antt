@@ -1,4 +1,4 @@
--- All is kept of freed objects behind a call, once what it freed is noted, and what it released is let go.
+-- All is kept of freed objects after a call, once what it freed is noted, and what it released is let go.
 use Rattle.std.proofs.Common.{◌≡◌, ◌≢◌, ◌⊎◌, inl, inr, ℕ, ◌+◌, ◌<◌, Bool, true, false, List, [], ◌∷◌, ◌++◌, map}
 use Rattle.std.proofs.Common.{refl, sym, ◌∙◌, ap, subst, arith}
 use Rattle.std.specs.Prelude.{◌==◌, fold, sum_by, Option, Some, None, option_map}

@@ -1,4 +1,4 @@
--- The operations of an event behind its first one, called one by one.
+-- The operations of an event after its first one, called one by one.
 use Rattle.std.proofs.Common.{◌≡◌, ℕ, ◌+◌, ◌≤◌, ◌<◌, Bool, true, false, List, [], ◌∷◌, ◌++◌, length, get_or, refl, sym}
 use Rattle.std.proofs.Common.{◌∙◌}
 use Rattle.std.proofs.Common.{ap, subst, arith}
@@ -22,7 +22,7 @@ use Rattle.mk_trace.specs.Calls.{MayCome, Calls, CallsAll, PlaysEvent}
 use Rattle.mk_trace.specs.Playing.{ops_of, calls_of_caller, is_refusal}
 use Rattle.mk_trace.proofs.OneCaller.{calls_first, calls_more, full_as_told, next_may_come}
 
--- An event's operations are its first one and those behind it.
+-- An event's operations are its first one and those after it.
 
 made_first : (slot : ℕ) (a : Answer)
     → ops_of (is_full_answer a) (A slot) ≡ flagged (op.New 0 slot false) a ∷ drop 1 (ops_of (is_full_answer a) (A slot))
@@ -185,7 +185,7 @@ plays_event c es event refused fs full h = record {
   refuses = h.refuses;
 }
 
--- What the loop knows: the first operation was called, and so many of those behind it.
+-- What the loop knows: the first operation was called, and this many of those after it.
 pub record AreCalled (c : Config) (es : List Event) (event : TraceEvent) (items : List Op) (i : ℕ) (refused : Bool)
     (fs : List Event) : Type 0 where
   pub full : Bool
@@ -229,9 +229,9 @@ pub called_first : (c : Config) (es : List Event) (event : TraceEvent) (o : Op) 
     → ops_of false event ≡ o ∷ drop 1 (ops_of false event) → Calls c es o told fs → full ≡ is_full_answer told
     → refused ≡ is_refusal told → items ≡ drop 1 (ops_of full event)
     → AreCalled c es event items 0 refused fs
-called_first c es event o told fs full refused items first g is_full is_refused are = record {
+called_first c es event o told fs full refused items first g is_full_answer is_refused are = record {
   full = is_full_answer told;
-  items_are = are ∙ ap (λ (b : Bool). drop 1 (ops_of b event)) is_full;
+  items_are = are ∙ ap (λ (b : Bool). drop 1 (ops_of b event)) is_full_answer;
   calls =
       subst (λ (b : Bool). CallsAll c es (is_full_answer told) (take (0 + 1) (ops_of (is_full_answer told) event)) b fs)
       (sym is_refused) (begun c es event o told fs first g);

@@ -1,4 +1,4 @@
--- What the ledger keeps over a call, with the looks before it and behind it.
+-- What the ledger keeps over a call, with the looks before it and after it.
 use Rattle.std.proofs.Common.{◌≡◌, ◌⊎◌, inl, inr, ℕ, ◌+◌, ◌≤◌, ◌<◌, List, ◌++◌, sym, ◌∙◌, ap, subst, arith, max}
 use Rattle.std.specs.Prelude.{Option, Some, option_map}
 use Rattle.mk_never.specs.declared.operations.Op.{Op}
@@ -7,7 +7,7 @@ use Rattle.mk_never.specs.NeverHeap.{NeverState}
 use Rattle.mk_core.specs.declared.config.Config.{Config}
 use Rattle.mk_core.specs.declared.events.Answer.{Answer}
 use Rattle.mk_core.specs.declared.events.Event.{Event}
-use Rattle.mk_core.specs.Allocations.{PlacedAllocation, held_words, placed_at}
+use Rattle.mk_core.specs.Allocations.{PlacedAllocation, held_by_allocations, placed_at}
 use Rattle.mk_core.specs.Counts.{ends, in_a_word}
 use Rattle.mk_core.specs.Cycles.{is_quarantined}
 use Rattle.mk_core.specs.Decided.{Decided, asked, entry_of}
@@ -124,9 +124,9 @@ pub held_over : (c : Config) (es0 es1 es2 es3 es4 : List Event) (held now : ℕ)
     → HoldsMostAtEnd c es1 es2 → OnlyLooks c es2 es3 → OnlyLooks c es3 es4 → held ≡ most_held c es0
     → now ≡ held_behind c es2 → max held now ≡ most_held c es4
 held_over c es0 es1 es2 es3 es4 held now before most looks more is finds =
-    let one = before.most (held_words c) in
-    let two = looks.most (held_words c) in
-    let three = more.most (held_words c) in
+    let one = before.most (held_by_allocations c) in
+    let two = looks.most (held_by_allocations c) in
+    let three = more.most (held_by_allocations c) in
     omega (arith, one, two, three, most, is, finds)
 
 pub called_over : (c : Config) (es0 es1 es2 es3 es4 : List Event) (o : Op) (told : Answer) → OnlyLooks c es0 es1

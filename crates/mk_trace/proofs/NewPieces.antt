@@ -1,4 +1,4 @@
--- What is seen of a New's call: behind the grant of its object nothing is let go.
+-- What is seen of a New's call: after the grant of its object nothing is let go.
 use Rattle.std.proofs.Common.{◌≡◌, ℕ, Bool, true, false, List, ◌++◌, refl, sym, ◌∙◌, subst}
 use Rattle.std.specs.Prelude.{Option}
 use Rattle.std.proofs.lemmas.List.{append_cancel_left}

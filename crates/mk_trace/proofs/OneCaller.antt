@@ -72,7 +72,7 @@ stays_admitted p o seat one history comes = λ es later same.
     subst (λ (k : ℕ). IsAdmitted c.globals (never_behind c es) k o) (sym number)
     (subst (λ (xs : List Decided). IsAdmitted c.globals (after_calls (never_first c) (asked xs)) 0 o) (sym all) comes)
 
--- The caller is joined behind its call.
+-- The caller is joined after its call.
 pub joined_call : (on : Bool) (p : PassState) (o : Op) (told : Answer) (q : PassState) (fs : List Event)
     → p.seat ≡ Caller 0 → p.seats ≡ Caller 0 ∷ [] → p.table.config.callers ≡ 1 → IsHistory p.table.config p.seen
     → Answers on p o told q → Grows q.seats q.seen fs → IsHistory p.table.config fs
@@ -94,7 +94,7 @@ joined_call on p o told q fs seat seats one history h came later =
           ∙ ap (λ (l : List Decided). l ++ entry_of 0 o (Some h.answer)) (calls_are_own c p.seen one history);
     }
 
--- Calls one behind the other.
+-- Calls one after the other.
 
 pub never_then_calls : (c : Config) (es fs : List Event) (more : List Decided) → calls c fs ≡ calls c es ++ more
     → never_behind c fs ≡ after_calls (never_behind c es) (asked more)

@@ -18,7 +18,7 @@ grant_keeps : (s : Step) → is_grant s ≡ true → lets_go s ≡ false
 grant_keeps step.Grant h = refl
 grant_keeps _ h = cc
 
--- Behind each grant of a longer list nothing is let go.
+-- After each grant of a longer list nothing is let go.
 last_later : (e : Event) (es : List Event) → LastIn (e ∷ es) → LastIn es
 last_later e es last g =
     last (record {
@@ -33,7 +33,7 @@ last_first : (e : Event) (es : List Event) → LastIn (e ∷ es) → is_grant e.
 last_first e es last is = last (record { before = []; event = e; behind = es; is = refl; of_kind = is })
 
 module _ (c : Config) (measure : List PlacedAllocation → ℕ) where
-  -- what a world has, what it has behind more events, and what it has at most on the way
+  -- what a world has, what it has after more events, and what it has at most on the way
 
   abbrev has : World → ℕ
   has w = measure w.allocations

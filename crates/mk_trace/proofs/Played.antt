@@ -105,7 +105,7 @@ is_played trace refused es h whole = record {
   at_rest = (whole.rests (Caller 0) refl).call;
 }
 
--- The host looks before an event and behind it.
+-- The host looks before an event and after it.
 pub plays_between : (c : Config) (es fs gs hs : List Event) (event : TraceEvent) (refused : Bool) → SameCalls c es fs
     → PlaysEvent c fs event refused gs → SameCalls c gs hs → PlaysEvent c es event refused hs
 plays_between c es fs gs hs event refused before p behind = record {

@@ -39,7 +39,7 @@ first_refused : (refused : Bool) → (if refused then 0 + 1 else 0) ≡ 0 + one_
 first_refused true = refl
 first_refused false = refl
 
--- The answers so far are as many as the operations, so the next event takes those behind them.
+-- The answers so far are as many as the operations, so the next event takes those after them.
 
 module _ (event : TraceEvent) (more : List Answer) where
   abbrev next : List Op

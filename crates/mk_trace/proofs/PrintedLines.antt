@@ -1,4 +1,4 @@
--- Lines behind a text, one after the other.
+-- Lines after a text, one after the other.
 use Rattle.std.proofs.Common.{◌≡◌, List, [], ◌++◌, append_assoc, append-nil}
 
 pub six_lines : {X : Type 0} (old a b c d e f t1 t2 t3 t4 t5 t6 : List X) → t1 ≡ old ++ a → t2 ≡ t1 ++ b → t3 ≡ t2 ++ c

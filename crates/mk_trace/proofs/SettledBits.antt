@@ -12,7 +12,7 @@ use Rattle.mk_core.specs.History.{IsHistory, left}
 use Rattle.mk_core.specs.Moments.{is_phase}
 use Rattle.mk_core.specs.Words.{Words, phase_of}
 use Rattle.mk_layout.specs.Quarantine.{IsFreedCell, IsQuarantined}
-use Rattle.mk_layout.specs.Scene.{is_released_in}
+use Rattle.mk_layout.specs.LayoutScene.{is_released_in}
 use Rattle.mk_layout.proofs.Settled.{unreleased_are_apart}
 use Rattle.mk_invariant.proofs.Histories.{histories_keep_the_invariant}
 use Rattle.mk_trace.specs.Freeing.{AreLater}
@@ -61,7 +61,7 @@ module _ (c : Config) (es : List Event) (history : IsHistory c es) (out : phase_
         ∙ sym unfreed
   ]
 
--- What was unreleased before, and is freed behind a call: its bit says whether it is released by then.
+-- What was unreleased before, and is freed after a call: its bit says whether it is released by then.
 module _ (c : Config) (es fs : List Event) (before : IsHistory c es) (behind : IsHistory c fs)
     (later : AreLater (left c es).allocations (left c fs).allocations)
     (old : (j : ℕ) → (placed_at (left c fs).allocations j).freed ≡ true → j < length (left c es).allocations)

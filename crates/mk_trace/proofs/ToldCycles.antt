@@ -1,4 +1,4 @@
--- The host looks at the tally of cycles: it tells how many have ended.
+-- The host looks at the tally of cycles: it reports how many have ended.
 use Rattle.std.proofs.Common.{◌≡◌, ℕ, true, false, List, [], ◌∷◌, ◌++◌, refl, sym, ◌∙◌, ap, subst, append-nil}
 use Rattle.std.proofs.Common.{append_assoc, arith}
 use Rattle.mk_core.specs.declared.config.Config.{Config}

@@ -11,7 +11,7 @@ use Rattle.mk_core.specs.declared.events.Answer.{Answer}
 use Rattle.mk_core.specs.declared.events.Event.{Event}
 use Rattle.mk_core.specs.declared.events.Seat.TheVariants.{Caller}
 use Rattle.mk_core.specs.Decided.{Decided, entry_of, asked, answered}
-use Rattle.mk_core.specs.Allocations.{held_words}
+use Rattle.mk_core.specs.Allocations.{held_by_allocations}
 use Rattle.mk_core.specs.History.{calls, left, never_behind, IsHistory}
 use Rattle.mk_words.specs.Seats.{Has, HasAll, has_over}
 use Rattle.mk_words.specs.States.{WordsState}
@@ -56,11 +56,11 @@ SameCalls c es fs = calls c fs ≡ calls c es
 
 -- What is held.
 abbrev pub held_behind : Config → List Event → ℕ
-held_behind c es = held_words c (left c es).allocations
+held_behind c es = held_by_allocations c (left c es).allocations
 
 -- what was held at most
 abbrev pub most_held : Config → List Event → ℕ
-most_held c es = greatest c (held_words c) es
+most_held c es = greatest c (held_by_allocations c) es
 
 -- No more was held meanwhile.
 abbrev pub HoldsNoMore : Config → List Event → List Event → Type 0
@@ -98,7 +98,7 @@ abbrev pub MayBePlayed : Config → List Event → TraceEvent → Type 0
 MayBePlayed c es event =
     (full : Bool) → AreAdmitted c.globals (never_behind c es) (calls_of_caller (ops_of full event))
 
--- The operations so far are those of these events, and so many events were refused. Between them all registers are
+-- The operations so far are those of these events, and this many events were refused. Between them all registers are
 -- null.
 pub record HasPlayed (trace : Contents) (events : List TraceEvent) (refused : ℕ) (es : List Event) : Type 0 where
   pub ops : asked (calls (config_of trace) es)

@@ -1,4 +1,4 @@
--- What the ends of cycles find in a call: at most one ends, and behind its end nothing is freed or released.
+-- What the ends of cycles find in a call: at most one ends, and after its end nothing is freed or released.
 use Rattle.std.specs.Prelude.{◌≡◌, ◌⊎◌, ℕ, ◌+◌, ◌<◌, ◌≤◌, List, [], ◌∷◌, ◌++◌, length}
 use Rattle.mk_core.specs.declared.config.Config.{Config}
 use Rattle.mk_core.specs.declared.events.Event.{Event}
@@ -27,7 +27,7 @@ pub record EndsNone (c : Config) (es fs : List Event) : Type 0 where
   pub count : ends fs ≡ ends es
   pub released : ReleasesNone (left c es).allocations (left c fs).allocations
 
--- One cycle ended, and found these. Behind its end none was freed or released.
+-- One cycle ended, and found these. After its end none was freed or released.
 pub record EndsOne (c : Config) (es fs : List Event) : Type 0 where
   pub finds : List PlacedAllocation
   pub found : found_by_ends c fs ≡ found_by_ends c es ++ finds ∷ []

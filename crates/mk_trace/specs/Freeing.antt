@@ -60,7 +60,7 @@ pub record QuarantinesMostWhereFreed (c : Config) (es : List Event) (o : Op) (fs
   pub quarantined : IsMostWhereFreed c (quarantined_words c) (storage_words c) es o fs
   pub reserved : IsMostWhereFreed c (reserved_words c) (large_words c) es o fs
 
--- Allocations behind a call. They stay at their places, and what is released stays released.
+-- Allocations after a call. They stay at their places, and what is released stays released.
 pub record AreLater (xs ys : List PlacedAllocation) : Type 0 where
   pub count : length xs ≤ length ys
   pub base : (i : ℕ) → i < length xs → (placed_at ys i).base ≡ (placed_at xs i).base

@@ -1,4 +1,4 @@
--- Lines one behind the other, up to the first that has a fault.
+-- Lines one after the other, up to the first that has a fault.
 use Rattle.std.specs.Prelude.{ℕ, ◌+◌, List, [], ◌∷◌, ◌++◌, Ok, Err}
 use Rattle.std.specs.declared.result.Result.{Result}
 use Rattle.mk_script.specs.declared.faults.LineFault.{LineFault}
@@ -28,7 +28,7 @@ abbrev pub go_on : {X Y Fault : Type 0} → (Fault → TraceStop) → Result X F
 go_on told (Ok x) next = next x
 go_on told (Err fault) next = Err (told fault)
 
--- What lines give, the first of which has this number: each is read behind what those before it gave, and added to it.
+-- What lines give, the first of which has this number: each is read after what those before it gave, and added to it.
 unfoldable pub along : {Line Given Whole Fault : Type 0} → (ℕ → Fault → TraceStop) → (Whole → Line → Result Given Fault)
     → (Whole → Given → Whole) → ℕ → List Line → Whole → Result Whole TraceStop
 along told read add number [] before = Ok before
@@ -38,14 +38,14 @@ along told read add number (line ∷ lines) before =
 abbrev pub read_behind : Written → List ℕ → Result Line LineFault
 read_behind written line = line_of written (words_of line)
 
--- the slots and the events of lines behind others
+-- the slots and the events of lines after others
 abbrev pub written_from : ℕ → List (List ℕ) → Written → Result Written TraceStop
 written_from number lines before = along text_fault_at read_behind with_line number lines before
 
 abbrev pub with_event : List TraceEvent → TraceEvent → List TraceEvent
 with_event events event = events ++ event ∷ []
 
--- the events of lines, behind others
+-- the events of lines, after others
 abbrev pub events_from : List Slot → ℕ → List EventLine → List TraceEvent → Result (List TraceEvent) TraceStop
 events_from slots number lines before =
     along type_fault_at (λ events line. typed_event slots line) with_event number lines before

@@ -26,7 +26,7 @@ pub record IsPlayable (trace : Contents) : Type 0 where
   pub heap : IsWithinLimits (config_of trace)
 
 -- a beginning of the events leaves allocations of this measure
-pub record IsReached (c : Config) (measure : List PlacedAllocation → ℕ) (es : List Event) (n : ℕ) : Type 0 where
+pub record IsAttained (c : Config) (measure : List PlacedAllocation → ℕ) (es : List Event) (n : ℕ) : Type 0 where
   pub before : List Event
   pub behind : List Event
   pub is : es ≡ before ++ behind
@@ -34,5 +34,5 @@ pub record IsReached (c : Config) (measure : List PlacedAllocation → ℕ) (es 
 
 -- The greatest measure is reached, and no beginning of the events passes it.
 pub record IsGreatest (c : Config) (measure : List PlacedAllocation → ℕ) (es : List Event) (n : ℕ) : Type 0 where
-  pub reached : IsReached c measure es n
+  pub reached : IsAttained c measure es n
   pub above : (before behind : List Event) → es ≡ before ++ behind → measure (left c before).allocations ≤ n

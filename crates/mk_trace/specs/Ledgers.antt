@@ -41,7 +41,7 @@ aged_object c found xs number =
       age = age_in_a_word found number;
     }
 
--- behind one end more
+-- after one end more
 abbrev pub aged : FreedObject → FreedObject
 aged x = record { cell = x.cell; storage = x.storage; reserved = x.reserved; age = in_a_word (x.age + 1) }
 
@@ -152,7 +152,7 @@ SettlesWhere false freed old new =
     × (objects_kept new ≡ still_kept freed (map aged (objects_kept old)))
     × (new.ages.items ≡ fold with_one old.ages.items (ages_let_go freed (map aged (objects_kept old))))
 
--- What was released is let go, and its ages are counted, where so many cycles have ended.
+-- What was released is let go, and its ages are counted, where this many cycles have ended.
 pub record Settles (freed : List ℕ) (count : ℕ) (old new : Freed) : Type 0 where
   pub ends : new.ends ≡ count
   pub objects : SettlesWhere (is_count_same count old) freed old new

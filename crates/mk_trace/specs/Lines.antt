@@ -1,4 +1,4 @@
--- What a line of a trace's text says, behind those before it, or its first fault: of form and place, numbers and names,
+-- What a line of a trace's text says, after those before it, or its first fault: of form and place, numbers and names,
 -- slots that are declared twice, limits.
 use Rattle.std.specs.Prelude.{ℕ, ◌+◌, ◌==◌, if◌then◌else◌, List, [], ◌∷◌, ◌++◌, length, is_some, Option, Some, None, Ok}
 use Rattle.std.specs.Prelude.{Err}
@@ -21,7 +21,7 @@ use Rattle.mk_trace.specs.declared.lines.EventLine.{EventLine}
 use Rattle.mk_trace.specs.declared.lines.Line.{Line}
 use Rattle.mk_trace.specs.declared.lines.Line.TheVariants as line
 
--- what the lines behind the first say so far
+-- what the lines after the first say so far
 pub record Written : Type 0 where
   pub slots : List Slot
   pub events : List EventLine
@@ -54,7 +54,7 @@ header_of words = Err (Text kind.Header)
 abbrev pub slot_number : List Slot → List ℕ → Option ℕ
 slot_number slots name' = position (λ (slot : Slot). bytes_eq name' slot.name) slots
 
--- the limit that is passed by a slot of so many words, as the one of this number, counted from 1
+-- the limit that is passed by a slot of this many words, as the one of this number, counted from 1
 abbrev pub slot_limit : ℕ → ℕ → Option LineFault
 slot_limit count words = option_or (at_most count 64 which.Types) (within 1 words 4096 which.Words)
 
@@ -75,7 +75,7 @@ slot_line before (slot ∷ words ∷ []) =
     else Err (Text kind.Word)
 slot_line before operands = Err (Text kind.Word)
 
--- `a S`, `k S`, `f S`, `c S` and `w S i N`, behind the first slot
+-- `a S`, `k S`, `f S`, `c S` and `w S i N`, after the first slot
 
 abbrev pub plain_action : List ℕ → Option Action
 plain_action word =
@@ -109,7 +109,7 @@ event_line before word operands =
     then Err (Text kind.Word)
     else event_of word operands >>= (λ event. Ok (line.Event event))
 
--- a line behind the first
+-- a line after the first
 abbrev pub line_of : Written → List (List ℕ) → Result Line LineFault
 line_of before [] = Err (Text kind.Word)
 line_of before (word ∷ operands) =

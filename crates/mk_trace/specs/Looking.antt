@@ -24,6 +24,6 @@ pub record OnlyLooks (c : Config) (es fs : List Event) : Type 0 where
   pub table : LeavesTable (left c es) (left c fs)
   pub most : (measure : List PlacedAllocation → ℕ) → greatest c measure fs ≡ greatest c measure es
 
--- the word, behind these events
+-- the word, after these events
 abbrev pub word_behind : Config → List Event → Word → ℕ
 word_behind c es x = named_word (left c es).now.words x

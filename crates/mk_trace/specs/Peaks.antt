@@ -5,7 +5,7 @@ use Rattle.std.specs.Prelude.{sum_by}
 use Rattle.mk_never.specs.Types.{kinds_of, is_large}
 use Rattle.mk_core.specs.declared.config.Config.{Config}
 use Rattle.mk_core.specs.declared.events.Event.{Event}
-use Rattle.mk_core.specs.Allocations.{PlacedAllocation, placed_at, storage_words, held_words}
+use Rattle.mk_core.specs.Allocations.{PlacedAllocation, placed_at, storage_words, held_by_allocations}
 use Rattle.mk_core.specs.Counts.{ends, in_a_word}
 use Rattle.mk_core.specs.Cycles.{is_end, is_quarantined}
 use Rattle.mk_core.specs.History.{World, first_world, world_behind, left}
@@ -79,7 +79,7 @@ pub record HistoryPeaks : Type 0 where
 abbrev pub peaks_of : Config → List Event → HistoryPeaks
 peaks_of c es =
     record {
-      held = in_a_word (greatest c (held_words c) es);
+      held = in_a_word (greatest c (held_by_allocations c) es);
       quarantined = in_a_word (greatest c (quarantined_words c) es);
       reserved = in_a_word (greatest c (reserved_words c) es);
       cycles = in_a_word (ends es);

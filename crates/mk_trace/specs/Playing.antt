@@ -46,7 +46,7 @@ config_of trace =
       globals = range_with_len 0 (length trace.slots);
     }
 
--- The operations of an event, where a New of its is full, or isn't. Behind each all registers are null.
+-- The operations of an event, where a New of its is full, or isn't. After each all registers are null.
 abbrev pub ops_of : Bool → TraceEvent → List Op
 ops_of false (A slot) = New 0 slot false ∷ SetGlobal slot 0 ∷ Clear 0 ∷ []
 ops_of false (K slot) =

@@ -16,7 +16,7 @@ pub record IsFaultOf {A : Type 0} (number : ℕ) (found : Result A LineFault) (s
   pub is_fault : found ≡ Err fault
   pub told : stop ≡ text_fault_at number fault
 
--- a line was read behind others
+-- a line was read after others
 pub record ReadsLine (before : Written) (words : List (List ℕ)) (behind : Written) : Type 0 where
   pub line : Line
   pub is_line : line_of before words ≡ Ok line

@@ -43,7 +43,7 @@ abbrev pub words_of_slots : List Slot → List ℕ
 words_of_slots slots = map (λ (slot : Slot). slot.words) slots
 
 -- The end of the text, where all lines are of the grammar and within the limits. Without a slot line 1 is the last.
--- Event lines stand behind that line and those of the slots.
+-- Event lines stand after that line and those of the slots.
 abbrev pub contents_of : HeapPages → Written → Result Contents TraceStop
 contents_of heap written =
     if length written.slots == 0

@@ -15,7 +15,7 @@ abbrev pub typed_write : ℕ → ℕ → ℕ → ℕ → Result TraceEvent TypeK
 typed_write slot words index value =
     if nat_le words index then Err kind.Offset else if index == 0 then Err kind.Kind else Ok (W slot index value)
 
--- the action on the slot of this number, whose objects have so many words
+-- the action on the slot of this number, whose objects have this many words
 abbrev pub event_on : ℕ → ℕ → Action → Result TraceEvent TypeKind
 event_on slot words action.New = Ok (A slot)
 event_on slot words action.Link = Ok (K slot)

@@ -11,7 +11,7 @@ ghost use Rattle.mk_trace.specs.Traces.{slot_of};
 
 use crate::ledger::Ledger;
 use crate::looking::{look, object_to_free};
-use crate::operations::{first_op, is_full, later_ops};
+use crate::operations::{first_op, is_full_answer, later_ops};
 use crate::settling::settle;
 use crate::trace::TraceEvent;
 use mk_check::is_refusal;
@@ -99,7 +99,7 @@ fn answer<E: Engine, R: Threads + Wait + Sync>(
     Ok(told)
 }
 
-/// Carries out the operations of an event, and tells whether one of them is refused.
+/// Carries out the operations of an event, and reports whether one of them is refused.
 pub(crate) fn refuses<E: Engine, R: Threads + Wait + Sync>(
     rt: &R,
     alloc: Global,
@@ -133,7 +133,7 @@ pub(crate) fn refuses<E: Engine, R: Threads + Wait + Sync>(
     let slot = event.slot();
     let first = answer(rt, alloc, heap, host, bench, ledger, slot, first_op(event))?;
     let mut refused = is_refusal(first);
-    let ops = later_ops(alloc, is_full(first), event)?;
+    let ops = later_ops(alloc, is_full_answer(first), event)?;
     for op in ops.iter() {
         let later = answer(rt, alloc, heap, host, bench, ledger, slot, *op)?;
         let also = is_refusal(later);

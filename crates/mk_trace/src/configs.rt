@@ -36,7 +36,7 @@ fn slot_types(alloc: Global, slots: &[u64]) -> Result<TypeTable, NoMemory>
     Ok(types)
 }
 
-/// The type of a slot's objects, which have so many words.
+/// The type of a slot's objects, which have this many words.
 fn slot_type(alloc: Global, slot: u64, words: u64) -> Result<Vec<Kind>, NoMemory>
     ensures { IfOk result (λ kinds. kinds.items ≡ spec.slot_type slot words) }
 {
@@ -58,7 +58,7 @@ fn push(kinds: &mut Vec<Kind>, kind: Kind) -> Result<(), NoMemory>
     Ok(kinds.push(kind)?)
 }
 
-/// So many globals, each of the type of its own number.
+/// This many globals, each of the type of its own number.
 fn slot_globals(alloc: Global, count: u64) -> Result<GlobalTable, NoMemory>
     requires { count ≤ 64 }
     ensures { IfOk result (λ globals. globals ≡ range_with_len 0 count) }

@@ -47,7 +47,7 @@ impl Draft {
         self.events.as_slice()
     }
 
-    /// What a line of these words says behind these.
+    /// What a line of these words says after these.
     pub fn line(&self, words: &[&[u8]]) -> Result<Line, LineFault>
         ensures { result ≡ spec.line_of self.now (texts_of words.now) }
     {
@@ -103,7 +103,7 @@ pub fn slot_number(slots: &[Slot], name: &Name) -> Option<usize>
     slots.iter().position(|slot| name.is(&slot.name))
 }
 
-/// The slot that two words say, where it may stand behind these.
+/// The slot that two words say, where it may stand after these.
 fn slot(before: &[Slot], word: &[u8], words: &[u8]) -> Result<Slot, LineFault>
     ensures { result ≡ spec.slot_from before.now word.now words.now }
 {
@@ -112,7 +112,7 @@ fn slot(before: &[Slot], word: &[u8], words: &[u8]) -> Result<Slot, LineFault>
     checked_slot(before, Slot { name, words })
 }
 
-/// The slot, where it may stand behind these.
+/// The slot, where it may stand after these.
 fn checked_slot(slots: &[Slot], slot: Slot) -> Result<Slot, LineFault>
     ensures { result ≡ spec.checked_slot slots.now slot }
 {

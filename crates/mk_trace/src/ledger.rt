@@ -119,7 +119,7 @@ impl Freed {
         }
     }
 
-    /// These are left, where so many cycles have ended.
+    /// These are left, where this many cycles have ended.
     pub(crate) fn keep(&mut self, kept: Vec<FreedObject>, ends: u64)
         ensures quarantined { self.new.quarantined
             ≡ weighed_anew (λ object. object.storage) kept.items self.old.quarantined }

@@ -42,7 +42,7 @@ pub struct EventLine {
     pub action: Action,
 }
 
-/// A line behind the first.
+/// A line after the first.
 #[derive(Drop)]
 pub enum Line {
     Slot(Slot),
@@ -143,7 +143,7 @@ fn write_event(word: &[u8], slot: &[u8], index: &[u8], value: &[u8]) -> Result<E
     })
 }
 
-/// The limit that is passed by a slot of so many words, as the one of this number, counted from 1.
+/// The limit that is passed by a slot of this many words, as the one of this number, counted from 1.
 pub fn slot_limit(count: u64, words: u64) -> Option<LineFault>
     ensures { result ≡ spec.slot_limit count words }
 {

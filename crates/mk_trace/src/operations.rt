@@ -27,7 +27,7 @@ pub(crate) fn first_op(event: TraceEvent) -> Op
     }
 }
 
-/// Those behind it, where its New was full, or wasn't.
+/// Those after it, where its New was full, or wasn't.
 pub(crate) fn later_ops(alloc: Global, full: bool, event: TraceEvent) -> Result<Vec<Op>, NoMemory>
     requires slot { slot_of event < 64 }
     ensures { IfOk result (λ ops. ops.items ≡ drop 1 (spec.ops_of full event)) }
@@ -73,7 +73,7 @@ fn set_global(slot: u64) -> Op
     }
 }
 
-/// Those behind a New whose object is linked to the slot's old one.
+/// Those after a New whose object is linked to the slot's old one.
 fn link_ops(alloc: Global, slot: u64) -> Result<Vec<Op>, NoMemory>
     requires { slot < 64 }
     ensures { IfOk result (λ ops. ops.items ≡ drop 1 (spec.ops_of false (trace_event.K slot))) }
@@ -89,7 +89,7 @@ fn link_ops(alloc: Global, slot: u64) -> Result<Vec<Op>, NoMemory>
 }
 
 /// Whether nothing fits.
-pub(crate) fn is_full(answer: Answer) -> bool
+pub(crate) fn is_full_answer(answer: Answer) -> bool
     ensures { result ≡ is_full_answer answer }
 {
     matches!(answer, Answer::Full)

@@ -49,7 +49,7 @@ fn read_header(alloc: Global, line: &[u8]) -> Result<HeapPages, TraceStop>
     }
 }
 
-/// The lines behind the first.
+/// The lines after the first.
 fn read_lines(alloc: Global, lines: &[&[u8]]) -> Result<Draft, TraceStop>
     ensures draft { IfOk result (λ draft. written_from 2 (texts_of lines.now) nothing_written ≡ Ok draft) }
     ensures fault { IfErr result (λ stop. stop ≢ TraceStop.NoMemory
@@ -62,7 +62,7 @@ fn read_lines(alloc: Global, lines: &[&[u8]]) -> Result<Draft, TraceStop>
     Ok(draft)
 }
 
-/// Reads a line of this number behind those of the draft.
+/// Reads a line of this number after those of the draft.
 fn read_line(alloc: Global, number: u64, draft: &mut Draft, line: &[u8]) -> Result<(), TraceStop>
     ensures { MatchResult result (λ _. ReadsLine draft.old (words_of line.now) draft.new)
         (λ stop. stop ≢ TraceStop.NoMemory → IsFaultOf number (line_of draft.old (words_of line.now)) stop) }

@@ -23,7 +23,7 @@ pub struct Peaks {
     pub reserved: u64,
     pub cycles: u64,
     /// For each age at which an allocation was released, how many were; the ages ascend. An age is the number of
-    /// ends of cycles behind the free, with that of the cycle that released it.
+    /// ends of cycles after the free, with that of the cycle that released it.
     pub ages: Vec<(u64, u64)>,
     pub(crate) report: Report,
 }

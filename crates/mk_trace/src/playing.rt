@@ -24,7 +24,7 @@ use std::alloc::Global;
 use std::sync::Wait;
 use std::thread::Threads;
 
-/// Plays an event, and tells whether it is refused.
+/// Plays an event, and reports whether it is refused.
 fn play_event<E: Engine, R: Threads + Wait + Sync>(
     rt: &R,
     alloc: Global,
@@ -77,7 +77,7 @@ fn opened(alloc: Global, config: &Config) -> Result<(Heap, Host), NoMemory>
     Ok((heap, host))
 }
 
-/// So many refused events, and this one, if it is refused.
+/// This many refused events, and this one, if it is refused.
 fn with_refusal(refused: u64, is_refused: bool) -> u64
     requires { refused < 18446744073709551615 }
     ensures { result ≡ (if is_refused then refused + 1 else refused) }
@@ -85,7 +85,7 @@ fn with_refusal(refused: u64, is_refused: bool) -> u64
     if is_refused { refused + 1 } else { refused }
 }
 
-/// Plays the events of a trace, and tells how many are refused.
+/// Plays the events of a trace, and reports how many are refused.
 fn play_events<E: Engine, R: Threads + Wait + Sync>(
     rt: &R,
     alloc: Global,

@@ -47,7 +47,7 @@ fn event(slots: &[Slot], line: &EventLine) -> Result<TraceEvent, TypeKind>
     event_on(number as u64, slots[number].words, line.action)
 }
 
-/// What the action is on the slot of this number, whose objects have so many words.
+/// What the action is on the slot of this number, whose objects have this many words.
 fn event_on(slot: u64, words: u64, action: Action) -> Result<TraceEvent, TypeKind>
     ensures { result ≡ typing.event_on slot words action }
 {

@@ -33,7 +33,7 @@ fn keep_or_count(
     }
 }
 
-/// Those of the objects that are quarantined yet, behind one more end. The others' ages are counted.
+/// Those of the objects that are quarantined yet, after one more end. The others' ages are counted.
 fn keep_quarantined<R: Wait>(
     rt: &R,
     alloc: Global,

@@ -130,7 +130,7 @@ gray_turns pages w v cell gray more either =
         by_second true b e = refl
         by_second false b e = e
 
--- A gray cell stays one behind marks, with its header and its words.
+-- A gray cell stays one after marks, with its header and its words.
 pub gray_kept : (pages : ℕ) (w v : Words) (cell : Cell) → IsGray pages w cell → MarksMore w v → IsGray pages v cell
 gray_kept pages w v cell gray more =
     record {
@@ -151,7 +151,7 @@ scan_done pages w v cell more each =
     subst all (sym more.is) (all_below_from (cell_words w cell)
     (λ i. points_well pages v (slice_index w.heap (first_word w cell + i))) each)
 
--- what stays behind marks, of the cell
+-- what stays after marks, of the cell
 pub cell_kept : (w v : Words) (cell : Cell) (i : ℕ) → MarksMore w v
     → slice_index v.heap (first_word v cell + i) ≡ slice_index w.heap (first_word w cell + i)
 cell_kept w v cell i more = ap (λ (y : Words). slice_index y.heap (first_word y cell + i)) more.is
@@ -178,7 +178,7 @@ cells_few (Some Free) = lit≤ tt
 cells_few (Some (Later distance mapped)) = lit≤ tt
 cells_few None = lit≤ tt
 
--- A cell is blackened behind marks.
+-- A cell is blackened after marks.
 pub blackens_one : (w x v : Words) (cell : Cell) → MarksMore w x
     → v ≡ record x { blacks = slice_set x.blacks cell.page (bit_or (slice_index x.blacks cell.page) (2 ^ cell.index)) }
     → BlackensOne w cell v
@@ -202,7 +202,7 @@ blackens_one w x v cell more is =
       grow = λ p k h. subst (λ (ms : List ℕ). has_bit (slice_index ms p) k ≡ true) (sym marks) (more.grow p k h);
     }
 
--- Colours are added, one part behind another.
+-- Colours are added, one part after another.
 
 pub colours_same : (w : Words) → ColoursMore w w
 colours_same w = record { is = refl; marks = λ p k h. h; blacks = λ p k h. h }

@@ -24,7 +24,7 @@ use Rattle.mk_core.specs.declared.seats.Object.{Object}
 use Rattle.mk_protocol.specs.Ground.{ground_of}
 use Rattle.mk_protocol.proofs.InHeap.{in_heap_left}
 use Rattle.mk_protocol.proofs.RunsInHeap.{RunsFit}
-use Rattle.mk_layout.specs.Scene.{shows_on}
+use Rattle.mk_layout.specs.LayoutScene.{shows_on}
 use Rattle.mk_layout.specs.Terrain.{object_now}
 use Rattle.mk_layout.proofs.Readings.{claimed, claimed_head}
 use Rattle.mk_layout.proofs.Serving.{Laid}
@@ -34,7 +34,7 @@ use Rattle.mk_zeros.proofs.TellGuard.{later_pages}
 use Rattle.mk_invariant.specs.Invariant.{Invariant}
 use Rattle.mk_invariant.proofs.Histories.{histories_keep_the_invariant}
 
--- the page is behind its head as its header says
+-- the page is after its head as its header says
 abbrev LiesBehind : Words → ℕ → ℕ → Type 0
 LiesBehind w p page = (page ≡ p) ⊎ ((distance : ℕ) × (mapped : Bool) ×
     (header_in w page ≡ Some (Later distance mapped)) × (p + distance ≡ page))

@@ -32,7 +32,7 @@ if_untold Q test x o is untold = subst (λ (r : Option ℕ). IfNone r Q) (sym is
     by true h = tt
     by false h = h refl
 
--- the first cell of a word that has one, if it is one of so many
+-- the first cell of a word that has one, if it is one of this many
 
 pub first_is_known : (x n : ℕ) (o : Option ℕ) → o ≡ then_some (nat_lt x n) x → IfSome o (λ k. k < n)
 first_is_known x n o is = if_told (λ k. k < n) (nat_lt x n) x o is (ltb-true x n)

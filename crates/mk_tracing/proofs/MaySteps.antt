@@ -22,7 +22,7 @@ use Rattle.mk_core.proofs.AllBelow.{all_below-at, all_below_not_is}
 use Rattle.mk_frames.proofs.Tests.{none_from}
 use Rattle.mk_words.specs.States.{PassState, now_of, call_of}
 use Rattle.mk_words.specs.Steps.{IsEnabledTo}
-use Rattle.mk_tracing.specs.Grays.{IsReached}
+use Rattle.mk_tracing.specs.Grays.{HandPointsInto}
 use Rattle.mk_tracing.specs.Stops.{IsWanted, still_words, hand_of}
 use Rattle.mk_tracing.proofs.Steps.{may_step}
 
@@ -56,7 +56,7 @@ marks_by pages w hand u cell h is value points =
     ∙ and_from (cell.page == cell.page) (2 ^ cell.index == 2 ^ cell.index) (eq-eqb cell.page cell.page refl)
     (eq-eqb (2 ^ cell.index) (2 ^ cell.index) refl)
 
-marks_reached : (p : PassState) (cell : Cell) → IsReached p cell
+marks_reached : (p : PassState) (cell : Cell) → HandPointsInto p cell
     → marks_by_hand p.table.config.pages (now_of p).words (hand_of p) cell.page (2 ^ cell.index) ≡ true
 marks_reached p cell r = marks_by p.table.config.pages (now_of p).words
     (hand_of p) r.value cell r.in_hand.hand r.in_hand.is r.in_hand.value r.points
@@ -84,7 +84,7 @@ module _ (p : PassState) (wanted : IsWanted p) (all : HoldsAll p.table.config (n
       (or_second (phase_of (now_of p).words == 1) (phase_of (now_of p).words == 2) phase_two) refl
       (or_first (marks_by_hand p.table.config.pages (now_of p).words (hand_of p) cell.page (2 ^ cell.index)) _ by_hand)
 
-  pub may_mark_cell : (cell : Cell) → IsReached p cell → cell.page < p.table.config.pages
+  pub may_mark_cell : (cell : Cell) → HandPointsInto p cell → cell.page < p.table.config.pages
       → IsEnabledTo p (step.Mark cell.page (2 ^ cell.index))
   may_mark_cell cell reached lt = may_mark_by_hand cell (marks_reached p cell reached) lt
 

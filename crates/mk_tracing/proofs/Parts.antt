@@ -1,4 +1,4 @@
--- Tracing in parts: nothing, one part behind another, and one step.
+-- Tracing in parts: nothing, one part after another, and one step.
 use Rattle.std.proofs.Common.{◌≡◌, ◌+◌, ℕ, Bool, true, false, List, [], ◌∷◌, ◌++◌, refl, sym, ◌∙◌, ap, subst}
 use Rattle.std.proofs.Common.{append-nil, append_assoc, arith}
 use Rattle.std.specs.Prelude.{count_by, cond, if◌then◌else◌}
@@ -88,7 +88,7 @@ traces_nothing kinds rule p =
       counts = record { ends = refl; fulls = refl };
     }
 
--- One part is traced behind another, and what is done of a kind adds up.
+-- One part is traced after another, and what is done of a kind adds up.
 
 counts_then : (c : Config) (es fs gs : List Event) → CountsAreLeft c es fs → CountsAreLeft c fs gs
     → CountsAreLeft c es gs

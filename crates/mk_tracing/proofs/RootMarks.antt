@@ -34,7 +34,7 @@ values_then pages v x value i more before here k lt = elim (cases_lt k i) [
   | inr past ↦ let at : k ≡ i = omega arith in ap (λ j. points_well pages x (value j)) at ∙ here
 ]
 
--- A root is the same behind marks.
+-- A root is the same after marks.
 pub root_kept : (w v : Words) (x : Word) → is_root x ≡ true → MarksMore w v → named_word v x ≡ named_word w x
 root_kept w v x root more = ap (λ (y : Words). named_word y x) more.is ∙ by x root
   where
@@ -43,7 +43,7 @@ root_kept w v x root more = ap (λ (y : Words). named_word y x) more.is ∙ by x
     by (word.Global g) h = refl
     by _ h = cc
 
--- A register behind those of the callers is 0.
+-- A register after those of the callers is 0.
 pub register_past : (c : Config) (es : List Event) (i : ℕ) → IsHistory c es → 8 * c.callers ≤ i
     → slice_index (left c es).now.words.registers i ≡ 0
 register_past c es i h past =

@@ -303,7 +303,7 @@ still_ready p q s m same ready =
     same_call (Marker k) e = refl
     same_call Host e = refl
 
--- what a look found is there behind it
+-- what a look found is there after it
 pub found_there : (p q : PassState) (x : Word) (n : ℕ) → Finds p (step.Look x) n q → named_word (now_of q).words x ≡ n
 found_there p q x n f =
     ap (λ (r : PassState). named_word (now_of r).words x) f.makes.is

@@ -69,7 +69,7 @@ abbrev pub is_still_name : Word → Bool
 is_still_name word.Phase = false
 is_still_name _ = true
 
--- the steps in the stop behind the wish
+-- the steps in the stop after the wish
 abbrev pub is_stopped_step : Step → Bool
 is_stopped_step step.Want = false
 is_stopped_step s = is_quiet s

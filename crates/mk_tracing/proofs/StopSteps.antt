@@ -26,7 +26,7 @@ use Rattle.mk_words.specs.Seats.{Has}
 use Rattle.mk_words.specs.States.{PassState, TurnState, now_of}
 use Rattle.mk_words.specs.Steps.{Finds}
 use Rattle.mk_words.specs.TurnSteps.{Acts}
-use Rattle.mk_tracing.specs.Grays.{ReachedMarksSweepNothing, HasDirtyPart, IsGray, IsGrayWord, IsInHand, IsReached}
+use Rattle.mk_tracing.specs.Grays.{ReachedMarksSweepNothing, HasDirtyPart, IsGray, IsGrayWord, IsInHand, HandPointsInto}
 use Rattle.mk_tracing.specs.Grays.{MarksOn, MarksReached, TracesReached}
 use Rattle.mk_tracing.specs.Stops.{IsWanted, is_plain, is_root, still_words}
 use Rattle.mk_tracing.specs.Tracing.{is_marking}
@@ -91,7 +91,7 @@ dirty_there page w v same h =
 
 reached_there : (p : PassState) (w : World) (cell : Cell) → but_phase w.now.words ≡ still_words p
     → w.now.seats.holding ≡ (now_of p).seats.holding
-    → IsReached p cell → MarksReached p.table.config w.now cell.page (2 ^ cell.index)
+    → HandPointsInto p cell → MarksReached p.table.config w.now cell.page (2 ^ cell.index)
 reached_there p w cell same holding r =
     let hand : w.now.seats.holding.hand ≡ Some r.in_hand.hand = ap (λ (h : Holding). h.hand) holding ∙ r.in_hand.is in
     record {
@@ -119,7 +119,7 @@ module _ (t u : TurnState) (wanted : IsWanted t.pass) (all : HoldsAll t.pass.tab
       marks_on t.pass u.pass wanted all own (step.Look (word.Heap n)) a refl t.op u.op same
       (λ w e h. gray_there t.pass.table.config.pages n w.now.words (still_words t.pass) e gray)
 
-  pub on_mark : (cell : Cell) → Acts t.pass (step.Mark cell.page (2 ^ cell.index)) u.pass → IsReached t.pass cell
+  pub on_mark : (cell : Cell) → Acts t.pass (step.Mark cell.page (2 ^ cell.index)) u.pass → HandPointsInto t.pass cell
       → MarksOn t u
   on_mark cell a reached =
       marks_on t.pass u.pass wanted all own (step.Mark cell.page (2 ^ cell.index)) a refl t.op u.op same
@@ -163,7 +163,7 @@ module _ (p : PassState) (history : IsHistory p.table.config p.seen) (cell : Cel
       gray.marked scanned
 
 -- The cell into which the hand points lies in the heap.
-pub reached_within : (p : PassState) (cell : Cell) → IsReached p cell
+pub reached_within : (p : PassState) (cell : Cell) → HandPointsInto p cell
     → (cell.page < p.table.config.pages) × (cell.index < 64)
 reached_within p cell r = pointed_within p.table.config.pages (still_words p) r.value cell r.points
 

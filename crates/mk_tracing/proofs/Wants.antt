@@ -1,4 +1,4 @@
--- The wish to close the marks, and the looks at the phase behind it.
+-- The wish to close the marks, and the looks at the phase after it.
 use Rattle.std.proofs.Common.{◌≡◌, ℕ, ◌+◌, ◌%◌, ◌^◌, ◌<◌, true, false, refl, ◌∙◌, ap, arith}
 use Rattle.mk_core.specs.declared.config.Config.{Config}
 use Rattle.mk_core.specs.declared.events.Step.{Step}
@@ -65,7 +65,7 @@ module _ (p q : PassState) (a : Acts p (step.Look word.Phase) q) (own : Has p.se
       let now : (now_of q).words.phase ≡ n = found_there p q word.Phase n finds in
       (words_tell q.table.config q.seen history.within_limits history.enabled).phase.none_in (omega arith)
 
--- Looks behind the wish add no other, nor does the marking.
+-- Looks after the wish add no other, nor does the marking.
 
 pub waited_then : (p q r : PassState) → Counted is_waiting TracesReached is_want p q 1
     → Counted is_waiting TracesReached is_want q r 0 → Counted is_waiting TracesReached is_want p r 1

@@ -71,7 +71,7 @@ pub record IsInHand (p : PassState) (u : ℕ) : Type 0 where
   pub reached : is_unmarked hand.source ≡ false
 
 -- The hand points into the cell.
-pub record IsReached (p : PassState) (cell : Cell) : Type 0 where
+pub record HandPointsInto (p : PassState) (cell : Cell) : Type 0 where
   pub value : ℕ
   pub in_hand : IsInHand p value
   pub points : pointed_cell p.table.config.pages (still_words p).pages value ≡ Some cell
@@ -110,7 +110,7 @@ pub record BlackensOne (w : Words) (cell : Cell) (v : Words) : Type 0 where
 abbrev pub HasNoGray : Words → ℕ → Type 0
 HasNoGray w p = without (bit_and (slice_index w.marks p) (cell_bits w p)) (slice_index w.blacks p) ≡ 0
 
--- Of a page with so many cells, each that is marked is black.
+-- Of a page with this many cells, each that is marked is black.
 abbrev pub AllAreBlack : ℕ → ℕ → ℕ → Type 0
 AllAreBlack count marks blacks = (k : ℕ) → k < count → has_bit marks k ≡ true → has_bit blacks k ≡ true
 

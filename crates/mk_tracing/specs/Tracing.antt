@@ -103,7 +103,7 @@ pub record Traces (kinds : Step → Bool) (rule : Config → Moment → Step →
   pub untouched : untouched_of (world_of q) ≡ untouched_of (world_of p)
   pub counts : CountsAreLeft p.table.config p.seen q.seen
 
--- It traces so, and so many of its steps are of this kind.
+-- It traces so, and this many of its steps are of this kind.
 pub record Counted (kinds : Step → Bool) (rule : Config → Moment → Step → Type 0) (kind : Step → Bool)
     (p q : PassState) (n : ℕ) : Type 0 where
   pub traces : Traces kinds rule p q

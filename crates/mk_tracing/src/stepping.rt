@@ -5,7 +5,7 @@ ghost use Rattle.mk_core.specs.Ranges.{is_word};
 ghost use Rattle.mk_core.specs.StopConditions.{may_turn_black};
 ghost use Rattle.mk_core.specs.Words.{named_word};
 ghost use Rattle.mk_tracing.specs.Grays.{with_marks, with_blacks, without_blacks, without_dirty, HasDirtyPart, IsGray};
-ghost use Rattle.mk_tracing.specs.Grays.{IsInHand, IsReached, MarksOn};
+ghost use Rattle.mk_tracing.specs.Grays.{IsInHand, HandPointsInto, MarksOn};
 ghost use Rattle.mk_tracing.specs.Stops.{IsWanted, hand_of, is_plain, is_root, still_words};
 
 use crate::cells::{PAGE_WORDS, bit};
@@ -13,7 +13,7 @@ use mk_core::Word;
 use mk_geom::Cell;
 use mk_words::{Stopped, Words};
 
-/// Looks at a word that gives no hand, in a table of so many pages.
+/// Looks at a word that gives no hand, in a table of this many pages.
 #[inline(always)]
 pub(crate) fn look_among(words: &Words, stop: &mut Stopped, pages: u64, x: Word) -> u64
     requires one_table { stop.old.pass.table ≡ words.now }
@@ -59,7 +59,7 @@ pub(crate) fn look_at_root(words: &Words, stop: &mut Stopped, x: Word) -> u64
     stop.look(words, x)
 }
 
-/// Looks at a word of a gray cell of so many words, whose value is then the hand, if it isn't 0.
+/// Looks at a word of a gray cell of this many words, whose value is then the hand, if it isn't 0.
 pub(crate) fn look_at_word(words: &Words, stop: &mut Stopped, cell: Cell, size: u64, i: u64) -> u64
     requires one_table { stop.old.pass.table ≡ words.now }
     requires wanted { IsWanted stop.old.pass }
@@ -82,7 +82,7 @@ pub(crate) fn look_at_word(words: &Words, stop: &mut Stopped, cell: Cell, size: 
 pub(crate) fn mark_cell(words: &Words, stop: &mut Stopped, cell: Cell)
     requires one_table { stop.old.pass.table ≡ words.now }
     requires wanted { IsWanted stop.old.pass }
-    requires reached { IsReached stop.old.pass cell }
+    requires reached { HandPointsInto stop.old.pass cell }
     ensures on { MarksOn stop.old stop.new }
     ensures words { still_words stop.new.pass ≡ with_marks cell.page (2 ^ cell.index) (still_words stop.old.pass) }
 {

@@ -14,7 +14,7 @@ use mk_core::Word;
 use mk_geom::Cell;
 use mk_words::{Stopped, Words};
 
-/// Looks at each word of a gray cell, of so many, and marks what it points into.
+/// Looks at each word of a gray cell, of this many, and marks what it points into.
 fn scan(words: &Words, stop: &mut Stopped, work: &mut Worklist, cell: Cell, size: u64)
     requires one_table { stop.old.pass.table ≡ words.now }
     requires wanted { IsWanted stop.old.pass }

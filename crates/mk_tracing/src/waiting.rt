@@ -26,7 +26,7 @@ fn want(words: &Words, stop: &mut Stopped)
     stop.want(words);
 }
 
-/// Looks at the phase word, which tells how many markers are in.
+/// Looks at the phase word, which reports how many markers are in.
 fn look_at_phase(words: &Words, stop: &mut Stopped) -> u64
     requires one_table { stop.old.pass.table ≡ words.now }
     requires ready { IsReady stop.old.pass }

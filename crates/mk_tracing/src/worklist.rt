@@ -17,7 +17,7 @@ pub struct Worklist {
 }
 
 impl Worklist {
-    /// An empty list for a heap of so many pages, with all the room that it ever has.
+    /// An empty list for a heap of this many pages, with all the room that it ever has.
     pub fn new(alloc: Global, pages: u64) -> Result<Worklist, NoMemory>
         requires { pages ≤ 4096 }
     {

@@ -14,7 +14,7 @@ unfoldable pub AreOwnOrOfOthers : Seat → List Seat → List Event → Type 0
 AreOwnOrOfOthers s seats [] = ⊤
 AreOwnOrOfOthers s seats (e ∷ es) = (is_one_of seats e.seat ≡ is_same_seat s e.seat) × AreOwnOrOfOthers s seats es
 
--- what the pass's seat has done behind what it had seen, and what each of its steps found
+-- what the pass's seat has done after what it had seen, and what each of its steps found
 abbrev pub done_in : PassState → List Event → List Finding
 done_in p more = in_this_call p.table.config p.seat p.seen more
 

@@ -1,4 +1,4 @@
--- What is told of a view is told of its world.
+-- What is said of a view is said of its world.
 use Rattle.std.proofs.Common.{◌≡◌, ℕ, List, [], ◌∷◌, refl, sym, subst, length}
 use Rattle.std.specs.Prelude.{Option, None, Some}
 use Rattle.mk_core.specs.declared.config.Config.{Config}

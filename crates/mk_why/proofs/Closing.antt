@@ -1,4 +1,4 @@
--- Looks behind an engine's marks leave its law, and what is told of the view.
+-- Looks after an engine's marks leave its law, and what is said of the view.
 use Rattle.std.proofs.Common.{◌≡◌, ◌∙◌, ℕ, zero, suc, ◌+◌, Bool, true, false, cond, List, [], ◌∷◌, ◌++◌, count_by, refl}
 use Rattle.std.proofs.Common.{sym, ap, append_assoc, arith}
 use Rattle.std.specs.Prelude.{◌&&◌, not, slice_index_or}

@@ -33,7 +33,7 @@ use Rattle.mk_why.specs.Listing.{AreOfKept, IsKeptAt, IsListed, ListsOn}
 use Rattle.mk_why.specs.Searching.{at}
 use Rattle.mk_why.specs.Stops.{IsStill, View, base_at, view_by, world_in}
 
--- The cell, of so many words, is that of a kept allocation.
+-- The cell, of this many words, is that of a kept allocation.
 pub record IsKeptCell (c : Config) (v : View) (cell : Cell) (size : ℕ) : Type 0 where
   pub number : ℕ
   pub kept : is_kept c (world_in v) number ≡ true
@@ -41,7 +41,7 @@ pub record IsKeptCell (c : Config) (v : View) (cell : Cell) (size : ℕ) : Type 
   pub words : size ≡ storage_words c (placed_at v.allocations number)
   pub within : 64 * cell.page + cell.index * size < 64 * c.pages
 
--- The kept allocation has this cell, of so many words, whose bits are set.
+-- The kept allocation has this cell, of this many words, whose bits are set.
 pub record HasKeptCell (c : Config) (v : View) (b page size count snapshot marks : ℕ) : Type 0 where
   pub known : (cell_of_allocation c (placed_at v.allocations b)).index < count
   pub in_snapshot : has_bit snapshot (cell_of_allocation c (placed_at v.allocations b)).index ≡ true
@@ -203,7 +203,7 @@ lists_then c v r s x one two =
       found = two.found ∙ one.found;
     }
 
--- what is listed of a cell behind it
+-- what is listed of a cell after it
 pub record ListsCell (c : Config) (v : View) (r s : Tables) (base : ℕ) (in_snapshot marked : Bool) : Type 0 where
   pub on : ListsOn c v r s
   pub listed : in_snapshot ≡ true → marked ≡ true → IsListed s.kept.items base

@@ -137,7 +137,7 @@ module _ (t u : TurnState) (x : Word) (a : Acts t.pass (step.Look x) u.pass) (tu
       sym (found_there t.pass u.pass x n finds) ∙ sym (still_name (now_of u.pass).words x name)
       ∙ ap (λ (v : View). named_word v.words x) view_behind
 
--- Nothing is looked at, and one part is behind the other.
+-- Nothing is looked at, and one part is after the other.
 
 pub looks_at_nothing : (t : TurnState) → IsStill t.pass → LooksOn t t
 looks_at_nothing t still =

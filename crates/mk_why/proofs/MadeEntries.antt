@@ -127,7 +127,7 @@ module _ (c : Config) (v : View) (found : List (Option Found)) (ways : AreWays c
   led_to_root f pushed b count led is =
       ends_by f.way f.links pushed b count led.number led.way led.leads led.sum is
 
--- Numbers that rise go on rising behind a greater one.
+-- Numbers that rise go on rising after a greater one.
 
 pushed_at : (xs : List ℕ) (x i : ℕ) → i ≡ length xs → slice_index (xs ++ x ∷ []) i ≡ x
 pushed_at xs x i e = ap (slice_index (xs ++ x ∷ [])) e ∙ get_or-append_seam xs x [] 0

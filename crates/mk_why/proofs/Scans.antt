@@ -1,4 +1,4 @@
--- What is done behind the scan of an allocation's words.
+-- What is done after the scan of an allocation's words.
 use Rattle.std.proofs.Common.{◌≡◌, ◌∙◌, ℕ, ◌+◌, ◌-◌, ◌<◌, ◌≤◌, true, List, refl, sym, ap, subst, inl, inr, arith}
 use Rattle.std.proofs.Common.{length}
 use Rattle.std.specs.Prelude.{Option, None, Some, count_by, is_some, slice_index, slice_index_or}

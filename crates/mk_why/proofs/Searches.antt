@@ -70,7 +70,7 @@ links_stay r s g i lt x =
     ap (λ n. links_in (at s.found.items n)) (g.same i lt)
     ∙ same_links r.found.items s.found.items g.stays (slice_index r.queue.items i) x
 
--- It grows by nothing, and by one part behind another.
+-- It grows by nothing, and by one part after another.
 
 pub grows_nothing : (r : Tables) → Grows r r
 grows_nothing r = record { stays = λ base f h. h; same = λ i lt. refl; further = omega arith }

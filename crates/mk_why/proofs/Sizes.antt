@@ -17,7 +17,7 @@ of_pages inner size n is some few = by (size == 64 * min inner 4096) refl
         let none : 0 ≡ n = sym (ap (λ x. if x then inner else 0) e) ∙ is in
         absurd (omega arith)
 
--- the inner engine and the table of the fields, where what contracts see of them is made for so many pages
+-- the inner engine and the table of the fields, where what contracts see of them is made for this many pages
 pub of_state : {E : Type 0} (made_for : E → ℕ) (fields state : WhyState E) (n : ℕ) → fields ≡ state
     → pages_for (made_for state.inner) (length state.found) ≡ n → 1 ≤ n → n ≤ 4096
     → (made_for fields.inner ≡ n) × (length fields.found ≡ 64 * n)

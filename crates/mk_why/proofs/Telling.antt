@@ -1,4 +1,4 @@
--- What is told behind the looks, whatever others do.
+-- What is told after the looks, whatever others do.
 use Rattle.std.proofs.Common.{◌≡◌, ◌∙◌, ℕ, true, List, [], ◌++◌, sym, ap, subst, append-nil}
 use Rattle.std.specs.Prelude.{Option}
 use Rattle.mk_core.specs.declared.config.Config.{Config}
@@ -18,7 +18,7 @@ use Rattle.mk_why.specs.Searching.{AreApart, IsExplored}
 use Rattle.mk_why.specs.Stops.{IsToldBefore, LooksOn, View, base_at, view_by, view_of, world_in}
 use Rattle.mk_why.proofs.Closing.{others_still}
 
--- the two tables, of the view behind the engine's marks
+-- the two tables, of the view after the engine's marks
 pub told_by : (k : Config) (t u : TurnState) (a b d : Tables) → LooksOn t u
     → IsExplored k (view_by t.pass) a.found.items → AreApart (view_by t.pass) → b.found ≡ a.found
     → ListsOn k (view_by u.pass) b d

@@ -45,7 +45,7 @@ pub record IsChain (c : Config) (w : World) (root : Root) (links : List ℕ) (b 
   pub points : PointsIntoAllocation c w (word_of_root w.now.words root) first
   pub leads : LeadsTo c w first links b
 
--- No chain to the allocation has fewer links than so many.
+-- No chain to the allocation has fewer links than this many.
 abbrev pub NoneIsShorter : Config → World → ℕ → ℕ → Type 0
 NoneIsShorter c w b count = (root : Root) (links : List ℕ) → IsChain c w root links b → count ≤ length links
 

@@ -32,7 +32,7 @@ abbrev pub root_of : Way → Option Root
 root_of (Start root) = Some root
 root_of (Link link from) = None
 
--- Links, the last one first, lead from an allocation that was found so, and have so many in all with those before it.
+-- Links, the last one first, lead from an allocation that was found so, and have this many in all with those before it.
 pub record IsLedBack (c : Config) (v : View) (found : List (Option Found)) (f : Found) (links : List ℕ) (b count : ℕ)
     : Type 0 where
   pub number : ℕ
@@ -40,7 +40,7 @@ pub record IsLedBack (c : Config) (v : View) (found : List (Option Found)) (f : 
   pub leads : LeadsTo c (world_in v) number (reverse links) b
   pub sum : length links + f.links ≡ count
 
--- a chain of so many links
+-- a chain of this many links
 pub record IsLed (c : Config) (v : View) (b count : ℕ) (root : Option Root) (links : List ℕ) : Type 0 where
   pub start : Root
   pub is : root ≡ Some start

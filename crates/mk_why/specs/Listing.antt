@@ -37,7 +37,7 @@ pub record ListsOn (c : Config) (v : View) (r s : Tables) : Type 0 where
   pub stays : (base : ℕ) → IsListed r.kept.items base → IsListed s.kept.items base
   pub found : s.found ≡ r.found
 
--- What the two tables tell of a view: each chain's end was found, and each kept allocation is listed.
+-- What the two tables say of a view: each chain's end was found, and each kept allocation is listed.
 pub record IsTold (c : Config) (found : List (Option Found)) (kept : List (Option Storage)) (v : View) : Type 0 where
   pub explored : IsExplored c v found
   pub apart : AreApart v

@@ -48,7 +48,7 @@ abbrev pub IsBasePointed : Config → View → ℕ → Option ℕ → Type 0
 IsBasePointed c v value (Some base) = PointsAtBase c v value base
 IsBasePointed c v value None = (b : ℕ) → PointsIntoAllocation c (world_in v) value b → ⊥
 
--- Each of so many words from the first one on is one of a scanned allocation that begins there.
+-- Each of this many words from the first one on is one of a scanned allocation that begins there.
 abbrev pub AreScannedFrom : Config → View → ℕ → ℕ → Type 0
 AreScannedFrom c v base size =
     (i : ℕ) → i < size
@@ -84,7 +84,7 @@ pub record IsFound (found : List (Option Found)) (base : ℕ) : Type 0 where
   pub entry : Found
   pub there : at found base ≡ Some entry
 
--- It was found through exactly so many links.
+-- It was found through exactly this many links.
 pub record IsFoundThrough (found : List (Option Found)) (base links : ℕ) : Type 0 where
   pub entry : Found
   pub there : at found base ≡ Some entry
@@ -99,7 +99,7 @@ pub record IsQueued (r : Tables) (base : ℕ) : Type 0 where
 abbrev pub links_of : Tables → ℕ → ℕ
 links_of r i = links_in (at r.found.items (slice_index r.queue.items i))
 
--- The queue has each allocation that was found, in the order of their links. None has more than so many,
+-- The queue has each allocation that was found, in the order of their links. None has more than this many,
 -- or more than its place.
 pub record IsSearch (c : Config) (v : View) (r : Tables) (limit : ℕ) : Type 0 where
   pub size : length r.found.items ≡ 64 * c.pages
@@ -110,7 +110,7 @@ pub record IsSearch (c : Config) (v : View) (r : Tables) (limit : ℕ) : Type 0 
   pub below : (i : ℕ) → i < r.count → links_of r i ≤ limit
   pub shallow : (i : ℕ) → i < r.count → links_of r i ≤ i
 
--- It was found through so many links, or fewer.
+-- It was found through this many links, or fewer.
 pub record IsWithin (found : List (Option Found)) (base limit : ℕ) : Type 0 where
   pub entry : Found
   pub there : at found base ≡ Some entry

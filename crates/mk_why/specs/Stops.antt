@@ -1,4 +1,4 @@
--- What stays still in the stop, behind the inner engine's marks. `Why` cites `view_of` and `IsToldBefore`; all other
+-- What stays still in the stop, after the inner engine's marks. `Why` cites `view_of` and `IsToldBefore`; all other
 -- words private functions alone cite.
 use Rattle.std.specs.Prelude.{◌≡◌, ℕ, Bool, true, false, List, []}
 use Rattle.mk_core.specs.declared.events.Step.{Step}
@@ -27,7 +27,7 @@ view_of w = record { words = record w.now.words { phase = 0 }; allocations = w.a
 abbrev pub view_by : PassState → View
 view_by p = view_of (world_of p)
 
--- a world with this view, of whose seats nothing is told
+-- a world with this view, of whose seats nothing is said
 abbrev pub world_in : View → World
 world_in v =
     record {
@@ -67,7 +67,7 @@ pub record LooksOn (t u : TurnState) : Type 0 where
   pub view : view_by u.pass ≡ view_by t.pass
   pub still : IsStill u.pass
 
--- It was told of a world with this view, behind which the holder looked.
+-- It was told of a world with this view, after which the holder looked.
 pub record IsToldBefore (tells : Config → World → Type 0) (c : Config) (w : World) : Type 0 where
   pub before : World
   pub told : tells c before

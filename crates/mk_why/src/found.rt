@@ -10,7 +10,7 @@ pub(crate) enum Way {
     Link { link: u64, from: u64 },
 }
 
-/// An allocation that was found, through so many links.
+/// An allocation that was found, through this many links.
 #[derive(Clone, Copy, Debug, PartialEq, Eq)]
 pub(crate) struct Found {
     pub(crate) way: Way,

@@ -1,4 +1,4 @@
-//! An engine that tells why freed objects are kept: which root holds each, and through which words.
+//! An engine that says why freed objects are kept: which root holds each, and through which words.
 #![tactic(auto)]
 
 mod entries;

@@ -17,10 +17,10 @@ use mk_geom::Cell;
 use mk_tracing::{cells_under, has_bit, words_under};
 use mk_words::{Stopped, Words};
 
-/// The bits of a quarantine word's snapshot stand behind those of the freed cells.
+/// The bits of a quarantine word's snapshot stand after those of the freed cells.
 const SNAPSHOT: u64 = 1 << 32;
 
-/// Lists the allocation of a cell of so many words, if it is in the snapshot and marked.
+/// Lists the allocation of a cell of this many words, if it is in the snapshot and marked.
 fn list_cell(tables: &mut Tables, cell: Cell, size: u64, in_snapshot: bool, marked: bool)
     requires page { cell.page < 4096 }
     requires index { cell.index < 32 }

@@ -110,7 +110,7 @@ fn search_globals(words: &Words, stop: &mut Stopped, tables: &mut Tables)
     }
 }
 
-/// Looks at so many words of the allocation that begins at a heap word, and notes what each points into, through one
+/// Looks at this many words of the allocation that begins at a heap word, and notes what each points into, through one
 /// link more.
 fn search_words(
     words: &Words,

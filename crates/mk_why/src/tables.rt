@@ -22,7 +22,7 @@ impl Tables {
     ghost use Rattle.std.specs.Prelude.{◌<◌, ◌≤◌, ◌*◌, ◌+◌, true, false, Some, IfOk, slice_set};
     ghost use Rattle.mk_why.specs.Searching.{at};
 
-    /// Empty tables for a heap of so many pages.
+    /// Empty tables for a heap of this many pages.
     pub(crate) fn new(alloc: Global, pages: u64) -> Result<Tables, NoMemory>
         requires { pages ≤ 4096 }
         ensures size { IfOk result (λ made. length made.found.items ≡ 64 * pages) }

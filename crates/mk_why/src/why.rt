@@ -1,4 +1,4 @@
-//! The engine that tells why.
+//! The engine that says why.
 ghost use Rattle.std.specs.Prelude.{◌≡◌, [], IfOk, false, length};
 ghost use Rattle.mk_core.specs.declared.config.Config.{Config};
 ghost use Rattle.mk_core.specs.History.{World};
@@ -27,7 +27,7 @@ use std::thread::Threads;
 /// A heap has no more pages.
 const MOST_PAGES: u64 = 4096;
 
-/// An engine round another, which makes the marks. Behind them, still in the stop, it searches from the roots, breadth
+/// An engine round another, which makes the marks. After them, still in the stop, it searches from the roots, breadth
 /// first, and notes what the cycle keeps of its snapshot, and through which words it is held.
 #[derive(Drop)]
 pub struct Why<E: Engine> {

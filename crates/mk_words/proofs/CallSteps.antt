@@ -28,7 +28,7 @@ use Rattle.mk_core.specs.Calls.{at_rest, is_under_turn, begun, still, onward, on
 use Rattle.mk_core.specs.Order.{seat_exists, group_of, is_open_to, is_in_order}
 use Rattle.mk_core.specs.Readings.{is_idle, is_in_call}
 use Rattle.mk_core.specs.HeldGates.{is_gate_held}
-use Rattle.mk_core.specs.Accesses.{reached, access, found, caller_number, register_met, reg_access}
+use Rattle.mk_core.specs.Accesses.{word_accessed, access, found, caller_number, register_met, reg_access}
 use Rattle.mk_core.specs.Moments.{Moment, flight_of}
 use Rattle.mk_core.specs.Effects.{progress, begins_where_free, moment_behind, answer_decided}
 use Rattle.mk_core.specs.History.{World, IsHistory}
@@ -97,7 +97,7 @@ registers_before p s q m own history k is r lt = (made p s q m own history).fram
 number_is : (s : Seat) (k : ℕ) → s ≡ Caller k → caller_number s ≡ k
 number_is s k is = ap (λ (t : Seat). caller_number t) is
 
--- What a register is behind the step, from what the access makes of the registers.
+-- What a register is after the step, from what the access makes of the registers.
 pub register_behind : (p : PassState) (s : Step) (q : PassState) (m : Makes p s q) → Has p.seats p.seat
     → IsHistory q.table.config q.seen
     → (r : ℕ) → register_of q r ≡ register_word (moment_behind p.table.config (moment_of m) (event_of p s)).words
@@ -119,7 +119,7 @@ keeps_registers p s q m own history k is same r lt =
     ∙ registers_before p s q m own history k is r lt
     ∙ sym (ap (λ (j : ℕ). register_word (now_of p).words j r) (number_is p.seat k is))
 
--- The same, from what a call tells.
+-- The same, from what a call says.
 module _ (p : PassState) (s : Step) (n : ℕ) (q : PassState) (t : Tells p s n q) (own : Has p.seats p.seat)
     (history : IsHistory q.table.config q.seen)
     (kind : group_of s ≡ group.Callers) where
@@ -168,7 +168,7 @@ reg_access_is p q m a same is = ap (λ (f : Flight). reg_access f f.stage) same 
 
 reg_reaches : (p : PassState) (q : PassState) (m : Makes p step.Reg q) (r : ℕ)
     → flight_of (moment_of m) p.seat ≡ call_of p → r ≡ register_met (call_of p) (call_of p).stage
-    → reached p.table.config (moment_of m) (event_of p step.Reg) ≡ Named (word.Reg (caller_number p.seat) r)
+    → word_accessed p.table.config (moment_of m) (event_of p step.Reg) ≡ Named (word.Reg (caller_number p.seat) r)
 reg_reaches p q m r same is = ap (λ (f : Flight). Named (word.Reg (caller_number p.seat) (register_met f f.stage))) same
     ∙ ap (λ (i : ℕ). Named (word.Reg (caller_number p.seat) i)) (sym is)
 
@@ -183,7 +183,8 @@ module _ (p : PassState) (n : ℕ) (q : PassState) (t : Tells p step.Reg n q) (o
   same : flight_of (moment_of t.makes) p.seat ≡ call_of p
   same = same_call p step.Reg n q t own history refl
 
-  reaches : reached p.table.config (moment_of t.makes) (event_of p step.Reg) ≡ Named (word.Reg (caller_number p.seat) r)
+  reaches : word_accessed p.table.config (moment_of t.makes) (event_of p step.Reg)
+      ≡ Named (word.Reg (caller_number p.seat) r)
   reaches = reg_reaches p q t.makes r same met
 
   small : r < 8
@@ -204,7 +205,7 @@ module _ (p : PassState) (n : ℕ) (q : PassState) (t : Tells p step.Reg n q) (o
     load_keeps =
         keeps p step.Reg n q t own history refl
         (ap (λ (a : Access).
-        (accessed (moment_of t.makes).words (reached p.table.config (moment_of t.makes) (event_of p step.Reg))
+        (accessed (moment_of t.makes).words (word_accessed p.table.config (moment_of t.makes) (event_of p step.Reg))
         a).registers) (reg_access_is p q t.makes Load same loads))
 
     pub load_own : n ≡ register_of p r
@@ -216,7 +217,7 @@ module _ (p : PassState) (n : ℕ) (q : PassState) (t : Tells p step.Reg n q) (o
         ≡ with_named (moment_of t.makes).words (word.Reg (caller_number p.seat) r) v
     words_now =
         ap (λ (a : Access). accessed (moment_of t.makes).words
-        (reached p.table.config (moment_of t.makes) (event_of p step.Reg)) a)
+        (word_accessed p.table.config (moment_of t.makes) (event_of p step.Reg)) a)
         (reg_access_is p q t.makes (Store v) same stores)
         ∙ ap (λ (x : TableWord). accessed (moment_of t.makes).words x (Store v)) reaches
 

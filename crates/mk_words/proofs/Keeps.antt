@@ -16,7 +16,7 @@ use Rattle.mk_core.specs.declared.accesses.TableWord.{TableWord}
 use Rattle.mk_core.specs.Config.{IsWithinLimits}
 use Rattle.mk_core.specs.Words.{Words, zero_words_of, becomes, accessed, word_in}
 use Rattle.mk_core.specs.Layout.{index_of, in_order, AreOfPages, IsOfTable}
-use Rattle.mk_core.specs.Accesses.{reached, access}
+use Rattle.mk_core.specs.Accesses.{word_accessed, access}
 use Rattle.mk_core.specs.Cycles.{is_give}
 use Rattle.mk_core.specs.Counts.{TalliesAreTidy, IsTidy}
 use Rattle.mk_core.specs.History.{World, first_world, left_from, left, AreEnabledFrom, AreEnabled, calls_from}
@@ -91,7 +91,7 @@ apart_stays vs id v w at sub apart i j d e x p q hd he =
     let b = origin vs id v w at sub j x e q he in
     apart i j a.0 b.0 x a.1 b.1 a.2 b.2
 
--- the words as one list, behind an access
+-- the words as one list, after an access
 
 changed : (pages : ℕ) (w : Words) (x y : TableWord) (a b : Access) (ws : List ℕ) → AreOfPages pages w
     → IsOfTable pages x → y ≡ x → b ≡ a → ws ≡ in_order w
@@ -117,7 +117,7 @@ pub performs_at : (slots id : ℕ) (me : Mine) (e : Event) (st : TableStep (Unit
     → (is_give e.step ≡ true → TalliesAreTidy me.0.config me.0.own.seen)
     → (is_over e.step ≡ true → HasCallers me.0.config me.0.own.seats)
     → Allows (Kept me.0.config) slots id me
-    (index_of me.0.config.pages (reached me.0.config (left me.0.config me.0.own.seen).now e))
+    (index_of me.0.config.pages (word_accessed me.0.config (left me.0.config me.0.own.seen).now e))
     (becomes (access me.0.config (left me.0.config me.0.own.seen).now e))
     (λ n m. adds e st me n m)
 performs_at slots id me e st alone has may give home s k long at small =
@@ -156,7 +156,8 @@ performs_at slots id me e st alone has may give home s k long at small =
         history = go.history;
         tidy = go.tidy (tidy_more c v.own.seen e (tidy_part c v.own.seen more tidy) give) tidy;
         words =
-            changed c.pages (left c es).now.words (reached c (left c v.own.seen).now e) (reached c (left c es).now e)
+            changed c.pages (left c es).now.words (word_accessed c (left c v.own.seen).now e) (word_accessed c
+            (left c es).now e)
             (access c (left c v.own.seen).now e) (access c (left c es).now e) s.words of go.same.of_the_table
             go.same.word go.same.access words
             ∙ sym (ap (λ (x : World). in_order x.now.words) (left_more c (first_world c) es e));
@@ -184,7 +185,8 @@ performs_at slots id me e st alone has may give home s k long at small =
           tidy = go.tidy (tidy_more c v.own.seen e (tidy_part c v.own.seen more tidy) give) tidy;
           before_over = own_before;
           finds =
-              finds c.pages (left c es).now.words (reached c (left c v.own.seen).now e) (reached c (left c es).now e)
+              finds c.pages (left c es).now.words (word_accessed c (left c v.own.seen).now e) (word_accessed c
+              (left c es).now e)
               s.words of go.same.of_the_table go.same.word words;
         },
       ),

@@ -4,7 +4,7 @@ use Rattle.mk_core.specs.declared.config.Config.{Config}
 use Rattle.mk_core.specs.declared.events.Step.{Step}
 use Rattle.mk_core.specs.declared.events.Event.{Event}
 use Rattle.mk_core.specs.Layout.{IsOfTable}
-use Rattle.mk_core.specs.Accesses.{reached}
+use Rattle.mk_core.specs.Accesses.{word_accessed}
 use Rattle.mk_core.specs.Enabled.{MeetsAll}
 use Rattle.mk_core.specs.History.{first_world, world_behind, left, IsHistory}
 use Rattle.mk_core.specs.Growing.{AreOfOthers}
@@ -24,7 +24,7 @@ use Rattle.mk_words.specs.Laws.{StepsStandBehindOthers}
 use Rattle.mk_frames.proofs.Frames.{admitted_others_leave}
 use Rattle.mk_words.proofs.Seats.{others_own}
 
--- The events of others leave the seat its own; the event met its conditions behind them, and the new list leaves what
+-- The events of others leave the seat its own; the event met its conditions after them, and the new list leaves what
 -- it leaves there.
 pub record Made (p : PassState) (s : Step) (q : PassState) (m : Makes p s q) : Type 0 where
   pub others : AreOfOthers (p.seat ∷ []) m.others
@@ -35,7 +35,7 @@ pub record Made (p : PassState) (s : Step) (q : PassState) (m : Makes p s q) : T
   pub protocol : Protocol p.table.config (left p.table.config (p.seen ++ m.others)).now
   pub meets : MeetsAll p.table.config (left p.table.config (p.seen ++ m.others)).now (event_of p s)
   pub of_table : IsOfTable p.table.config.pages
-      (reached p.table.config (left p.table.config (p.seen ++ m.others)).now (event_of p s))
+      (word_accessed p.table.config (left p.table.config (p.seen ++ m.others)).now (event_of p s))
   pub world : world_of q ≡ world_behind p.table.config (left p.table.config (p.seen ++ m.others)) (event_of p s)
   pub seat : q.seat ≡ p.seat
 

@@ -1,4 +1,4 @@
--- What a seat is at as a marker, behind its own steps and those of others.
+-- What a seat is at as a marker, after its own steps and those of others.
 use Rattle.std.proofs.Common.{◌≡◌, ℕ, ◌<◌, true, false, List, ◌++◌, length, refl, sym, ◌∙◌, ap, subst, arith}
 use Rattle.std.proofs.lemmas.Bool.{ltb-true}
 use Rattle.std.proofs.lemmas.List.{get_or-set_same}

@@ -28,7 +28,7 @@ use Rattle.mk_words.specs.Seats.{Has}
 use Rattle.mk_words.specs.States.{PassState, now_of, event_of}
 use Rattle.mk_words.specs.Steps.{IsEnabledTo}
 use Rattle.mk_words.specs.TurnSteps.{IsTurn, world_at, Acts}
-use Rattle.mk_core.specs.Counts.{ends, fulls}
+use Rattle.mk_core.specs.Counts.{ends, full_answers}
 use Rattle.mk_core.specs.Effects.{answer_decided}
 use Rattle.mk_core.specs.Frames.{steady_of, CountsAreLeft}
 use Rattle.mk_core.specs.History.{left}
@@ -166,7 +166,8 @@ opens_more p q r k o a =
           ∙ a.own.flight ∙ o.call;
       counts = record {
         ends = ap ends seen_then ∙ sym (same_ends c fs last nothing) ∙ counts.ends ∙ o.counts.ends;
-        fulls = ap (λ (es : List Event). fulls c es) seen_then ∙ sym (same_fulls c fs last nothing) ∙ counts.fulls
+        fulls = ap (λ (es : List Event). full_answers c es) seen_then ∙ sym (same_fulls c fs last nothing)
+            ∙ counts.fulls
             ∙ o.counts.fulls;
       };
       more = more;
@@ -205,7 +206,7 @@ still_may p q k a own before behind j other on =
     let there : IsEnabled c (now_of q) e = subst (λ (w : World). IsEnabled c w.now e) (sym a.world) now in
     subst (λ (r : PassState). IsEnabled r.table.config (now_of q) (event_of r (step.Open j))) (sym a.makes.is) there
 
--- the gates behind it
+-- the gates after it
 gates_behind : (p q : PassState) (k : ℕ) (a : Acts p (step.Open k) q)
     → (now_of q).words.gates ≡ slice_set (world_at a.makes).now.words.gates k 0
 gates_behind p q k a = ap (λ (w : World). w.now.words.gates) a.world

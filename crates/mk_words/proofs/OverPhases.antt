@@ -1,4 +1,4 @@
--- The phase says that all is over only behind an `over`.
+-- The phase says that all is over only after an `over`.
 use Rattle.std.proofs.Common.{◌≡◌, ◌≢◌, ℕ, false, List, [], ◌∷◌, sym, ◌∙◌, arith}
 use Rattle.std.proofs.lemmas.Bool.{or_parts, true_from_ne_false}
 use Rattle.mk_core.specs.declared.config.Config.{Config}

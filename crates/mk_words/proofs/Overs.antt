@@ -1,4 +1,4 @@
--- An `over` is the host's, who has the seats of all callers then, so no caller steps behind one.
+-- An `over` is the host's, who has the seats of all callers then, so no caller steps after one.
 use Rattle.std.proofs.Common.{◌≡◌, ◌≢◌, ◌⊎◌, ℕ, zero, suc, Bool, true, false, List, [], ◌∷◌, ◌++◌, refl, sym, ◌∙◌}
 use Rattle.std.proofs.Common.{ap, subst, set, inl, inr, ⊎_elim}
 use Rattle.std.specs.Prelude.{◌||◌}

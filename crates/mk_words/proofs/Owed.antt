@@ -13,7 +13,7 @@ use Rattle.mk_core.specs.declared.accesses.TableWord.{TableWord}
 use Rattle.mk_core.specs.Config.{IsWithinLimits}
 use Rattle.mk_core.specs.Words.{becomes}
 use Rattle.mk_core.specs.Layout.{index_of, count_of_words, IsOfTable}
-use Rattle.mk_core.specs.Accesses.{reached, access}
+use Rattle.mk_core.specs.Accesses.{word_accessed, access}
 use Rattle.mk_core.specs.History.{first_world, AreEnabledFrom, calls_from, IsHistory}
 use Rattle.mk_core.specs.Counts.{IsTidy}
 use Rattle.mk_core.specs.Growing.{Grows, is_same_seat}
@@ -45,7 +45,7 @@ history_more p s h may =
 
 -- the word that the pass's event reaches is one of the table
 pub word_of_table : (p : PassState) (s : Step) → IsHistory p.table.config p.seen → May p s
-    → IsOfTable p.table.config.pages (reached p.table.config (now_of p) (event_of p s))
+    → IsOfTable p.table.config.pages (word_accessed p.table.config (now_of p) (event_of p s))
 word_of_table p s h may =
     events_reach_the_table p.table.config p.seen (event_of p s) h.within_limits h.enabled may.enabled
 
@@ -55,7 +55,7 @@ pub event_call : (config key : Config) (tid : TableId) (words slots id : ℕ) (m
     → IsInOrder me seat → me.0.config ≡ config → key ≡ config → words ≡ count_of_words config.pages
     → picked ≡ event_of (state_of tid me seat) s
     → May (state_of tid me seat) s
-    → x ≡ reached me.0.config (now_of (state_of tid me seat)) (event_of (state_of tid me seat) s)
+    → x ≡ word_accessed me.0.config (now_of (state_of tid me seat)) (event_of (state_of tid me seat) s)
     → a ≡ access me.0.config (now_of (state_of tid me seat)) (event_of (state_of tid me seat) s)
     → i ≡ index_of config.pages x
     → (i < words) × Allows (Kept key) slots id me i (becomes a) (λ n m. adds picked no_step me n m)
@@ -63,7 +63,7 @@ event_call config key tid words slots id me seat s i x a picked order config_is 
     i_is =
     let c : Config = me.0.config in
     let p : PassState = state_of tid me seat in
-    let y : TableWord = reached c (now_of p) (event_of p s) in
+    let y : TableWord = word_accessed c (now_of p) (event_of p s) in
     let b : Access = access c (now_of p) (event_of p s) in
     let j : ℕ = index_of c.pages y in
     let at : i ≡ j = i_is ∙ ap (λ (d : Config). index_of d.pages x) (sym config_is)
@@ -88,7 +88,7 @@ event_call config key tid words slots id me seat s i x a picked order config_is 
           (sym same_key) at_event,
     )
 
--- what a step tells, and that the pass is in order behind it
+-- what a step says, and that the pass is in order after it
 
 in_order_still : (me n : Mine) (seat : Seat) (e : Event) (answer : ℕ) → IsInOrder me seat → adds e no_step me answer n
     → IsInOrder n seat
@@ -157,7 +157,7 @@ copy_call config key words id me key_is words_are = (
       (splits config id me.0 me.0 (copy_of me.0) (remembers me.0)),
 )
 
--- a join, and the look behind it
+-- a join, and the look after it
 
 pub join_call : (config key : Config) (words id : ℕ) (me : Mine) (other : ℕ) (from : Mine) (seat there : Seat)
     → IsInOrder me seat → IsInOrder from there → key ≡ config
@@ -201,20 +201,20 @@ module _ (w : WordsState) (p : PassState) (tid pid : TableId) (config key : Conf
   same_config = ap (λ (x : WordsState). x.config) same_table
 
   pub names_word : (s : Step) (x : TableWord) → IsInOrder me seat → May p s
-      → x ≡ reached p.table.config (now_of p) (event_of p s) → IsOfTable config.pages x
+      → x ≡ word_accessed p.table.config (now_of p) (event_of p s) → IsOfTable config.pages x
   names_word s x order may x_is =
       let q : PassState = state_of pid me seat in
       let named = word_of_table q s order.history (subst (λ (r : PassState). May r s) (sym p_is) may) in
-      let is : x ≡ reached q.table.config (now_of q) (event_of q s) = x_is
-      ∙ ap (λ (r : PassState). reached r.table.config (now_of r) (event_of r s)) (sym p_is) in
+      let is : x ≡ word_accessed q.table.config (now_of q) (event_of q s) = x_is
+      ∙ ap (λ (r : PassState). word_accessed r.table.config (now_of r) (event_of r s)) (sym p_is) in
       subst (λ (y : TableWord). IsOfTable config.pages y) (sym is)
-      (subst (λ (d : Config). IsOfTable d.pages (reached q.table.config (now_of q) (event_of q s))) same_config
+      (subst (λ (d : Config). IsOfTable d.pages (word_accessed q.table.config (now_of q) (event_of q s))) same_config
       named)
 
   pub perform_call : (words slots id : ℕ) (s : Step) (i : ℕ) (x : TableWord) (a : Access) (picked : Event)
       → IsInOrder me seat → key ≡ config
       → words ≡ count_of_words config.pages → picked ≡ event_of p s → May p s
-      → x ≡ reached p.table.config (now_of p) (event_of p s)
+      → x ≡ word_accessed p.table.config (now_of p) (event_of p s)
       → a ≡ access p.table.config (now_of p) (event_of p s) → i ≡ index_of config.pages x
       → (i < words) × Allows (Kept key) slots id me i (becomes a) (λ n m. adds picked no_step me n m)
   perform_call words slots id s i x a picked order key_is words_are picked_is may x_is a_is i_is =
@@ -222,7 +222,7 @@ module _ (w : WordsState) (p : PassState) (tid pid : TableId) (config key : Conf
       event_call config key pid words slots id me seat s i x a picked order same_config key_is words_are
       (picked_is ∙ ap (λ (r : PassState). event_of r s) back)
       (subst (λ (r : PassState). May r s) back may)
-      (x_is ∙ ap (λ (r : PassState). reached r.table.config (now_of r) (event_of r s)) back)
+      (x_is ∙ ap (λ (r : PassState). word_accessed r.table.config (now_of r) (event_of r s)) back)
       (a_is ∙ ap (λ (r : PassState). access r.table.config (now_of r) (event_of r s)) back)
       i_is
 
@@ -288,7 +288,7 @@ first_in_order c me limits is =
       before_over = λ k lt h over. cc;
     })
 
--- behind a split
+-- after a split
 
 pub kept_by_split : (me n : Mine) (seat x picked : Seat) → IsInOrder me seat → picked ≡ x → is_same_seat x seat ≡ false
     → is_same_seat x Host ≡ false → n ≡ (stays_with picked me.0, me.1) → IsInOrder n seat
@@ -319,7 +319,7 @@ made_by_split me n seat x picked order picked_is early is =
           let both : true ≡ false = sym over ∙ early caller in cc;
     })
 
--- behind a join
+-- after a join
 
 pub record Joined (tid : TableId) (me from n : Mine) (seat : Seat) : Type 0 where
   pub pass : state_of tid n seat ≡ record (state_of tid me seat) {

@@ -6,8 +6,8 @@ use Rattle.std.proofs.lemmas.List.Sums.{sum_by_push}
 use Rattle.mk_core.specs.declared.config.Config.{Config}
 use Rattle.mk_core.specs.declared.events.Event.{Event}
 use Rattle.mk_core.specs.Accesses.{caller_number}
-use Rattle.mk_core.specs.Allocations.{PlacedAllocation, fresh_words_of, held_words, unreleased_storage}
-use Rattle.mk_core.specs.Counts.{TalliesAreExact, TalliesAreTidy, ends, fulls, in_a_word, releases}
+use Rattle.mk_core.specs.Allocations.{PlacedAllocation, fresh_words_of, held_by_allocations, unreleased_storage}
+use Rattle.mk_core.specs.Counts.{TalliesAreExact, TalliesAreTidy, ends, full_answers, in_a_word, releases}
 use Rattle.mk_core.specs.Cycles.{is_end}
 use Rattle.mk_core.specs.Decided.{Decided}
 use Rattle.mk_core.specs.Effects.{answer_decided}
@@ -20,7 +20,7 @@ use Rattle.mk_placement.proofs.TallySteps.{CountsNothing}
 use Rattle.mk_geom.proofs.HeldWords.{pages_hold_mapped_words}
 use Rattle.mk_core.specs.declared.seats.Holding.{Holding}
 use Rattle.mk_core.specs.NewPlaces.{is_run_gone}
-use Rattle.mk_core.specs.TurnConditions.{words_held}
+use Rattle.mk_core.specs.TurnConditions.{held_by_pages}
 use Rattle.mk_core.proofs.Lengths.{histories_keep_lengths}
 use Rattle.mk_protocol.specs.Protocol.{Protocol, has_place}
 use Rattle.mk_protocol.proofs.Known.{known_left}
@@ -55,13 +55,13 @@ module _ (c : Config) (es : List Event) (e : Event) (nothing : CountsNothing c (
       sum_by_push (λ (x : Event). cond {A = ℕ} (is_end x.step) 1 0) es e in
       omega arith
 
-  pub same_fulls : fulls c es ≡ fulls c (es ++ e ∷ [])
+  pub same_fulls : full_answers c es ≡ full_answers c (es ++ e ∷ [])
   same_fulls =
       let ds : List Decided = call_decided c (left c es).now e in
       let m : Moment = (left c es).now in
       let last : fulls_of ds ≡ 0 =
       entry_fulls (caller_number e.seat) (flight_of m e.seat).op (answer_decided c m e) nothing.no_full in
-      let pushed : fulls c (es ++ e ∷ []) ≡ fulls c es + fulls_of ds =
+      let pushed : full_answers c (es ++ e ∷ []) ≡ full_answers c es + fulls_of ds =
       ap (λ (xs : List Decided). fulls_of xs) (calls_more c (first_world c) es e) ∙ fulls_append (calls c es) ds in
       omega arith
 
@@ -69,7 +69,7 @@ module _ (c : Config) (es : List Event) (e : Event) (nothing : CountsNothing c (
   exact_more exact =
       record {
         held = tally (λ (w : Words). w.held) _ nothing.alike.tallies.held exact.held
-            ∙ ap (λ (xs : List PlacedAllocation). held_words c xs) same_allocations;
+            ∙ ap (λ (xs : List PlacedAllocation). held_by_allocations c xs) same_allocations;
         fresh = tally (λ (w : Words). w.fresh) _ nothing.alike.tallies.fresh exact.fresh
             ∙ ap (λ (xs : List PlacedAllocation). in_a_word (fresh_words_of c xs)) same_allocations;
       }
@@ -111,7 +111,7 @@ fresh_is_told = holds_of_histories FreshIsTold fresh_at_first fresh_kept
 
 -- Where nothing is under way, exact tallies are those of the words;
 pub settled_tallies : (c : Config) (es : List Event) → IsHistory c es → IsSettled (left c es) → TalliesAreExact c es
-    → ((left c es).now.words.held ≡ words_held (left c es).now.words)
+    → ((left c es).now.words.held ≡ held_by_pages (left c es).now.words)
     × ((left c es).now.words.fresh ≡ (left c es).now.fresh_words)
 settled_tallies c es h settled exact =
     let pages = (left c es).now.words.pages in
@@ -123,7 +123,7 @@ settled_tallies c es h settled exact =
 -- so they are where nobody holds the turn.
 pub free_tallies : (c : Config) (es : List Event) → IsHistory c es → Protocol c (left c es).now
     → (left c es).now.words.turn ≡ 0
-    → ((left c es).now.words.held ≡ words_held (left c es).now.words)
+    → ((left c es).now.words.held ≡ held_by_pages (left c es).now.words)
     × ((left c es).now.words.fresh ≡ (left c es).now.fresh_words)
 free_tallies c es h protocol free =
     let m : Moment = (left c es).now in

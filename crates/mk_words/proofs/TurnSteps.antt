@@ -31,7 +31,7 @@ use Rattle.mk_core.specs.Accesses.{found, register_met, reg_access, caller_numbe
 use Rattle.mk_core.specs.Moments.{Moment, flight_of, holder_number, nothing_done, none_is_held, is_held, is_number_of}
 use Rattle.mk_core.specs.Moments.{others_are_held}
 use Rattle.mk_core.specs.Effects.{progress, progress_freed, begins_where_free}
-use Rattle.mk_core.specs.TurnConditions.{cell_freed, words_held}
+use Rattle.mk_core.specs.TurnConditions.{cell_freed, held_by_pages}
 use Rattle.mk_core.specs.Order.{host_has_turn, is_open_to, group_of}
 use Rattle.mk_core.specs.Readings.{Holds}
 use Rattle.mk_core.specs.History.{World, left, IsHistory}
@@ -80,7 +80,7 @@ holder_is_no_marker c m (Caller k) h = refl
 holder_is_no_marker c m (Marker k) h = absurd h
 holder_is_no_marker c m Host h = refl
 
--- The turn word is another only behind `take` and `give`.
+-- The turn word is another only after `take` and `give`.
 turn_word_stays : (c : Config) (m : Moment) (seat : Seat) (s : Step) → turn_stays s ≡ true
     → (Behind c m seat s).words.turn ≡ m.words.turn
 turn_word_stays c m seat (step.Take o) h = cc
@@ -392,7 +392,7 @@ module _ (p : PassState) (o : Option Op) (n : ℕ) (q : PassState) (t : Tells p 
               ∙ free_phase c m e.protocol free;
           held = ap (λ (w : World). w.now.words.held) e.world
               ∙ (free_tallies c (p.seen ++ t.makes.others) e.history e.protocol free).0
-              ∙ sym (ap (λ (w : World). words_held w.now.words) e.world);
+              ∙ sym (ap (λ (w : World). held_by_pages w.now.words) e.world);
           fresh = ap (λ (w : World). w.now.words.fresh) e.world
               ∙ (free_tallies c (p.seen ++ t.makes.others) e.history e.protocol free).1
               ∙ sym (ap (λ (w : World). w.now.fresh_words) e.world);

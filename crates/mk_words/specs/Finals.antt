@@ -13,7 +13,7 @@ history_of f = f.memory.me.0.own.seen
 abbrev pub config_of : Final → Config
 config_of f = f.memory.me.0.config
 
--- How many cells are freed by the quarantine words of the first pages, of so many. They stand behind the headers and
+-- How many cells are freed by the quarantine words of the first pages, of this many. They stand after the headers and
 -- the used words, and have the freed cells in their low halves.
 abbrev pub freed_bits_in : List ℕ → ℕ → ℕ → ℕ
 freed_bits_in words pages zero = 0
@@ -25,7 +25,7 @@ abbrev pub freed_cells : Words → ℕ → ℕ
 freed_cells w zero = 0
 freed_cells w (suc n) = freed_cells w n + count_ones (slice_index w.freed n % 2 ^ 32)
 
--- It has the tallies, and the count of the freed cells of so many pages.
+-- It has the tallies, and the count of the freed cells of this many pages.
 pub record HasTallies (w : Words) (pages : ℕ) (f : Final) : Type 0 where
   pub held : f.held ≡ w.held
   pub fresh : f.fresh ≡ w.fresh

@@ -37,7 +37,7 @@ CallsGoOn =
     → p.seat ≡ Caller k
     → Goes p s (progress p.table.config (moment_of m) (call_of p) (found_by m) s) q
 
--- The phase says that all is over only behind an `over`. So a caller's pass, which isn't the host's, never finds it so.
+-- The phase says that all is over only after an `over`. So a caller's pass, which isn't the host's, never finds it so.
 abbrev pub EndIsBehindOver : Type 0
 EndIsBehindOver = (c : Config) (es : List Event) → IsHistory c es → phase_of (left c es).now.words ≡ 5
     → has_over es ≡ true

@@ -1,4 +1,4 @@
--- The rule of the table, and what each step tells of it.
+-- The rule of the table, and what each step says of it.
 use Rattle.std.specs.Prelude.{◌≡◌, ℕ, List, [], ◌∷◌, ◌++◌}
 use mathlib.Core.Option.{some, none}
 use lib.ListN.{get_elem?}
@@ -47,7 +47,7 @@ abbrev pub Sees : List Event → Part → Type 0
 Sees es p = Grows p.seats p.seen es
 
 -- There is one history, which is tidy and leaves the words. Each view has seen a beginning of it that has all events of
--- the view's seats, no seat is in two views, and who has a caller's seat behind an `over` has the host's.
+-- the view's seats, no seat is in two views, and who has a caller's seat after an `over` has the host's.
 pub record Kept (c : Config) (s : State (Unit {0}) View) : Type 0 where
   pub events : List Event
   pub history : IsHistory c events
@@ -61,12 +61,12 @@ pub record Kept (c : Config) (s : State (Unit {0}) View) : Type 0 where
 abbrev pub Mine : Type 0
 Mine = Me (Unit {0}) View
 
--- what an access tells where it finds that number: a store tells what it stores
+-- what an access tells where it finds that number: a store says what it stores
 abbrev pub told_by : Access → ℕ → ℕ
 told_by (Store value) n = value
 told_by _ n = n
 
--- The event stands in the history behind all that the view had seen and events of others, and finds this number there.
+-- The event stands in the history after all that the view had seen and events of others, and finds this number there.
 pub record Adds (e : Event) (v : View) (n : ℕ) (w : View) : Type 0 where
   pub others : List Event
   pub of_others : AreOfOthers v.own.seats others

@@ -18,7 +18,7 @@ abbrev pub without_seat : Seat → List Seat → List Seat
 without_seat s [] = []
 without_seat s (x ∷ xs) = if is_same_seat s x then without_seat s xs else x ∷ without_seat s xs
 
--- the seats of so many callers, and of so many markers
+-- the seats of this many callers, and of this many markers
 
 abbrev pub callers_below : ℕ → List Seat
 callers_below zero = []
@@ -49,7 +49,7 @@ abbrev pub has_over : List Event → Bool
 has_over es = list_any (λ (e : Event). is_over e.step) es
 
 -- Where a caller's seat is among these, and an `over` in the list, the host's seat is among them too. So no caller
--- steps behind an `over`, whose holder has the seats of all callers.
+-- steps after an `over`, whose holder has the seats of all callers.
 abbrev pub CallersAreBeforeOver : Config → List Seat → List Event → Type 0
 CallersAreBeforeOver c seats es = (k : ℕ) → k < c.callers → Has seats (Caller k) → has_over es ≡ true → Has seats Host
 

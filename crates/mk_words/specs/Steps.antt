@@ -31,7 +31,7 @@ may_decide step.Grant = true
 may_decide step.Full = true
 may_decide _ = false
 
--- Behind what the pass has seen the step is enabled, and admitted.
+-- After what the pass has seen the step is enabled, and admitted.
 
 abbrev pub IsEnabledTo : PassState → Step → Type 0
 IsEnabledTo p s = IsEnabledBehind p.table.config p.seen (event_of p s)
@@ -47,7 +47,7 @@ pub record May (p : PassState) (s : Step) : Type 0 where
   pub tidy : is_give s ≡ true → TalliesAreTidy p.table.config p.seen
   pub home : is_over s ≡ true → HasCallers p.table.config p.seats
 
--- The pass made the step, behind all that it had seen and events of others.
+-- The pass made the step, after all that it had seen and events of others.
 pub record Makes (p : PassState) (s : Step) (q : PassState) : Type 0 where
   pub others : List Event
   pub of_others : AreOfOthers p.seats others

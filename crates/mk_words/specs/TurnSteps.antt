@@ -18,7 +18,7 @@ use Rattle.mk_core.specs.Calls.{at_rest, begun, d_of}
 use Rattle.mk_core.specs.Moments.{nothing_done, none_is_held, others_are_held}
 use Rattle.mk_core.specs.Words.{phase_of}
 use Rattle.mk_core.specs.Ranges.{has_phase}
-use Rattle.mk_core.specs.TurnConditions.{words_held}
+use Rattle.mk_core.specs.TurnConditions.{held_by_pages}
 use Rattle.mk_core.specs.Readings.{Holds}
 use Rattle.mk_core.specs.History.{World, world_behind, left}
 use Rattle.mk_core.specs.Frames.{OwnIsLeft, HoldsAll, TurnIsLeft, CountsAreLeft, written_of}
@@ -41,17 +41,17 @@ abbrev pub begun_for : Option Op → Flight
 begun_for (Some o) = begun o
 begun_for None = at_rest
 
--- Directly behind its `take` a turn has done nothing, no gate is held, and the phase and the tallies are what a `give`
+-- Directly after its `take` a turn has done nothing, no gate is held, and the phase and the tallies are what a `give`
 -- asks.
 pub record IsFresh (p : PassState) (o : Option Op) : Type 0 where
   pub call : call_of p ≡ begun_for o
   pub holding : (now_of p).seats.holding ≡ nothing_done
   pub gates : none_is_held p.table.config.callers (now_of p).words ≡ true
   pub phase : has_phase (phase_of (now_of p).words) step.Give ≡ true
-  pub held : (now_of p).words.held ≡ words_held (now_of p).words
+  pub held : (now_of p).words.held ≡ held_by_pages (now_of p).words
   pub fresh : (now_of p).words.fresh ≡ (now_of p).fresh_words
 
--- A turn goes on behind every step but these.
+-- A turn goes on after every step but these.
 abbrev pub turn_stays : Step → Bool
 turn_stays (step.Take o) = false
 turn_stays step.Give = false
@@ -63,7 +63,7 @@ turn_stays _ = true
 abbrev pub world_at : {p : PassState} {s : Step} {q : PassState} → Makes p s q → World
 world_at {p} m = left p.table.config (p.seen ++ m.others)
 
--- The holder of the turn made the step. Others had left it its own up to then, and behind it stands what it does there.
+-- The holder of the turn made the step. Others had left it its own up to then, and after it stands what it does there.
 -- A caller's call goes on by it.
 pub record Acts (p : PassState) (s : Step) (q : PassState) : Type 0 where
   pub makes : Makes p s q
@@ -113,7 +113,7 @@ abbrev pub may_take_cell : Step → Bool
 may_take_cell (step.Used p v) = true
 may_take_cell _ = false
 
--- the cell that is known behind a `used` that stores a value over this one: one bit more is a cell that is taken
+-- the cell that is known after a `used` that stores a value over this one: one bit more is a cell that is taken
 abbrev pub cell_behind : ℕ → ℕ → ℕ → Option Cell → Option Cell
 cell_behind page value found cell =
     if nat_lt found value then Some (record { page = page; index = trailing_zeros w64 (value - found) }) else cell

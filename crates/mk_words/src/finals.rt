@@ -20,7 +20,7 @@ pub struct Final {
     pub(crate) memory: Token<(), View>,
 }
 
-/// The freed bits of the quarantine words of so many pages.
+/// The freed bits of the quarantine words of this many pages.
 pub(crate) fn freed_bits(closed: &Closed<(), Global>, pages: u64) -> u64
     requires pages { pages ≤ 4096 }
     requires full { IsFull closed.now.words }

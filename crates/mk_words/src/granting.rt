@@ -10,7 +10,7 @@ use mk_core::Config;
 use mk_geom::{Cell, class_of, class_words};
 use mk_never::Op;
 
-/// The cell that is known behind a store to a used word.
+/// The cell that is known after a store to a used word.
 #[inline(always)]
 pub(crate) fn cell_behind(page: u64, v: u64, found: u64, cell: Option<Cell>) -> Option<Cell>
     ensures { result ≡ cell_behind page v found cell }

@@ -4,7 +4,7 @@ ghost use Rattle.mk_core.specs.Layout.{index_of, index_of_named, IsOfTable, Name
 
 use mk_core::{TableWord, Word};
 
-/// The index of a word that has a name, in a table of so many pages.
+/// The index of a word that has a name, in a table of this many pages.
 #[inline(always)]
 fn index_of_named(pages: u64, word: Word) -> usize
     requires pages { pages ≤ 4096 }
@@ -31,7 +31,7 @@ fn index_of_named(pages: u64, word: Word) -> usize
     }) as usize
 }
 
-/// The index of a word, in a table of so many pages.
+/// The index of a word, in a table of this many pages.
 #[inline(always)]
 pub(crate) fn index_of(pages: u64, word: TableWord) -> usize
     requires pages { pages ≤ 4096 }

@@ -6,12 +6,12 @@ pub fn steps_stand_behind_others()
     ensures { StepsStandBehindOthers }
 {}
 
-/// How a caller's call goes on behind each of its steps.
+/// How a caller's call goes on after each of its steps.
 pub fn calls_go_on()
     ensures { CallsGoOn }
 {}
 
-/// The phase says that all is over only behind an `over`, which no caller's pass of its own has seen.
+/// The phase says that all is over only after an `over`, which no caller's pass of its own has seen.
 pub fn the_end_is_behind_an_over()
     ensures { EndIsBehindOver }
 {}

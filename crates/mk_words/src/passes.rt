@@ -1,6 +1,6 @@
 //! Passes: who has one may make the steps of its seat.
 ghost use Rattle.std.specs.Prelude.{◌≡◌, true, false};
-ghost use Rattle.mk_core.specs.Accesses.{caller_number, reached, access};
+ghost use Rattle.mk_core.specs.Accesses.{caller_number, word_accessed, access};
 ghost use Rattle.mk_core.specs.History.{IsHistory};
 ghost use Rattle.mk_core.specs.Counts.{IsTidy};
 ghost use Rattle.mk_core.specs.Order.{group_of};
@@ -76,7 +76,7 @@ impl Pass {
         requires one_table { self.old.table ≡ words.now }
         requires kind { is_markers (group_of step) ≡ false }
         requires may { May self.old step }
-        requires word { word ≡ reached self.old.table.config (now_of self.old) (event_of self.old step) }
+        requires word { word ≡ word_accessed self.old.table.config (now_of self.old) (event_of self.old step) }
         requires access { by ≡ access self.old.table.config (now_of self.old) (event_of self.old step) }
         ensures told { Tells self.old step result self.new }
         ensures own { Has self.old.seats self.old.seat }
@@ -105,7 +105,7 @@ impl Pass {
         requires one_table { self.old.table ≡ words.now }
         requires kind { is_markers (group_of step) ≡ true }
         requires may { May self.old step }
-        requires word { word ≡ reached self.old.table.config (now_of self.old) (event_of self.old step) }
+        requires word { word ≡ word_accessed self.old.table.config (now_of self.old) (event_of self.old step) }
         requires access { by ≡ access self.old.table.config (now_of self.old) (event_of self.old step) }
         ensures { Marks self.old step result self.new }
     {

@@ -1,4 +1,4 @@
-//! What a marker is at behind its steps. The core has the same for its own machine.
+//! What a marker is at after its steps. The core has the same for its own machine.
 ghost use Rattle.std.specs.Prelude.{◌≡◌, ◌<◌, ◌≤◌, ◌==◌, ◌%◌, IsTrue, true, if◌then◌else◌};
 ghost use Rattle.mk_geom.specs.Addresses.{page_at_address};
 ghost use Rattle.mk_geom.specs.Headers.{header_of};
@@ -104,7 +104,7 @@ fn scan_claimed(page: u64, index: u64, marks: u64, seen: Option<SeenHeader>) -> 
     }
 }
 
-/// The scan behind the load of its next word.
+/// The scan after the load of its next word.
 fn scan_onward(scan: Option<Scan>) -> Option<Scan>
     requires { IsTrue (has_next_word scan) }
     ensures { result ≡ scan_onward scan }
@@ -135,7 +135,7 @@ fn open_hand(config: &Config, value: u64) -> Option<u64>
     (HEAP_START..end).contains(&value).then_some(value)
 }
 
-/// An open hand behind a look at the header of a page: closed, where that shows nothing there.
+/// An open hand after a look at the header of a page: closed, where that shows nothing there.
 fn hand_behind_look(config: &Config, page: u64, header: u64, hand: Option<u64>) -> Option<u64>
     ensures { result ≡ hand_behind_look config.now page header hand }
 {
@@ -147,7 +147,7 @@ fn hand_behind_look(config: &Config, page: u64, header: u64, hand: Option<u64>) 
     }
 }
 
-/// What a marker is at behind its look.
+/// What a marker is at after its look.
 fn behind_mlook(config: &Config, found: u64, word: Word, marker: Marker) -> Marker
     ensures { result ≡ behind_mlook config.now found word marker }
 {
@@ -180,7 +180,7 @@ pub(crate) fn cell_seen(config: &Config, marker: Marker) -> Option<Cell>
     }
 }
 
-/// What a marker is at behind its step, which found this number.
+/// What a marker is at after its step, which found this number.
 #[inline(always)]
 pub(crate) fn marker_behind(config: &Config, found: u64, step: Step, marker: Marker) -> Marker
     requires limits { config.now.pages ≤ 4096 }

@@ -52,7 +52,7 @@ impl Turn {
         );
     }
 
-    /// Decides a New for which there is no room, behind a cycle of its own.
+    /// Decides a New for which there is no room, after a cycle of its own.
     pub fn full(&mut self, words: &Words)
         requires one_table { self.old.pass.table ≡ words.now }
         requires enabled { IsEnabledTo self.old.pass step.Full }

@@ -1,7 +1,7 @@
 //! The turn while the gates of all other callers are held, and its steps.
 ghost use Rattle.std.specs.Prelude.{◌≡◌, true, false};
 ghost use Rattle.mk_core.specs.declared.events.Step.TheVariants as step;
-ghost use Rattle.mk_core.specs.Accesses.{reached, access};
+ghost use Rattle.mk_core.specs.Accesses.{word_accessed, access};
 ghost use Rattle.mk_core.specs.History.{IsHistory};
 ghost use Rattle.mk_core.specs.Moments.{others_are_held, none_is_held, is_number_of};
 ghost use Rattle.mk_words.specs.Opening.{OthersMayOpen, Opens};
@@ -73,7 +73,8 @@ impl Stopped {
         requires stays { gates_stay step ≡ true }
         requires takes_none { may_take_cell step ≡ false }
         requires may { May self.old.pass step }
-        requires word { word ≡ reached self.old.pass.table.config (now_of self.old.pass) (event_of self.old.pass step) }
+        requires word { word ≡ word_accessed self.old.pass.table.config (now_of self.old.pass)
+            (event_of self.old.pass step) }
         requires access { by ≡ access self.old.pass.table.config (now_of self.old.pass) (event_of self.old.pass step) }
         ensures told { Tells self.old.pass step result self.new.pass }
         ensures op { self.new.op ≡ self.old.op }
@@ -83,7 +84,7 @@ impl Stopped {
         self.turn.perform(words, step, word, by)
     }
 
-    /// Looks at a word. Behind an undecided Free's look at its target's quarantine word the call may be decided.
+    /// Looks at a word. After an undecided Free's look at its target's quarantine word the call may be decided.
     #[inline(always)]
     pub fn look(&mut self, words: &Words, x: Word) -> u64
         requires one_table { self.old.pass.table ≡ words.now }
@@ -96,8 +97,8 @@ impl Stopped {
         self.look_among(words, words.pages(), x)
     }
 
-    /// Looks at a word as `look` does, in a table of so many pages. Loops over pages have the number at hand, and
-    /// needn't load it again behind each access.
+    /// Looks at a word as `look` does, in a table of this many pages. Loops over pages have the number at hand, and
+    /// needn't load it again after each access.
     #[inline(always)]
     pub fn look_among(&mut self, words: &Words, pages: u64, x: Word) -> u64
         requires one_table { self.old.pass.table ≡ words.now }

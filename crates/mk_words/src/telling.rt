@@ -1,4 +1,4 @@
-//! What each step of the table tells. The calls pick the event, and the seat of a split.
+//! What each step of the table says. The calls pick the event, and the seat of a split.
 
 use crate::rule::View;
 use atomic_table::{Join, Play, Split};

@@ -1,6 +1,6 @@
 //! A token of the table with the seat whose steps it makes: what a pass and a turn have in common.
 ghost use Rattle.std.specs.Prelude.{◌≡◌};
-ghost use Rattle.mk_core.specs.Accesses.{caller_number, reached, access};
+ghost use Rattle.mk_core.specs.Accesses.{caller_number, word_accessed, access};
 ghost use Rattle.mk_core.specs.History.{IsHistory};
 ghost use Rattle.mk_core.specs.Counts.{IsTidy};
 ghost use Rattle.mk_core.specs.declared.accesses.Access.TheVariants.{Store};
@@ -37,8 +37,8 @@ impl Model for SeatToken {
     ghost invariant = { λ t. IsInOrder t.token.me t.seat };
 }
 
-/// Makes a step of any kind: the access that the event makes behind what the pass has seen, to the word that it
-/// reaches there. Behind all that others did since it is the same one.
+/// Makes a step of any kind: the access that the event makes after what the pass has seen, to the word that it
+/// reaches there. After all that others did since it is the same one.
 #[inline(always)]
 fn perform_as<J: Making>(
     words: &Words,
@@ -54,7 +54,7 @@ fn perform_as<J: Making>(
     requires one_table { (state_of token.old.table_id token.old.me seat).table ≡ words.now }
     requires pages { pages ≡ words.now.config.pages }
     requires may { May (state_of token.old.table_id token.old.me seat) step }
-    requires word { word ≡ reached token.old.me.0.config (now_of (state_of token.old.table_id token.old.me seat))
+    requires word { word ≡ word_accessed token.old.me.0.config (now_of (state_of token.old.table_id token.old.me seat))
         (record { seat = seat; step = step }) }
     requires access { by ≡ access token.old.me.0.config (now_of (state_of token.old.table_id token.old.me seat))
         (record { seat = seat; step = step }) }
@@ -82,7 +82,7 @@ fn replace_as<J: Making>(
     requires order { IsInOrder token.old.me seat }
     requires one_table { (state_of token.old.table_id token.old.me seat).table ≡ words.now }
     requires may { May (state_of token.old.table_id token.old.me seat) step }
-    requires word { word ≡ reached token.old.me.0.config (now_of (state_of token.old.table_id token.old.me seat))
+    requires word { word ≡ word_accessed token.old.me.0.config (now_of (state_of token.old.table_id token.old.me seat))
         (record { seat = seat; step = step }) }
     requires access { Store value
         ≡ access token.old.me.0.config (now_of (state_of token.old.table_id token.old.me seat))
@@ -126,7 +126,7 @@ impl SeatToken {
         }
     }
 
-    /// Makes a step of any kind, in a table of so many pages.
+    /// Makes a step of any kind, in a table of this many pages.
     #[inline(always)]
     pub(crate) fn perform_among(
         &mut self,
@@ -139,7 +139,7 @@ impl SeatToken {
         requires one_table { self.old.table ≡ words.now }
         requires pages { pages ≡ words.now.config.pages }
         requires may { May self.old step }
-        requires word { word ≡ reached self.old.table.config (now_of self.old) (event_of self.old step) }
+        requires word { word ≡ word_accessed self.old.table.config (now_of self.old) (event_of self.old step) }
         requires access { by ≡ access self.old.table.config (now_of self.old) (event_of self.old step) }
         ensures told { Tells self.old step result self.new }
         ensures own { Has self.old.seats self.old.seat }
@@ -154,7 +154,7 @@ impl SeatToken {
     pub(crate) fn perform(&mut self, words: &Words, step: Step, word: TableWord, by: Access) -> u64
         requires one_table { self.old.table ≡ words.now }
         requires may { May self.old step }
-        requires word { word ≡ reached self.old.table.config (now_of self.old) (event_of self.old step) }
+        requires word { word ≡ word_accessed self.old.table.config (now_of self.old) (event_of self.old step) }
         requires access { by ≡ access self.old.table.config (now_of self.old) (event_of self.old step) }
         ensures told { Tells self.old step result self.new }
         ensures own { Has self.old.seats self.old.seat }
@@ -168,7 +168,7 @@ impl SeatToken {
     pub(crate) fn replace(&mut self, words: &Words, step: Step, word: TableWord, value: u64) -> u64
         requires one_table { self.old.table ≡ words.now }
         requires may { May self.old step }
-        requires word { word ≡ reached self.old.table.config (now_of self.old) (event_of self.old step) }
+        requires word { word ≡ word_accessed self.old.table.config (now_of self.old) (event_of self.old step) }
         requires access { Store value ≡ access self.old.table.config (now_of self.old) (event_of self.old step) }
         ensures finds { Finds self.old step result self.new }
         ensures own { Has self.old.seats self.old.seat }

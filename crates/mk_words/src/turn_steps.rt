@@ -29,7 +29,7 @@ pub(crate) fn tally_word(tally: Tally) -> Word
 }
 
 impl Turn {
-    /// Looks at a word. Behind an undecided Free's look at its target's quarantine word the call may be decided.
+    /// Looks at a word. After an undecided Free's look at its target's quarantine word the call may be decided.
     #[inline(always)]
     pub fn look(&mut self, words: &Words, x: Word) -> u64
         requires one_table { self.old.pass.table ≡ words.now }
@@ -42,8 +42,8 @@ impl Turn {
         self.look_among(words, words.pages(), x)
     }
 
-    /// Looks at a word as `look` does, in a table of so many pages. Loops over pages have the number at hand, and
-    /// needn't load it again behind each access.
+    /// Looks at a word as `look` does, in a table of this many pages. Loops over pages have the number at hand, and
+    /// needn't load it again after each access.
     #[inline(always)]
     pub fn look_among(&mut self, words: &Words, pages: u64, x: Word) -> u64
         requires one_table { self.old.pass.table ≡ words.now }

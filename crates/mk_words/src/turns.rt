@@ -1,7 +1,7 @@
 //! The turn, which one seat has at a time.
 ghost use Rattle.std.specs.Prelude.{◌≡◌, ◌+◌, IfOk, IfErr, true, false, None};
 ghost use Rattle.mk_core.specs.declared.events.Step.TheVariants as step;
-ghost use Rattle.mk_core.specs.Accesses.{reached, access};
+ghost use Rattle.mk_core.specs.Accesses.{word_accessed, access};
 ghost use Rattle.mk_core.specs.Calls.{at_rest};
 ghost use Rattle.mk_core.specs.Counts.{TalliesAreExact, TalliesAreTidy, IsTidy};
 ghost use Rattle.mk_core.specs.History.{IsHistory};
@@ -132,14 +132,15 @@ impl Turn {
         self.pass.is_in_order();
     }
 
-    /// Makes a step behind which the turn goes on.
+    /// Makes a step after which the turn goes on.
     #[inline(always)]
     pub(crate) fn perform(&mut self, words: &Words, step: Step, word: TableWord, by: Access) -> u64
         requires one_table { self.old.pass.table ≡ words.now }
         requires stays { turn_stays step ≡ true }
         requires takes_none { may_take_cell step ≡ false }
         requires may { May self.old.pass step }
-        requires word { word ≡ reached self.old.pass.table.config (now_of self.old.pass) (event_of self.old.pass step) }
+        requires word { word ≡ word_accessed self.old.pass.table.config (now_of self.old.pass)
+            (event_of self.old.pass step) }
         requires access { by ≡ access self.old.pass.table.config (now_of self.old.pass) (event_of self.old.pass step) }
         ensures told { Tells self.old.pass step result self.new.pass }
         ensures op { self.new.op ≡ self.old.op }

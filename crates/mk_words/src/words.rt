@@ -46,7 +46,7 @@ impl Model for Words {
     } };
 }
 
-/// So many zeros.
+/// This many zeros.
 fn zeros(alloc: Global, count: usize) -> Result<Vec<u64>, NoMemory>
     ensures { IfOk result (λ list. list.items ≡ replicate count 0) }
 {
@@ -120,7 +120,7 @@ impl Words {
     }
 
     /// The pass of a seat that the host's pass has, which then has it no more. A marker's is out, and a caller gets
-    /// none behind an `over`.
+    /// none after an `over`.
     pub fn split(words: &Words, pass: &mut Pass, seat: Seat) -> Pass
         requires one_table { pass.old.table ≡ words.now }
         requires host { pass.old.seat ≡ Host }
@@ -191,7 +191,7 @@ impl Words {
         self.table.shared.peek(16) == 0
     }
 
-    /// Waits in line with others that want the turn, and stands first until what it gives is dropped. Who stands behind
+    /// Waits in line with others that want the turn, and stands first until what it gives is dropped. Who stands after
     /// sleeps. No promise rests on it: the turn is had by the turn word alone, with or without a place in line.
     pub fn line_up<R: Wait>(&self, rt: &R) -> MutexGuard<'_, ()> {
         self.queue.lock(rt)

@@ -40,7 +40,7 @@ op_step p s h admitted =
     by (Some a) = (admitted a, tt)
     by None = tt
 
--- behind a step of its own, where the call has that operation and the answer's flag doesn't matter
+-- after a step of its own, where the call has that operation and the answer's flag doesn't matter
 pub own_step : (p : PassState) (t : Step) (q : PassState) (s : Step) (o : Op) → StaysAdmitted p o → Makes p t q
     → IsHistory q.table.config q.seen → (call_of q).op ≡ o
     → ((a : Answer) → flagged o a ≡ o) → IsAdmittedTo q s

@@ -1,11 +1,11 @@
--- What a turn knows of the table behind its own steps.
+-- What a turn knows of the table after its own steps.
 use Rattle.std.proofs.Common.{◌≡◌, ◌≢◌, ◌⊎◌, inl, inr, ℕ, ◌+◌, ◌<◌, ◌≤◌, Bool, true, false, List, [], ◌∷◌, ◌++◌, length}
 use Rattle.std.proofs.Common.{Option, refl, sym, ◌∙◌, ap, subst, arith}
 use Rattle.std.specs.Prelude.{slice_index, slice_set, ◌==◌, not, nat_lt}
 use Rattle.std.proofs.lemmas.Bool.{cases_lt, cases_eq, eqb-false, eqb-true, ne_eqb, eq-eqb, lt-ltb, and_from}
 use Rattle.std.proofs.lemmas.Bool.{true≢false}
 use Rattle.std.proofs.lemmas.List.{get_or-set_other, get_or-set_same, get_or_past, length-set}
-use Rattle.mk_geom.specs.PageUses.{words_held_among}
+use Rattle.mk_geom.specs.PageUses.{held_by_uses}
 use Rattle.mk_geom.specs.PageWords.{uses_of_pages}
 use Rattle.mk_core.specs.declared.events.Word.{Word}
 use Rattle.mk_core.specs.declared.config.Config.{Config}
@@ -104,7 +104,7 @@ settled_kept p q s a h x =
       phase = ap (λ (y : Steady). has_phase y.phase step.Give) same ∙ x.phase;
       freed = freed_kept p q s a h ∙ x.freed;
       held = ap (λ (y : Steady). y.held) same ∙ x.held
-          ∙ sym (ap (λ (y : Steady). words_held_among (uses_of_pages y.pages)) same);
+          ∙ sym (ap (λ (y : Steady). held_by_uses (uses_of_pages y.pages)) same);
       fresh = ap (λ (y : Steady). y.fresh) same ∙ x.fresh ∙ sym (ap (λ (y : Steady). y.fresh_words) same);
     }
 
@@ -367,7 +367,7 @@ settled_opened p q o x =
       phase = ap (λ (y : Steady). has_phase y.phase step.Give) o.steady ∙ x.phase;
       freed = ap (λ (y : Holding). y.freed) o.holding ∙ x.freed;
       held = ap (λ (y : Steady). y.held) o.steady ∙ x.held
-          ∙ sym (ap (λ (y : Steady). words_held_among (uses_of_pages y.pages)) o.steady);
+          ∙ sym (ap (λ (y : Steady). held_by_uses (uses_of_pages y.pages)) o.steady);
       fresh = ap (λ (y : Steady). y.fresh) o.steady ∙ x.fresh ∙ sym (ap (λ (y : Steady). y.fresh_words) o.steady);
     }
 

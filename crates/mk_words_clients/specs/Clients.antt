@@ -15,7 +15,7 @@ use Rattle.mk_core.specs.Moments.{none_is_held, outside, is_held}
 use Rattle.mk_core.specs.StopConditions.{is_attending}
 use Rattle.mk_words.specs.Markers.{marker_in}
 use Rattle.mk_core.specs.Order.{host_has_turn}
-use Rattle.mk_core.specs.TurnConditions.{words_held}
+use Rattle.mk_core.specs.TurnConditions.{held_by_pages}
 use Rattle.mk_geom.specs.Addresses.{heap_word_at}
 use Rattle.mk_core.specs.declared.seats.Flight.{Flight}
 use Rattle.mk_words.specs.CallSteps.{register_of}
@@ -39,10 +39,10 @@ pub record MayGiveBack (p : PassState) : Type 0 where
   pub gates : none_is_held p.table.config.callers (now_of p).words ≡ true
   pub phase : has_phase (phase_of (now_of p).words) step.Give ≡ true
   pub freed : (now_of p).seats.holding.freed ≡ None
-  pub held : (now_of p).words.held ≡ words_held (now_of p).words
+  pub held : (now_of p).words.held ≡ held_by_pages (now_of p).words
   pub fresh : (now_of p).words.fresh ≡ (now_of p).fresh_words
 
--- The operation is admitted, whatever comes behind what the pass has seen.
+-- The operation is admitted, whatever comes after what the pass has seen.
 abbrev pub StaysAdmitted : PassState → Op → Type 0
 StaysAdmitted p o =
     (more : List Event) → IsHistory p.table.config (p.seen ++ more)
@@ -85,7 +85,7 @@ pub record Settled (p : PassState) : Type 0 where
   pub seat : p.seat ≡ Host
   pub phase : has_phase (phase_of (now_of p).words) step.Give ≡ true
   pub freed : (now_of p).seats.holding.freed ≡ None
-  pub held : (now_of p).words.held ≡ words_held (now_of p).words
+  pub held : (now_of p).words.held ≡ held_by_pages (now_of p).words
   pub fresh : (now_of p).words.fresh ≡ (now_of p).fresh_words
 
 -- The gates of the callers below this one are held, and those of the others aren't.

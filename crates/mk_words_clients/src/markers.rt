@@ -11,7 +11,7 @@ use mk_core::Word;
 use mk_geom::{Header, cells, class_words, decode, lookup};
 use mk_words::{Pass, Words};
 
-/// The page of a heap of so many pages into which the value points.
+/// The page of a heap of this many pages into which the value points.
 fn page_of(pages: u64, value: u64) -> Option<u64>
     ensures some { IfSome result (λ page. (page ≡ page_at_address value) × (page < pages)
         × (is_heap_address pages value ≡ true)) }

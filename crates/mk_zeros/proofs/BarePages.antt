@@ -14,14 +14,14 @@ use Rattle.mk_core.specs.StandingAllocations.{object_placed}
 use Rattle.mk_core.specs.History.{World}
 use Rattle.mk_core.proofs.ObjectHeaders.{made_shows, part_head}
 use Rattle.mk_core.proofs.Sizes.{pages_some}
-use Rattle.mk_layout.specs.Scene.{Claim, Among, IsShown, IsPlotShown, header_on, used_on, shows_on, head_on}
+use Rattle.mk_layout.specs.LayoutScene.{Claim, Among, IsShown, IsPlotShown, header_on, used_on, shows_on, head_on}
 use Rattle.mk_protocol.specs.Ground.{ground_of}
 use Rattle.mk_layout.specs.Terrain.{RunStands, IsClaimedRun, claim_of, claims_of, object_now}
 use Rattle.mk_layout.proofs.Claims.{claim_among}
 use Rattle.mk_layout.proofs.Readings.{none_set, claimed_head, claimed_some}
 use Rattle.mk_layout.proofs.Serving.{Laid, own_claim}
 use Rattle.mk_layout.proofs.StandingClaims.{ends_on_pages}
-use Rattle.mk_zeros.specs.Zeros.{scene_of, IsMappedWord, IsFreedWord, MayHold, OfMapped, OfReleased, OfFreedRun}
+use Rattle.mk_zeros.specs.Zeros.{zero_scene_of, IsMappedWord, IsFreedWord, MayHold, OfMapped, OfReleased, OfFreedRun}
 use Rattle.mk_zeros.specs.Zeros.{HasZeros}
 use Rattle.mk_zeros.proofs.MappedWords.{mapped_stays}
 use Rattle.mk_zeros.proofs.ChangedScenes.{none_released}
@@ -76,9 +76,9 @@ pub on_allocation : (c : Config) (w : World) (n : ℕ) → Unreleasing c w → s
     → IsOnAllocation c w (n / 64)
 on_allocation c w n q some = by (q.zeros n some)
   where
-    by : MayHold c (scene_of w) n → IsOnAllocation c w (n / 64)
+    by : MayHold c (zero_scene_of w) n → IsOnAllocation c w (n / 64)
     by (OfMapped m) = mapped_on c w n q m
-    by (OfReleased r) = absurd (none_released c (scene_of w) n q.off r)
+    by (OfReleased r) = absurd (none_released c (zero_scene_of w) n q.off r)
     by (OfFreedRun f) = freed_on c w n q f
 
 -- The words of a page are 0 that has no header,

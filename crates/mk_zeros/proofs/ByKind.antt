@@ -14,7 +14,7 @@ use Rattle.mk_core.specs.Cells.{is_left_unmarked}
 use Rattle.mk_core.specs.Moments.{flight_of, is_phase, nothing_done}
 use Rattle.mk_core.specs.Accesses.{caller_number, register_met, reg_access}
 use Rattle.mk_core.specs.NewPlaces.{is_run_gone}
-use Rattle.mk_core.specs.TurnConditions.{is_decided, words_held}
+use Rattle.mk_core.specs.TurnConditions.{is_decided, held_by_pages}
 use Rattle.mk_core.specs.StopConditions.{may_end}
 use Rattle.mk_core.specs.Allocations.{PlacedAllocation, placed_at, cell_of_allocation, with_released, granted}
 use Rattle.mk_core.specs.History.{World}
@@ -31,7 +31,8 @@ use Rattle.mk_layout.proofs.Dropped.{settled_page}
 use Rattle.mk_layout.proofs.QuarantineByKind.{shown_at}
 use Rattle.mk_layout.proofs.QuarantineChanges.{index_small}
 use Rattle.mk_core.specs.StandingAllocations.{object_placed}
-use Rattle.mk_zeros.specs.Zeros.{is_released_there, Scene, scene_with, IsMappedWord, IsReleasedWord, MayHold, OfMapped}
+use Rattle.mk_zeros.specs.Zeros.{is_released_there, ZeroScene, zero_scene_with, IsMappedWord, IsReleasedWord, MayHold}
+use Rattle.mk_zeros.specs.Zeros.{OfMapped}
 use Rattle.mk_zeros.specs.Zeros.{OfReleased, OfFreedRun, OthersAreZero, HasZeros}
 use Rattle.mk_zeros.proofs.MappedWords.{mapped_stays, word_of_longer, word_of_fresh, word_of_unreleased}
 use Rattle.mk_zeros.proofs.FreedWords.{gone_word}
@@ -59,12 +60,12 @@ give_kind c w seat h z =
     gone =
         let decided : Bool = is_decided (flight_of w.now seat).stage in
         let gone : Bool = is_run_gone w.now.words w.now.seats.holding.freed in
-        let counts : Bool = w.now.words.held == words_held w.now.words in
+        let counts : Bool = w.now.words.held == held_by_pages w.now.words in
         let a = and_parts (decided && gone && counts) (w.now.words.fresh == w.now.fresh_words) h.holder in
         (and_parts decided gone (and_parts (decided && gone) counts a.0).0).1
 
 -- `grant` and `begin`
-abbrev with_allocations : World → List PlacedAllocation → Scene
+abbrev with_allocations : World → List PlacedAllocation → ZeroScene
 with_allocations w xs = record (here w) { allocations = xs }
 
 other_allocations : (c : Config) (w : World) (xs : List PlacedAllocation) → HasZeros c w
@@ -74,9 +75,9 @@ other_allocations c w xs z keeps =
     (λ n some r. OfReleased r) (λ n some f. OfFreedRun f)
 
 -- `release`
-abbrev released_scene : Config → World → Scene
+abbrev released_scene : Config → World → ZeroScene
 released_scene c w =
-    record (scene_with true w.now.words.marks w) { allocations = map (with_released c w.now.words) w.allocations }
+    record (zero_scene_with true w.now.words.marks w) { allocations = map (with_released c w.now.words) w.allocations }
 
 release_kind : (c : Config) (w : World) (seat : Seat) → Before c w seat step.Release → is_phase w.now.words 3 ≡ true
     → HasZeros c w
@@ -111,9 +112,9 @@ release_kind c w seat b three z =
 
 -- `end`
 end_kind : (c : Config) (w : World) → may_end c.pages w.now.words ≡ true → HasZeros c w
-    → OthersAreZero c (scene_with false w.now.words.marks w)
+    → OthersAreZero c (zero_scene_with false w.now.words.marks w)
 end_kind c w own z =
-    changed_words c (here w) (scene_with false w.now.words.marks w) z (λ n ne. ne) (λ n m. OfMapped m)
+    changed_words c (here w) (zero_scene_with false w.now.words.marks w) z (λ n ne. ne) (λ n m. OfMapped m)
     (λ n some r. absurd (left n r)) (λ n some f. OfFreedRun f)
   where
     left : (n : ℕ) → IsReleasedWord c w.now.words.pages (is_released_there (here w)) n → ⊥
@@ -127,7 +128,7 @@ end_kind c w own z =
 -- each kind of event, whatever the seat
 pub by_kind : (c : Config) (w : World) (seat : Seat) (x : Step) → Before c w seat x → Meets c w.now seat x
     → HasZeros c w
-    → OthersAreZero c (scene_with (is_releasing_behind x (is_phase w.now.words 4)) w.now.words.marks
+    → OthersAreZero c (zero_scene_with (is_releasing_behind x (is_phase w.now.words 4)) w.now.words.marks
     (WorldBehind c w seat x))
 by_kind c w seat (step.Take o) b h z = take_kind c w seat (step.Take o) b z (w.now.words.turn == 0) refl
 by_kind c w seat step.Give b h z = give_kind c w seat h z

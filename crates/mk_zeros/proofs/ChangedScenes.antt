@@ -25,20 +25,21 @@ use Rattle.mk_protocol.proofs.Known.{Known}
 use Rattle.mk_layout.specs.Terrain.{object_now}
 use Rattle.mk_layout.proofs.Released.{all_stand}
 use Rattle.mk_layout.proofs.StandingClaims.{IsStanding}
-use Rattle.mk_zeros.specs.Zeros.{is_released_there, Scene, scene_with, IsMappedWord, IsReleasedWord, IsFreedWord}
+use Rattle.mk_zeros.specs.Zeros.{is_released_there, ZeroScene, zero_scene_with, IsMappedWord, IsReleasedWord}
+use Rattle.mk_zeros.specs.Zeros.{IsFreedWord}
 use Rattle.mk_zeros.specs.Zeros.{MayHold, OfMapped, OfReleased, OfFreedRun, OthersAreZero, HasZeros}
-use Rattle.mk_zeros.specs.ZeroLaws.{OthersSay}
+use Rattle.mk_zeros.specs.ZeroLaws.{ZeroPremises}
 
 -- all that is known of the world before
 pub record Before (c : Config) (w : World) (seat : Seat) (x : Step) : Type 0 where
   pub limits : IsWithinLimits c
   pub lengths : AreOfPages c.pages w.now.words
   pub known : Known c w.now
-  pub others : OthersSay c w (record { seat = seat; step = x })
+  pub others : ZeroPremises c w (record { seat = seat; step = x })
 
 -- the scene before
-abbrev pub here : World → Scene
-here w = scene_with (is_phase w.now.words 4) w.now.words.marks w
+abbrev pub here : World → ZeroScene
+here w = zero_scene_with (is_phase w.now.words 4) w.now.words.marks w
 
 pub standing : (c : Config) (w : World) (seat : Seat) (x : Step) (i : ℕ) → Before c w seat x
     → (placed_at w.allocations i).released ≡ false
@@ -47,7 +48,7 @@ standing c w seat x i b u =
     all_stand c (object_now c w.now) (is_phase w.now.words 4) w b.lengths.pages b.others.laid_out i u
 
 -- While the phase isn't releasing no cell is released.
-pub none_released : (c : Config) (s : Scene) (n : ℕ) → s.releasing ≡ false
+pub none_released : (c : Config) (s : ZeroScene) (n : ℕ) → s.releasing ≡ false
     → IsReleasedWord c s.pages (is_released_there s) n → ⊥
 none_released c s n off r =
     true≢false (sym (and_parts s.releasing
@@ -55,7 +56,7 @@ none_released c s n off r =
     r.released).0 ∙ off)
 
 -- From one scene to another, each of the three by itself
-pub changed_words : (c : Config) (s t : Scene) → OthersAreZero c s
+pub changed_words : (c : Config) (s t : ZeroScene) → OthersAreZero c s
     → ((n : ℕ) → slice_index t.heap n ≢ 0 → slice_index s.heap n ≢ 0)
     → ((n : ℕ) → IsMappedWord c s.allocations n → MayHold c t n)
     → ((n : ℕ) → slice_index s.heap n ≢ 0 → IsReleasedWord c s.pages (is_released_there s) n → MayHold c t n)
@@ -68,7 +69,7 @@ changed_words c s t z heap mapped released freed n some = by (heap n some) (z n 
     by was (OfFreedRun f) = freed n was f
 
 -- A step while the phase isn't releasing
-pub early_words : (c : Config) (w : World) (t : Scene) → is_phase w.now.words 4 ≡ false → HasZeros c w
+pub early_words : (c : Config) (w : World) (t : ZeroScene) → is_phase w.now.words 4 ≡ false → HasZeros c w
     → ((n : ℕ) → slice_index t.heap n ≢ 0 → slice_index w.now.words.heap n ≢ 0)
     → ((n : ℕ) → IsMappedWord c w.allocations n → MayHold c t n)
     → ((n : ℕ) → IsFreedWord w.now.seats.holding.freed n → MayHold c t n) → OthersAreZero c t
@@ -77,7 +78,7 @@ early_words c w t off z heap mapped freed =
     (λ n some f. freed n f)
 
 -- `write` and `cas`
-pub stored_words : (c : Config) (s : Scene) (j v : ℕ) → IsMappedWord c s.allocations j → OthersAreZero c s
+pub stored_words : (c : Config) (s : ZeroScene) (j v : ℕ) → IsMappedWord c s.allocations j → OthersAreZero c s
     → OthersAreZero c (record s { heap = slice_set s.heap j v })
 stored_words c s j v m z n some =
     set_by (λ x. x ≢ 0 → MayHold c (record s { heap = slice_set s.heap j v }) n) s.heap j n v 0
@@ -89,7 +90,7 @@ stored_words c s j v m z n some =
     moved (OfFreedRun f) = OfFreedRun f
 
 -- `wipe`
-pub wiped_words : (c : Config) (s : Scene) (j : ℕ) → OthersAreZero c s
+pub wiped_words : (c : Config) (s : ZeroScene) (j : ℕ) → OthersAreZero c s
     → OthersAreZero c (record s { heap = slice_set s.heap j 0 })
 wiped_words c s j z =
     changed_words c s (record s { heap = slice_set s.heap j 0 }) z

@@ -1,4 +1,4 @@
--- Only words that may hold values aren't 0, behind every list of enabled events.
+-- Only words that may hold values aren't 0, after every list of enabled events.
 use Rattle.std.proofs.Common.{◌≡◌, ℕ, ◌*◌, Bool, true, false, List, [], ◌∷◌, refl, sym, ◌∙◌, ap, subst}
 use Rattle.std.specs.Prelude.{Some, None}
 use Rattle.std.proofs.lemmas.Bool.{true≢false}
@@ -12,7 +12,7 @@ use Rattle.mk_core.specs.declared.config.Config.{Config}
 use Rattle.mk_core.specs.declared.events.Event.{Event}
 use Rattle.mk_core.specs.Config.{IsWithinLimits}
 use Rattle.mk_core.specs.Layout.{AreOfPages}
-use Rattle.mk_core.specs.Accesses.{reached, access}
+use Rattle.mk_core.specs.Accesses.{word_accessed, access}
 use Rattle.mk_core.specs.Enabled.{IsEnabled}
 use Rattle.mk_core.specs.Moments.{first_moment, flight_of, is_phase}
 use Rattle.mk_core.specs.History.{World, first_world, world_behind, left, left_from, AreEnabledFrom}
@@ -22,35 +22,35 @@ use Rattle.mk_protocol.proofs.Known.{Known, known_behind, known_at_first, known_
 use Rattle.mk_protocol.proofs.OrderlyLists.{at_first}
 use Rattle.mk_layout.proofs.Before.{is_releasing_behind}
 use Rattle.mk_layout.proofs.Behind.{phase_kind, releasing_marks}
-use Rattle.mk_zeros.specs.Zeros.{scene_with, OfMapped, OfFreedRun, OthersAreZero, HasZeros}
-use Rattle.mk_zeros.specs.ZeroLaws.{OthersSay, OthersSayFrom, stores, EventsKeepTheZeros, ZerosStandBehindLists}
+use Rattle.mk_zeros.specs.Zeros.{zero_scene_with, OfMapped, OfFreedRun, OthersAreZero, HasZeros}
+use Rattle.mk_zeros.specs.ZeroLaws.{ZeroPremises, ZeroPremisesFrom, stores, EventsKeepTheZeros, ZerosStandBehindLists}
 use Rattle.mk_zeros.proofs.ChangedScenes.{none_released, changed_words}
 use Rattle.mk_zeros.proofs.ByKind.{by_kind}
 
 -- While no cell is released, marks say nothing.
-with_marks : (c : Config) (v : World) (old new : List ℕ) → OthersAreZero c (scene_with false old v)
-    → OthersAreZero c (scene_with false new v)
+with_marks : (c : Config) (v : World) (old new : List ℕ) → OthersAreZero c (zero_scene_with false old v)
+    → OthersAreZero c (zero_scene_with false new v)
 with_marks c v old new z =
-    changed_words c (scene_with false old v) (scene_with false new v) z (λ n ne. ne) (λ n m. OfMapped m)
-    (λ n some r. absurd (none_released c (scene_with false old v) n refl r)) (λ n some f. OfFreedRun f)
+    changed_words c (zero_scene_with false old v) (zero_scene_with false new v) z (λ n ne. ne) (λ n m. OfMapped m)
+    (λ n some r. absurd (none_released c (zero_scene_with false old v) n refl r)) (λ n some f. OfFreedRun f)
 
 -- One event, from the world before it.
 pub zeros_behind : (c : Config) (w : World) (e : Event) → IsWithinLimits c → AreOfPages c.pages w.now.words
-    → Known c w.now → IsEnabled c w.now e → OthersSay c w e
+    → Known c w.now → IsEnabled c w.now e → ZeroPremises c w e
     → HasZeros c w → HasZeros c (world_behind c w e)
 zeros_behind c w e limits lengths known on others z =
     let h = enabled_meets c w.now e on in
     let v : World = world_behind c w e in
     let kind = by_kind c w e.seat e.step (record { limits = limits; lengths = lengths; known = known; others = others })
     h z in
-    subst (λ r. OthersAreZero c (scene_with r v.now.words.marks v)) (sym (phase_kind c w e.seat e.step h))
+    subst (λ r. OthersAreZero c (zero_scene_with r v.now.words.marks v)) (sym (phase_kind c w e.seat e.step h))
     (marked (is_releasing_behind e.step (is_phase w.now.words 4)) refl kind)
   where
     marked : (r : Bool) → is_releasing_behind e.step (is_phase w.now.words 4) ≡ r
-        → OthersAreZero c (scene_with r w.now.words.marks (world_behind c w e))
-        → OthersAreZero c (scene_with r (world_behind c w e).now.words.marks (world_behind c w e))
+        → OthersAreZero c (zero_scene_with r w.now.words.marks (world_behind c w e))
+        → OthersAreZero c (zero_scene_with r (world_behind c w e).now.words.marks (world_behind c w e))
     marked true is z =
-        subst (λ (ms : List ℕ). OthersAreZero c (scene_with true ms (world_behind c w e)))
+        subst (λ (ms : List ℕ). OthersAreZero c (zero_scene_with true ms (world_behind c w e)))
         (sym (releasing_marks c w e.seat e.step known (enabled_meets c w.now e on) is)) z
     marked false is z = with_marks c (world_behind c w e) w.now.words.marks (world_behind c w e).now.words.marks z
 
@@ -60,12 +60,12 @@ events_keep_the_zeros c es e limits on enabled others z =
 
 zeros_from : (c : Config) (w : World) (es : List Event) → IsWithinLimits c → AreOfPages c.pages w.now.words
     → Known c w.now → AreEnabledFrom c w es
-    → OthersSayFrom c w es → HasZeros c w → HasZeros c (left_from c w es)
-unfolding left_from AreEnabledFrom OthersSayFrom
+    → ZeroPremisesFrom c w es → HasZeros c w → HasZeros c (left_from c w es)
+unfolding left_from AreEnabledFrom ZeroPremisesFrom
 zeros_from c w [] limits lengths known on others z = z
 zeros_from c w (e ∷ es) limits lengths known on others z =
     zeros_from c (world_behind c w e) es limits
-    (accessed_lengths c.pages w.now.words (reached c w.now e) (access c w.now e) lengths)
+    (accessed_lengths c.pages w.now.words (word_accessed c w.now e) (access c w.now e) lengths)
     (known_behind c w.now e known on.0) on.1 others.1
     (zeros_behind c w e limits lengths known on.0 others.0 z)
 
@@ -78,8 +78,8 @@ zeros_stand_behind_lists c es limits on others =
 
 -- The premises aren't empty.
 pub others_at_first : (c : Config) (e : Event) → IsWithinLimits c → stores e.step ≡ false
-    → OthersSay c (first_world c) e
-unfolding left_from AreEnabledFrom layout.OthersSayFrom
+    → ZeroPremises c (first_world c) e
+unfolding left_from AreEnabledFrom layout.LayoutPremisesFrom
 others_at_first c e limits still =
     record {
       laid_out = (histories_are_laid_out c [] limits tt tt).laid;

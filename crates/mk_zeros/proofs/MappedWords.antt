@@ -1,4 +1,4 @@
--- Words of mapped allocations, behind a change of the allocations.
+-- Words of mapped allocations, after a change of the allocations.
 use Rattle.std.proofs.Common.{◌≡◌, ℕ, ◌+◌, ◌<◌, ◌≤◌, Bool, true, false, List, [], ◌∷◌, ◌++◌, length, map, sym, ◌∙◌, ap}
 use Rattle.std.proofs.Common.{subst, inl, inr, arith}
 use Rattle.std.specs.Prelude.{not, ◌&&◌}

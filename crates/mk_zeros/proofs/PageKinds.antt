@@ -27,7 +27,8 @@ use Rattle.mk_layout.proofs.ByKind.{off_at}
 use Rattle.mk_layout.proofs.Freed.{standing_cell}
 use Rattle.mk_layout.proofs.Holders.{free_has_turn, none_on_its_way}
 use Rattle.mk_layout.proofs.Serving.{Laid}
-use Rattle.mk_zeros.specs.Zeros.{is_released_there, Scene, scene_with, IsMappedWord, IsReleasedWord, IsFreedWord}
+use Rattle.mk_zeros.specs.Zeros.{is_released_there, ZeroScene, zero_scene_with, IsMappedWord, IsReleasedWord}
+use Rattle.mk_zeros.specs.Zeros.{IsFreedWord}
 use Rattle.mk_zeros.specs.Zeros.{MayHold, OfMapped, OfReleased, OfFreedRun, OthersAreZero, HasZeros}
 use Rattle.mk_zeros.proofs.MappedWords.{mapped_stays}
 use Rattle.mk_zeros.proofs.ReleasedWords.{emptied_word, unwiped_word, dropped_word}
@@ -35,7 +36,7 @@ use Rattle.mk_zeros.proofs.FreedWords.{word_where_none_is_freed, word_of_freed}
 use Rattle.mk_zeros.proofs.ChangedScenes.{Before, here, standing, changed_words, early_words}
 
 -- `head` and `used`
-abbrev with_pages : World → List Page → Scene
+abbrev with_pages : World → List Page → ZeroScene
 with_pages w pages = record (here w) { pages = pages }
 
 other_pages : (c : Config) (w : World) (pages : List Page) → is_phase w.now.words 4 ≡ false → HasZeros c w
@@ -67,9 +68,9 @@ used_kind c w f p v z (ItGivesBack on x) =
     late_pages c w _ z (λ n some r. unwiped_word c w (is_released_there (here w)) p v n x some r)
 
 -- `quar`
-abbrev quarantined : Bool → World → ℕ → ℕ → Option Cell → Scene
+abbrev quarantined : Bool → World → ℕ → ℕ → Option Cell → ZeroScene
 quarantined releasing w p v cell =
-    record (scene_with releasing w.now.words.marks w) {
+    record (zero_scene_with releasing w.now.words.marks w) {
       snapshot = slice_set w.now.words.snapshot p (v / 2 ^ 32);
       run = or_else (run_of_cell w.now.words cell) w.now.seats.holding.freed;
       allocations = map (freed_where_it_stands w.now.words cell) w.allocations;
@@ -114,11 +115,11 @@ quar_early c w seat p v b h off z (Some cell) is =
         ]
 
 quar_late : (c : Config) (w : World) (p v : ℕ)
-    → ((n : ℕ) → IsReleasedWord c w.now.words.pages (is_released_there (scene_with true w.now.words.marks w)) n
+    → ((n : ℕ) → IsReleasedWord c w.now.words.pages (is_released_there (zero_scene_with true w.now.words.marks w)) n
     → IsReleasedWord c w.now.words.pages (is_released_there (quarantined true w p v None)) n)
-    → OthersAreZero c (scene_with true w.now.words.marks w) → OthersAreZero c (quarantined true w p v None)
+    → OthersAreZero c (zero_scene_with true w.now.words.marks w) → OthersAreZero c (quarantined true w p v None)
 quar_late c w p v keeps z =
-    changed_words c (scene_with true w.now.words.marks w) (quarantined true w p v None) z (λ n ne. ne)
+    changed_words c (zero_scene_with true w.now.words.marks w) (quarantined true w p v None) z (λ n ne. ne)
     (λ n m. OfMapped (word_where_none_is_freed c w n m)) (λ n some r. OfReleased (keeps n r)) (λ n some f. OfFreedRun f)
 
 pub quar_kind : (c : Config) (w : World) (seat : Seat) (p v : ℕ) → Before c w seat (step.Quar p v)
@@ -137,4 +138,4 @@ quar_kind c w seat p v b h z (ItDrops on x) =
     subst (λ (cell : Option Cell). OthersAreZero c (quarantined (is_phase w.now.words 4) w p v cell)) (sym none)
     (subst (λ four. OthersAreZero c (quarantined four w p v None)) (sym on)
     (quar_late c w p v (λ n r. dropped_word c w p (v % 2 ^ 32) (v / 2 ^ 32) n x r)
-    (subst (λ four. OthersAreZero c (scene_with four w.now.words.marks w)) on z)))
+    (subst (λ four. OthersAreZero c (zero_scene_with four w.now.words.marks w)) on z)))

@@ -1,4 +1,4 @@
--- Words of released cells, behind the steps of releasing.
+-- Words of released cells, after the steps of releasing.
 use Rattle.std.proofs.Common.{◌≡◌, ◌≢◌, ℕ, ◌+◌, ◌-◌, ◌*◌, ◌<◌, ◌≤◌, Bool, true, false, List, refl, sym, ◌∙◌, ap, inl}
 use Rattle.std.proofs.Common.{inr, arith}
 use Rattle.std.specs.Prelude.{not, ◌==◌, slice_index, slice_set, Option, Some}
@@ -21,9 +21,9 @@ use Rattle.mk_core.proofs.BitsWithout.{has_bit_without}
 use Rattle.mk_core.proofs.PageSteps.{Empties, GivesBack, Drops, wiped_cell}
 use Rattle.mk_core.proofs.PointedPages.{pointed_head}
 use Rattle.mk_core.proofs.WordBits.{rest_bits}
-use Rattle.mk_layout.specs.Scene.{shows_on, header_on, used_on}
+use Rattle.mk_layout.specs.LayoutScene.{shows_on, header_on, used_on}
 use Rattle.mk_layout.proofs.Readings.{none_set}
-use Rattle.mk_zeros.specs.Zeros.{scene_with, is_released_there, first_word_on, IsReleasedWord}
+use Rattle.mk_zeros.specs.Zeros.{zero_scene_with, is_released_there, first_word_on, IsReleasedWord}
 
 -- Where the pages keep the header of the word's page and that of the cell's, and the cell its used bit, it stays one.
 kept_word : (c : Config) (old new : List Page) (is_gone : Cell → Bool) (n : ℕ) (r : IsReleasedWord c old is_gone n)
@@ -127,9 +127,12 @@ unwiped_word c w is_gone p v n h some r =
 
 -- `quar` (c): only cells that aren't used leave the snapshot
 pub dropped_word : (c : Config) (w : World) (p f v n : ℕ) → Drops w.now.words p f v
-    → IsReleasedWord c w.now.words.pages (is_released_there (scene_with true w.now.words.marks w)) n
+    → IsReleasedWord c w.now.words.pages (is_released_there (zero_scene_with true w.now.words.marks w)) n
     → IsReleasedWord c w.now.words.pages
-    (is_released_there (record (scene_with true w.now.words.marks w) { snapshot = slice_set w.now.words.snapshot p v }))
+    (is_released_there (record (zero_scene_with true w.now.words.marks w) {
+      snapshot =
+          slice_set w.now.words.snapshot p v;
+    }))
     n
 dropped_word c w p f v n h r =
     record {

@@ -33,9 +33,10 @@ use Rattle.mk_core.proofs.ObjectHeaders.{made_shows, part_head}
 use Rattle.mk_core.proofs.PlacesNow.{IsPlaced, ByFit, AsChosen, AsUsed, placed_now}
 use Rattle.mk_core.proofs.Sizes.{large_is_not_small, pages_some, small_pages}
 use Rattle.mk_protocol.proofs.Known.{Known}
-use Rattle.mk_layout.specs.Scene.{Claim, Among, Mode, Mapped, Plot, NoPlot, Plotted, PlotStands}
-use Rattle.mk_layout.specs.Scene.{InPlot, HasHeader, IsClaimed, IsPlotShown, header_on, used_on, shows_on, head_on}
-use Rattle.mk_layout.specs.Scene.{run_count}
+use Rattle.mk_layout.specs.LayoutScene.{Claim, Among, Mode, Mapped, Plot, NoPlot, Plotted, PlotStands}
+use Rattle.mk_layout.specs.LayoutScene.{InPlot, HasHeader, IsClaimed, IsPlotShown, header_on, used_on, shows_on}
+use Rattle.mk_layout.specs.LayoutScene.{head_on}
+use Rattle.mk_layout.specs.LayoutScene.{run_count}
 use Rattle.mk_protocol.specs.Ground.{ground_of}
 use Rattle.mk_layout.specs.Terrain.{IsLaidOut, RunStands, IsClaimedRun, claims_of, claims_on, claims_placed}
 use Rattle.mk_layout.specs.Terrain.{place_claim, is_unmapping, mode_of, plot_of, object_now}
@@ -47,14 +48,14 @@ use Rattle.mk_layout.proofs.Readings.{zero_where_none, header_of_mode, claimed, 
 use Rattle.mk_layout.proofs.Released.{all_stand}
 use Rattle.mk_layout.proofs.Serving.{Laid, placed_claim}
 use Rattle.mk_guard.specs.Guard.{IsMarking}
-use Rattle.mk_guard.specs.Kept.{OthersSay, PlaceIsBare, RunHasObject, LaterPagesAreKnown, StandsMapped}
+use Rattle.mk_guard.specs.Kept.{GuardPremises, PlaceIsBare, RunHasObject, LaterPagesAreKnown, StandsMapped}
 use Rattle.mk_images.proofs.KnownWorlds.{KnownWorld, known_world}
 use Rattle.mk_zeros.specs.Zeros.{HasZeros}
 use Rattle.mk_zeros.specs.ZerosTell.{ZerosTellTheGuard}
 use Rattle.mk_zeros.proofs.MappedWords.{mapped_stays}
 use Rattle.mk_zeros.proofs.BarePages.{Unreleasing, shown_there, bare_page, plot_page}
 
--- The pages of a run behind its head
+-- The pages of a run after its head
 
 -- what shows a run's head is the first page of its object, and has its pages
 run_part : (o : Object) (distance count : ℕ) (mapped : Bool) (x : Option Header) → ShowsPart o distance x
@@ -244,7 +245,7 @@ not_releasing : (n : ℕ) → (n ≡ 1) ⊎ (n ≡ 2) → (n == 4) ≡ false
 not_releasing n (inl e) = ne_eqb n 4 (λ f. absurd (omega arith))
 not_releasing n (inr e) = ne_eqb n 4 (λ f. absurd (omega arith))
 
-pub guard_in : (c : Config) (w : World) → KnownWorld c w → IsLaidOut c w → HasZeros c w → OthersSay c w
+pub guard_in : (c : Config) (w : World) → KnownWorld c w → IsLaidOut c w → HasZeros c w → GuardPremises c w
 guard_in c w known laid zeros =
     record {
       place = λ early seat place now.

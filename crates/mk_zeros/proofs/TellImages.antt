@@ -14,18 +14,18 @@ use Rattle.mk_core.specs.Decided.{asked}
 use Rattle.mk_core.specs.Moments.{flight_of}
 use Rattle.mk_core.specs.History.{World, call_decided}
 use Rattle.mk_core.proofs.Conditions.{enabled_meets}
-use Rattle.mk_images.specs.OthersSay.{MayHoldWords}
-use Rattle.mk_images.specs.OthersSay as images
+use Rattle.mk_images.specs.ImagePremises.{MayHoldWords}
+use Rattle.mk_images.specs.ImagePremises as images
 use Rattle.mk_images.specs.ImagesSay.{ImagesSay}
 use Rattle.mk_images.specs.ImagesSay as said
-use Rattle.mk_zeros.specs.Zeros.{scene_of, IsMappedWord, MayHold, OfMapped, OfReleased, OfFreedRun}
+use Rattle.mk_zeros.specs.Zeros.{zero_scene_of, IsMappedWord, MayHold, OfMapped, OfReleased, OfFreedRun}
 use Rattle.mk_zeros.specs.ZeroLaws.{stores}
 use Rattle.mk_zeros.specs.ZerosTell.{ZerosTellTheImages, ImagesTellTheZeros}
 
 pub zeros_tell_the_images : ZerosTellTheImages
 zeros_tell_the_images c w z n some = by (z n some)
   where
-    by : MayHold c (scene_of w) n → MayHoldWords c w n
+    by : MayHold c (zero_scene_of w) n → MayHoldWords c w n
     by (OfMapped m) = images.OfMapped m.number m.mapped m.word
     by (OfReleased r) = images.OfReleased r.cell r.pointed r.released
     by (OfFreedRun f) = images.OfFreedRun f.run f.there f.word

@@ -1,4 +1,4 @@
--- The words of the heap that may not hold values are 0 behind each event.
+-- The words of the heap that may not hold values are 0 after each event.
 use Rattle.std.specs.Prelude.{◌≡◌, Bool, true, false, List, [], ◌∷◌, ⊤, Some}
 use Rattle.mk_geom.specs.declared.addresses.Cell.{Cell}
 use Rattle.mk_core.specs.declared.config.Config.{Config}
@@ -20,7 +20,7 @@ stores step.Cas = true
 stores _ = false
 
 -- what other groups say of a world and of the event that comes
-pub record OthersSay (c : Config) (w : World) (e : Event) : Type 0 where
+pub record ZeroPremises (c : Config) (w : World) (e : Event) : Type 0 where
   pub laid_out : IsLaidOut c w
   -- The target of an admitted Free is the cell of an unreleased allocation.
   pub target : (cell : Cell) → target c.pages w.now.words (flight_of w.now e.seat) ≡ Some cell
@@ -32,16 +32,16 @@ pub record OthersSay (c : Config) (w : World) (e : Event) : Type 0 where
 abbrev pub EventsKeepTheZeros : Type 0
 EventsKeepTheZeros =
     (c : Config) (es : List Event) (e : Event) → IsWithinLimits c → AreEnabled c es → IsEnabledBehind c es e
-    → OthersSay c (left c es) e
+    → ZeroPremises c (left c es) e
     → HasZeros c (left c es) → HasZeros c (world_behind c (left c es) e)
 
 -- The other groups say so before each event.
-unfoldable pub OthersSayFrom : Config → World → List Event → Type 0
-OthersSayFrom c w [] = ⊤
-OthersSayFrom c w (e ∷ es) = OthersSay c w e × OthersSayFrom c (world_behind c w e) es
+unfoldable pub ZeroPremisesFrom : Config → World → List Event → Type 0
+ZeroPremisesFrom c w [] = ⊤
+ZeroPremisesFrom c w (e ∷ es) = ZeroPremises c w e × ZeroPremisesFrom c (world_behind c w e) es
 
--- Then they are 0 behind every list of enabled events.
+-- Then they are 0 after every list of enabled events.
 abbrev pub ZerosStandBehindLists : Type 0
 ZerosStandBehindLists =
-    (c : Config) (es : List Event) → IsWithinLimits c → AreEnabled c es → OthersSayFrom c (first_world c) es
+    (c : Config) (es : List Event) → IsWithinLimits c → AreEnabled c es → ZeroPremisesFrom c (first_world c) es
     → HasZeros c (left c es)

@@ -11,10 +11,10 @@ use Rattle.mk_core.specs.Cells.{pointed_cell, words_under, is_in_run}
 use Rattle.mk_core.specs.Moments.{is_phase}
 use Rattle.mk_core.specs.Allocations.{PlacedAllocation, placed_at, is_mapped, storage_of}
 use Rattle.mk_core.specs.History.{World}
-use Rattle.mk_layout.specs.Scene.{shows_on, used_on}
+use Rattle.mk_layout.specs.LayoutScene.{shows_on, used_on}
 
 -- what the zero words read of a world
-pub record Scene : Type 0 where
+pub record ZeroScene : Type 0 where
   pub heap : List ℕ
   pub pages : List Page
   pub snapshot : List ℕ
@@ -24,8 +24,8 @@ pub record Scene : Type 0 where
   pub allocations : List PlacedAllocation
 
 -- the scene of a world, with these marks, while the phase is releasing or while it isn't
-abbrev pub scene_with : Bool → List ℕ → World → Scene
-scene_with releasing marks w =
+abbrev pub zero_scene_with : Bool → List ℕ → World → ZeroScene
+zero_scene_with releasing marks w =
     record {
       heap = w.now.words.heap;
       pages = w.now.words.pages;
@@ -36,11 +36,11 @@ scene_with releasing marks w =
       allocations = w.allocations;
     }
 
-abbrev pub scene_of : World → Scene
-scene_of w = scene_with (is_phase w.now.words 4) w.now.words.marks w
+abbrev pub zero_scene_of : World → ZeroScene
+zero_scene_of w = zero_scene_with (is_phase w.now.words 4) w.now.words.marks w
 
 -- The cell is in the snapshot and has no mark, while the phase is releasing.
-abbrev pub is_released_there : Scene → Cell → Bool
+abbrev pub is_released_there : ZeroScene → Cell → Bool
 is_released_there s cell =
     s.releasing && has_bit (without (slice_index s.snapshot cell.page) (slice_index s.marks cell.page)) cell.index
 
@@ -70,13 +70,13 @@ pub record IsFreedWord (freed : Option RunPages) (n : ℕ) : Type 0 where
   pub there : freed ≡ Some run
   pub word : is_in_run run n ≡ true
 
-pub data MayHold (c : Config) (s : Scene) (n : ℕ) : Type 0 where
+pub data MayHold (c : Config) (s : ZeroScene) (n : ℕ) : Type 0 where
   OfMapped : IsMappedWord c s.allocations n → MayHold c s n
   OfReleased : IsReleasedWord c s.pages (is_released_there s) n → MayHold c s n
   OfFreedRun : IsFreedWord s.run n → MayHold c s n
 
-abbrev pub OthersAreZero : Config → Scene → Type 0
+abbrev pub OthersAreZero : Config → ZeroScene → Type 0
 OthersAreZero c s = (n : ℕ) → slice_index s.heap n ≢ 0 → MayHold c s n
 
 abbrev pub HasZeros : Config → World → Type 0
-HasZeros c w = OthersAreZero c (scene_of w)
+HasZeros c w = OthersAreZero c (zero_scene_of w)

@@ -9,11 +9,11 @@ use Rattle.mk_core.specs.Enabled.{IsEnabled}
 use Rattle.mk_core.specs.Decided.{asked}
 use Rattle.mk_core.specs.History.{World, left, AreEnabled, call_decided}
 use Rattle.mk_layout.specs.Terrain.{IsLaidOut}
-use Rattle.mk_images.specs.OthersSay.{MayHoldWords}
+use Rattle.mk_images.specs.ImagePremises.{MayHoldWords}
 use Rattle.mk_images.specs.ImagesSay.{ImagesSay}
 use Rattle.mk_guard.specs.Kept as guard
 use Rattle.mk_zeros.specs.Zeros.{HasZeros}
-use Rattle.mk_zeros.specs.ZeroLaws.{OthersSay}
+use Rattle.mk_zeros.specs.ZeroLaws.{ZeroPremises}
 
 -- A word that isn't 0 is one that may hold a value, as the images say it.
 abbrev pub ZerosTellTheImages : Type 0
@@ -25,10 +25,10 @@ abbrev pub ZerosTellTheGuard : Type 0
 ZerosTellTheGuard =
     (c : Config) (es : List Event) → IsWithinLimits c → AreEnabled c es → IsLaidOut c (left c es)
     → HasZeros c (left c es)
-    → guard.OthersSay c (left c es)
+    → guard.GuardPremises c (left c es)
 
 -- With the layout, the images say all that the zero words ask before an event that is enabled and admitted.
 abbrev pub ImagesTellTheZeros : Type 0
 ImagesTellTheZeros =
     (c : Config) (w : World) (n : NeverState) (e : Event) → IsLaidOut c w → ImagesSay c w n
-    → IsEnabled c w.now e → AreAdmitted c.globals n (asked (call_decided c w.now e)) → OthersSay c w e
+    → IsEnabled c w.now e → AreAdmitted c.globals n (asked (call_decided c w.now e)) → ZeroPremises c w e

@@ -10,7 +10,7 @@ pub fn events_keep_the_zeros()
     ensures { EventsKeepTheZeros }
 {}
 
-/// So it is behind every list of enabled events along which the other groups say so.
+/// So it is after every list of enabled events along which the other groups say so.
 pub fn zeros_stand_behind_lists()
     ensures { ZerosStandBehindLists }
 {}

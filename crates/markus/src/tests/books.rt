@@ -1,6 +1,6 @@
 //! First fit, the counts and what is given back, on pages that are worked out by hand.
 
-use mk_books::{Census, Page, Place, census, due, first_fit, free_pages, freeable, words_held};
+use mk_books::{Census, Page, Place, census, due, first_fit, free_pages, freeable, held_by_pages};
 use mk_geom::FREE_PAGE;
 
 /// A full block of cells of 32 words, a leaf block with its cell 1 free, a block with its cell 0 free, a
@@ -82,8 +82,8 @@ fn books_are_those_of_the_pages(rt: HostRuntime) {
     assert_eq!(rt; free_pages(&FRAGMENTED), 2);
     assert_eq!(rt; census(&behind).resident, 0);
     assert_eq!(rt; census(&behind).longest_range, 2);
-    assert_eq!(rt; words_held(&FRAGMENTED), 64 + 32 + 32 + 64);
-    assert_eq!(rt; words_held(&behind), 0);
+    assert_eq!(rt; held_by_pages(&FRAGMENTED), 64 + 32 + 32 + 64);
+    assert_eq!(rt; held_by_pages(&behind), 0);
 
     for (fresh, held, expected) in [
         (16, 64, false),

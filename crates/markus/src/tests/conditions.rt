@@ -191,7 +191,7 @@ h tally fresh 0; begin
     written: "script s\n10: double\nscript t\n",
 };
 
-/// A `give` behind a `free` of a run asks that the run is unmapped and wiped.
+/// A `give` after a `free` of a run asks that the run is unmapped and wiped.
 pub const RUN_FREED: Walk = Walk {
     scripts: "heap 2 2\ntype C n*65\nscript s\nptr p C\nnum n\nnew p C\nconst n 9\nsetn p 64 n\nfree p\n",
     lines: "\
@@ -243,7 +243,7 @@ c0 head 2 46; head 3 26; used 2 1; grant; tally held 166; give
     written: "script s\n",
 };
 
-/// No place is marked in the stop. A `full` comes behind a cycle of its own: the one that ends first was begun before
+/// No place is marked in the stop. A `full` comes after a cycle of its own: the one that ends first was begun before
 /// the call.
 pub const FULL: Walk = Walk {
     scripts: "heap 1 1\ntype B n*32\nscript s\nptr p B\nptr q B\nptr r B\nnew p B\nnew q B\nnew r B\n",

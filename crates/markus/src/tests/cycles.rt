@@ -64,7 +64,7 @@ h close; release; end; open 0; give
     written: "script s\n",
 };
 
-/// Released cells alone are given back: cell 0 is. Cell 1 and the run are live, and cell 2 was freed behind the
+/// Released cells alone are given back: cell 0 is. Cell 1 and the run are live, and cell 2 was freed after the
 /// begin.
 pub const RELEASE: Walk = Walk {
     scripts: "heap 3 3\ntype A p:A n\ntype C n*65\nscript s\nptr p A\nptr q A\nptr r A\nptr c C\nnum n\nnew p A\n\
@@ -165,7 +165,7 @@ m0 quit
     written: "script s\n",
 };
 
-/// What is freed behind the begin stays, and the next cycle gives it back.
+/// What is freed after the begin stays, and the next cycle gives it back.
 pub const FREED_BEHIND: Walk = Walk {
     scripts: "heap 1 1\ntype B n*32\nscript s\nptr p B\nptr q B\nptr r B\nnew p B\nnew q B\nfree p\nfree q\nclear p\n\
         clear q\nnew r B\nshow r\n",

@@ -128,19 +128,19 @@ impl Pace for Both {
     }
 }
 
-fn place_of(script: u64, instruction: u64) -> Place {
+fn at_instruction(script: u64, instruction: u64) -> Place {
     Place {
         script,
         instruction,
     }
 }
 
-/// Three scripts of two instructions each, and behind ` -> ` what they print.
+/// Three scripts of two instructions each, and after ` -> ` what they print.
 const THREE: &str =
     "heap 1 1/type A n/script a/ptr p A/new p A/show p/script b/ptr p A/new p A/show p/\
     script c/ptr p A/new p A/show p/ -> script a/ptr/script b/ptr/script c/ptr/";
 
-/// A load of a global behind a store to it, and before it.
+/// A load of a global after a store to it, and before it.
 const LOAD_BEHIND: &str = "heap 1 1/type A n/global g A/script a/ptr p A/new p A/storeg p g/\
     script b/ptr q A/loadg q g/show q/ -> script a/script b/ptr/";
 
@@ -180,31 +180,31 @@ fn writes_held<R: Threads + Wait + Sync>(
 /// No order of whole scripts and no single thread ends these.
 #[test]
 fn scripts_run_beside_each_other(rt: HostRuntime) -> Result<(), Fail> {
-    let behind_the_other = Hold::new(place_of(1, 0), Moment::Answered, place_of(2, 0));
+    let behind_the_other = Hold::new(at_instruction(1, 0), Moment::Answered, at_instruction(2, 0));
     assert!(rt; writes_held(&rt, rt.alloc(), &["run"], THREE, &behind_the_other)?);
     let both = Both {
-        one: Hold::new(place_of(1, 1), Moment::Before, place_of(2, 1)),
-        other: Hold::new(place_of(2, 1), Moment::Before, place_of(1, 1)),
+        one: Hold::new(at_instruction(1, 1), Moment::Before, at_instruction(2, 1)),
+        other: Hold::new(at_instruction(2, 1), Moment::Before, at_instruction(1, 1)),
     };
     assert!(rt; writes(&rt, rt.alloc(), &["run"], THREE, &both)?);
     assert!(rt; !both.one.was_in_vain() && !both.other.was_in_vain());
     Ok(())
 }
 
-/// A load that comes behind a store, or before it, is answered so.
+/// A load that comes after a store, or before it, is answered so.
 #[test]
 fn loads_are_answered_in_their_order(rt: HostRuntime) -> Result<(), Fail> {
-    let load_later = Hold::new(place_of(1, 0), Moment::Answered, place_of(0, 1));
+    let load_later = Hold::new(at_instruction(1, 0), Moment::Answered, at_instruction(0, 1));
     assert!(rt; writes_held(&rt, rt.alloc(), &["run"], LOAD_BEHIND, &load_later)?);
-    let store_later = Hold::new(place_of(0, 1), Moment::Answered, place_of(1, 0));
+    let store_later = Hold::new(at_instruction(0, 1), Moment::Answered, at_instruction(1, 0));
     assert!(rt; writes_held(&rt, rt.alloc(), &["run"], LOAD_BEFORE, &store_later)?);
     Ok(())
 }
 
-/// The free begins a cycle that goes on behind it, and what comes next waits until a marker scanned a cell.
+/// The free begins a cycle that goes on after it, and what comes next waits until a marker scanned a cell.
 #[test]
 fn a_marker_marks_beside_a_script(rt: HostRuntime) -> Result<(), Fail> {
-    let scanned = Hold::new(place_of(0, 2), Moment::Marked, place_of(0, 2));
+    let scanned = Hold::new(at_instruction(0, 2), Moment::Marked, at_instruction(0, 2));
     assert!(rt; writes_held(&rt, rt.alloc(), &["run", "--markers", "1"], DUE, &scanned)?);
     Ok(())
 }

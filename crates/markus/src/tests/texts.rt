@@ -1,4 +1,4 @@
-//! Texts, and the line that is told of each: the first fault, or none.
+//! Texts, and the line that is said of each: the first fault, or none.
 
 use super::{ample, run};
 use std::alloc::{AllocError, Global};
@@ -11,7 +11,7 @@ use std::thread::Threads;
 struct Group {
     command: &'static str,
     front: &'static str,
-    /// A line for each: how it goes on, with `/` for a newline, and behind ` -> ` the line that is told.
+    /// A line for each: how it goes on, with `/` for a newline, and after ` -> ` the line that is reported.
     texts: &'static str,
 }
 
@@ -111,7 +111,7 @@ repeat 500000/print n/end -> line 4: too long 1000001
 ",
 };
 
-/// The script part comes first, and types behind all text.
+/// The script part comes first, and types after all text.
 const SCHEDULES: Group = Group {
     command: "replay",
     front: "",
@@ -155,7 +155,7 @@ m3 attend; claim 0 0 -> line 4: event 2 not enabled, condition 7
 ",
 };
 
-/// What is told of the text.
+/// What is said of the text.
 fn told<R: Threads + Wait + Sync>(
     rt: &R,
     alloc: Global,
@@ -166,7 +166,7 @@ fn told<R: Threads + Wait + Sync>(
     status.text(alloc).map_err(|_| AllocError)
 }
 
-/// Lines behind a front, with `/` for a newline.
+/// Lines after a front, with `/` for a newline.
 pub fn behind(alloc: Global, front: &str, lines: &str) -> Result<String, AllocError> {
     let mut text = String::from_str(alloc, front)?;
     for (index, line) in lines.split('/').enumerate() {
@@ -178,7 +178,7 @@ pub fn behind(alloc: Global, front: &str, lines: &str) -> Result<String, AllocEr
     Ok(text)
 }
 
-/// Whether this line is told; `fine` stands for none.
+/// Whether this line is said; `fine` stands for none.
 fn is_told<R: Threads + Wait + Sync>(
     rt: &R,
     alloc: Global,
@@ -194,7 +194,7 @@ fn is_told<R: Threads + Wait + Sync>(
     Ok(found.as_slice() == line.as_bytes())
 }
 
-/// The first line of a group of which something else is told.
+/// The first line of a group of which something else is said.
 fn astray<R: Threads + Wait + Sync>(
     rt: &R,
     alloc: Global,
@@ -220,7 +220,7 @@ fn the_first_fault_is_told(rt: HostRuntime) -> Result<(), Fail> {
     Ok(())
 }
 
-/// The front, and then so many lines that declare `x0`, `x1` and so on.
+/// The front, and then this many lines that declare `x0`, `x1` and so on.
 fn declaring(
     alloc: Global,
     front: &str,
@@ -235,8 +235,8 @@ fn declaring(
     Ok(text)
 }
 
-/// Fronts, a word, what stands behind each name, the greatest number of such lines, what stands behind them, and what
-/// is told of one line more.
+/// Fronts, a word, what stands after each name, the greatest number of such lines, what stands after them, and what
+/// is said of one line more.
 const LIMITS: &str = "\
 heap 1 1/ | type |  n | 64 | script s/ | line 66: limit types 65
 heap 1 1/ | global |  A | 64 | script s/ | line 66: limit globals 65

@@ -11,7 +11,7 @@ use std::sync::Wait;
 use std::test::Fail;
 use std::thread::Threads;
 
-/// Scripts, a schedule, and what the scripts have printed behind it. A line of the schedule is made, but one that
+/// Scripts, a schedule, and what the scripts have printed after it. A line of the schedule is made, but one that
 /// begins with the number of a condition: that refuses each of the line's events there, between which ` | ` stands.
 #[derive(Clone, Copy)]
 pub struct Walk {
@@ -20,7 +20,7 @@ pub struct Walk {
     pub written: &'static str,
 }
 
-/// The line that is told of a schedule, and what is written.
+/// The line that is said of a schedule, and what is written.
 fn replayed<R: Threads + Wait + Sync>(
     rt: &R,
     alloc: Global,
@@ -31,7 +31,7 @@ fn replayed<R: Threads + Wait + Sync>(
     Ok((told, written))
 }
 
-/// The first text with one of these events behind what is made that ends otherwise than refused by the condition.
+/// The first text with one of these events after what is made that ends otherwise than refused by the condition.
 fn not_refused<R: Threads + Wait + Sync>(
     rt: &R,
     alloc: Global,

@@ -1,7 +1,7 @@
 //! Names of a program and of one of its scripts, with their numbers.
 ghost use Rattle.std.specs.Prelude.{◌≡◌, ◌+◌, ◌<◌, ◌≤◌, ◌^◌, length, map, IfOk};
 ghost use Rattle.std.specs.Option.{option_copied};
-ghost use Rattle.mk_check.specs.Declarations.{place_of};
+ghost use Rattle.mk_check.specs.Declarations.{number_of_name};
 ghost use Rattle.mk_check.specs.NamesInScope.{declared_name, names_of, now_of};
 ghost use Rattle.mk_check.specs.Feed.{scope_of};
 ghost use Rattle.mk_check.specs.Steps.{instruction_of, number_place};
@@ -46,9 +46,9 @@ fn names_among(alloc: Global, sort: Sort, items: &[Item]) -> Result<Vec<&Name>, 
     Ok(names)
 }
 
-/// The place of a name; behind all of them, where it isn't among them.
-fn place_among(names: &[&Name], name: &Name) -> usize
-    ensures value { result ≡ place_of name.now (now_of names.now) }
+/// The place of a name; after all of them, where it isn't among them.
+fn number_of_name(names: &[&Name], name: &Name) -> usize
+    ensures value { result ≡ number_of_name name.now (now_of names.now) }
     ensures within { result ≤ length names.now }
 {
     for (index, other) in names.iter().enumerate() {
@@ -106,29 +106,29 @@ impl<'a> Names<'a> {
     }
 
     fn ty(&self, name: &Name) -> u64
-        ensures { result ≡ place_of name.now self.now.types }
+        ensures { result ≡ number_of_name name.now self.now.types }
     {
-        place_among(&self.types, name) as u64
+        number_of_name(&self.types, name) as u64
     }
 
     fn global(&self, name: &Name) -> u8
         requires { HasFew self.now }
-        ensures { result ≡ place_of name.now self.now.globals }
+        ensures { result ≡ number_of_name name.now self.now.globals }
     {
-        place_among(&self.globals, name) as u8
+        number_of_name(&self.globals, name) as u8
     }
 
     fn pointer(&self, name: &Name) -> u8
         requires { HasFew self.now }
         ensures { result ≡ pointer_place self.now name.now }
     {
-        place_among(&self.pointers, name) as u8
+        number_of_name(&self.pointers, name) as u8
     }
 
     fn number(&self, name: &Name) -> usize
         ensures { result ≡ number_place self.now name.now }
     {
-        place_among(&self.numbers, name)
+        number_of_name(&self.numbers, name)
     }
 
     /// The operation of an instruction on an object, if it keeps no number.

@@ -91,7 +91,7 @@ impl Running {
         Ok(())
     }
 
-    /// Goes to where another is, with its text behind the text so far, and leaves it its own memory.
+    /// Goes to where another is, with its text after the text so far, and leaves it its own memory.
     pub fn follow(&mut self, later: &mut Running) -> Result<(), NoMemory>
         ensures ok { OnOk result (self.new ≡ record later.old { text = self.old.text ++ later.old.text }) }
         ensures err { OnErr result (self.new ≡ self.old) }
@@ -213,7 +213,7 @@ impl Running {
         Ok(self.frames.push(frame)?)
     }
 
-    /// Begins a round, or goes on behind the `repeat` where no round is left.
+    /// Begins a round, or goes on after the `repeat` where no round is left.
     fn enter(&mut self, rounds: u64, body: usize, next: usize) -> Result<(), NoMemory>
         ensures { OnOk result (self.new ≡ place_in_rounds self.old rounds body next) }
     {

@@ -6,7 +6,7 @@ use mk_never::NoMemory;
 use std::alloc::Global;
 use std::marker::Model;
 
-/// Where a script is: a line, a `repeat` or an `if`, and the node behind it; or the end of a block.
+/// Where a script is: a line, a `repeat` or an `if`, and the node after it; or the end of a block.
 #[derive(Clone, Copy)]
 pub enum Node {
     Done,
@@ -28,7 +28,7 @@ pub enum Node {
     },
 }
 
-/// What runs behind a block: more rounds of a `repeat`, or what stands behind it.
+/// What runs after a block: more rounds of a `repeat`, or what stands after it.
 #[derive(Clone, Copy)]
 pub enum Frame {
     Rounds {

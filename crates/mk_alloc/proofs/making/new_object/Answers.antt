@@ -171,7 +171,7 @@ returns-then-try_place-clause-begun g c =
     (none_begun begins taken done c.try_place.ensures.begins) (only_seen taken done d.more d.is)
     c.is_in_order-then-try_place.ensures.own c.give.ensures.gives)
 
--- The object is placed behind a cycle, or another one that was on; or it isn't.
+-- The object is placed after a cycle, or another one that was on; or it isn't.
 pub returns-then-placed-clause-begun : goal.returns-then-placed-clause-begun
 returns-then-placed-clause-begun g c =
     let p : PassState = c.args.caller.now.pass in

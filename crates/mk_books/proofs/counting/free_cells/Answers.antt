@@ -9,14 +9,14 @@ overflow_add-counts c =
     omega (
       arith,
       room_for_block c.args.pages.now c.loop-page.page-index c.loop-page.counts c.in-Some.kind.class c.in-Some.kind.leaf
-          _ c.place_of.result c.count_clear.result
+          _ c.class_place.result c.count_clear.result
           (record {
             within = c.loop-page-test.true;
             here = get_or_default c.args.pages.now c.loop-page.page-index _ _ c.loop-page-test.true;
             known = c.in-Some.ensures.in_range;
             stands = c.in-Some.ensures.block;
             counted = c.loop-page.invariant;
-            placed = c.place_of.ensures.place;
+            placed = c.class_place.ensures.place;
             added = rw c.cells.ensures at c.count_clear.ensures;
           })
           c.well_formed.0.1,
@@ -28,14 +28,14 @@ loop-page-preserved c =
       | in-Some w ↦
           w.counts-is
           ∙ by_class-more c.args.pages.now c.loop-page.page-index c.loop-page.counts w.in-Some.kind.class
-          w.in-Some.kind.leaf _ w.place_of.result w.count_clear.result
+          w.in-Some.kind.leaf _ w.class_place.result w.count_clear.result
           (record {
             within = c.loop-page-test.true;
             here = get_or_default c.args.pages.now c.loop-page.page-index _ _ c.loop-page-test.true;
             known = w.in-Some.ensures.in_range;
             stands = w.in-Some.ensures.block;
             counted = c.loop-page.invariant;
-            placed = w.place_of.ensures.place;
+            placed = w.class_place.ensures.place;
             added = rw w.cells.ensures at w.count_clear.ensures;
           })
       | in_default w ↦

@@ -1,7 +1,7 @@
 use Rattle.std.proofs.Common.{◌≡◌, ap, ◌∙◌, arith}
 use Rattle.mk_geom.specs.declared.pages.Page.{Page}
 use Rattle.mk_geom.specs.Headers.{header_of}
-use Rattle.mk_geom.specs.PageUses.{words_held_by}
+use Rattle.mk_geom.specs.PageUses.{held_by_use}
 use Rattle.mk_geom.specs.PageWords.{use_of_page}
 use Rattle.mk_words.specs.States.{now_of}
 use Rattle.mk_cycle.proofs.GivingSteps.{none_then}
@@ -15,7 +15,7 @@ returns-then-header-eq0-clause-exact c =
 
 pub overflow_cast-result : goal.overflow_cast-result
 overflow_cast-result c =
-    omega (arith, c.words_held-held.ensures, page_holds (header_of c.look-header.result) c.look-used.result)
+    omega (arith, c.held_by_pages-held.ensures, page_holds (header_of c.look-header.result) c.look-used.result)
 
 pub returns-clause-frees : goal.returns-clause-frees
 returns-clause-frees c = none_then _ _ _ c.look-header.ensures.frees c.look-used.ensures.frees
@@ -23,12 +23,13 @@ returns-clause-frees c = none_then _ _ _ c.look-header.ensures.frees c.look-used
 pub returns-clause-exact : goal.returns-clause-exact
 returns-clause-exact c =
     let x : Page = record { header = c.look-header.result; used = c.look-used.result } in
-    let here : c.words_held-held.result ≡ words_held_by (use_of_page x) = omega (arith, c.words_held-held.ensures) in
-    here ∙ ap (λ (y : Page). words_held_by (use_of_page y))
+    let here : c.held_by_pages-held.result
+    ≡ held_by_use (use_of_page x) = omega (arith, c.held_by_pages-held.ensures) in
+    here ∙ ap (λ (y : Page). held_by_use (use_of_page y))
     (page_seen c.look-header.new.turn.pass c.look-used.new.turn.pass c.args.page x.header x.used
     c.look-used.ensures.frees
     c.look-header.ensures.reads c.look-used.ensures.reads)
 
 pub returns-clause-few : goal.returns-clause-few
 returns-clause-few c =
-    omega (arith, c.words_held-held.ensures, page_holds (header_of c.look-header.result) c.look-used.result)
+    omega (arith, c.held_by_pages-held.ensures, page_holds (header_of c.look-header.result) c.look-used.result)

@@ -1,5 +1,5 @@
 use Rattle.std.proofs.Common.{refl, sym, ap, ◌∙◌, append_assoc}
-use Rattle.mk_geom.specs.PageUses.{words_held_among}
+use Rattle.mk_geom.specs.PageUses.{held_by_uses}
 use Rattle.mk_geom.specs.PageWords.{uses_of_pages}
 use Rattle.mk_core.specs.declared.events.Step.TheVariants as step
 use Rattle.mk_core.specs.Frames.{Steady}
@@ -23,7 +23,7 @@ pub count_cycle-requires-clause-held : goal.count_cycle-requires-clause-held
 count_cycle-requires-clause-held g c =
     let x = c.end.ensures in
     c.give_all_back-turn.ensures.held
-    ∙ sym (ap (λ (s : Steady). words_held_among (uses_of_pages s.pages))
+    ∙ sym (ap (λ (s : Steady). held_by_uses (uses_of_pages s.pages))
     (steady_ended _ _ x.was c.give_all_back-turn.ensures.gives.phase x.is x.acts))
 
 pub returns-clause-law : goal.returns-clause-law

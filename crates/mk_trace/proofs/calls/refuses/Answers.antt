@@ -21,9 +21,9 @@ loop-op-init g c = record {
   keeps = c.in_ok-first.ensures.keeps;
   calls =
       called_first c.args.heap.now.config c.args.host.now.pass.seen c.args.event c.first_op.result c.in_ok-first.first
-      c.answer.new.host.pass.seen c.is_full.result c.is_refusal-refused.result c.deref-op-items.result.now
+      c.answer.new.host.pass.seen c.is_full_answer.result c.is_refusal-refused.result c.deref-op-items.result.now
       c.first_op.ensures
-      c.in_ok-first.ensures.calls c.is_full.ensures c.is_refusal-refused.ensures
+      c.in_ok-first.ensures.calls c.is_full_answer.ensures c.is_refusal-refused.ensures
       (c.deref-op-items.ensures.value ∙ c.in_ok-ops.ensures);
 }
 
@@ -50,7 +50,7 @@ answer-requires-in-loop-op-clause-admitted g c κs within =
 pub answer-requires-in-loop-op-clause-few : goal.answer-requires-in-loop-op-clause-few
 answer-requires-in-loop-op-clause-few g c κs within =
     let so_far = c.loop-op.invariant.ends in
-    let count = few_later c.is_full.result c.args.event c.deref-op-items.result.now
+    let count = few_later c.is_full_answer.result c.args.event c.deref-op-items.result.now
     (c.deref-op-items.ensures.value ∙ c.in_ok-ops.ensures) in
     let inside = c.loop-op-test.true in
     let few = c.requires.few in
@@ -59,7 +59,7 @@ answer-requires-in-loop-op-clause-few g c κs within =
 pub returns-clause-ends : goal.returns-clause-ends
 returns-clause-ends g c =
     let so_far = c.loop-op.invariant.ends in
-    let count = few_later c.is_full.result c.args.event c.deref-op-items.result.now
+    let count = few_later c.is_full_answer.result c.args.event c.deref-op-items.result.now
     (c.deref-op-items.ensures.value ∙ c.in_ok-ops.ensures) in
     omega (arith, so_far, count)
 

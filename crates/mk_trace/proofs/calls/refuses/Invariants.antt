@@ -6,7 +6,7 @@ use Rattle.mk_trace.specs.Ledgers.{Keeps}
 use Rattle.mk_trace.proofs.LaterOps.{AreCalled}
 use Rattle.mk_trace.proofs.calls.refuses.Given as goal
 
--- the first operation was called, and so many of those behind it
+-- the first operation was called, and this many of those after it
 abbrev pub invariant-loop-op : goal.invariant-loop-op
 invariant-loop-op g l = record {
   home : IsHome l.heap l.host;

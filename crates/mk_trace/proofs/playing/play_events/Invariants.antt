@@ -6,7 +6,7 @@ use Rattle.mk_trace.specs.Ends.{IsIdle}
 use Rattle.mk_trace.specs.Ledgers.{Keeps}
 use Rattle.mk_trace.proofs.playing.play_events.Given as goal
 
--- so many events were played
+-- this many events were played
 abbrev pub invariant-loop-event : goal.invariant-loop-event
 invariant-loop-event g l = record {
   home : IsHome l.heap l.host;

@@ -18,7 +18,7 @@ use Rattle.mk_words_clients.proofs.accesses.set_ptr.Goals as goal
 use Rattle.mk_words_clients.proofs.accesses.set_ptr.Goals.{After-is_in_order, After-is_in_order-2, After-is_in_order-3}
 use Rattle.mk_words_clients.proofs.accesses.set_ptr.Goals.{After-is_in_order-4, After-write}
 
--- where the call is behind each of its steps
+-- where the call is after each of its steps
 
 abbrev at_load : Op → ℕ → Flight
 at_load o to = record (begun o) { stage = LoadP; q = to }

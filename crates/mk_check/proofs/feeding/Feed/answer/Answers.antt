@@ -22,7 +22,7 @@ waits : (c : After-follow)
     ≡ node.Line c.in-Line.line c.in-Line.instruction c.in-Line.next
 waits c = ap (node_at c.self.inside.tree) (sym c.at.ensures) ∙ sym c.in-Line.ensures.value
 
--- the copy, behind the text so far, stops where the script does
+-- the copy, after the text so far, stops where the script does
 stops : (c : After-follow)
     → c.follow.new.self ≡ record c.run.new.self { text = c.self.inside.running.text ++ c.run.new.self.text }
     → stopped_in c.self.inside.tree c.follow.new.self

@@ -1,7 +1,7 @@
 use Rattle.std.proofs.Common.{◌++◌, [], ◌∷◌, length, take, ap, ◌∙◌, arith}
 use Rattle.std.proofs.lemmas.List.{take_all}
 use Rattle.mk_script.specs.Scopes.{type_names, global_names}
-use Rattle.mk_check.specs.Declarations.{place_of, globals_among}
+use Rattle.mk_check.specs.Declarations.{number_of_name, globals_among}
 use Rattle.mk_check.proofs.NumberLemmas.{take-step, globals_among-append, globals_among-push_other}
 use Rattle.mk_check.proofs.NumberLemmas.{length-globals_among, length-global_names-take}
 use Rattle.mk_check.proofs.numbers.TypeNumbers.globals.Goals as goal
@@ -32,7 +32,7 @@ loop-item-preserved c =
             w.in-Global.is,
             globals_among-append names front,
           )
-          (ap (λ globals. globals ++ place_of w.in-Global.ty names ∷ []) c.loop-item.invariant)
+          (ap (λ globals. globals ++ number_of_name w.in-Global.ty names ∷ []) c.loop-item.invariant)
       | in_default w ↦
           rw (w.globals-is, next, globals_among-push_other names front c.item-item.result w.in_default.not-Global)
           c.loop-item.invariant

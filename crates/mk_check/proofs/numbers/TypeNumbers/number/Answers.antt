@@ -1,7 +1,7 @@
 use Rattle.std.proofs.Common.{ap, ◌∙◌, unwrap_or}
 use Rattle.mk_script.specs.Scopes.{type_names}
-use Rattle.mk_check.specs.Numbers.{place_among}
-use Rattle.mk_check.proofs.NumberLemmas.{place_of-among}
+use Rattle.mk_check.specs.Numbers.{number_among}
+use Rattle.mk_check.proofs.NumberLemmas.{number_of_name-among}
 use Rattle.mk_check.proofs.numbers.TypeNumbers.number.Goals as goal
 
 pub returns : goal.returns
@@ -13,8 +13,8 @@ returns c =
       c.copied.ensures,
       c.get.ensures.value,
       c.as_bytes.ensures,
-      place_of-among name (type_names c.args.self.now),
+      number_of_name-among name (type_names c.args.self.now),
       ← c.self.view_is,
     )
     (ap (λ place. unwrap_or place c.self.inside.count) (c.self.invariant.places name)
-    ∙ ap (λ n. unwrap_or (place_among name names) n) c.self.invariant.all)
+    ∙ ap (λ n. unwrap_or (number_among name names) n) c.self.invariant.all)

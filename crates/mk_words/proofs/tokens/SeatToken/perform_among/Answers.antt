@@ -1,5 +1,5 @@
 use Rattle.std.proofs.Common.{◌≡◌, sym, subst}
-use Rattle.mk_core.specs.Accesses.{reached, access}
+use Rattle.mk_core.specs.Accesses.{word_accessed, access}
 use Rattle.mk_words.specs.Seats.{Has}
 use Rattle.mk_words.specs.States.{PassState, now_of, event_of}
 use Rattle.mk_words.specs.Passes.{state_of}
@@ -15,7 +15,7 @@ perform_as-requires-clause-may c = subst (λ (r : PassState). May r c.args.step)
 
 pub perform_as-requires-clause-word : goal.perform_as-requires-clause-word
 perform_as-requires-clause-word c =
-    subst (λ (r : PassState). c.args.word ≡ reached r.table.config (now_of r) (event_of r c.args.step))
+    subst (λ (r : PassState). c.args.word ≡ word_accessed r.table.config (now_of r) (event_of r c.args.step))
     (sym c.self.view_is) c.requires.word
 
 pub perform_as-requires-clause-access : goal.perform_as-requires-clause-access

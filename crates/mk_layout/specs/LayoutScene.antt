@@ -24,11 +24,11 @@ pub record Claim : Type 0 where
   pub object : Object
   pub mode : Mode
 
--- the header word of an unmapped run's page, so far behind the first
+-- the header word of an unmapped run's page, so far after the first
 abbrev pub IsUnmappedHeaderOf : Object → ℕ → ℕ → Type 0
 IsUnmappedHeaderOf o distance header = (is_small_object o ≡ false) × (header ≡ unmapped_header (pages_made o) distance)
 
--- the header word of the page so far behind the claim's first. While a run is unmapped, each page may have either.
+-- the header word of the page so far after the claim's first. While a run is unmapped, each page may have either.
 abbrev pub HasHeader : Mode → Object → ℕ → ℕ → Type 0
 HasHeader Mapped o distance header = header ≡ header_made o distance
 HasHeader Unmapping o distance header = IsHeaderOf o distance header
@@ -56,7 +56,7 @@ InPlot NoPlot p = ⊥
 InPlot (Plotted first o) p = (first ≤ p) × (p < first + pages_made o)
 
 -- The pages, what claims them, whether the phase is releasing, and what then tells the released cells.
-pub record Scene : Type 0 where
+pub record LayoutScene : Type 0 where
   pub pages : List Page
   pub claims : List Claim
   pub plot : Plot
@@ -88,7 +88,7 @@ abbrev pub is_released_in : Bool → List ℕ → List ℕ → ℕ → ℕ → B
 is_released_in releasing snapshot marks p k =
     releasing && has_bit (slice_index snapshot p) k && not (has_bit (slice_index marks p) k)
 
-abbrev pub is_released_on : Scene → ℕ → ℕ → Bool
+abbrev pub is_released_on : LayoutScene → ℕ → ℕ → Bool
 is_released_on s p k = is_released_in s.releasing s.snapshot s.marks p k
 
 -- The claim's pages have its headers, and its cell has its used bit.
@@ -120,17 +120,17 @@ PlotStands pages NoPlot = Unit {0}
 PlotStands pages (Plotted first o) = IsPlotShown pages first o
 
 -- one of the page's cells, and that of a claim or a released one
-abbrev pub IsTakenCell : Scene → ℕ → ℕ → Type 0
+abbrev pub IsTakenCell : LayoutScene → ℕ → ℕ → Type 0
 IsTakenCell s p k = (k < cells_under (shows_on s.pages p)) × (IsClaimed s.claims p k ⊎ (is_released_on s p k ≡ true))
 
--- The page lies behind the head of its run, which may go before it while the phase is releasing.
+-- The page lies after the head of its run, which may go before it while the phase is releasing.
 abbrev pub HasItsHead : List Page → Bool → ℕ → ℕ → Type 0
 HasItsHead pages releasing p distance =
     (distance ≤ p)
     × ((distance < run_count (shows_on pages (p - distance)))
     ⊎ ((releasing ≡ true) × (header_on pages (p - distance) ≡ 0)))
 
-pub record IsLaidOn (s : Scene) : Type 0 where
+pub record IsLaidOn (s : LayoutScene) : Type 0 where
   -- Each claim is shown, and no two are of one cell.
   pub shown : (x : Claim) → Among x s.claims → IsShown s.pages x
   pub apart : AreApart s.claims

@@ -10,7 +10,7 @@ use Rattle.mk_core.specs.declared.seats.Object.{Object}
 use Rattle.mk_core.specs.declared.seats.Placing.TheVariants.{Used}
 use Rattle.mk_core.specs.declared.seats.RunPages.{RunPages}
 use Rattle.mk_core.specs.Words.{Words, header_at, phase_of}
-use Rattle.mk_core.specs.Cells.{pointed_cell, is_freed, is_released, is_in_run}
+use Rattle.mk_core.specs.Cells.{pointed_cell, is_freed, is_released_cell, is_in_run}
 use Rattle.mk_core.specs.Moments.{flight_of}
 use Rattle.mk_core.specs.NewPlaces.{object_made, pages_made, header_made, unmapped_header, base_made, place_stands}
 use Rattle.mk_core.specs.NewPlaces.{is_run_gone, is_undecided_new, is_small_object}
@@ -64,11 +64,11 @@ pub data MayHoldWords (c : Config) (w : World) (n : ℕ) : Type 0 where
       → IsWordOf (storage_of c (placed_at w.allocations i)) n
       → MayHoldWords c w n
   OfReleased : (cell : Cell) → pointed_cell c.pages w.now.words.pages (address_of n) ≡ Some cell
-      → is_released w.now.words cell ≡ true
+      → is_released_cell w.now.words cell ≡ true
       → MayHoldWords c w n
   OfFreedRun : (run : RunPages) → w.now.seats.holding.freed ≡ Some run → is_in_run run n ≡ true → MayHoldWords c w n
 
-pub record OthersSay (c : Config) (w : World) : Type 0 where
+pub record ImagePremises (c : Config) (w : World) : Type 0 where
   -- Unreleased allocations are laid out, and apart.
   pub laid_out : (i : ℕ) → (placed_at w.allocations i).released ≡ false
       → IsLaidOut c w.now.words w.now.seats.holding.freed (placed_at w.allocations i)
@@ -88,10 +88,10 @@ pub record OthersSay (c : Config) (w : World) : Type 0 where
   pub shown : (i : ℕ) → (placed_at w.allocations i).released ≡ false → (placed_at w.allocations i).freed ≡ true
       → is_freed w.now.words (cell_of_allocation c (placed_at w.allocations i)) ≡ true
   pub freed : (cell : Cell) → is_freed w.now.words cell ≡ true
-      → IsCellOfFreed c w cell ⊎ (is_released w.now.words cell ≡ true)
+      → IsCellOfFreed c w cell ⊎ (is_released_cell w.now.words cell ≡ true)
   pub kept :
       (i : ℕ) → (placed_at w.allocations i).released ≡ false
-      → is_released w.now.words (cell_of_allocation c (placed_at w.allocations i)) ≡ false
+      → is_released_cell w.now.words (cell_of_allocation c (placed_at w.allocations i)) ≡ false
   -- All other words of the heap are 0.
   pub zero_words : (n : ℕ) → slice_index w.now.words.heap n ≢ 0 → MayHoldWords c w n
   -- Between `close` and `release` the marks are closed.
