@@ -121,7 +121,7 @@ module _ (p : PassState) (seat : p.seat ≡ Caller (number_of p)) (own : Has p.s
       }
 
   -- nor does one of its own.
-  own_undecided : (es : List Event) (x : Step) → Here p es (event_of p x) → is_of_cycles x ≡ true
+  pub own_undecided : (es : List Event) (x : Step) → Here p es (event_of p x) → is_of_cycles x ≡ true
       → is_pending_free (call_in p es) ≡ false → GoesUndecided p es (es ++ event_of p x ∷ [])
   own_undecided es x h kind free =
       let c : Config = p.table.config in

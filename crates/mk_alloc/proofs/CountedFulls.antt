@@ -48,6 +48,7 @@ use Rattle.mk_alloc.specs.Rooms.{AnswersFull, BeginsNone, asks_room}
 use Rattle.mk_alloc.specs.TurnCycles.{lets_go}
 use Rattle.mk_alloc.specs.Underway.{IsQuiet}
 use Rattle.mk_alloc.proofs.CalledTurns.{of_others_alone, step_adds_none}
+use Rattle.mk_alloc.proofs.FullLeaves.{leaves_then, made_leaves}
 use Rattle.mk_alloc.proofs.Going.{IsCallers}
 use Rattle.mk_alloc.proofs.OneCycles.{begins_none_by}
 use Rattle.mk_alloc.proofs.Parts.{part_lacks, seen_behind}
@@ -318,6 +319,7 @@ module _ (p p1 p2 : PassState) (n v : ℕ) (t : InTurn p) (quiet : IsQuiet p) (u
             room = room_lacks (object_for p) p q does.more (seen_behind counts_full p q does)
                 (part_lacks counts_full asks_room p q counting_stays rooms_held counting_no_room t does history);
             none = λ none. cc;
+            leaves = λ none. cc;
             last = calm_last p q does.more (seen_behind counts_full p q does)
                 (part_lacks counts_full lets_go p q counting_stays lets_go_held counting_lets_none_go t does history);
           };
@@ -325,4 +327,10 @@ module _ (p p1 p2 : PassState) (n v : ℕ) (t : InTurn p) (quiet : IsQuiet p) (u
           behind = [];
           is = seen_q ∙ ap (λ (x : PassState). es ++ event_of x step.Full ∷ []) same_pass;
           allocations = allocations_q;
+          leaves =
+              leaves_then p p1 q k1.call.pass
+              (made_leaves p p1 (step.Look word.Full) look.makes t.own t1.history refl refl)
+              (leaves_then p1 p2 q k2.call.pass
+              (made_leaves p1 p2 (step.Tally tally.Full v) tallies.makes t1.own t2.history refl refl)
+              (made_leaves p2 q step.Full full.makes t2.own history refl refl));
         }

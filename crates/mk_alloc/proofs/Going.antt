@@ -42,7 +42,7 @@ own_calls_same : (kinds : Step → Bool) (p q : PassState) → Does kinds p q �
     ≡ own_calls p es
 own_calls_same kinds p q d es = ap (λ (x : PassState). own_calls x es) d.is
 
-looks_of : (x : Step) → is_look x ≡ true → is_of_cycles x ≡ true
+pub looks_of : (x : Step) → is_look x ≡ true → is_of_cycles x ≡ true
 looks_of (step.Look w) h = refl
 looks_of _ h = cc
 

@@ -25,3 +25,5 @@ pub mod FullTurns
 pub mod CountedFulls
 pub mod NewTurns
 pub mod UnsweptTurns
+pub mod BegunTurns
+pub mod FullLeaves

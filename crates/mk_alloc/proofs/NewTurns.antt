@@ -41,6 +41,7 @@ use Rattle.mk_cycle.specs.EngineLaw.{is_pending_free}
 use Rattle.mk_cycle.specs.TurnKeeps.{InTurn}
 use Rattle.mk_objects.specs.Placing.{IsUnplaced, object_for}
 use Rattle.mk_waiting.specs.Taking.{TakesTurn}
+use Rattle.mk_turns.proofs.Sweeping.{only_seen}
 use Rattle.mk_alloc.specs.Rooms.{AnswersFull, BeginsNone, Misfits, RunsOne, Seeks, asks_room}
 use Rattle.mk_alloc.specs.TurnCalls.{CalledInTurn, IsAnsweredFull}
 use Rattle.mk_alloc.specs.TurnCycles.{HasNoPlace, NewIsExact, RunsOneCycle, is_grant, is_want, lets_go, within_turn}
@@ -48,6 +49,7 @@ use Rattle.mk_alloc.specs.Underway.{BeginsTurn, IsQuiet}
 use Rattle.mk_alloc.proofs.CalledTurns.{called, taken_same, turn_of, within_is}
 use Rattle.mk_alloc.proofs.CycleParts.{begins_held}
 use Rattle.mk_alloc.proofs.Going.{IsCallers}
+use Rattle.mk_alloc.proofs.FullLeaves.{leaves_then, made_leaves, taking_leaves}
 use Rattle.mk_alloc.proofs.GrantParts.{grants_held, last_before, lets_go_held}
 use Rattle.mk_alloc.proofs.ListParts.{InFirst, InSecond, SomeKind, lacks_at, stands}
 use Rattle.mk_alloc.proofs.Parts.{others_lack, seen_behind, seen_made}
@@ -178,7 +180,8 @@ module _ (flag : Bool) (p taken last done q : PassState) (d ty : ℕ) (census : 
     (calm : BeginsNone last done) (t_done : InTurn done)
     (gives : Makes done step.Give q)
     (rests : call_of q ≡ at_rest) (history : IsHistory q.table.config q.seen)
-    (told : census ≡ census_of_allocations last.table.config (world_of last).allocations) where
+    (told : census ≡ census_of_allocations last.table.config (world_of last).allocations)
+    (t_taken : InTurn taken) where
   seeks : Seeks (Some answer.Full) taken done
   seeks = seeks_then (Some answer.Full) taken last done misfits.seeks full.seeks
 
@@ -226,4 +229,11 @@ module _ (flag : Bool) (p taken last done q : PassState) (d ty : ℕ) (census : 
             told ∙ ap (λ (x : PassState). census_of_allocations x.table.config (world_of last).allocations) last_same
             ∙ ap (λ (xs : List PlacedAllocation). census_of_allocations p.table.config xs)
             (sym (given_allocations done q t_done gives history ∙ full.allocations));
+        leaves =
+            leaves_then p taken q (taken_same p taken (op.New d ty false) seat own takes)
+            (taking_leaves p taken (Some (op.New d ty false)) own takes t_taken.history)
+            (leaves_then taken last q (only_seen taken last misfits.seeks.on.does.more misfits.seeks.on.does.is)
+            (misfits.seeks.leaves refl)
+            (leaves_then last done q (only_seen last done full.seeks.on.does.more full.seeks.on.does.is) full.leaves
+            (made_leaves done q step.Give gives t_done.own history refl refl)));
       }

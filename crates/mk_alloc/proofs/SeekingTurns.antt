@@ -18,24 +18,27 @@ use Rattle.mk_core.specs.Words.{phase_of}
 use Rattle.mk_words.specs.States.{PassState, call_of, now_of, world_of}
 use Rattle.mk_words.specs.TurnSteps.{turn_stays}
 use Rattle.mk_turns.specs.Doing.{Does}
+use Rattle.mk_turns.proofs.Sweeping.{only_seen}
 use Rattle.mk_cycle.specs.BeginCycle.{BeginsCycle}
 use Rattle.mk_cycle.specs.EngineLaw.{IsAtPhase}
 use Rattle.mk_cycle.specs.FinishCycle.{FinishesCycle}
 use Rattle.mk_cycle.specs.TurnKeeps.{Done, InTurn}
 use Rattle.mk_objects.specs.Placing.{FitsNowhere, IsOutOfStop, IsPlaced, IsUnplaced, OnlyLooks, is_look, is_placing}
 use Rattle.mk_objects.specs.Placing.{object_for, place_now_for}
-use Rattle.mk_objects.proofs.JoinedLooks.{looks_left, looks_object, looks_unplaced}
+use Rattle.mk_objects.proofs.JoinedLooks.{does_wider, looks_left, looks_object, looks_unplaced}
 use Rattle.mk_objects.proofs.Looks.{acting_caller}
 use Rattle.mk_objects.proofs.MayAct.{new_is_acting}
 use Rattle.mk_caller.proofs.OneStep.{own_seat}
+use Rattle.mk_alloc.specs.Leaving.{OwnLeaveAllButReleased}
 use Rattle.mk_alloc.specs.Rooms.{AsksRoom, GrantsNone, Misfits, MisfitsIdly, Seeks}
 use Rattle.mk_alloc.specs.TurnCycles.{is_grant, lets_go}
 use Rattle.mk_alloc.specs.Underway.{GoesOn, IsQuiet, Looks}
 use Rattle.mk_alloc.proofs.CalmStretches.{cycles_in_turn, is_of_cycles}
 use Rattle.mk_alloc.proofs.CycleParts.{begin_does, finish_does}
+use Rattle.mk_alloc.proofs.FullLeaves.{cycles_leave, leaves_then}
 use Rattle.mk_alloc.proofs.GrantParts.{calm_last, cycles_no_grant, grants_held, grants_none, last_behind, lets_go_held}
 use Rattle.mk_alloc.proofs.GrantParts.{looks_no_grant, none_last, none_then, places_let_none_go}
-use Rattle.mk_alloc.proofs.Going.{IsCallers, begun_on, finished_on, looked_on, on_then}
+use Rattle.mk_alloc.proofs.Going.{IsCallers, begun_on, finished_on, looked_on, looks_of, on_then}
 use Rattle.mk_alloc.proofs.Parts.{part_lacks, seen_behind}
 use Rattle.mk_alloc.proofs.PlacedTurns.{look_stays, looked_beside, placed_on, placing_stays}
 use Rattle.mk_alloc.proofs.QuietTurns.{same_phase}
@@ -66,6 +69,7 @@ seeks_then a p q r x y =
           (subst (λ (o : Object). AsksRoom o q r) (same_object None p q x.on) y.room);
       none = λ none. none_then p q r x.on.does.more y.on.does.more (seen_behind turn_stays p q x.on.does)
           (seen_behind turn_stays q r y.on.does) (x.none refl) (y.none none);
+      leaves = λ none. leaves_then p q r (only_seen p q x.on.does.more x.on.does.is) (x.leaves refl) (y.leaves none);
       last = last_behind p q r x.on.does.more y.on.does.more (seen_behind turn_stays p q x.on.does)
           (seen_behind turn_stays q r y.on.does) (x.none refl) y.last;
     }
@@ -84,6 +88,12 @@ cycles_grant_none : (p q : PassState) → InTurn p → Does is_of_cycles p q →
     → GrantsNone p q
 cycles_grant_none p q t d history = grants_none_by is_of_cycles p q cycles_in_turn cycles_no_grant t d history
 
+looks_leave : (p q : PassState) → InTurn p → IsUnplaced p → IsQuiet p → Does is_look p q
+    → IsHistory q.table.config q.seen
+    → OwnLeaveAllButReleased p q
+looks_leave p q t u quiet d history =
+    cycles_leave p q (new_callers p u) t quiet.free.decided (does_wider is_look is_of_cycles looks_of p q d) history
+
 -- Where an object is granted, or only looks were made, no room is asked for.
 
 pub seeks_placed : (p q : PassState) → InTurn p → IsUnplaced p → IsQuiet p → IsPlaced p q
@@ -95,6 +105,7 @@ seeks_placed p q t u quiet placed history =
       room = room_lacks (object_for p) p q placed.granted.does.more (seen_behind is_placing p q placed.granted.does)
           (part_lacks is_placing _ p q placing_stays rooms_held places_no_room t placed.granted.does history);
       none = λ none. cc;
+      leaves = λ none. cc;
       last = calm_last p q placed.granted.does.more (seen_behind is_placing p q placed.granted.does)
           (part_lacks is_placing lets_go p q placing_stays lets_go_held places_let_none_go t placed.granted.does
           history);
@@ -109,6 +120,7 @@ seeks_looked p q t u quiet looks history =
       room = room_lacks (object_for p) p q looks.does.more (seen_behind is_look p q looks.does)
           (part_lacks is_look _ p q look_stays rooms_held looks_no_room t looks.does history);
       none = λ none. looks_grant_none p q t looks.does history;
+      leaves = λ none. looks_leave p q t u quiet looks.does history;
       last = none_last p q (looks_grant_none p q t looks.does history);
     }
 
@@ -144,6 +156,7 @@ seeks_begun p q t u quiet none b history =
       room = begin_room (object_for p) p q t (new_callers p u) quiet.free.decided history
           (no_place p.table.config p.seen (object_for p) none) b;
       none = λ undecided. cycles_grant_none p q t (begin_does p q t.own b) history;
+      leaves = λ undecided. cycles_leave p q (new_callers p u) t quiet.free.decided (begin_does p q t.own b) history;
       last = none_last p q (cycles_grant_none p q t (begin_does p q t.own b) history);
     }
 
@@ -156,6 +169,7 @@ seeks_finished p q t u quiet none f history =
       room = finish_room (object_for p) p q t (new_callers p u) quiet.free.decided history
           (no_place p.table.config p.seen (object_for p) none) f;
       none = λ undecided. cycles_grant_none p q t (finish_does p q t.own f) history;
+      leaves = λ undecided. cycles_leave p q (new_callers p u) t quiet.free.decided (finish_does p q t.own f) history;
       last = none_last p q (cycles_grant_none p q t (finish_does p q t.own f) history);
     }
 
@@ -242,6 +256,7 @@ misfits_seen q r u none t quiet k history =
         room = room_lacks (object_for q) q r k.does.more (seen_behind is_look q r k.does)
             (part_lacks is_look _ q r look_stays rooms_held looks_no_room t k.does history);
         none = λ none. looks_grant_none q r t k.does history;
+        leaves = λ none. looks_leave q r t u quiet k.does history;
         last = none_last q r (looks_grant_none q r t k.does history);
       };
       unplaced = look_kept q r u k;

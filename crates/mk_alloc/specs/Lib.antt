@@ -4,3 +4,4 @@ pub mod Laws
 pub mod Underway
 pub mod DueCycles
 pub mod Rooms
+pub mod Leaving

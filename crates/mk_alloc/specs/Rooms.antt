@@ -11,6 +11,7 @@ use Rattle.mk_core.specs.Cycles.{At, is_begin, is_end}
 use Rattle.mk_words.specs.States.{PassState, event_of, now_of, world_of}
 use Rattle.mk_cycle.specs.EngineLaw.{IsAtPhase}
 use Rattle.mk_objects.specs.Placing.{IsUnplaced, object_for, place_now_for}
+use Rattle.mk_alloc.specs.Leaving.{OwnLeaveAllButReleased}
 use Rattle.mk_alloc.specs.TurnCycles.{HasNoPlace, RunsOneCycle, has_step, is_grant, is_want, lets_go}
 use Rattle.mk_alloc.specs.Underway.{GoesOn}
 
@@ -53,12 +54,13 @@ pub record RunsOne (p q : PassState) : Type 0 where
   pub is : q.seen ≡ p.seen ++ more
   pub one : RunsOneCycle more
 
--- The turn of a New went on, and asked for room so. Until it is answered it is granted nothing, and then it lets
--- nothing go.
+-- The turn of a New went on, and asked for room so. Until it is answered it is granted nothing and leaves all but what
+-- is released, and then it lets nothing go.
 pub record Seeks (a : Option Answer) (p q : PassState) : Type 0 where
   pub on : GoesOn a p q
   pub room : AsksRoom (object_for p) p q
   pub none : a ≡ None → GrantsNone p q
+  pub leaves : a ≡ None → OwnLeaveAllButReleased p q
   pub last : GrantsLast p q
 
 -- It isn't decided, and its object has no place now.
@@ -85,3 +87,4 @@ pub record AnswersFull (p q : PassState) : Type 0 where
   pub behind : List Event
   pub is : q.seen ≡ before ++ event_of p step.Full ∷ behind
   pub allocations : (world_of q).allocations ≡ (world_of p).allocations
+  pub leaves : OwnLeaveAllButReleased p q

@@ -18,6 +18,7 @@ use Rattle.mk_caller.specs.States.{number_of}
 use Rattle.mk_caller.specs.Called.{own_calls, IsDecidedIn}
 use Rattle.mk_turns.specs.Doing.{Does}
 use Rattle.mk_waiting.specs.Taking.{TakesTurn}
+use Rattle.mk_alloc.specs.Leaving.{OwnLeaveAllButReleased}
 use Rattle.mk_alloc.specs.TurnCycles.{EndsExactly, IsDueIn}
 use Rattle.mk_objects.specs.Retiring.{is_loading}
 
@@ -39,7 +40,8 @@ pub record CalledInTurn (on : Bool) (p : PassState) (o : Op) (a : Answer) (q : P
   pub turn_part : ends.turn.behind ≡ acts.more ++ gives.others
   pub rest : call_of q ≡ at_rest
 
--- No place was left, though a cycle was begun and ended in the call; the counts are those of that moment.
+-- No place was left, though a cycle was begun and ended in the call; the counts are those of that moment. The call
+-- itself left all registers and globals as they were, and all allocations but those that were released.
 pub record IsAnsweredFull (on : Bool) (p : PassState) (o : Op) (census : Census) (q : PassState) : Type 0 where
   pub called : CalledInTurn on p o answer.Full q
   pub before : List Event
@@ -47,6 +49,7 @@ pub record IsAnsweredFull (on : Bool) (p : PassState) (o : Op) (census : Census)
   pub is : q.seen ≡ before ++ event_of p step.Full ∷ behind
   pub full : FindsNoPlace p.table.config before p.seat
   pub counts : census ≡ census_of_allocations p.table.config (world_of q).allocations
+  pub leaves : OwnLeaveAllButReleased p q
 
 -- The object was freed, or the register was null; and whether that was due.
 pub record FreesObject (on : Bool) (p : PassState) (r : ℕ) (due : Bool) (q : PassState) : Type 0 where

@@ -1,6 +1,7 @@
 //! The cycle that a free begins where it is due.
 ghost use Rattle.std.specs.Prelude.{◌≡◌, length, false};
 ghost use Rattle.mk_turns.specs.Sweeping.{SweepsNothing};
+ghost use Rattle.mk_cycle.specs.Begun.{EachIsBegun};
 ghost use Rattle.mk_alloc.specs.DueCycles.{EndsOlder, RunsCycle, RunsIfDue};
 ghost use Rattle.mk_alloc.specs.Underway.{IsQuiet};
 
@@ -54,6 +55,7 @@ fn run_cycle<E: Engine, R: Threads + Wait + Sync>(
     ensures book { length bench.new.book ≡ length bench.old.book }
     ensures runs { RunsCycle E.on turn.pass result.pass }
     ensures reached { E.sweeps ≡ false → SweepsNothing turn.pass result.pass }
+    ensures begun { EachIsBegun E.begins turn.pass result.pass }
 {
     turn.is_in_order();
     let mut turn = finish_older(rt, words, turn, bench);
@@ -83,6 +85,7 @@ pub(crate) fn run_if_due<E: Engine, R: Threads + Wait + Sync>(
     ensures book { length bench.new.book ≡ length bench.old.book }
     ensures runs { RunsIfDue E.on due turn.pass result.pass }
     ensures reached { E.sweeps ≡ false → SweepsNothing turn.pass result.pass }
+    ensures begun { EachIsBegun E.begins turn.pass result.pass }
 {
     if due {
         run_cycle(rt, words, turn, bench)

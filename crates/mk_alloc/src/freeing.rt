@@ -3,6 +3,7 @@ ghost use Rattle.std.specs.Prelude.{◌≡◌, ◌<◌, ◌∷◌, [], IfOk, OnE
 ghost use Rattle.mk_never.specs.Admitted.{IsBase};
 ghost use Rattle.mk_caller.specs.States.{number_of, value_of};
 ghost use Rattle.mk_turns.specs.Sweeping.{SweepsNothing};
+ghost use Rattle.mk_cycle.specs.Begun.{EachIsBegun};
 ghost use Rattle.mk_alloc.specs.TurnCalls.{FreesObject, IsAnsweredDouble};
 
 use crate::cycles::run_if_due;
@@ -15,7 +16,7 @@ use std::sync::Wait;
 use std::thread::Threads;
 
 /// Frees the object that a register points to, if it isn't null. Where that is due, a cycle begins, and ends in the
-/// call unless the engine keeps on.
+/// call unless the engine keeps on. Directly after a `begin` the engine does its part.
 pub fn free_object<E: Engine, R: Threads + Wait + Sync>(
     rt: &R,
     caller: &mut Caller,
@@ -35,6 +36,7 @@ pub fn free_object<E: Engine, R: Threads + Wait + Sync>(
     ensures freed { IfOk result (λ freed. FreesObject E.on caller.old.pass p freed.due caller.new.pass) }
     ensures double { OnErr result (IsAnsweredDouble E.on caller.old.pass p caller.new.pass) }
     ensures reached { E.sweeps ≡ false → SweepsNothing caller.old.pass caller.new.pass }
+    ensures begun { EachIsBegun E.begins caller.old.pass caller.new.pass }
 {
     caller.is_idle();
     let words = caller.words();

@@ -4,6 +4,7 @@ ghost use Rattle.mk_never.specs.declared.operations.Op.TheVariants as op;
 ghost use Rattle.mk_core.specs.declared.events.Answer.TheVariants as answer;
 ghost use Rattle.mk_caller.specs.States.{number_of};
 ghost use Rattle.mk_turns.specs.Sweeping.{SweepsNothing};
+ghost use Rattle.mk_cycle.specs.Begun.{EachIsBegun};
 ghost use Rattle.mk_alloc.specs.TurnCalls.{CalledInTurn, IsAnsweredFull};
 
 use crate::fulls::answer_full;
@@ -24,7 +25,8 @@ pub struct Full {
 }
 
 /// Sets a register to a new object of a type, whose words are 0. Where nothing fits, a cycle that is on is finished,
-/// and then one more is begun and finished, before the answer is `Full`.
+/// and then one more is begun and finished, before the answer is `Full`. Directly after a `begin` the engine does its
+/// part.
 pub fn new_object<E: Engine, R: Threads + Wait + Sync>(
     rt: &R,
     caller: &mut Caller,
@@ -46,6 +48,7 @@ pub fn new_object<E: Engine, R: Threads + Wait + Sync>(
     ensures full { IfErr result (λ full.
         IsAnsweredFull E.on caller.old.pass (op.New d ty false) full.census caller.new.pass) }
     ensures reached { E.sweeps ≡ false → SweepsNothing caller.old.pass caller.new.pass }
+    ensures begun { EachIsBegun E.begins caller.old.pass caller.new.pass }
 {
     caller.is_idle();
     let words = caller.words();

@@ -3,6 +3,7 @@ ghost use Rattle.std.specs.Prelude.{◌≡◌, Some, None, true, false, length};
 ghost use Rattle.mk_core.specs.declared.events.Answer.TheVariants as answer;
 ghost use Rattle.mk_words.specs.States.{now_of};
 ghost use Rattle.mk_turns.specs.Sweeping.{SweepsNothing};
+ghost use Rattle.mk_cycle.specs.Begun.{EachIsBegun};
 ghost use Rattle.mk_cycle.specs.EngineLaw.{IsAtPhase};
 ghost use Rattle.mk_core.specs.Effects.{cycle_ended};
 ghost use Rattle.mk_objects.specs.Placing.{IsUnplaced, OnlyLooks, place_now_for};
@@ -130,6 +131,7 @@ fn place_behind_cycle<E: Engine, R: Threads + Wait + Sync>(
     ensures shows { result.1 ≡ false → bench.new.book ≡ (now_of result.0.pass).words.pages }
     ensures one { RunsOne turn.pass result.0.pass }
     ensures reached { E.sweeps ≡ false → SweepsNothing turn.pass result.0.pass }
+    ensures begun { EachIsBegun E.begins turn.pass result.0.pass }
 {
     let mut turn = turn;
     turn.is_in_order();
@@ -164,6 +166,7 @@ pub(crate) fn make_room<E: Engine, R: Threads + Wait + Sync>(
     ensures shows { result.1 ≡ false → bench.new.book ≡ (now_of result.0.pass).words.pages }
     ensures one { RunsOne turn.pass result.0.pass }
     ensures reached { E.sweeps ≡ false → SweepsNothing turn.pass result.0.pass }
+    ensures begun { EachIsBegun E.begins turn.pass result.0.pass }
 {
     turn.is_in_order();
     let (turn, placed) = place_behind_older(rt, words, turn, bench);

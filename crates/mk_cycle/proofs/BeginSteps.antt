@@ -28,7 +28,7 @@ use Rattle.mk_words.specs.Steps.{IsEnabledTo}
 use Rattle.mk_words.specs.TurnSteps.{world_at, Acts}
 use Rattle.mk_words.proofs.Made.{made}
 use Rattle.mk_cycle.specs.BeginCycle.{BeginsCycle, with_cycle_begun}
-use Rattle.mk_cycle.specs.Cleaning.{Cleans, IsClean}
+use Rattle.mk_cycle.specs.Cleaning.{Cleans, IsClean, WasUndirty}
 use Rattle.mk_cycle.specs.EngineLaw.{IsFreeForCycle, IsAtPhase, BeginsMarking, is_pending_free}
 use Rattle.mk_cycle.specs.TurnKeeps.{Done, done_of, IsGone, KeepsGates, InTurn}
 use Rattle.mk_cycle.proofs.Allowed.{protocol}
@@ -215,9 +215,10 @@ counts_then p q r same a b =
 
 -- All of it: pages are cleaned, the cycle begins, and the engine does its part.
 pub begins_cycle : (p b d q : PassState) → Cleans p b → InTurn b → IsFreeForCycle b → IsAtPhase b 0
-    → ((page : ℕ) → page < b.table.config.pages → IsClean b page) → (now_of b).words.fresh ≡ 0
+    → ((page : ℕ) → page < b.table.config.pages → IsClean b page)
+    → ((page : ℕ) → page < p.table.config.pages → WasUndirty page p b) → (now_of b).words.fresh ≡ 0
     → Acts b step.Begin d → InTurn d → BeginsMarking d q → BeginsCycle p q
-begins_cycle p b d q k t free none clean fresh a u law =
+begins_cycle p b d q k t free none clean undirty fresh a u law =
     let begun = steady_begun b d t free none u a in
     let first : b ≡ record p { seen = b.seen } = k.keeps.call.pass in
     let second : d ≡ record p { seen = d.seen } = same_pass b step.Begin d a t.own t.holds u.history
@@ -237,7 +238,14 @@ begins_cycle p b d q k t free none clean fresh a u law =
     (counts_then b d q (same_config b d (same_pass b step.Begin d a t.own t.holds u.history))
     (begun_counts b d t free none u a) law.keeps.counts) in
     record {
-      makes = record { cleared = b; begun = d; before = k.does; begin = a.makes; behind = law.does };
+      makes = record {
+        cleared = b;
+        begun = d;
+        before = k.does;
+        undirty = undirty;
+        begin = a.makes;
+        behind = law.does;
+      };
       pass = pass;
       call = law.keeps.call.call ∙ begun_call b d t free none u a ∙ k.keeps.call.call;
       done = law.keeps.call.done ∙ begun_done b d t free none u a

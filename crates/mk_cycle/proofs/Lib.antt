@@ -28,3 +28,6 @@ pub mod FinishedCycles
 pub mod Sweepless
 pub mod Told
 pub mod PageByPage
+pub mod InParts
+pub mod Begun
+pub mod Undirty

@@ -1,5 +1,5 @@
 -- What `begin_cycle` makes and leaves.
-use Rattle.std.specs.Prelude.{◌≡◌, map}
+use Rattle.std.specs.Prelude.{◌≡◌, ◌<◌, ℕ, map}
 use Rattle.mk_core.specs.declared.events.Step.TheVariants as step
 use Rattle.mk_core.specs.declared.seats.OwnCycle.TheVariants.{Begun}
 use Rattle.mk_core.specs.Allocations.{no_longer_fresh}
@@ -8,14 +8,17 @@ use Rattle.mk_core.specs.Frames.{Steady, steady_of, CountsAreLeft}
 use Rattle.mk_words.specs.States.{PassState, world_of, now_of, call_of}
 use Rattle.mk_words.specs.Steps.{Makes}
 use Rattle.mk_turns.specs.Doing.{Does}
+use Rattle.mk_cycle.specs.Cleaning.{WasUndirty}
 use Rattle.mk_cycle.specs.Kinds.{clears, begins_marking}
 use Rattle.mk_cycle.specs.TurnKeeps.{done_of, IsGone, KeepsGates}
 
--- One `begin`: what is cleared before it, and what the engine does after it.
+-- One `begin`: what is cleared before it, and what the engine does after it. Each page's dirty word was 0 at a moment
+-- before it; that the marks and black words are 0 there is a condition of the `begin`.
 pub record MakesBegin (p q : PassState) : Type 0 where
   pub cleared : PassState
   pub begun : PassState
   pub before : Does clears p cleared
+  pub undirty : (page : ℕ) → page < p.table.config.pages → WasUndirty page p cleared
   pub begin : Makes cleared step.Begin begun
   pub behind : Does begins_marking begun q
 

@@ -1,5 +1,7 @@
 -- What is made ready for a `begin`: no mark is left of the cycle before, and the freed cells are the snapshot.
-use Rattle.std.specs.Prelude.{◌≡◌, ℕ, slice_index}
+use Rattle.std.specs.Prelude.{◌≡◌, ℕ, List, ◌++◌, slice_index}
+use Rattle.mk_core.specs.declared.events.Event.{Event}
+use Rattle.mk_core.specs.History.{left}
 use Rattle.mk_words.specs.States.{PassState, now_of}
 use Rattle.mk_turns.specs.Doing.{Does}
 use Rattle.mk_cycle.specs.Kinds.{clears}
@@ -14,6 +16,14 @@ IsUnscanned p page = slice_index (now_of p).words.blacks page ≡ 0
 -- The page's freed cells are its snapshot.
 abbrev pub HasSnapshot : PassState → ℕ → Type 0
 HasSnapshot p page = slice_index (now_of p).words.snapshot page ≡ slice_index (now_of p).words.freed page
+
+-- The page's dirty word was 0 at a moment from what the one pass had seen to what the other has seen. A caller may set
+-- it again at once.
+pub record WasUndirty (page : ℕ) (p q : PassState) : Type 0 where
+  pub before : List Event
+  pub behind : List Event
+  pub is : q.seen ≡ p.seen ++ (before ++ behind)
+  pub zero : slice_index (left p.table.config (p.seen ++ before)).now.words.dirty page ≡ 0
 
 pub record IsClean (p : PassState) (page : ℕ) : Type 0 where
   pub unmarked : IsUnmarked p page

@@ -12,3 +12,4 @@ pub mod ReleasedPages
 pub mod HeldPages
 pub mod Tallying
 pub mod Telling
+pub mod Begun

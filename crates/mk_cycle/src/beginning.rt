@@ -2,6 +2,7 @@
 ghost use Rattle.std.specs.Prelude.{◌≡◌, false};
 ghost use Rattle.mk_turns.specs.Sweeping.{SweepsNothing};
 ghost use Rattle.mk_cycle.specs.BeginCycle.{BeginsCycle};
+ghost use Rattle.mk_cycle.specs.Begun.{EachIsBegun};
 ghost use Rattle.mk_cycle.specs.EngineLaw.{IsFreeForCycle, IsAtPhase};
 
 use crate::bench::Bench;
@@ -13,7 +14,7 @@ use mk_words::{Turn, Words};
 use std::sync::Wait;
 use std::thread::Threads;
 
-/// Begins a cycle: its snapshot is what is freed now.
+/// Begins a cycle: its snapshot is what is freed now. Directly after its `begin` the engine does its part.
 pub fn begin_cycle<E: Engine, R: Threads + Wait + Sync>(
     rt: &R,
     words: &Words,
@@ -29,6 +30,7 @@ pub fn begin_cycle<E: Engine, R: Threads + Wait + Sync>(
     ensures book { bench.new.book ≡ bench.old.book }
     ensures law { BeginsCycle turn.old.pass turn.new.pass }
     ensures reached { E.sweeps ≡ false → SweepsNothing turn.old.pass turn.new.pass }
+    ensures begun { EachIsBegun E.begins turn.old.pass turn.new.pass }
 {
     clean_pages(turn, words);
     tally(turn, words, Tally::Fresh, 0);

@@ -4,7 +4,7 @@ ghost use Rattle.std.specs.Prelude.{◌≡◌, ◌<◌, ℕ, true, false};
 ghost use Rattle.mk_core.specs.Ranges.{is_word};
 ghost use Rattle.mk_core.specs.Words.{named_word};
 ghost use Rattle.mk_words.specs.States.{now_of};
-ghost use Rattle.mk_cycle.specs.Cleaning.{Cleans, IsUnmarked, IsUnscanned, HasSnapshot, IsClean};
+ghost use Rattle.mk_cycle.specs.Cleaning.{Cleans, IsUnmarked, IsUnscanned, HasSnapshot, IsClean, WasUndirty};
 ghost use Rattle.mk_cycle.specs.EngineLaw.{IsFreeForCycle, IsAtPhase, is_register};
 ghost use Rattle.mk_cycle.specs.TurnKeeps.{InTurn};
 
@@ -51,6 +51,7 @@ fn clear_dirty(turn: &mut Turn, words: &Words, page: u64)
     requires within { page < words.now.config.pages }
     ensures op { turn.new.op ≡ turn.old.op }
     ensures cleans { Cleans turn.old.pass turn.new.pass }
+    ensures undirty { WasUndirty page turn.old.pass turn.new.pass }
 {
     if look(turn, words, Word::Dirty(page)) != 0 {
         undirty(turn, words, page);
@@ -96,6 +97,7 @@ fn look_before(turn: &mut Turn, words: &Words, pages: u64, x: Word) -> u64
 fn are_zero(marks: u64, blacks: u64, dirty: u64, quarantine: u64) -> bool
     ensures marks { result ≡ true → marks ≡ 0 }
     ensures blacks { result ≡ true → blacks ≡ 0 }
+    ensures dirty { result ≡ true → dirty ≡ 0 }
     ensures quarantine { result ≡ true → quarantine ≡ 0 }
 {
     marks | blacks | dirty | quarantine == 0
@@ -113,6 +115,7 @@ fn is_ready(turn: &mut Turn, words: &Words, pages: u64, page: u64) -> bool
     ensures op { turn.new.op ≡ turn.old.op }
     ensures cleans { Cleans turn.old.pass turn.new.pass }
     ensures clean { result ≡ true → IsClean turn.new.pass page }
+    ensures undirty { result ≡ true → WasUndirty page turn.old.pass turn.new.pass }
 {
     let marks = look_before(turn, words, pages, Word::Mark(page));
     let blacks = look_before(turn, words, pages, Word::Black(page));
@@ -131,6 +134,7 @@ fn clean_words(turn: &mut Turn, words: &Words, page: u64)
     ensures op { turn.new.op ≡ turn.old.op }
     ensures cleans { Cleans turn.old.pass turn.new.pass }
     ensures clean { IsClean turn.new.pass page }
+    ensures undirty { WasUndirty page turn.old.pass turn.new.pass }
 {
     clear_marks(turn, words, page);
     clear_black(turn, words, page);
@@ -149,6 +153,7 @@ fn clean_page(turn: &mut Turn, words: &Words, pages: u64, page: u64)
     ensures op { turn.new.op ≡ turn.old.op }
     ensures cleans { Cleans turn.old.pass turn.new.pass }
     ensures clean { IsClean turn.new.pass page }
+    ensures undirty { WasUndirty page turn.old.pass turn.new.pass }
 {
     if is_ready(turn, words, pages, page) {
         return;
@@ -164,6 +169,7 @@ pub(crate) fn clean_pages(turn: &mut Turn, words: &Words)
     ensures op { turn.new.op ≡ turn.old.op }
     ensures cleans { Cleans turn.old.pass turn.new.pass }
     ensures clean { (page : ℕ) → page < words.now.config.pages → IsClean turn.new.pass page }
+    ensures undirty { (page : ℕ) → page < words.now.config.pages → WasUndirty page turn.old.pass turn.new.pass }
 {
     let pages = words.pages();
     for page in 0..pages {

@@ -1,8 +1,11 @@
 //! Engines: how the marks of a cycle are made.
-ghost use Rattle.std.specs.Prelude.{◌≡◌, ℕ, Bool, false, IfOk};
+ghost use Rattle.std.specs.Prelude.{◌≡◌, ℕ, Bool, false, IfOk, List};
 ghost use Rattle.mk_core.specs.declared.config.Config.{Config};
+ghost use Rattle.mk_core.specs.declared.events.Event.{Event};
+ghost use Rattle.mk_core.specs.declared.events.Seat.{Seat};
 ghost use Rattle.mk_core.specs.History.{World};
 ghost use Rattle.mk_turns.specs.Sweeping.{SweepsNothing};
+ghost use Rattle.mk_cycle.specs.Begun.{IsBegun};
 ghost use Rattle.mk_cycle.specs.EngineLaw.{IsFreeForCycle, IsAtPhase, BeginsMarking, ClosesMarks};
 ghost use Rattle.mk_cycle.specs.Telling.{IsToldOf};
 
@@ -13,7 +16,8 @@ use std::sync::Wait;
 use std::thread::Threads;
 
 /// What makes the marks of a cycle, for a heap of this many pages. What it answers to `keeps_on` is the same for all
-/// values of its type, and so is whether it makes sweeping marks. Of the marks that it closed last it tells something.
+/// values of its type, and so are whether it makes sweeping marks, and what it does as a cycle begins. Of the marks
+/// that it closed last it tells something.
 pub trait Engine: Drop {
     ghost on: { Bool };
 
@@ -22,6 +26,8 @@ pub trait Engine: Drop {
     ghost made_for: { Self → ℕ };
 
     ghost tells: { Self → Config → World → Type 0 };
+
+    ghost begins: { Config → Seat → List Event → List Event → Type 0 };
 
     /// An engine for this many pages. It takes all its memory here.
     fn make(alloc: Global, pages: u64) -> Result<Self, NoMemory>
@@ -40,7 +46,8 @@ pub trait Engine: Drop {
         ensures made_for { made_for self.new ≡ made_for self.old }
         ensures op { turn.new.op ≡ turn.old.op }
         ensures law { BeginsMarking turn.old.pass turn.new.pass }
-        ensures reached { sweeps ≡ false → SweepsNothing turn.old.pass turn.new.pass };
+        ensures reached { sweeps ≡ false → SweepsNothing turn.old.pass turn.new.pass }
+        ensures begun { IsBegun begins turn.old.pass turn.new.pass };
 
     /// Wants the close, and makes the marks that are left to make, so that the phase may be closed.
     fn close_marks<R: Threads + Wait + Sync>(&mut self, rt: &R, words: &Words, stop: &mut Stopped)

@@ -3,3 +3,4 @@ pub mod Since
 pub mod MarksBeside
 pub mod BesideSteps
 pub mod Sweepless
+pub mod MarkedRoots

@@ -1,14 +1,22 @@
 -- What `begin` of an engine does that marks beside the callers.
-use Rattle.std.specs.Prelude.{◌≡◌, true}
+use Rattle.std.specs.Prelude.{◌≡◌, true, List, ◌++◌}
+use Rattle.std.specs.List.{list_all, list_any}
+use Rattle.mk_core.specs.declared.config.Config.{Config}
+use Rattle.mk_core.specs.declared.events.Event.{Event}
+use Rattle.mk_core.specs.declared.events.Seat.{Seat}
 use Rattle.mk_core.specs.declared.events.Word.{Word}
+use Rattle.mk_core.specs.Growing.{Finding, in_this_call}
+use Rattle.mk_core.specs.History.{left}
 use Rattle.mk_core.specs.Ranges.{is_word}
-use Rattle.mk_words.specs.States.{PassState}
+use Rattle.mk_tracing.specs.Grays.{TracesReached}
 use Rattle.mk_tracing.specs.Stops.{is_root}
-use Rattle.mk_engines.specs.Beside.{FoundPointsWell, LooksAt, MarksReachedAlone}
+use Rattle.mk_tracing.specs.Tracing.{OwnStepsKeep}
+use Rattle.mk_engines.specs.Beside.{found_well, looks_at}
 
--- Each register of each caller and each global was looked at, what was found there points well, and nothing was marked
--- but what was reached.
-pub record MarksRoots (p q : PassState) : Type 0 where
-  pub looked : (x : Word) → is_root x ≡ true → is_word p.table.config x ≡ true → LooksAt x p q
-  pub found : FoundPointsWell p q
-  pub reached : MarksReachedAlone p q
+-- After a list, the seat looked in these events at each register of each caller and at each global, what it found
+-- there points well at their end, and it marked nothing but what was reached.
+pub record MarksRoots (c : Config) (s : Seat) (es more : List Event) : Type 0 where
+  pub looked : (x : Word) → is_root x ≡ true → is_word c x ≡ true
+      → list_any (λ (f : Finding). looks_at x f.event.step) (in_this_call c s es more) ≡ true
+  pub found : list_all (found_well c.pages (left c (es ++ more)).now.words) (in_this_call c s es more) ≡ true
+  pub reached : OwnStepsKeep TracesReached c s (left c es) more

@@ -2,6 +2,7 @@
 //! asked.
 ghost use Rattle.std.specs.Prelude.{◌≡◌, OnOk};
 ghost use Rattle.mk_cycle.specs.BeginCycle.{BeginsCycle};
+ghost use Rattle.mk_cycle.specs.Begun.{EachIsBegun, IsBegun};
 ghost use Rattle.mk_cycle.specs.EngineLaw.{IsFreeForCycle, IsAtPhase};
 ghost use Rattle.mk_engines.specs.Roots.{MarksRoots};
 
@@ -13,7 +14,7 @@ use std::alloc::Global;
 use std::sync::Wait;
 use std::thread::Threads;
 
-/// Begins a cycle whose marks are made beside the callers.
+/// Begins a cycle whose marks are made beside the callers. Directly after its `begin` the roots are marked.
 pub(crate) fn begin_beside<R: Threads + Wait + Sync>(
     rt: &R,
     alloc: Global,
@@ -24,6 +25,7 @@ pub(crate) fn begin_beside<R: Threads + Wait + Sync>(
     requires phase { IsAtPhase turn.old.pass 0 }
     requires free { IsFreeForCycle turn.old.pass }
     ensures begins { OnOk result (BeginsCycle turn.old.pass turn.new.pass) }
+    ensures begun { OnOk result (EachIsBegun MarksRoots turn.old.pass turn.new.pass) }
 {
     let mut bench = Bench::new(alloc, words.pages())?;
     begin_cycle(rt, words, turn, &mut bench);
@@ -40,7 +42,7 @@ pub(crate) fn mark_beside<R: Threads + Wait + Sync>(
     requires one_table { turn.old.pass.table ≡ words.now }
     requires phase { IsAtPhase turn.old.pass 1 }
     requires free { IsFreeForCycle turn.old.pass }
-    ensures roots { MarksRoots turn.old.pass turn.new.pass }
+    ensures begun { IsBegun MarksRoots turn.old.pass turn.new.pass }
 {
     engine.begin(rt, words, turn);
 }

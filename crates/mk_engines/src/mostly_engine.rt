@@ -1,5 +1,6 @@
 //! The engine that marks beside the callers, and then in the stop what is left.
 ghost use Rattle.std.specs.Prelude.{◌≡◌, true, false, ⊤};
+ghost use Rattle.mk_cycle.specs.Begun.{IsBegun};
 ghost use Rattle.mk_cycle.specs.EngineLaw.{IsFreeForCycle, IsAtPhase, BeginsMarking, ClosesMarks};
 ghost use Rattle.mk_turns.specs.Sweeping.{SweepsNothing};
 ghost use Rattle.mk_tracing.specs.Grays.{TracesReached};
@@ -33,6 +34,8 @@ impl Engine for MostlyEngine {
 
     ghost tells = { λ engine c w. ⊤ };
 
+    ghost begins = { λ c s es more. MarksRoots c s es more };
+
     fn make(alloc: Global, pages: u64) -> Result<MostlyEngine, NoMemory> {
         let work = Worklist::new(alloc, pages.min(MOST_PAGES))?;
         Ok(MostlyEngine { pages, work })
@@ -50,7 +53,7 @@ impl Engine for MostlyEngine {
         ensures op { turn.new.op ≡ turn.old.op }
         ensures law { BeginsMarking turn.old.pass turn.new.pass }
         ensures reached { SweepsNothing turn.old.pass turn.new.pass }
-        ensures roots { MarksRoots turn.old.pass turn.new.pass }
+        ensures begun { IsBegun MarksRoots turn.old.pass turn.new.pass }
     {
         mark_roots(rt, words, turn);
     }

@@ -4,6 +4,7 @@ ghost use Rattle.std.specs.Prelude.{◌≡◌, ◌<◌, ℕ, true, false};
 ghost use Rattle.mk_core.specs.declared.events.Word.TheVariants as word;
 ghost use Rattle.mk_core.specs.Moments.{is_number_of};
 ghost use Rattle.mk_core.specs.Ranges.{is_word};
+ghost use Rattle.mk_cycle.specs.Begun.{IsBegun};
 ghost use Rattle.mk_cycle.specs.Holding.{IsHeldOrOwn};
 ghost use Rattle.mk_cycle.specs.TurnKeeps.{KeepsGates};
 ghost use Rattle.mk_tracing.specs.Stops.{is_root};
@@ -129,7 +130,7 @@ pub(crate) fn mark_roots<R: Wait>(rt: &R, words: &Words, turn: &mut Turn)
     requires beside { IsBeside turn.old.pass }
     ensures on { GoesBeside turn.old turn.new }
     ensures gates { KeepsGates turn.old.pass turn.new.pass }
-    ensures roots { MarksRoots turn.old.pass turn.new.pass }
+    ensures roots { IsBegun MarksRoots turn.old.pass turn.new.pass }
 {
     mark_registers(rt, words, turn);
     mark_globals(words, turn);

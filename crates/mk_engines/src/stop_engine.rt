@@ -1,5 +1,6 @@
 //! The engine that makes all marks in the stop.
 ghost use Rattle.std.specs.Prelude.{◌≡◌, false, ⊤};
+ghost use Rattle.mk_cycle.specs.Begun.{IsBegun, SaysNothing};
 ghost use Rattle.mk_cycle.specs.EngineLaw.{IsFreeForCycle, IsAtPhase, BeginsMarking, ClosesMarks};
 ghost use Rattle.mk_turns.specs.Sweeping.{SweepsNothing};
 ghost use Rattle.mk_tracing.specs.Grays.{TracesReached};
@@ -30,6 +31,8 @@ impl Engine for StopEngine {
 
     ghost tells = { λ engine c w. ⊤ };
 
+    ghost begins = { SaysNothing };
+
     fn make(alloc: Global, pages: u64) -> Result<StopEngine, NoMemory> {
         let work = Worklist::new(alloc, pages.min(MOST_PAGES))?;
         Ok(StopEngine { pages, work })
@@ -44,6 +47,7 @@ impl Engine for StopEngine {
         ensures op { _turn.new.op ≡ _turn.old.op }
         ensures law { BeginsMarking _turn.old.pass _turn.new.pass }
         ensures reached { SweepsNothing _turn.old.pass _turn.new.pass }
+        ensures begun { IsBegun SaysNothing _turn.old.pass _turn.new.pass }
         ensures nothing { _turn.new ≡ _turn.old }
     {}
 

@@ -11,3 +11,4 @@ pub mod IdleTurns
 pub mod Overs
 pub mod HomeCallers
 pub mod UnsweptHosts
+pub mod BegunHosts

@@ -4,6 +4,7 @@ ghost use Rattle.mk_core.specs.declared.events.Seat.TheVariants as seat;
 ghost use Rattle.mk_core.specs.declared.events.Step.TheVariants as step;
 ghost use Rattle.mk_words.specs.Seats.{Has, HasCallers, has_over};
 ghost use Rattle.mk_words.specs.Steps.{IsEnabledTo};
+ghost use Rattle.mk_cycle.specs.Begun.{EachIsBegun};
 ghost use Rattle.mk_cycle.specs.EngineLaw.{IsAtPhase};
 ghost use Rattle.mk_turns.specs.Sweeping.{SweepsNothing};
 ghost use Rattle.mk_heap.specs.Ending.{CallersAreJoined, IsIdleTurn, MakesToldCycle, SaysOver, TakesIdleTurn};
@@ -52,7 +53,8 @@ impl Host {
         self.pass = Some(back);
     }
 
-    /// Makes one cycle, when a cycle that is on is finished. No cycle is on after it.
+    /// Makes one cycle, when a cycle that is on is finished. No cycle is on after it. Directly after its `begin` the
+    /// engine does its part.
     pub fn cycle<E: Engine, R: Threads + Wait + Sync>(
         &mut self,
         rt: &R,
@@ -71,6 +73,7 @@ impl Host {
         ensures cycle { MakesToldCycle (E.tells bench.new.engine) self.old.pass self.new.pass }
         ensures overs { has_over self.new.pass.seen ≡ has_over self.old.pass.seen }
         ensures reached { E.sweeps ≡ false → SweepsNothing self.old.pass self.new.pass }
+        ensures begun { EachIsBegun E.begins self.old.pass self.new.pass }
     {
         let words = &heap.words;
         let Some(home) = self.pass.take() else {

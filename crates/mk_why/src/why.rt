@@ -2,6 +2,7 @@
 ghost use Rattle.std.specs.Prelude.{◌≡◌, [], IfOk, false, length};
 ghost use Rattle.mk_core.specs.declared.config.Config.{Config};
 ghost use Rattle.mk_core.specs.History.{World};
+ghost use Rattle.mk_cycle.specs.Begun.{IsBegun};
 ghost use Rattle.mk_cycle.specs.EngineLaw.{BeginsMarking, IsAtPhase, IsFreeForCycle};
 ghost use Rattle.mk_turns.specs.Sweeping.{SweepsNothing};
 ghost use Rattle.mk_why.specs.Chains.{AreKept};
@@ -58,6 +59,8 @@ impl<E: Engine> Engine for Why<E> {
 
     ghost sweeps = { E.sweeps };
 
+    ghost begins = { E.begins };
+
     ghost made_for = { λ why. pages_for (E.made_for why.inner) (length why.found) };
 
     ghost tells = { λ why c w. IsToldBefore (E.tells why.inner) c w × IsTold c why.found why.kept (view_of w) };
@@ -85,6 +88,7 @@ impl<E: Engine> Engine for Why<E> {
         ensures op { turn.new.op ≡ turn.old.op }
         ensures law { BeginsMarking turn.old.pass turn.new.pass }
         ensures reached { E.sweeps ≡ false → SweepsNothing turn.old.pass turn.new.pass }
+        ensures begun { IsBegun E.begins turn.old.pass turn.new.pass }
     {
         words.is_within_limits();
         self.inner.begin(rt, words, turn);

@@ -13,6 +13,8 @@ use Rattle.mk_alloc.proofs.FreedTurns.{freed_on, frees_object, is_answered_doubl
 use Rattle.mk_alloc.proofs.TakenTurns.{callers}
 use Rattle.mk_turns.specs.Sweeping.{SweepsNothing}
 use Rattle.mk_turns.proofs.Sweeping.{only_seen}
+use Rattle.mk_cycle.specs.Begun.{EachIsBegun}
+use Rattle.mk_alloc.proofs.BegunTurns.{freeing_then_begun, loading_begun, turn_begun}
 use Rattle.mk_alloc.proofs.UnsweptTurns.{freeing_then_sweeps, loading_sweeps, turn_sweeps}
 use Rattle.mk_cycle.specs.TurnKeeps.{InTurn}
 use Rattle.mk_alloc.proofs.freeing.free_object.Goals as goal
@@ -136,4 +138,32 @@ returns-in-Err-clause-reached g c =
     subst (λ (x : CallerState). SweepsNothing p x.pass) (sym c.back-in-Err.ensures)
     (turn_sweeps p taken_turn end c.give-in-Err.result (op.Free c.args.p) (callers p c.is_idle.ensures.idle)
     c.is_idle.ensures.own (takes g x.After-is_in_order) (loading_sweeps answer.Double taken_turn end d) d.pass
+    c.is_in_order-in-Err.ensures.own c.give-in-Err.ensures.gives)
+
+pub returns-in-Ok-clause-begun : goal.returns-in-Ok-clause-begun
+returns-in-Ok-clause-begun g c =
+    let x = goal.at.returns-in-Ok-clause-begun g c in
+    let p : PassState = c.args.caller.now.pass in
+    let taken_turn : PassState = c.take-turn.result.pass in
+    let end : PassState = c.run_if_due-turn.result.pass in
+    let on = on g x.After-is_in_order-in-Ok-2 (takes g x.After-is_in_order) (taken g x.After-is_in_order) in
+    let begins = g.E.Engine.begins in
+    subst (λ (x : CallerState). EachIsBegun begins p x.pass) (sym c.back.ensures)
+    (turn_begun begins p taken_turn end c.give.result (op.Free c.args.p) (callers p c.is_idle.ensures.idle)
+    c.is_idle.ensures.own (takes g x.After-is_in_order)
+    (freeing_then_begun begins answer.Done taken_turn c.retire_object.new.turn.pass end c.in-Ok.ensures.freed.decides
+    c.run_if_due-turn.ensures.begun)
+    (only_seen taken_turn end on.does.more on.does.is) c.is_in_order-in-Ok-2.ensures.own c.give.ensures.gives)
+
+pub returns-in-Err-clause-begun : goal.returns-in-Err-clause-begun
+returns-in-Err-clause-begun g c =
+    let x = goal.at.returns-in-Err-clause-begun g c in
+    let p : PassState = c.args.caller.now.pass in
+    let taken_turn : PassState = c.take-turn.result.pass in
+    let end : PassState = c.retire_object.new.turn.pass in
+    let d = c.in-Err.ensures.double.decides in
+    let begins = g.E.Engine.begins in
+    subst (λ (x : CallerState). EachIsBegun begins p x.pass) (sym c.back-in-Err.ensures)
+    (turn_begun begins p taken_turn end c.give-in-Err.result (op.Free c.args.p) (callers p c.is_idle.ensures.idle)
+    c.is_idle.ensures.own (takes g x.After-is_in_order) (loading_begun begins answer.Double taken_turn end d) d.pass
     c.is_in_order-in-Err.ensures.own c.give-in-Err.ensures.gives)

@@ -15,6 +15,9 @@ use Rattle.mk_words.specs.TurnSteps.{turn_stays}
 use Rattle.mk_turns.specs.Sweeping.{SweepsNothing}
 use Rattle.mk_turns.proofs.Doing.{does_then}
 use Rattle.mk_turns.proofs.Sweeping.{only_seen}
+use Rattle.mk_cycle.specs.Begun.{EachIsBegun}
+use Rattle.mk_cycle.proofs.Begun.{begun_then}
+use Rattle.mk_alloc.proofs.BegunTurns.{none_begun, turn_begun}
 use Rattle.mk_alloc.proofs.UnsweptTurns.{part_then_sweeps, turn_sweeps}
 use Rattle.mk_alloc.proofs.making.new_object.Goals as goal
 use Rattle.mk_alloc.proofs.making.new_object.Goals.{After-is_in_order}
@@ -82,6 +85,7 @@ returns-clause-full g c =
     let last : PassState = c.make_room-turn.result.0.pass in
     let done : PassState = c.answer_full.new.turn.pass in
     let takes = takes g (goal.at.returns-clause-full g c).After-is_in_order in
+    let i = c.is_in_order.ensures in
     let j = c.is_in_order-3.ensures in
     let k = c.is_in_order-4.ensures in
     let m = c.try_place.ensures.misfits c.if-try_place.false in
@@ -96,7 +100,8 @@ returns-clause-full g c =
     c.is_idle.ensures.own takes c.take-turn.ensures.begins (misfits_then taken tried last m.seeks n.misfits)
     (none_then_one taken tried last c.try_place.ensures.begins c.make_room-turn.ensures.one)
     c.answer_full.ensures.full c.answer_full.ensures.begins (in_turn done _ k.own k.turn k.history)
-    c.give-2.ensures.gives c.give-2.ensures.rests c.give-2.ensures.history told)
+    c.give-2.ensures.gives c.give-2.ensures.rests c.give-2.ensures.history told
+    (in_turn taken _ i.own i.turn i.history))
 
 pub returns-then-try_place-clause-reached : goal.returns-then-try_place-clause-reached
 returns-then-try_place-clause-reached g c =
@@ -150,4 +155,60 @@ returns-clause-reached g c =
     (part_then_sweeps turn_stays taken tried last first c.try_place.ensures.reached
     (c.make_room-turn.ensures.reached none))
     c.answer_full.ensures.reached)
+    (only_seen taken done d.more d.is) c.is_in_order-4.ensures.own c.give-2.ensures.gives)
+
+pub returns-then-try_place-clause-begun : goal.returns-then-try_place-clause-begun
+returns-then-try_place-clause-begun g c =
+    let p : PassState = c.args.caller.now.pass in
+    let o = op.New c.args.d c.args.ty false in
+    let taken : PassState = c.take-turn.result.pass in
+    let done : PassState = c.try_place.new.turn.pass in
+    let takes = takes g (goal.at.returns-then-try_place-clause-begun g c).After-is_in_order in
+    let d = (c.try_place.ensures.placed c.if-try_place.true).on.does in
+    let begins = g.E.Engine.begins in
+    subst (λ (x : CallerState). EachIsBegun begins p x.pass) (sym c.back.ensures)
+    (turn_begun begins p taken done c.give.result o (callers p c.is_idle.ensures.idle) c.is_idle.ensures.own takes
+    (none_begun begins taken done c.try_place.ensures.begins) (only_seen taken done d.more d.is)
+    c.is_in_order-then-try_place.ensures.own c.give.ensures.gives)
+
+-- The object is placed after a cycle, or another one that was on; or it isn't.
+pub returns-then-placed-clause-begun : goal.returns-then-placed-clause-begun
+returns-then-placed-clause-begun g c =
+    let p : PassState = c.args.caller.now.pass in
+    let o = op.New c.args.d c.args.ty false in
+    let taken : PassState = c.take-turn.result.pass in
+    let tried : PassState = c.try_place.new.turn.pass in
+    let done : PassState = c.make_room-turn.result.0.pass in
+    let takes = takes g (goal.at.returns-then-placed-clause-begun g c).After-is_in_order in
+    let first = (c.try_place.ensures.misfits c.if-try_place.false).seeks.on.does in
+    let d = does_then turn_stays taken tried done first
+    (c.make_room-turn.ensures.placed c.if-placed.true).on.does in
+    let begins = g.E.Engine.begins in
+    subst (λ (x : CallerState). EachIsBegun begins p x.pass) (sym c.back-then-placed.ensures)
+    (turn_begun begins p taken done c.give-then-placed.result o (callers p c.is_idle.ensures.idle)
+    c.is_idle.ensures.own takes
+    (begun_then begins taken tried done (only_seen taken tried first.more first.is)
+    (none_begun begins taken tried c.try_place.ensures.begins) c.make_room-turn.ensures.begun)
+    (only_seen taken done d.more d.is) c.is_in_order-3.ensures.own c.give-then-placed.ensures.gives)
+
+pub returns-clause-begun : goal.returns-clause-begun
+returns-clause-begun g c =
+    let p : PassState = c.args.caller.now.pass in
+    let o = op.New c.args.d c.args.ty false in
+    let taken : PassState = c.take-turn.result.pass in
+    let tried : PassState = c.try_place.new.turn.pass in
+    let last : PassState = c.make_room-turn.result.0.pass in
+    let done : PassState = c.answer_full.new.turn.pass in
+    let takes = takes g (goal.at.returns-clause-begun g c).After-is_in_order in
+    let first = (c.try_place.ensures.misfits c.if-try_place.false).seeks.on.does in
+    let n = c.make_room-turn.ensures.misfits c.if-placed.false in
+    let to_last = does_then turn_stays taken tried last first n.misfits.seeks.on.does in
+    let d = does_then turn_stays taken last done to_last c.answer_full.ensures.full.seeks.on.does in
+    let begins = g.E.Engine.begins in
+    subst (λ (x : CallerState). EachIsBegun begins p x.pass) (sym c.back-2.ensures)
+    (turn_begun begins p taken done c.give-2.result o (callers p c.is_idle.ensures.idle) c.is_idle.ensures.own takes
+    (begun_then begins taken last done (only_seen taken last to_last.more to_last.is)
+    (begun_then begins taken tried last (only_seen taken tried first.more first.is)
+    (none_begun begins taken tried c.try_place.ensures.begins) c.make_room-turn.ensures.begun)
+    (none_begun begins last done c.answer_full.ensures.begins))
     (only_seen taken done d.more d.is) c.is_in_order-4.ensures.own c.give-2.ensures.gives)

@@ -1,5 +1,8 @@
 use Rattle.std.specs.Prelude.{Some}
 use Rattle.mk_core.specs.declared.events.Answer.TheVariants as answer
+use Rattle.mk_cycle.proofs.Begun.{begun_then}
+use Rattle.mk_turns.proofs.Sweeping.{only_seen}
+use Rattle.mk_alloc.proofs.BegunTurns.{none_begun}
 use Rattle.mk_alloc.proofs.OneCycles.{none_runs_one, none_then_one}
 use Rattle.mk_alloc.proofs.SeekingTurns.{misfits_then, seeks_then}
 use Rattle.mk_words.specs.TurnSteps.{turn_stays}
@@ -43,3 +46,17 @@ pub returns-clause-one : goal.returns-clause-one
 returns-clause-one g c =
     none_then_one c.args.turn.pass c.place_behind_older-turn.result.0.pass c.place_behind_cycle-turn.result.0.pass
     c.place_behind_older-turn.ensures.begins c.place_behind_cycle-turn.ensures.one
+
+pub returns-then-placed-clause-begun : goal.returns-then-placed-clause-begun
+returns-then-placed-clause-begun g c =
+    none_begun g.E.Engine.begins c.args.turn.pass c.place_behind_older-turn.result.0.pass
+    c.place_behind_older-turn.ensures.begins
+
+pub returns-clause-begun : goal.returns-clause-begun
+returns-clause-begun g c =
+    let p = c.args.turn.pass in
+    let older = c.place_behind_older-turn.result.0.pass in
+    let d = (c.place_behind_older-turn.ensures.misfits c.if-placed.false).misfits.seeks.on.does in
+    begun_then g.E.Engine.begins p older c.place_behind_cycle-turn.result.0.pass (only_seen p older d.more d.is)
+    (none_begun g.E.Engine.begins p older c.place_behind_older-turn.ensures.begins)
+    c.place_behind_cycle-turn.ensures.begun

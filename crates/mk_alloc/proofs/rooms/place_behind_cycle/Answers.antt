@@ -4,7 +4,9 @@ use Rattle.mk_core.specs.declared.events.Answer.TheVariants as answer
 use Rattle.mk_words.specs.States.{PassState}
 use Rattle.mk_cycle.specs.TurnKeeps.{Done}
 use Rattle.mk_cycle.proofs.Allowed.{in_turn}
-use Rattle.mk_alloc.proofs.OneCycles.{begin_then_ends}
+use Rattle.mk_cycle.proofs.Begun.{begun_then}
+use Rattle.mk_alloc.proofs.BegunTurns.{none_begun}
+use Rattle.mk_alloc.proofs.OneCycles.{begin_then_ends, ends_none}
 use Rattle.mk_alloc.proofs.QuietTurns.{quiet_begun}
 use Rattle.mk_alloc.proofs.SeekingTurns.{misfits_then, nowhere_begun, seeks_begun, seeks_then}
 use Rattle.mk_turns.proofs.Sweeping.{sweeps_then}
@@ -66,3 +68,10 @@ returns-clause-one g c =
     begin_then_ends t.pass c.begin_cycle.new.turn.pass c.finish_and_place-turn.result.0.pass
     (in_turn t.pass t.op i.own i.turn i.history) c.begin_cycle.ensures.law c.is_in_order-2.ensures.history
     c.finish_and_place-turn.ensures.ends
+
+pub returns-clause-begun : goal.returns-clause-begun
+returns-clause-begun g c =
+    let begun : PassState = c.begin_cycle.new.turn.pass in
+    let last : PassState = c.finish_and_place-turn.result.0.pass in
+    begun_then g.E.Engine.begins c.args.turn.pass begun last c.begin_cycle.ensures.law.pass c.begin_cycle.ensures.begun
+    (none_begun g.E.Engine.begins begun last (ends_none begun last c.finish_and_place-turn.ensures.ends))

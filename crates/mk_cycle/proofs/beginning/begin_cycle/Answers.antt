@@ -7,6 +7,8 @@ use Rattle.mk_cycle.proofs.BeginSteps.{begins_cycle, begun_free}
 use Rattle.mk_cycle.proofs.CleaningSteps.{clean_stays, cleaned_free, cleaned_phase, cleaned_table, cleans_then, tallied}
 use Rattle.mk_turns.proofs.Sweeping.{does_sweep, only_seen_by, other_step_sweeps, sweeps_then}
 use Rattle.mk_cycle.proofs.Sweepless.{clearing_marks_nothing}
+use Rattle.mk_cycle.proofs.Undirty.{undirty_later}
+use Rattle.mk_cycle.proofs.Begun.{begin_begun, begun_then, clearing_begins_none, does_begin_none}
 use Rattle.mk_cycle.proofs.beginning.begin_cycle.Goals as goal
 
 pub begin-requires-clause-free : goal.begin-requires-clause-free
@@ -40,6 +42,9 @@ returns-clause-law g c =
     (c.clean_pages.ensures.clean page
     (subst (λ (w : WordsState). page < w.config.pages) (cleaned_table p b c.args.words.now all c.requires.one_table)
     lt)))
+    (λ page lt. undirty_later _ _ _ page
+    (c.clean_pages.ensures.undirty page
+    (subst (λ (w : WordsState). page < w.config.pages) c.requires.one_table lt)) next)
     (ap (λ (w : World). w.now.words.fresh) c.tally.ensures.acts.world) c.begin.ensures.acts c.begin.ensures.is
     c.begin-2.ensures.law
 
@@ -59,3 +64,18 @@ returns-clause-reached g c none =
     (sweeps_then b d q (only_seen_by b d step.Begin begin)
     (other_step_sweeps b d step.Begin begin c.begin.ensures.was.own refl)
     (c.begin-2.ensures.reached none))
+
+pub returns-clause-begun : goal.returns-clause-begun
+returns-clause-begun g c =
+    let p = c.args.turn.now.pass in
+    let b = c.tally.new.turn.pass in
+    let q = c.begin-2.new.turn.pass in
+    let first = c.clean_pages.ensures.cleans in
+    let free = cleaned_free _ _ first c.requires.free in
+    let zero = cleaned_phase _ _ first c.requires.phase in
+    let all = cleans_then _ _ _ first
+    (tallied _ _ c.tally.ensures.was free zero c.tally.ensures.is 0 c.tally.ensures.acts) in
+    let begins = g.E.Engine.begins in
+    begun_then begins p b q all.keeps.call.pass (does_begin_none begins clears p b clearing_begins_none all.does)
+    (begin_begun begins b c.begin.new.turn.pass q c.begin.ensures.was.own c.begin.ensures.acts.makes
+    c.begin-2.ensures.law.does c.begin-2.ensures.begun)

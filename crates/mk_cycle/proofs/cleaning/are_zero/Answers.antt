@@ -19,3 +19,6 @@ returns-clause-blacks c zero =
 
 pub returns-clause-quarantine : goal.returns-clause-quarantine
 returns-clause-quarantine c zero = right_none _ c.args.quarantine (eqb-true _ 0 zero)
+
+pub returns-clause-dirty : goal.returns-clause-dirty
+returns-clause-dirty c zero = right_none _ c.args.dirty (left_none _ c.args.quarantine (eqb-true _ 0 zero))

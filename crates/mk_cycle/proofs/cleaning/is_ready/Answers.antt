@@ -1,5 +1,6 @@
 use Rattle.std.proofs.Common.{◌≡◌, ℕ, ◌/◌, ◌%◌, ◌^◌, sym, ap, ◌∙◌}
 use Rattle.mk_cycle.proofs.CleaningSteps.{cleans_then, halves}
+use Rattle.mk_cycle.proofs.Undirty.{undirty_later, undirty_now}
 use Rattle.mk_cycle.proofs.cleaning.is_ready.Goals as goal
 
 pub returns-clause-cleans : goal.returns-clause-cleans
@@ -23,3 +24,12 @@ returns-clause-clean c clean =
           (sym c.look_before-blacks.ensures.reads ∙ c.are_zero.ensures.blacks clean);
       snapshot = sym h.snapshot ∙ no_halves last.result (c.are_zero.ensures.quarantine clean) ∙ h.freed;
     }
+
+pub returns-clause-undirty : goal.returns-clause-undirty
+returns-clause-undirty c clean =
+    undirty_later _ _ _ c.args.page
+    (undirty_now _ _ c.args.page
+    (cleans_then _ _ _ c.look_before-marks.ensures.cleans
+    (cleans_then _ _ _ c.look_before-blacks.ensures.cleans c.look_before-dirty.ensures.cleans))
+    (sym c.look_before-dirty.ensures.reads ∙ c.are_zero.ensures.dirty clean))
+    c.look_before-quarantine.ensures.cleans

@@ -7,6 +7,8 @@ use Rattle.mk_cycle.specs.EngineLaw.{IsAtPhase}
 use Rattle.mk_cycle.proofs.Allowed.{in_turn}
 use Rattle.mk_heap.specs.Ending.{IsIdleTurn}
 use Rattle.mk_heap.specs.Hosts.{HostState}
+use Rattle.mk_cycle.specs.Begun.{EachIsBegun}
+use Rattle.mk_heap.proofs.BegunHosts.{cycle_begun}
 use Rattle.mk_heap.proofs.BeforeOver.{hosts_seat, none_by_phase, step_overs}
 use Rattle.mk_heap.proofs.HostsKept.{home_host, home_is, home_view}
 use Rattle.mk_heap.proofs.IdleTurns.{cycle_idle}
@@ -123,3 +125,16 @@ returns-clause-reached g c =
     (sweeps_then p b q c.begin_cycle.ensures.law.pass (c.begin_cycle.ensures.reached none)
     (sweeps_then b r q c.finish_cycle-turn.ensures.law.pass (c.finish_cycle-turn.ensures.reached none)
     (other_step_sweeps r q _ c.give-back.ensures.acts.makes c.is_in_order-2.ensures.own refl))))
+
+pub returns-clause-begun : goal.returns-clause-begun
+returns-clause-begun g c =
+    let s = c.self.inside in
+    let view =
+    home_view s.pass c.in-Some.home s.callers s.markers c.args.self.now (sym c.take.ensures.value ∙ c.in-Some.is)
+    c.self.view_is in
+    let q : PassState = c.give-back.result in
+    subst (λ (h : HostState). EachIsBegun g.E.Engine.begins h.pass q) view
+    (cycle_begun g.E.Engine.begins c.in-Some.home c.take_idle_turn-turn.result.pass c.begin_cycle.new.turn.pass
+    c.finish_cycle-turn.result.0.pass q c.is_in_order.ensures.own c.take_idle_turn-turn.ensures.takes
+    c.begin_cycle.ensures.law c.begin_cycle.ensures.begun c.finish_cycle-turn.ensures.law
+    c.give-back.ensures.acts.makes)

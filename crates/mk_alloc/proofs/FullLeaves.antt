@@ -1,0 +1,335 @@
+-- Each own event of a call that is answered Full leaves all but what is released.
+use Rattle.std.proofs.Common.{◌≡◌, ◌≢◌, ⊎_elim, inl, inr, ℕ, ◌+◌, ◌<◌, Bool, true, false, List, [], ◌∷◌, ◌++◌, length}
+use Rattle.std.proofs.Common.{map, refl, sym, ap, subst, ◌∙◌, append-nil, append_assoc, arith}
+use Rattle.std.specs.Prelude.{◌||◌, ◌&&◌, not, slice_index, Option}
+use Rattle.std.specs.List.{list_all}
+use Rattle.std.proofs.lemmas.Bool.{and_parts, cases_Bool, not-true, true≢false}
+use Rattle.std.proofs.lemmas.List.{get_or-set_other, length-map}
+use Rattle.mk_geom.specs.declared.addresses.Cell.{Cell}
+use Rattle.mk_never.specs.declared.operations.Op.{Op}
+use Rattle.mk_never.specs.Types.{kinds_of}
+use Rattle.mk_core.specs.declared.accesses.Access.TheVariants.{Store}
+use Rattle.mk_core.specs.declared.accesses.TableWord.TheVariants.{Named}
+use Rattle.mk_core.specs.declared.config.Config.{Config}
+use Rattle.mk_core.specs.declared.events.Event.{Event}
+use Rattle.mk_core.specs.declared.events.Seat.{Seat}
+use Rattle.mk_core.specs.declared.events.Step.{Step}
+use Rattle.mk_core.specs.declared.events.Step.TheVariants as step
+use Rattle.mk_core.specs.declared.events.Tally.{Tally}
+use Rattle.mk_core.specs.declared.events.Tally.TheVariants as tally
+use Rattle.mk_core.specs.declared.seats.Flight.{Flight}
+use Rattle.mk_core.specs.Accesses.{tally_word}
+use Rattle.mk_core.specs.Allocations.{PlacedAllocation, allocations_by, freed_where_it_stands, is_mapped}
+use Rattle.mk_core.specs.Allocations.{no_longer_fresh, placed_at, with_released}
+use Rattle.mk_core.specs.Enabled.{holder_may}
+use Rattle.mk_core.specs.Growing.{AreOfOthers, is_same_seat}
+use Rattle.mk_core.specs.History.{IsHistory, World, left, left_from, never_behind, world_behind}
+use Rattle.mk_core.specs.Moments.{Moment, flight_of}
+use Rattle.mk_core.specs.TurnConditions.{may_wipe}
+use Rattle.mk_core.specs.Words.{Words, accessed}
+use Rattle.mk_core.proofs.ChangedAllocations.{changed_at, none_freed}
+use Rattle.mk_core.proofs.HistoryParts.{left_in_parts}
+use Rattle.mk_protocol.proofs.OthersMoves.{WorldBehind}
+use Rattle.mk_images.proofs.Before.{unmapped_is, words_are}
+use Rattle.mk_images.proofs.GrantMoves.{wiped_outside}
+use Rattle.mk_images.proofs.Kept.{exists_placed}
+use Rattle.mk_images.proofs.Stands.{stands_of}
+use Rattle.mk_invariant.proofs.Joined.{told_to_images}
+use Rattle.mk_frames.proofs.LastEvents.{comes_last, stands}
+use Rattle.mk_words.specs.Seats.{Has}
+use Rattle.mk_words.specs.States.{PassState, call_of, event_of, world_of}
+use Rattle.mk_words.specs.Steps.{Makes}
+use Rattle.mk_words.proofs.Seats.{same_seat}
+use Rattle.mk_turns.specs.Doing.{Does}
+use Rattle.mk_turns.proofs.Doing.{not_own}
+use Rattle.mk_turns.proofs.Sweeping.{only_seen}
+use Rattle.mk_cycle.specs.EngineLaw.{is_pending_free}
+use Rattle.mk_cycle.specs.TurnKeeps.{InTurn}
+use Rattle.mk_cycle.proofs.Calm.{frees_none}
+use Rattle.mk_alloc.specs.Leaving.{KeepsItsWords, LeavesAllButReleased, OwnLeaveAllButReleased, OwnLeaveFrom}
+use Rattle.mk_alloc.specs.Leaving.{StaysOrIsReleased}
+use Rattle.mk_waiting.specs.Taking.{TakesTurn, is_take, waits_for}
+use Rattle.mk_waiting.proofs.TakesAlone.{own_take}
+use Rattle.mk_alloc.proofs.CalmStretches.{cycles_in_turn, is_of_cycles, longer, other_undecided, own_undecided}
+use Rattle.mk_alloc.proofs.FreeTurns.{is_quar}
+use Rattle.mk_alloc.proofs.Going.{IsCallers}
+use Rattle.mk_alloc.proofs.Stretches.{Here, Stretch, along, call_in, does_stretch}
+
+-- the kinds of the call's own steps
+
+abbrev pub is_of_full : Step → Bool
+is_of_full (step.Take o) = true
+is_of_full step.Give = true
+is_of_full step.Full = true
+is_of_full x = is_of_cycles x
+
+-- One step
+
+tally_registers : (w : Words) (n : Tally) (v : ℕ) → (accessed w (Named (tally_word n)) (Store v)).registers
+    ≡ w.registers
+tally_registers w tally.Held v = refl
+tally_registers w _ v = refl
+
+tally_globals : (w : Words) (n : Tally) (v : ℕ) → (accessed w (Named (tally_word n)) (Store v)).globals ≡ w.globals
+tally_globals w tally.Held v = refl
+tally_globals w _ v = refl
+
+tally_heap : (w : Words) (n : Tally) (v : ℕ) → (accessed w (Named (tally_word n)) (Store v)).heap ≡ w.heap
+tally_heap w tally.Held v = refl
+tally_heap w _ v = refl
+
+registers_stay : (c : Config) (w : World) (s : Seat) (x : Step) → is_of_full x ≡ true
+    → (WorldBehind c w s x).now.words.registers ≡ w.now.words.registers
+registers_stay c w s step.Reg h = cc
+registers_stay c w s step.Grant h = cc
+registers_stay c w s (step.Tally n v) h = tally_registers w.now.words n v
+registers_stay c w s _ h = refl
+
+globals_stay : (c : Config) (w : World) (s : Seat) (x : Step) → is_of_full x ≡ true
+    → (WorldBehind c w s x).now.words.globals ≡ w.now.words.globals
+globals_stay c w s step.Reg h = cc
+globals_stay c w s step.Setg h = cc
+globals_stay c w s (step.Tally n v) h = tally_globals w.now.words n v
+globals_stay c w s _ h = refl
+
+-- allocations
+
+same_each : (xs ys : List PlacedAllocation) → ys ≡ xs → (a : ℕ) → StaysOrIsReleased (placed_at xs a) (placed_at ys a)
+same_each xs ys is a =
+    subst (λ (l : List PlacedAllocation). StaysOrIsReleased (placed_at xs a) (placed_at l a)) (sym is)
+    (record { same = refl; released = λ h. h })
+
+changed_each : (change : PlacedAllocation → PlacedAllocation) (xs : List PlacedAllocation) (a : ℕ)
+    → StaysOrIsReleased (placed_at xs a) (change (placed_at xs a))
+    → placed_at (map change xs) a ≡ change (placed_at xs a)
+    → StaysOrIsReleased (placed_at xs a) (placed_at (map change xs) a)
+changed_each change xs a h is = subst (λ (b : PlacedAllocation). StaysOrIsReleased (placed_at xs a) b) (sym is) h
+
+still_released : (a b : Bool) → a ≡ true → (a || b) ≡ true
+still_released true b h = refl
+still_released false b h = cc
+
+each_stays : (c : Config) (m : Moment) (f : Flight) (x : Step) (xs : List PlacedAllocation) → is_of_full x ≡ true
+    → (is_quar x ≡ true → is_pending_free f ≡ false) → (a : ℕ)
+    → StaysOrIsReleased (placed_at xs a) (placed_at (allocations_by c m f x xs) a)
+each_stays c m f step.Grant xs h free a = cc
+each_stays c m f (step.Quar p v) xs h free a =
+    same_each xs (allocations_by c m f (step.Quar p v) xs)
+    (ap (λ (cell : Option Cell). map (freed_where_it_stands m.words cell) xs)
+    (frees_none c.pages m.words f p v (free refl))
+    ∙ none_freed m.words xs) a
+each_stays c m f step.Begin xs h free a =
+    changed_each no_longer_fresh xs a (record { same = refl; released = λ h. h }) (changed_at no_longer_fresh xs a refl)
+each_stays c m f step.Release xs h free a =
+    changed_each (with_released c m.words) xs a
+    (record { same = refl; released = λ h. still_released (placed_at xs a).released _ h })
+    (changed_at (with_released c m.words) xs a refl)
+each_stays c m f _ xs h free a = same_each xs xs refl a
+
+count_stays : (c : Config) (m : Moment) (f : Flight) (x : Step) (xs : List PlacedAllocation) → is_of_full x ≡ true
+    → length (allocations_by c m f x xs) ≡ length xs
+count_stays c m f step.Grant xs h = cc
+count_stays c m f (step.Quar p v) xs h = length-map xs _
+count_stays c m f step.Begin xs h = length-map xs no_longer_fresh
+count_stays c m f step.Release xs h = length-map xs (with_released c m.words)
+count_stays c m f _ xs h = refl
+
+-- and their words
+
+-- A word that is wiped is in no mapped allocation.
+module _ (c : Config) (es : List Event) (s : Seat) (x : Step) (history : IsHistory c (es ++ record
+    { seat = s; step = x } ∷ [])) where
+  abbrev w : World
+  w = left c es
+
+  wiped_apart : (n : ℕ) → may_wipe c w.now n ≡ true → (a i : ℕ) → is_mapped c (placed_at w.allocations a) ≡ true
+      → i < length (kinds_of c.types (placed_at w.allocations a).ty)
+      → (placed_at w.allocations a).base + i ≢ n
+  wiped_apart n may a i mapped lt =
+      let last = comes_last c es (record { seat = s; step = x }) history in
+      let st = stands c es last.before in
+      let n0 = never_behind c es in
+      let others = told_to_images c w n0 st.known st.all in
+      let parts = and_parts (not (placed_at w.allocations a).released) _ mapped in
+      let unreleased = not-true (placed_at w.allocations a).released parts.0 in
+      let there = exists_placed w.allocations a unreleased in
+      wiped_outside c w n0 st.known st.all.mirrors others (stands_of c w last.before.within_limits others) n may a i
+      unreleased (unmapped_is c w n0 st.known st.all.mirrors a there ∙ not-true _ parts.1)
+      (subst (λ (k : ℕ). i < k) (sym (words_are c w n0 st.known st.all.mirrors a there)) lt)
+
+  words_stay : is_of_full x ≡ true → (a : ℕ) → KeepsItsWords c w (WorldBehind c w s x) (placed_at w.allocations a)
+  words_stay kind a mapped i lt = by x kind (comes_last c es (record { seat = s; step = x }) history).meets.holder
+    where
+      by : (y : Step) → is_of_full y ≡ true → holder_may c w.now (flight_of w.now s) y ≡ true
+          → slice_index (WorldBehind c w s y).now.words.heap ((placed_at w.allocations a).base + i)
+          ≡ slice_index w.now.words.heap ((placed_at w.allocations a).base + i)
+      by (step.Wipe n) k may =
+          get_or-set_other w.now.words.heap n ((placed_at w.allocations a).base + i) 0 0
+          (wiped_apart n may a i mapped lt)
+      by (step.Tally n v) k may =
+          ap (λ (l : List ℕ). slice_index l ((placed_at w.allocations a).base + i)) (tally_heap w.now.words n v)
+      by step.Reg k may = cc
+      by step.Write k may = cc
+      by step.Cas k may = cc
+      by _ k may = refl
+
+  pub step_leaves : is_of_full x ≡ true → (is_quar x ≡ true → is_pending_free (flight_of w.now s) ≡ false)
+      → LeavesAllButReleased c w (WorldBehind c w s x)
+  step_leaves kind free =
+      record {
+        registers = registers_stay c w s x kind;
+        globals = globals_stay c w s x kind;
+        count = count_stays c w.now (flight_of w.now s) x w.allocations kind;
+        each = each_stays c w.now (flight_of w.now s) x w.allocations kind free;
+        words = words_stay kind;
+      }
+
+take_leaves : (c : Config) (w : World) (s : Seat) (x : Step) → is_take x ≡ true
+    → LeavesAllButReleased c w (WorldBehind c w s x)
+take_leaves c w s (step.Take o) h =
+    record {
+      registers = refl;
+      globals = refl;
+      count = refl;
+      each = same_each w.allocations w.allocations refl;
+      words = λ a mapped i lt. refl;
+    }
+take_leaves c w s _ h = cc
+
+-- lists
+
+own_append : (c : Config) (s : Seat) (w : World) (xs ys : List Event) → OwnLeaveFrom c s w xs
+    → OwnLeaveFrom c s (left_from c w xs) ys → OwnLeaveFrom c s w (xs ++ ys)
+unfolding OwnLeaveFrom left_from
+own_append c s w [] ys one two = two
+own_append c s w (e ∷ es) ys one two = (one.0, own_append c s (world_behind c w e) es ys one.1 two)
+
+others_own : (c : Config) (s : Seat) (seats : List Seat) (w : World) (es : List Event) → Has seats s
+    → AreOfOthers seats es → OwnLeaveFrom c s w es
+unfolding OwnLeaveFrom AreOfOthers
+others_own c s seats w [] has others = tt
+others_own c s seats w (e ∷ es) has others = (
+  λ same. absurd (true≢false (sym same ∙ not_own seats s e.seat has others.0)),
+  others_own c s seats (world_behind c w e) es has others.1,
+)
+
+one_own : (c : Config) (s : Seat) (w : World) (e : Event)
+    → (is_same_seat s e.seat ≡ true → LeavesAllButReleased c w (world_behind c w e)) → OwnLeaveFrom c s w (e ∷ [])
+unfolding OwnLeaveFrom
+one_own c s w e h = (h, tt)
+
+waits_own : (p : PassState) (w : World) (es : List Event) → Has p.seats p.seat → list_all (waits_for p) es ≡ true
+    → OwnLeaveFrom p.table.config p.seat w es
+unfolding OwnLeaveFrom
+waits_own p w [] has all = tt
+waits_own p w (e ∷ es) has all =
+    let parts = and_parts (waits_for p e) (list_all (waits_for p) es) all in (
+      λ same. take_leaves p.table.config w e.seat e.step (own_take p e has parts.0 same),
+      waits_own p (world_behind p.table.config w e) es has parts.1,
+    )
+
+-- one after what was seen
+last_own : (c : Config) (s : Seat) (es xs : List Event) (e : Event) → OwnLeaveFrom c s (left c es) xs
+    → LeavesAllButReleased c (left c (es ++ xs)) (world_behind c (left c (es ++ xs)) e)
+    → OwnLeaveFrom c s (left c es) (xs ++ e ∷ [])
+last_own c s es xs e first last =
+    own_append c s (left c es) xs (e ∷ []) first
+    (subst (λ (w : World). OwnLeaveFrom c s w (e ∷ [])) (left_in_parts c es xs)
+    (one_own c s (left c (es ++ xs)) e (λ same. last)))
+
+-- parts of a turn
+
+pub leaves_then : (p q r : PassState) → q ≡ record p { seen = q.seen } → OwnLeaveAllButReleased p q
+    → OwnLeaveAllButReleased q r → OwnLeaveAllButReleased p r
+leaves_then p q r same one two =
+    let c : Config = p.table.config in
+    let there : world_of q ≡ left_from c (left c p.seen) one.more =
+    ap (λ (x : PassState). left x.table.config q.seen) same ∙ ap (λ (l : List Event). left c l) one.is
+    ∙ left_in_parts c p.seen one.more in
+    record {
+      more = one.more ++ two.more;
+      is = two.is ∙ ap (λ (l : List Event). l ++ two.more) one.is ∙ append_assoc p.seen one.more two.more;
+      each = own_append c p.seat (world_of p) one.more two.more one.each
+          (subst (λ (w : World). OwnLeaveFrom c p.seat w two.more) there
+          (subst (λ (x : PassState). OwnLeaveFrom x.table.config x.seat (world_of q) two.more) same two.each));
+    }
+
+pub made_leaves : (p q : PassState) (x : Step) → Makes p x q → Has p.seats p.seat → IsHistory q.table.config q.seen
+    → is_of_full x ≡ true → is_quar x ≡ false → OwnLeaveAllButReleased p q
+made_leaves p q x m has history kind other =
+    let c : Config = p.table.config in
+    record {
+      more = m.others ++ event_of p x ∷ [];
+      is = ap (λ (y : PassState). y.seen) m.is ∙ append_assoc p.seen m.others (event_of p x ∷ []);
+      each = last_own c p.seat p.seen m.others (event_of p x)
+          (others_own c p.seat p.seats (world_of p) m.others has m.of_others)
+          (step_leaves c (p.seen ++ m.others) p.seat x
+          (subst (λ (y : PassState). IsHistory y.table.config y.seen) m.is history) kind
+          (λ quar. absurd (true≢false (sym quar ∙ other))));
+    }
+
+pub taking_leaves : (p q : PassState) (o : Option Op) → Has p.seats p.seat → TakesTurn p o q
+    → IsHistory q.table.config q.seen → OwnLeaveAllButReleased p q
+taking_leaves p q o has t history =
+    let w = t.waits in
+    leaves_then p t.waited q (only_seen p t.waited w.more w.is)
+    (record {
+      more = w.more;
+      is = ap (λ (x : PassState). x.seen) w.is;
+      each = waits_own p (world_of p) w.more has w.only;
+    })
+    (made_leaves t.waited q (step.Take o) t.takes.makes (subst (λ (x : PassState). Has x.seats x.seat) (sym w.is) has)
+    history refl refl)
+
+-- a part of such steps as cycles are made of
+pub record Left (p : PassState) (es done : List Event) : Type 0 where
+  pub call : call_in p (es ++ done) ≡ call_in p es
+  pub each : OwnLeaveFrom p.table.config p.seat (left p.table.config es) done
+
+module _ (p : PassState) (seat : IsCallers p) (own : Has p.seats p.seat) (es : List Event)
+    (free : is_pending_free (call_in p es) ≡ false) where
+  own_left : (done : List Event) (x : Step) → Here p (es ++ done) (event_of p x) → is_of_cycles x ≡ true
+      → Left p es done → Left p es (done ++ event_of p x ∷ [])
+  own_left done x h kind so_far =
+      let pending : is_pending_free (call_in p (es ++ done)) ≡ false =
+      ap (λ (f : Flight). is_pending_free f) so_far.call ∙ free in
+      record {
+        call = longer (λ l. call_in p l ≡ call_in p es) es done (event_of p x)
+            ((own_undecided p seat own (es ++ done) x h kind pending).call ∙ so_far.call);
+        each = last_own p.table.config p.seat es done (event_of p x) so_far.each
+            (step_leaves p.table.config (es ++ done) p.seat x h.whole (cycles_of_full x kind) (λ quar. pending));
+      }
+    where
+      cycles_of_full : (x : Step) → is_of_cycles x ≡ true → is_of_full x ≡ true
+      cycles_of_full (step.Take o) h = refl
+      cycles_of_full step.Give h = refl
+      cycles_of_full step.Full h = refl
+      cycles_of_full x h = h
+
+  other_left : (done : List Event) (e : Event) → Here p (es ++ done) e → e.seat ≢ p.seat → Left p es done
+      → Left p es (done ++ e ∷ [])
+  other_left done e h ne so_far =
+      record {
+        call = longer (λ l. call_in p l ≡ call_in p es) es done e
+            ((other_undecided p seat own (es ++ done) e h ne).call ∙ so_far.call);
+        each = own_append p.table.config p.seat (left p.table.config es) done (e ∷ []) so_far.each
+            (one_own p.table.config p.seat (left_from p.table.config (left p.table.config es) done) e
+            (λ same. absurd (ne (sym (same_seat p.seat e.seat same)))));
+      }
+
+  pub cycles_left : (more : List Event) → Stretch p is_of_cycles es more → Left p es more
+  unfolding OwnLeaveFrom
+  cycles_left more s =
+      along p is_of_cycles cycles_in_turn own es (λ done. Left p es done)
+      (record { own = own_left; other = other_left })
+      more s
+      (record { call = ap (λ (l : List Event). call_in p l) (append-nil es); each = tt })
+
+pub cycles_leave : (p q : PassState) → IsCallers p → InTurn p → is_pending_free (call_of p) ≡ false
+    → Does is_of_cycles p q → IsHistory q.table.config q.seen → OwnLeaveAllButReleased p q
+cycles_leave p q seat t free d history =
+    record {
+      more = d.more;
+      is = ap (λ (x : PassState). x.seen) d.is;
+      each = (cycles_left p seat t.own p.seen free d.more (does_stretch p q is_of_cycles d history t.holds)).each;
+    }

@@ -1,0 +1,265 @@
+-- What an engine does after each `begin`, in parts, by kinds of step, and at the `begin` itself.
+use Rattle.std.proofs.Common.{◌≡◌, ⊎_elim, Bool, true, false, List, [], ◌∷◌, ◌++◌, refl, sym, ap, subst, ◌∙◌}
+use Rattle.std.proofs.Common.{append-nil, append_assoc}
+use Rattle.std.specs.Prelude.{not, if◌then◌else◌}
+use Rattle.std.proofs.lemmas.Bool.{and_parts, not-true, true≢false}
+use Rattle.std.proofs.lemmas.List.{append_cancel_left}
+use Rattle.std.proofs.lemmas.List.Folds.{list_all-append}
+use Rattle.mk_core.specs.declared.config.Config.{Config}
+use Rattle.mk_core.specs.declared.events.Event.{Event}
+use Rattle.mk_core.specs.declared.events.Seat.{Seat}
+use Rattle.mk_core.specs.declared.events.Step.{Step}
+use Rattle.mk_core.specs.declared.events.Step.TheVariants as step
+use Rattle.mk_core.specs.Accesses.{found}
+use Rattle.mk_core.specs.Cycles.{At, is_begin, through}
+use Rattle.mk_core.specs.Growing.{AreOfOthers, Finding, is_same_seat, own_from}
+use Rattle.mk_core.specs.History.{World, left, left_from, world_behind}
+use Rattle.mk_words.specs.Seats.{Has}
+use Rattle.mk_words.specs.States.{PassState, event_of}
+use Rattle.mk_words.specs.Steps.{Makes}
+use Rattle.mk_words.proofs.Seats.{same_self}
+use Rattle.mk_turns.specs.Doing.{Does, are_of}
+use Rattle.mk_turns.proofs.Doing.{does_step, not_own, own_in_parts}
+use Rattle.mk_turns.proofs.Sweeping.{only_seen, only_seen_by}
+use Rattle.mk_cycle.specs.Begun.{AreBegunFirst, EachIsBegun, IsBegun, IsBegunFirst, SaysNothing}
+use Rattle.mk_cycle.specs.FinishCycle.{FinishesCycle}
+use Rattle.mk_cycle.specs.Kinds.{begins_marking, clears, closes_marks, gives_back, holds_gates, sets_tallies}
+use Rattle.mk_cycle.proofs.InParts.{InFirst, InSecond, in_parts}
+
+-- These kinds of step have no `begin` among them.
+abbrev pub HaveNoBegin : (Step → Bool) → Type 0
+HaveNoBegin kinds = (x : Step) → kinds x ≡ true → is_begin x ≡ false
+
+pub clearing_begins_none : HaveNoBegin clears
+clearing_begins_none step.Begin h = cc
+clearing_begins_none _ h = refl
+
+pub marking_begins_none : HaveNoBegin begins_marking
+marking_begins_none step.Begin h = cc
+marking_begins_none _ h = refl
+
+holding_begins_none : HaveNoBegin holds_gates
+holding_begins_none step.Begin h = cc
+holding_begins_none _ h = refl
+
+closing_begins_none : HaveNoBegin closes_marks
+closing_begins_none step.Begin h = cc
+closing_begins_none _ h = refl
+
+giving_begins_none : HaveNoBegin gives_back
+giving_begins_none step.Begin h = cc
+giving_begins_none _ h = refl
+
+setting_begins_none : HaveNoBegin sets_tallies
+setting_begins_none step.Begin h = cc
+setting_begins_none _ h = refl
+
+-- The own events of a list are of these kinds.
+
+first_kind : (kinds : Step → Bool) (b : Bool) (x : Finding) (rest : List Finding) → b ≡ true
+    → are_of kinds (if b then x ∷ rest else rest) ≡ true → kinds x.event.step ≡ true
+first_kind kinds true x rest h all = (and_parts (kinds x.event.step) (are_of kinds rest) all).0
+first_kind kinds false x rest h all = cc
+
+own_kind : (kinds : Step → Bool) (c : Config) (s : Seat) (w : World) (before : List Event) (e : Event)
+    (behind : List Event) → are_of kinds (own_from c s w (before ++ e ∷ behind)) ≡ true → is_same_seat s e.seat ≡ true
+    → kinds e.step ≡ true
+unfolding own_from
+own_kind kinds c s w before e behind all same =
+    let rest : World = left_from c w before in
+    let last : are_of kinds (own_from c s rest (e ∷ behind)) ≡ true =
+    (and_parts (are_of kinds (own_from c s w before)) (are_of kinds (own_from c s rest (e ∷ behind)))
+    (sym (list_all-append (λ (x : Finding). kinds x.event.step) (own_from c s w before)
+    (own_from c s rest (e ∷ behind)))
+    ∙ ap (λ (xs : List Finding). are_of kinds xs) (sym (own_in_parts c s w before (e ∷ behind))) ∙ all)).1 in
+    first_kind kinds (is_same_seat s e.seat) (record { event = e; found = found c rest.now e })
+    (own_from c s (world_behind c rest e) behind) same last
+
+pub its_own : (s : Seat) (e : Event) → e.seat ≡ s → is_same_seat s e.seat ≡ true
+its_own s e is = subst (λ (t : Seat). is_same_seat s t ≡ true) (sym is) (same_self s)
+
+pub kinds_begin_none : (kinds : Step → Bool) (c : Config) (s : Seat) (w : World) (es : List Event) → HaveNoBegin kinds
+    → are_of kinds (own_from c s w es) ≡ true → (b : At is_begin es) → b.event.seat ≡ s → ⊥
+kinds_begin_none kinds c s w es none all b own =
+    true≢false (sym b.of_kind
+    ∙ none b.event.step (own_kind kinds c s w b.before b.event b.behind
+    (subst (λ (l : List Event). are_of kinds (own_from c s w l) ≡ true) b.is all) (its_own s b.event own)))
+
+-- No event of others is an own `begin`.
+others_begin_none : (seats : List Seat) (s : Seat) (es : List Event) → Has seats s → AreOfOthers seats es
+    → (before : List Event) (e : Event) (behind : List Event) → es ≡ before ++ e ∷ behind → e.seat ≡ s → ⊥
+unfolding AreOfOthers
+others_begin_none seats s [] has others [] e behind is own = cc
+others_begin_none seats s [] has others (b ∷ bs) e behind is own = cc
+others_begin_none seats s (x ∷ xs) has others [] e behind is own =
+    let head : x ≡ e = cc in
+    true≢false (sym (its_own s x (ap (λ (y : Event). y.seat) head ∙ own)) ∙ not_own seats s x.seat has others.0)
+others_begin_none seats s (x ∷ xs) has others (b ∷ bs) e behind is own =
+    let tail : xs ≡ bs ++ e ∷ behind = cc in
+    others_begin_none seats s xs has others.1 bs e behind tail own
+
+-- An engine that does nothing as a cycle begins.
+pub does_no_part : (p : PassState) → IsBegun SaysNothing p p
+does_no_part p = record { more = []; is = sym (append-nil p.seen); part = tt }
+
+pub has_on : (p q : PassState) → q ≡ record p { seen = q.seen } → Has p.seats p.seat → Has q.seats q.seat
+has_on p q same has = subst (λ (x : PassState). Has x.seats x.seat) (sym same) has
+
+module _ (begins : Config → Seat → List Event → List Event → Type 0) where
+  -- when more was seen after it
+  later : (c : Config) (s : Seat) (es xs ys : List Event) → IsBegunFirst begins c s es xs
+      → IsBegunFirst begins c s es (xs ++ ys)
+  later c s es xs ys b =
+      record {
+        first = b.first;
+        rest = b.rest ++ ys;
+        is = ap (λ (l : List Event). l ++ ys) b.is ∙ append_assoc b.first b.rest ys;
+        part = b.part;
+      }
+
+  -- two parts
+  pub begun_append : (c : Config) (s : Seat) (es xs ys : List Event) → AreBegunFirst begins c s es xs
+      → AreBegunFirst begins c s (es ++ xs) ys → AreBegunFirst begins c s es (xs ++ ys)
+  begun_append c s es xs ys one two b own =
+      ⊎_elim
+      (λ (t : InFirst xs ys b.before b.event b.behind).
+      subst (λ (l : List Event). IsBegunFirst begins c s (es ++ through b) l) (sym t.then)
+      (later c s (es ++ through b) t.rest ys
+      (one (record { before = b.before; event = b.event; behind = t.rest; is = t.is; of_kind = b.of_kind }) own)))
+      (λ (t : InSecond xs ys b.before b.event b.behind).
+      subst (λ (l : List Event). IsBegunFirst begins c s l b.behind)
+      (append_assoc es xs (t.rest ++ b.event ∷ []) ∙ ap (λ (l : List Event). es ++ l)
+      (sym (append_assoc xs t.rest (b.event ∷ []))
+      ∙ ap (λ (l : List Event). l ++ b.event ∷ []) (sym t.first)))
+      (two (record { before = t.rest; event = b.event; behind = b.behind; is = t.is; of_kind = b.of_kind }) own))
+      (in_parts xs ys b.before b.event b.behind b.is)
+
+  pub begun_then : (p q r : PassState) → q ≡ record p { seen = q.seen } → EachIsBegun begins p q
+      → EachIsBegun begins q r → EachIsBegun begins p r
+  begun_then p q r same one two =
+      record {
+        more = one.more ++ two.more;
+        is = two.is ∙ ap (λ (l : List Event). l ++ two.more) one.is ∙ append_assoc p.seen one.more two.more;
+        each = begun_append p.table.config p.seat p.seen one.more two.more one.each
+            (subst (λ (l : List Event). AreBegunFirst begins p.table.config p.seat l two.more) one.is
+            (subst (λ (x : PassState). AreBegunFirst begins x.table.config x.seat q.seen two.more) same two.each));
+      }
+
+  -- nothing, and steps of other kinds
+
+  pub nothing_begun : (p : PassState) → EachIsBegun begins p p
+  nothing_begun p =
+      record {
+        more = [];
+        is = sym (append-nil p.seen);
+        each = λ b own. absurd (nowhere b.before b.event b.behind b.is);
+      }
+    where
+      nowhere : (before : List Event) (e : Event) (behind : List Event) → [] ≡ before ++ e ∷ behind → ⊥
+      nowhere [] e behind is = cc
+      nowhere (x ∷ xs) e behind is = cc
+
+  pub does_begin_none : (kinds : Step → Bool) (p q : PassState) → HaveNoBegin kinds → Does kinds p q
+      → EachIsBegun begins p q
+  does_begin_none kinds p q none d =
+      record {
+        more = d.more;
+        is = ap (λ (x : PassState). x.seen) d.is;
+        each = λ b own. absurd (kinds_begin_none kinds p.table.config p.seat (left p.table.config p.seen) d.more none
+            d.of_kinds b own);
+      }
+
+  -- The `begin`, and what the engine does after it.
+  module _ (p d q : PassState) (own : Has p.seats p.seat) (m : Makes p step.Begin d)
+      (does : Does begins_marking d q) (part : IsBegun begins d q) where
+    abbrev c : Config
+    c = p.table.config
+
+    abbrev e : Event
+    e = event_of p step.Begin
+
+    -- The engine begins no other cycle.
+    no_more : (b : At is_begin part.more) → b.event.seat ≡ p.seat → ⊥
+    no_more b is =
+        let same : does.more ≡ part.more =
+        append_cancel_left d.seen does.more part.more (sym (ap (λ (x : PassState). x.seen) does.is) ∙ part.is) in
+        kinds_begin_none begins_marking d.table.config d.seat (left d.table.config d.seen) does.more marking_begins_none
+        does.of_kinds
+        (record {
+          before = b.before;
+          event = b.event;
+          behind = b.behind;
+          is = same ∙ b.is;
+          of_kind = b.of_kind;
+        })
+        (is ∙ sym (ap (λ (x : PassState). x.seat) m.is))
+
+    done : begins c p.seat (p.seen ++ (m.others ++ e ∷ [])) part.more
+    done =
+        subst (λ (l : List Event). begins c p.seat l part.more) (append_assoc p.seen m.others (e ∷ []))
+        (subst (λ (x : PassState). begins x.table.config x.seat x.seen part.more) m.is part.part)
+
+    here : (x : Event) (before rest behind : List Event) → is_begin x.step ≡ true → x.seat ≡ p.seat
+        → before ≡ m.others ++ rest
+        → e ∷ part.more ≡ rest ++ x ∷ behind → IsBegunFirst begins c p.seat (p.seen ++ (before ++ x ∷ [])) behind
+    here x before [] behind of_kind is first second =
+        let same : e ≡ x = cc in
+        let tail : part.more ≡ behind = cc in
+        subst (λ (l : List Event). IsBegunFirst begins c p.seat (p.seen ++ (before ++ x ∷ [])) l) tail
+        (subst (λ (y : Event). IsBegunFirst begins c p.seat (p.seen ++ (before ++ y ∷ [])) part.more) same
+        (subst (λ (l : List Event). IsBegunFirst begins c p.seat (p.seen ++ (l ++ e ∷ [])) part.more)
+        (sym (first ∙ append-nil m.others))
+        (record { first = part.more; rest = []; is = sym (append-nil part.more); part = done })))
+    here x before (y ∷ ys) behind of_kind is first second =
+        let tail : part.more ≡ ys ++ x ∷ behind = cc in
+        absurd (no_more (record { before = ys; event = x; behind = behind; is = tail; of_kind = of_kind }) is)
+
+    pub begin_begun : EachIsBegun begins p q
+    begin_begun =
+        record {
+          more = m.others ++ e ∷ part.more;
+          is = part.is
+              ∙ ap (λ (x : PassState). x.seen ++ part.more) m.is
+              ∙ append_assoc (p.seen ++ m.others) (e ∷ []) part.more
+              ∙ append_assoc p.seen m.others (e ∷ part.more);
+          each = λ b own_event. ⊎_elim
+              (λ (t : InFirst m.others (e ∷ part.more) b.before b.event b.behind).
+              absurd (others_begin_none p.seats p.seat m.others own m.of_others b.before b.event t.rest t.is own_event))
+              (λ (t : InSecond m.others (e ∷ part.more) b.before b.event b.behind).
+              here b.event b.before t.rest b.behind b.of_kind own_event t.first t.is)
+              (in_parts m.others (e ∷ part.more) b.before b.event b.behind b.is);
+        }
+
+  -- one step of another kind
+
+  pub step_begins_none : (p q : PassState) (x : Step) → Has p.seats p.seat → Makes p x q → is_begin x ≡ false
+      → EachIsBegun begins p q
+  step_begins_none p q x own m none =
+      does_begin_none (λ (y : Step). not (is_begin y)) p q (λ y h. not-true (is_begin y) h)
+      (does_step (λ (y : Step). not (is_begin y)) p q x own m (ap not none))
+
+  -- the end of a cycle
+  pub finish_begins_none : (p q : PassState) → Has p.seats p.seat → FinishesCycle p q → EachIsBegun begins p q
+  finish_begins_none p q own law =
+      let m = law.makes in
+      let r = m.releases in
+      let held = only_seen p m.held m.holds.more m.holds.is in
+      let closing = only_seen m.held r.closing r.marks.does.more r.marks.does.is in
+      let closed = only_seen_by r.closing r.closed step.Close r.close in
+      let released = only_seen_by r.closed m.released step.Release r.release in
+      let freed = only_seen m.released m.freed m.frees.more m.frees.is in
+      let ended = only_seen_by m.freed m.ended step.End m.end in
+      let own_held = has_on p m.held held own in
+      let own_closing = has_on m.held r.closing closing own_held in
+      let own_closed = has_on r.closing r.closed closed own_closing in
+      let own_released = has_on r.closed m.released released own_closed in
+      let own_freed = has_on m.released m.freed freed own_released in
+      begun_then p m.held q held (does_begin_none holds_gates p m.held holding_begins_none m.holds)
+      (begun_then m.held r.closing q closing
+      (does_begin_none closes_marks m.held r.closing closing_begins_none r.marks.does)
+      (begun_then r.closing r.closed q closed (step_begins_none r.closing r.closed step.Close own_closing r.close refl)
+      (begun_then r.closed m.released q released
+      (step_begins_none r.closed m.released step.Release own_closed r.release refl)
+      (begun_then m.released m.freed q freed (does_begin_none gives_back m.released m.freed giving_begins_none m.frees)
+      (begun_then m.freed m.ended q ended (step_begins_none m.freed m.ended step.End own_freed m.end refl)
+      (does_begin_none sets_tallies m.ended q setting_begins_none m.behind))))))

@@ -1,0 +1,39 @@
+-- What an engine does directly after a `begin`, and that it does so after each one. It is said of a seat, of the
+-- events up to the `begin`, and of those after it in which the engine does its part.
+use Rattle.std.specs.Prelude.{◌≡◌, List, ◌++◌, ⊤}
+use Rattle.mk_core.specs.declared.config.Config.{Config}
+use Rattle.mk_core.specs.declared.events.Event.{Event}
+use Rattle.mk_core.specs.declared.events.Seat.{Seat}
+use Rattle.mk_core.specs.Cycles.{At, is_begin, through}
+use Rattle.mk_words.specs.States.{PassState}
+
+-- nothing is said of it
+abbrev pub SaysNothing : Config → Seat → List Event → List Event → Type 0
+SaysNothing c s es more = ⊤
+
+-- The engine did its part from what the one pass had seen to what the other has seen.
+pub record IsBegun (begins : Config → Seat → List Event → List Event → Type 0) (p q : PassState) : Type 0 where
+  pub more : List Event
+  pub is : q.seen ≡ p.seen ++ more
+  pub part : begins p.table.config p.seat p.seen more
+
+-- It did its part in the first of these events.
+pub record IsBegunFirst (begins : Config → Seat → List Event → List Event → Type 0) (c : Config) (s : Seat)
+    (es more : List Event) : Type 0 where
+  pub first : List Event
+  pub rest : List Event
+  pub is : more ≡ first ++ rest
+  pub part : begins c s es first
+
+-- So after each `begin` of the seat in the list that goes on,
+abbrev pub AreBegunFirst : (Config → Seat → List Event → List Event → Type 0) → Config → Seat → List Event
+    → List Event
+    → Type 0
+AreBegunFirst begins c s es more =
+    (b : At is_begin more) → b.event.seat ≡ s → IsBegunFirst begins c s (es ++ through b) b.behind
+
+-- and after each one from what the one pass had seen to what the other has seen.
+pub record EachIsBegun (begins : Config → Seat → List Event → List Event → Type 0) (p q : PassState) : Type 0 where
+  pub more : List Event
+  pub is : q.seen ≡ p.seen ++ more
+  pub each : AreBegunFirst begins p.table.config p.seat p.seen more

@@ -1,0 +1,38 @@
+-- All roots are marked in what was seen since.
+use Rattle.std.proofs.Common.{◌≡◌, true, List, ap, subst}
+use Rattle.std.specs.List.{list_all, list_any}
+use Rattle.mk_core.specs.declared.events.Event.{Event}
+use Rattle.mk_core.specs.declared.events.Word.{Word}
+use Rattle.mk_core.specs.Growing.{Finding}
+use Rattle.mk_core.specs.Ranges.{is_word}
+use Rattle.mk_words.specs.States.{PassState, now_of, world_of}
+use Rattle.mk_turns.specs.Doing.{done_in}
+use Rattle.mk_tracing.specs.Grays.{TracesReached}
+use Rattle.mk_tracing.specs.Stops.{is_root}
+use Rattle.mk_tracing.specs.Tracing.{OwnStepsKeep}
+use Rattle.mk_cycle.specs.Begun.{IsBegun}
+use Rattle.mk_engines.specs.Beside.{LooksAt, MarksBeside, found_well, looks_at}
+use Rattle.mk_engines.specs.Roots.{MarksRoots}
+use Rattle.mk_engines.proofs.Since.{since_is}
+
+pub marks_roots : (p q : PassState) → MarksBeside p q
+    → ((x : Word) → is_root x ≡ true → is_word p.table.config x ≡ true → LooksAt x p q) → IsBegun MarksRoots p q
+marks_roots p q marks looked =
+    let d = marks.does in
+    let since = since_is p q d.more d.is in
+    record {
+      more = d.more;
+      is = ap (λ (x : PassState). x.seen) d.is;
+      part = record {
+        looked = λ x root named.
+            subst (λ (es : List Event). list_any (λ (f : Finding). looks_at x f.event.step) (done_in p es) ≡ true) since
+            (looked x root named);
+        found =
+            subst (λ (x : PassState). list_all (found_well p.table.config.pages (now_of x).words) (done_in p d.more)
+            ≡ true) d.is
+            (subst (λ (es : List Event). list_all (found_well p.table.config.pages (now_of q).words) (done_in p es)
+            ≡ true) since marks.found);
+        reached = subst (λ (es : List Event). OwnStepsKeep TracesReached p.table.config p.seat (world_of p) es) since
+            marks.reached;
+      };
+    }

@@ -1,0 +1,61 @@
+-- What the engine does after each `begin` of the host's.
+use Rattle.std.proofs.Common.{◌≡◌, ⊎_elim, List, refl, sym, subst}
+use Rattle.std.specs.Prelude.{None}
+use Rattle.mk_core.specs.declared.config.Config.{Config}
+use Rattle.mk_core.specs.declared.events.Event.{Event}
+use Rattle.mk_core.specs.declared.events.Seat.{Seat}
+use Rattle.mk_core.specs.declared.events.Step.TheVariants as step
+use Rattle.mk_core.specs.declared.events.Word.TheVariants as word
+use Rattle.mk_words.specs.Seats.{Has}
+use Rattle.mk_words.specs.States.{PassState}
+use Rattle.mk_words.specs.Steps.{Makes}
+use Rattle.mk_turns.proofs.Sweeping.{only_seen, only_seen_by}
+use Rattle.mk_waiting.specs.Taking.{is_take}
+use Rattle.mk_waiting.proofs.TakesAlone.{taking_does}
+use Rattle.mk_cycle.specs.BeginCycle.{BeginsCycle}
+use Rattle.mk_cycle.specs.Begun.{EachIsBegun}
+use Rattle.mk_cycle.specs.EngineLaw.{IsAtPhase}
+use Rattle.mk_cycle.specs.FinishCycle.{FinishesCycle}
+use Rattle.mk_cycle.proofs.Begun.{HaveNoBegin, begun_then, does_begin_none, finish_begins_none, has_on}
+use Rattle.mk_cycle.proofs.Begun.{step_begins_none}
+use Rattle.mk_heap.specs.Ending.{EndsCycle, TakesIdleTurn}
+use Rattle.mk_heap.proofs.MovedHosts.{idle_moves, turn_moves}
+
+taking_begins_none : HaveNoBegin is_take
+taking_begins_none step.Begin h = cc
+taking_begins_none _ h = refl
+
+module _ (begins : Config → Seat → List Event → List Event → Type 0) where
+  -- It finishes the cycle that is on, if one is.
+  ending_begun : (p q : PassState) → Has p.seats p.seat → EndsCycle p q → EachIsBegun begins p q
+  ending_begun p q own ends =
+      let look = step_begins_none begins p ends.looked (step.Look word.Phase) own ends.looks refl in
+      ⊎_elim
+      (λ (none : IsAtPhase p 0). subst (λ (x : PassState). EachIsBegun begins p x) (sym (ends.none none)) look)
+      (λ (on : IsAtPhase p 1).
+      begun_then begins p ends.looked q (only_seen_by p ends.looked (step.Look word.Phase) ends.looks) look
+      (finish_begins_none begins ends.looked q
+      (has_on p ends.looked (only_seen_by p ends.looked (step.Look word.Phase) ends.looks) own) (ends.on on)))
+      ends.phase
+
+  idle_same : (p idle : PassState) → TakesIdleTurn p idle → idle ≡ record p { seen = idle.seen }
+  idle_same p idle takes = let m = idle_moves p idle takes in only_seen p idle m.more m.is
+
+  idle_begun : (p idle : PassState) → Has p.seats p.seat → TakesIdleTurn p idle → EachIsBegun begins p idle
+  idle_begun p idle own takes =
+      let m = turn_moves p takes.taken takes.takes in
+      let same = only_seen p takes.taken m.more m.is in
+      begun_then begins p takes.taken idle same
+      (does_begin_none begins is_take p takes.taken taking_begins_none (taking_does p None takes.taken own takes.takes))
+      (ending_begun takes.taken idle (has_on p takes.taken same own) takes.ends)
+
+  -- a whole cycle
+  pub cycle_begun : (p idle begun ended q : PassState) → Has p.seats p.seat → TakesIdleTurn p idle
+      → BeginsCycle idle begun → EachIsBegun begins idle begun → FinishesCycle begun ended → Makes ended step.Give q
+      → EachIsBegun begins p q
+  cycle_begun p idle begun ended q own takes law part finishes gives =
+      let own_begun = has_on idle begun law.pass (has_on p idle (idle_same p idle takes) own) in
+      begun_then begins p idle q (idle_same p idle takes) (idle_begun p idle own takes)
+      (begun_then begins idle begun q law.pass part
+      (begun_then begins begun ended q finishes.pass (finish_begins_none begins begun ended own_begun finishes)
+      (step_begins_none begins ended q step.Give (has_on begun ended finishes.pass own_begun) gives refl)))
