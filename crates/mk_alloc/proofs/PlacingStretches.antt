@@ -102,7 +102,7 @@ counts_on c es e no_end no_full =
           let pushed : ends (es ++ e ∷ []) ≡ ends es + cond {A = ℕ} (is_end e.step) 1 0 =
           sum_by_push (λ (x : Event). cond {A = ℕ} (is_end x.step) 1 0) es e in
           omega arith;
-      full_answers =
+      fulls =
           let m : Moment = (left c es).now in
           let ds : List Decided = call_decided c m e in
           let last : fulls_of ds ≡ 0 =

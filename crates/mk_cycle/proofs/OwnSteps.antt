@@ -145,7 +145,7 @@ module _ (p : PassState) (s : Step) (q : PassState) (a : Acts p s q) (own : Has 
       let es : List Event = p.seen ++ a.makes.others in
       record {
         ends = ap ends seen_is ∙ no_end es ∙ a.counts.ends;
-        full_answers =
+        fulls =
             ap (λ (xs : List Event). full_answers c xs) seen_is
             ∙ ap (λ (xs : List Decided). count_by is_full_answer (answered xs))
             (no_more_calls c es (event_of p s) (undecided c m p.seat s st))
