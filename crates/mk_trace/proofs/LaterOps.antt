@@ -229,9 +229,9 @@ pub called_first : (c : Config) (es : List Event) (event : TraceEvent) (o : Op) 
     → ops_of false event ≡ o ∷ drop 1 (ops_of false event) → Calls c es o told fs → full ≡ is_full_answer told
     → refused ≡ is_refusal told → items ≡ drop 1 (ops_of full event)
     → AreCalled c es event items 0 refused fs
-called_first c es event o told fs full refused items first g is_full_answer is_refused are = record {
+called_first c es event o told fs full refused items first g is_full is_refused are = record {
   full = is_full_answer told;
-  items_are = are ∙ ap (λ (b : Bool). drop 1 (ops_of b event)) is_full_answer;
+  items_are = are ∙ ap (λ (b : Bool). drop 1 (ops_of b event)) is_full;
   calls =
       subst (λ (b : Bool). CallsAll c es (is_full_answer told) (take (0 + 1) (ops_of (is_full_answer told) event)) b fs)
       (sym is_refused) (begun c es event o told fs first g);
