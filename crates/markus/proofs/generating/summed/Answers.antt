@@ -1,4 +1,4 @@
-use Rattle.std.proofs.Common.{ℕ, List, Vec, Global, ap, ◌∙◌, refl, sym, subst, length, arith}
+use Rattle.std.proofs.Common.{ℕ, List, Vec, Global, ap, ◌∙◌, refl, sym, subst, length, arith, false}
 use Rattle.std.specs.Prelude.{slice_get}
 use Rattle.mk_script.specs.declared.items.Item.{Item}
 use Rattle.mk_check.specs.declared.text.Text.{Text}
