@@ -23,9 +23,9 @@ use texts::behind;
 const FIRST_RUN: &[u8] = b"heap 1 1\ntype A n*32\nscript s\nptr p A\nnum n\nnew p A\nconst n 7\n\
     setn p 1 n\nconst n 0\ngetn n p 1\nprint n\n";
 
-/// Commands, the lines of a text with `/` for a newline, and what is written, or the line that is reported. They are: the
-/// first script; a refused load; a full heap; a loop of two rounds and a branch; a dangling load; a load from a freed
-/// run; a second free; scripts without instructions; options; a freed object that a register keeps; two that point to
+/// Commands, the lines of a text with `/` for a newline, and what is written, or the line that is reported. They are:
+/// the first script; a refused load; a full heap; a loop of two rounds and a branch; a dangling load; a load from a
+/// freed run; a second free; scripts without instructions; options; a freed object that a register keeps; two that point to
 /// each other, which nothing keeps but a sweep; a script of as many instructions as one may execute; a canonical text;
 /// a schedule with a load of a global before the store and one after, that ends within a call of `s`; traces, in the
 /// last of which a freed object points to another one, and one cycle releases both (a sweep would keep the other); and

@@ -57,7 +57,8 @@ pub indexes_within : (pages : ℕ) (x : TableWord) → IsOfTable pages x → ind
 indexes_within pages Turn h = omega arith
 indexes_within pages (Named x) h = named_within pages x h
 
--- The groups in their order. One up to the headers begins at sixteen times its rank, a later one 5 words a page after that.
+-- The groups in their order. One up to the headers begins at sixteen times its rank, a later one 5 words a page after
+-- that.
 abbrev rank : ℕ → LineGroup → ℕ
 rank pages OfPhase = 0
 rank pages OfTurn = 1

@@ -1,5 +1,5 @@
-//! The phases of a heap, and what a phase word says. It has the phase in its low three bits, and above them the count of
-//! the markers that are in.
+//! The phases of a heap, and what a phase word says. It has the phase in its low three bits, and above them the count
+//! of the markers that are in.
 ghost use Rattle.std.specs.Prelude.{◌≡◌, ◌==◌, ◌%◌, ◌/◌};
 ghost use Rattle.mk_core.specs.Phases.{phase_number};
 

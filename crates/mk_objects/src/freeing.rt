@@ -114,7 +114,8 @@ fn free_stopped(
     due(fresh, held)
 }
 
-/// Frees a large object, whose run has this many pages, once all other callers are in no call. Says whether that is due.
+/// Frees a large object, whose run has this many pages, once all other callers are in no call. Says whether that
+/// is due.
 fn free_run<R: Wait>(
     rt: &R,
     words: &Words,

@@ -63,7 +63,8 @@ loop-word-preserved c =
             wiped = subst (λ (t : TurnState). HasWiped p c.args.turn.now.op c.args.run c.is_in_order.ensures.turn
                 c.requires.decided c.requires.stopped t.pass (n + 1)) (sym w.turn-is)
                 (found_wiped p c.args.turn.now.op c.args.run c.is_in_order.ensures.turn c.requires.decided
-                c.requires.stopped c.loop-word.turn.pass q n c.look_among-found.result seen c.look_among-found.ensures.finds
+                c.requires.stopped c.loop-word.turn.pass q n c.look_among-found.result seen
+                c.look_among-found.ensures.finds
                 w.if-found-ne0.false);
           }
     ]
