@@ -8,8 +8,8 @@ use Rattle.mk_geom.specs.PageWords.{use_of_page, uses_of_pages}
 use Rattle.mk_page_map.specs.Members.{page_at, has_free_cell}
 
 -- the lowest free cell of a page, as a place
-abbrev pub cell_on : ℕ → Bool → List Page → ℕ → Option Place
-cell_on class leaf pages number =
+abbrev pub free_cell_on : ℕ → Bool → List Page → ℕ → Option Place
+free_cell_on class leaf pages number =
     option_map (λ index. record { page = number; index = index; carve = false })
     (first_where not (cells_taken class leaf (use_of_page (page_at pages number))))
 
@@ -19,6 +19,6 @@ abbrev pub LowestBlockHasThePlace : Type 0
 LowestBlockHasThePlace =
     (limit class : ℕ) (leaf : Bool) (pages : List Page)
     → small_place limit class leaf (uses_of_pages pages)
-    ≡ or_else (option_and_then (cell_on class leaf pages) (first_where (has_free_cell class leaf) (uses_of_pages pages)))
+    ≡ or_else (option_and_then (free_cell_on class leaf pages) (first_where (has_free_cell class leaf) (uses_of_pages pages)))
     (if nat_lt (resident_pages (uses_of_pages pages)) limit
     then option_map carved (first_where is_free_page (uses_of_pages pages)) else None)

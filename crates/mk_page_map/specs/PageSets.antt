@@ -18,8 +18,8 @@ word_in_set sets set word = slice_index sets (65 * set + 1 + word)
 abbrev pub summary_of : List ℕ → ℕ → ℕ
 summary_of sets set = slice_index sets (65 * set)
 
-abbrev pub is_in : List ℕ → ℕ → ℕ → Bool
-is_in sets set number = bit_at (word_in_set sets set (number / 64)) (number % 64) == 1
+abbrev pub is_member : List ℕ → ℕ → ℕ → Bool
+is_member sets set number = bit_at (word_in_set sets set (number / 64)) (number % 64) == 1
 
 -- there are 20 sets, and each has its summary
 pub record AreSets (sets : List ℕ) : Type 0 where
@@ -36,24 +36,24 @@ is_of_set set use =
 
 -- a page is in those of them that it is of
 abbrev pub IsSorted : List ℕ → ℕ → PageUse → Type 0
-IsSorted sets number use = (set : ℕ) → set < 18 → is_in sets set number ≡ is_of_set set use
+IsSorted sets number use = (set : ℕ) → set < 18 → is_member sets set number ≡ is_of_set set use
 
 -- all other pages are in the sets that they were in
 abbrev pub OthersStay : List ℕ → List ℕ → ℕ → Type 0
 OthersStay before after page =
-    (set number : ℕ) → set < 20 → number < 4096 → (number ≡ page → ⊥) → is_in after set number ≡ is_in before set number
+    (set number : ℕ) → set < 20 → number < 4096 → (number ≡ page → ⊥) → is_member after set number ≡ is_member before set number
 
 -- the sets and the count of resident pages fit the pages
 pub record FitPages (pages : List Page) (sets : List ℕ) (resident : ℕ) : Type 0 where
   pub few : length pages ≤ 4096
   pub sets : 0 < length pages → AreSets sets
   pub sorted : (number : ℕ) → number < length pages → IsSorted sets number (use_of_page (page_at pages number))
-  pub no_others : (set number : ℕ) → set < 20 → length pages ≤ number → number < 4096 → is_in sets set number ≡ false
+  pub no_others : (set number : ℕ) → set < 20 → length pages ≤ number → number < 4096 → is_member sets set number ≡ false
   pub resident : resident ≡ resident_pages (uses_of_pages pages)
 
 -- of each of this many pages whether it is in the set
 abbrev pub members : List ℕ → ℕ → ℕ → List Bool
-members sets set count = map (is_in sets set) (range_with_len 0 count)
+members sets set count = map (is_member sets set) (range_with_len 0 count)
 
 -- what stands on a page of a kind that has this used word
 abbrev pub use_of_kind : PageKind → ℕ → PageUse

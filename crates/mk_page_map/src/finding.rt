@@ -5,7 +5,7 @@ ghost use Rattle.mk_geom.specs.PageUses.{first_where, is_free_page, range_start,
 ghost use Rattle.mk_geom.specs.PageWords.{uses_of_pages};
 ghost use Rattle.mk_page_map.specs.KnownPages.{Shows};
 ghost use Rattle.mk_page_map.specs.Members.{IsNext, has_free_cell, has_freed_cells, has_other_cells, is_in_use, page_at};
-ghost use Rattle.mk_page_map.specs.PageSets.{AreSets, is_in};
+ghost use Rattle.mk_page_map.specs.PageSets.{AreSets, is_member};
 
 use crate::page_map::PageMap;
 use crate::sets::next_in;
@@ -17,8 +17,8 @@ fn next_page(count: usize, sets: &[u64], set: usize, from: u64) -> Option<u64>
     requires sets { 0 < count → AreSets sets.now }
     requires set { set < 20 }
     requires few { count ≤ 4096 }
-    requires no_others { (number : ℕ) → count ≤ number → number < 4096 → is_in sets.now set number ≡ false }
-    ensures { IsNext (is_in sets.now set) from count result }
+    requires no_others { (number : ℕ) → count ≤ number → number < 4096 → is_member sets.now set number ≡ false }
+    ensures { IsNext (is_member sets.now set) from count result }
 {
     if count == 0 {
         return None;

@@ -3,7 +3,7 @@
 ghost use Rattle.std.specs.Prelude.{◌≡◌, ℕ, ◌+◌, ◌*◌, ◌<◌, ◌==◌};
 ghost use Rattle.std.specs.Int.{bit_at};
 ghost use Rattle.mk_page_map.specs.Members.{IsNext};
-ghost use Rattle.mk_page_map.specs.PageSets.{AreSets, OthersStay, is_in};
+ghost use Rattle.mk_page_map.specs.PageSets.{AreSets, OthersStay, is_member};
 
 /// A summary and 64 words.
 const SET_WORDS: usize = 65;
@@ -33,7 +33,7 @@ fn lowest_from(word: u64, from: u64) -> Option<u64>
 pub(crate) fn next_in(sets: &[u64], set: usize, from: u64) -> Option<u64>
     requires sets { AreSets sets.now }
     requires set { set < 20 }
-    ensures { IsNext (is_in sets.now set) from 4096 result }
+    ensures { IsNext (is_member sets.now set) from 4096 result }
 {
     let summary = SET_WORDS * set;
     let word = from / 64;
@@ -65,9 +65,9 @@ pub(crate) fn put(sets: &mut [u64], set: usize, page: u64, inside: bool)
     requires set { set < 20 }
     requires page { page < 4096 }
     ensures sets { AreSets sets.new }
-    ensures this { is_in sets.new set page ≡ inside }
+    ensures this { is_member sets.new set page ≡ inside }
     ensures other_sets { (other : ℕ) → other < 20 → (other ≡ set → ⊥)
-        → is_in sets.new other page ≡ is_in sets.old other page }
+        → is_member sets.new other page ≡ is_member sets.old other page }
     ensures other_pages { OthersStay sets.old sets.new page }
 {
     let summary = SET_WORDS * set;

@@ -1,7 +1,7 @@
 //! The sets that a page is in by what stands on it.
 ghost use Rattle.std.specs.Prelude.{◌≡◌, ℕ, ◌<◌, ◌≤◌, false};
 ghost use Rattle.mk_books.specs.FreeCells.{class_place};
-ghost use Rattle.mk_page_map.specs.PageSets.{AreSets, HasClass, IsSorted, OthersStay, is_in, is_of_set, use_of_kind};
+ghost use Rattle.mk_page_map.specs.PageSets.{AreSets, HasClass, IsSorted, OthersStay, is_member, is_of_set, use_of_kind};
 
 use crate::kinds::{PageKind, has_free_cell};
 use crate::sets::put;
@@ -38,8 +38,8 @@ fn leave_blocks(sets: &mut [u64], page: u64, kind: PageKind)
     requires class { HasClass kind }
     requires sorted { (used : ℕ) × IsSorted sets.old page (use_of_kind kind used) }
     ensures sets { AreSets sets.new }
-    ensures left { (set : ℕ) → set < 16 → is_in sets.new set page ≡ false }
-    ensures other_sets { (set : ℕ) → 16 ≤ set → set < 20 → is_in sets.new set page ≡ is_in sets.old set page }
+    ensures left { (set : ℕ) → set < 16 → is_member sets.new set page ≡ false }
+    ensures other_sets { (set : ℕ) → 16 ≤ set → set < 20 → is_member sets.new set page ≡ is_member sets.old set page }
     ensures other_pages { OthersStay sets.old sets.new page }
 {
     if let PageKind::Block { class, leaf } = kind {
@@ -52,10 +52,10 @@ fn join_blocks(sets: &mut [u64], page: u64, kind: PageKind, used: u64)
     requires sets { AreSets sets.old }
     requires page { page < 4096 }
     requires class { HasClass kind }
-    requires left { (set : ℕ) → set < 16 → is_in sets.old set page ≡ false }
+    requires left { (set : ℕ) → set < 16 → is_member sets.old set page ≡ false }
     ensures sets { AreSets sets.new }
-    ensures joined { (set : ℕ) → set < 16 → is_in sets.new set page ≡ is_of_set set (use_of_kind kind used) }
-    ensures other_sets { (set : ℕ) → 16 ≤ set → set < 20 → is_in sets.new set page ≡ is_in sets.old set page }
+    ensures joined { (set : ℕ) → set < 16 → is_member sets.new set page ≡ is_of_set set (use_of_kind kind used) }
+    ensures other_sets { (set : ℕ) → 16 ≤ set → set < 20 → is_member sets.new set page ≡ is_member sets.old set page }
     ensures other_pages { OthersStay sets.old sets.new page }
 {
     if let PageKind::Block { class, leaf } = kind {
@@ -72,7 +72,7 @@ pub(crate) fn sort_by_header(sets: &mut [u64], page: u64, before: PageKind, afte
     requires sorted { IsSorted sets.old page (use_of_kind before used) }
     ensures sets { AreSets sets.new }
     ensures sorted { IsSorted sets.new page (use_of_kind after used) }
-    ensures other_sets { (set : ℕ) → 18 ≤ set → set < 20 → is_in sets.new set page ≡ is_in sets.old set page }
+    ensures other_sets { (set : ℕ) → 18 ≤ set → set < 20 → is_member sets.new set page ≡ is_member sets.old set page }
     ensures other_pages { OthersStay sets.old sets.new page }
 {
     leave_blocks(sets, page, before);
@@ -90,7 +90,7 @@ pub(crate) fn sort_by_used(sets: &mut [u64], page: u64, kind: PageKind, used: u6
     requires sorted { (before : ℕ) × IsSorted sets.old page (use_of_kind kind before) }
     ensures sets { AreSets sets.new }
     ensures sorted { IsSorted sets.new page (use_of_kind kind used) }
-    ensures other_sets { (set : ℕ) → 18 ≤ set → set < 20 → is_in sets.new set page ≡ is_in sets.old set page }
+    ensures other_sets { (set : ℕ) → 18 ≤ set → set < 20 → is_member sets.new set page ≡ is_member sets.old set page }
     ensures other_pages { OthersStay sets.old sets.new page }
 {
     if let PageKind::Block { class, leaf } = kind {
@@ -103,7 +103,7 @@ pub(crate) fn free_sets(alloc: Global, pages: u64) -> Result<Vec<u64>, AllocErro
     requires { pages ≤ 4096 }
     ensures sets { IfOk result (λ sets. AreSets sets.items) }
     ensures members { IfOk result (λ sets. (set number : ℕ) → set < 20 → number < 4096
-        → is_in sets.items set number ≡ (set == 16) && nat_lt number pages) }
+        → is_member sets.items set number ≡ (set == 16) && nat_lt number pages) }
 {
     let mut sets = vec![in alloc; 0; SETS * SET_WORDS]?;
     for page in 0..pages {
