@@ -3,8 +3,7 @@ ghost use Rattle.std.specs.Prelude.{◌≡◌, ◌≤◌, IfOk, [], length, repl
 ghost use Rattle.mk_geom.specs.Storages.{free_page};
 ghost use Rattle.mk_page_map.specs.KnownPages.{Shows};
 
-use crate::sets::put;
-use crate::sorting::{FREE, SETS};
+use crate::sorting::free_sets;
 use mk_geom::{FREE_PAGE, Page};
 use std::alloc::{AllocError, Global};
 use std::marker::Model;

@@ -6,7 +6,7 @@ ghost use Rattle.mk_page_map.specs.Members.{IsNext};
 ghost use Rattle.mk_page_map.specs.PageSets.{AreSets, OthersStay, is_member};
 
 /// A summary and 64 words.
-const SET_WORDS: usize = 65;
+pub(crate) const SET_WORDS: usize = 65;
 
 /// The place of the lowest 1.
 fn lowest(word: u64) -> u64

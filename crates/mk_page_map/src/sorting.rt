@@ -1,10 +1,11 @@
 //! The sets that a page is in by what stands on it.
-ghost use Rattle.std.specs.Prelude.{◌≡◌, ℕ, ◌<◌, ◌≤◌, false};
+ghost use Rattle.std.specs.Prelude.{◌≡◌, ℕ, ◌<◌, ◌≤◌, ◌==◌, ◌&&◌, IfOk, false, nat_lt};
 ghost use Rattle.mk_books.specs.FreeCells.{class_place};
 ghost use Rattle.mk_page_map.specs.PageSets.{AreSets, HasClass, IsSorted, OthersStay, is_member, is_of_set, use_of_kind};
 
 use crate::kinds::{PageKind, has_free_cell};
-use crate::sets::put;
+use crate::sets::{SET_WORDS, put};
+use std::alloc::{AllocError, Global};
 
 /// The set of the free pages. Sets 0 to 15 have the blocks with a free cell.
 pub(crate) const FREE: usize = 16;

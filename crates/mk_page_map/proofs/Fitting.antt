@@ -1,0 +1,65 @@
+-- The sets and the count stay fit for the pages where a page changes.
+use Rattle.std.proofs.Common.{◌≡◌, ℕ, ◌+◌, ◌<◌, ◌≤◌, Bool, false, cond, List, [], length, get_or, set, map, replicate}
+use Rattle.std.proofs.Common.{refl, ap, sym, ◌∙◌, inl, inr, arith, get_or-set_same, get_or-set_other, length-set, subst}
+use Rattle.std.proofs.lemmas.Bool.{cases_eq}
+use Rattle.std.proofs.lemmas.List.{length-map, map-set, get_or-map}
+use Rattle.std.proofs.lemmas.List.Sums.{sum_by-set, count_by-le-length}
+use Rattle.mk_geom.specs.declared.pages.Page.{Page}
+use Rattle.mk_geom.specs.Storages.{free_page}
+use Rattle.mk_geom.specs.PageUses.{Nothing, is_resident_page, resident_pages}
+use Rattle.mk_geom.specs.PageWords.{use_of_page, uses_of_pages}
+use Rattle.mk_page_map.specs.Members.{page_at}
+use Rattle.mk_page_map.specs.PageSets.{AreSets, FitPages, IsSorted, OthersStay, is_member}
+
+-- 1 for a resident page
+abbrev pub resident_one : Page → ℕ
+resident_one page = cond (is_resident_page (use_of_page page)) 1 0
+
+-- a page that changes, and sets that change for it
+pub record Changes (pages : List Page) (sets after : List ℕ) (page : ℕ) (now : Page) : Type 0 where
+  pub within : page < length pages
+  pub are_sets : AreSets after
+  pub sorted : IsSorted after page (use_of_page now)
+  pub others : OthersStay sets after page
+
+pub resident_changed : (pages : List Page) (page : ℕ) (now : Page) → page < length pages
+    → resident_pages (uses_of_pages (set pages page now)) + resident_one (page_at pages page)
+    ≡ resident_pages (uses_of_pages pages) + resident_one now
+resident_changed pages page now within =
+    let one = λ use'. cond (is_resident_page use') 1 0 in
+    let long : page < length (uses_of_pages pages) = omega (arith, length-map pages use_of_page) in
+    ap (λ use'. resident_pages (uses_of_pages (set pages page now)) + one use')
+    (sym (get_or-map use_of_page pages page free_page Nothing within))
+    ∙ ap (λ uses. resident_pages uses + one (get_or (uses_of_pages pages) page Nothing))
+    (map-set use_of_page pages page now)
+    ∙ sum_by-set one (uses_of_pages pages) page (use_of_page now) Nothing long
+
+pub resident_few : (pages : List Page) → resident_pages (uses_of_pages pages) ≤ length pages
+resident_few pages =
+    omega (arith, count_by-le-length is_resident_page (uses_of_pages pages), length-map pages use_of_page)
+
+pub fit_changed : (pages : List Page) (sets after : List ℕ) (page : ℕ) (now : Page) (resident count : ℕ)
+    → FitPages pages sets resident → Changes pages sets after page now
+    → count + resident_one (page_at pages page) ≡ resident + resident_one now
+    → FitPages (set pages page now) after count
+fit_changed pages sets after page now resident count fit changes counted =
+    let long : length (set pages page now) ≡ length pages = length-set pages page now in
+    record {
+      few = omega (arith, fit.few);
+      sets = λ some. changes.are_sets;
+      sorted = λ number within. elim (cases_eq number page) [
+        | inl same ↦
+            subst (λ (k : ℕ). IsSorted after k (use_of_page (page_at (set pages page now) k))) (sym same)
+            (subst (λ (p : Page). IsSorted after page (use_of_page p))
+            (sym (get_or-set_same pages page now free_page changes.within)) changes.sorted)
+        | inr differ ↦
+            λ s is_set.
+            changes.others s number (omega arith) (omega (arith, fit.few)) differ
+            ∙ subst (λ (p : Page). IsSorted sets number (use_of_page p))
+            (sym (get_or-set_other pages page number now free_page differ)) (fit.sorted number (omega arith)) s is_set
+      ];
+      no_others = λ s number is_set past few.
+          changes.others s number is_set few (λ same. absurd (omega (arith, changes.within)))
+          ∙ fit.no_others s number is_set (omega arith) few;
+      resident = omega (arith, fit.resident, resident_changed pages page now changes.within);
+    }
