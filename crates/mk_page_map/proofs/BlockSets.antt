@@ -1,16 +1,17 @@
 -- The sets of blocks, by class and sort.
 use Rattle.std.proofs.Common.{◌≡◌, ℕ, ◌+◌, ◌*◌, ◌%◌, ◌<◌, ◌≤◌, Bool, true, false, not, ◌&&◌, nat_eq, nat_le, nat_lt, cond}
-use Rattle.std.proofs.Common.{List, [], refl, ap, sym, ◌∙◌, inl, inr, eqb-true, arith}
+use Rattle.std.proofs.Common.{List, [], refl, ap, sym, ◌∙◌, inl, inr, eqb-true, subst, arith}
 use Rattle.std.specs.Option.{is_some}
 use Rattle.std.proofs.lemmas.Bool.{cases_Bool, cases_lt, and_parts, cond-true, cond-false, lt-ltb, le-ltb, le-leb, lt-leb}
-use Rattle.std.proofs.lemmas.Bool.{not-true}
-use Rattle.mk_geom.specs.Classes.{cells_of}
+use Rattle.std.proofs.lemmas.Bool.{cases_eq, not-true}
+use Rattle.std.proofs.Math.Nat.{div-le_self}
+use Rattle.mk_geom.specs.Classes.{cells_of, class_words_of}
 use Rattle.mk_geom.specs.PageUses.{PageUse, Nothing, Cells, PartOfRun, cells_taken, first_where, is_same_sort}
 use Rattle.mk_geom.specs.PageWords.{bits_of}
 use Rattle.mk_books.specs.FreeCells.{class_place}
 use Rattle.mk_books.proofs.FreeCellLemmas.{cells_taken_alike}
 use Rattle.mk_page_map.specs.Members.{has_free_cell}
-use Rattle.mk_page_map.specs.PageSets.{is_of_set, use_of_kind, HasClass}
+use Rattle.mk_page_map.specs.PageSets.{IsSorted, is_member, is_of_set, use_of_kind}
 use Rattle.mk_page_map.specs.declared.kinds.PageKind.{PageKind}
 use Rattle.mk_page_map.specs.declared.kinds.PageKind.TheVariants.{Free, Block, Run}
 
@@ -78,3 +79,83 @@ nothing_of_set set block = of_block_set set Nothing block
 
 pub run_of_set : (set : ℕ) (mapped : Bool) → set < 16 → is_of_set set (PartOfRun mapped) ≡ false
 run_of_set set mapped block = of_block_set set (PartOfRun mapped) block
+
+pub cells_few : (class : ℕ) → class < 8 → cells_of class ≤ 64
+cells_few class known = div-le_self 64 (class_words_of class)
+
+-- what a put of a page into one set, or out of it, leaves of the others
+abbrev pub OtherSetsStay : List ℕ → List ℕ → ℕ → ℕ → Type 0
+OtherSetsStay before after page place =
+    (other : ℕ) → other < 20 → (other ≡ place → ⊥) → is_member after other page ≡ is_member before other page
+
+pub left_blocks : (before after : List ℕ) (page class place used : ℕ) (leaf : Bool) → class < 8
+    → place ≡ class_place class leaf → is_member after place page ≡ false → OtherSetsStay before after page place
+    → IsSorted before page (use_of_kind (Block class leaf) used) → (set : ℕ) → set < 16
+    → is_member after set page ≡ false
+left_blocks before after page class place used leaf known is out stay sorted set block = elim (cases_eq set place) [
+  | inl same ↦ ap (λ s. is_member after s page) same ∙ out
+  | inr other ↦
+      stay set (omega arith) other
+      ∙ sorted set (omega arith)
+      ∙ of_other_set set class leaf (bits_of (cells_of class) used) block (λ same. other (same ∙ sym is))
+]
+
+pub joined_blocks : (before after : List ℕ) (page class place used : ℕ) (leaf free : Bool) → class < 8
+    → place ≡ class_place class leaf → free ≡ is_some (first_where not (bits_of (cells_of class) used))
+    → is_member after place page ≡ free → OtherSetsStay before after page place
+    → ((set : ℕ) → set < 16 → is_member before set page ≡ false) → (set : ℕ) → set < 16
+    → is_member after set page ≡ is_of_set set (use_of_kind (Block class leaf) used)
+joined_blocks before after page class place used leaf free known is is_free put stay out set block =
+    elim (cases_eq set place) [
+      | inl same ↦
+          ap (λ s. is_member after s page) same
+          ∙ put
+          ∙ is_free
+          ∙ sym (free_in_own_set class leaf used known)
+          ∙ ap (λ s. is_of_set s (use_of_kind (Block class leaf) used)) (sym is ∙ sym same)
+      | inr other ↦
+          stay set (omega arith) other
+          ∙ out set block
+          ∙ sym (of_other_set set class leaf (bits_of (cells_of class) used) block (λ same. other (same ∙ sym is)))
+    ]
+
+-- each set of the first 18
+pub each_set : (P : ℕ → Type 0) → ((set : ℕ) → set < 16 → P set) → P 16 → P 17 → (set : ℕ) → set < 18 → P set
+each_set P blocks free in_use set is_set = elim (cases_lt set 16) [
+  | inl block ↦ blocks set block
+  | inr above ↦ elim (cases_eq set 16) [
+    | inl same ↦ subst P (sym same) free
+    | inr other ↦ let last : set ≡ 17 = omega arith in subst P (sym last) in_use
+  ]
+]
+
+-- used words tell blocks of one class and sort apart in their own set alone
+same_elsewhere : (set class : ℕ) (leaf : Bool) (earlier used : ℕ) → set < 18 → (set ≡ class_place class leaf → ⊥)
+    → is_of_set set (use_of_kind (Block class leaf) earlier) ≡ is_of_set set (use_of_kind (Block class leaf) used)
+same_elsewhere set class leaf earlier used is_set other =
+    each_set (λ s. (s ≡ class_place class leaf → ⊥)
+    → is_of_set s (use_of_kind (Block class leaf) earlier) ≡ is_of_set s (use_of_kind (Block class leaf) used))
+    (λ s block differ.
+    of_other_set s class leaf (bits_of (cells_of class) earlier) block differ
+    ∙ sym (of_other_set s class leaf (bits_of (cells_of class) used) block differ))
+    (λ _. refl) (λ _. refl) set is_set other
+
+-- a block whose used word changes
+pub sorted_anew : (before after : List ℕ) (page class place earlier used : ℕ) (leaf free : Bool) → class < 8
+    → place ≡ class_place class leaf → place < 16 → free ≡ is_some (first_where not (bits_of (cells_of class) used))
+    → is_member after place page ≡ free → OtherSetsStay before after page place
+    → IsSorted before page (use_of_kind (Block class leaf) earlier)
+    → IsSorted after page (use_of_kind (Block class leaf) used)
+sorted_anew before after page class place earlier used leaf free known is low is_free put stay sorted set is_set =
+    elim (cases_eq set place) [
+      | inl same ↦
+          ap (λ s. is_member after s page) same
+          ∙ put
+          ∙ is_free
+          ∙ sym (free_in_own_set class leaf used known)
+          ∙ ap (λ s. is_of_set s (use_of_kind (Block class leaf) used)) (sym is ∙ sym same)
+      | inr other ↦
+          stay set (omega arith) other
+          ∙ sorted set is_set
+          ∙ same_elsewhere set class leaf earlier used is_set (λ same. other (same ∙ sym is))
+    ]

@@ -6,7 +6,7 @@ use Rattle.std.proofs.lemmas.List.{length-map, map-set, get_or-map}
 use Rattle.std.proofs.lemmas.List.Sums.{sum_by-set, count_by-le-length}
 use Rattle.mk_geom.specs.declared.pages.Page.{Page}
 use Rattle.mk_geom.specs.Storages.{free_page}
-use Rattle.mk_geom.specs.PageUses.{Nothing, is_resident_page, resident_pages}
+use Rattle.mk_geom.specs.PageUses.{PageUse, Nothing, is_resident_page, resident_pages}
 use Rattle.mk_geom.specs.PageWords.{use_of_page, uses_of_pages}
 use Rattle.mk_page_map.specs.Members.{page_at}
 use Rattle.mk_page_map.specs.PageSets.{AreSets, FitPages, IsSorted, OthersStay, is_member}
@@ -26,9 +26,9 @@ pub resident_changed : (pages : List Page) (page : ℕ) (now : Page) → page < 
     → resident_pages (uses_of_pages (set pages page now)) + resident_one (page_at pages page)
     ≡ resident_pages (uses_of_pages pages) + resident_one now
 resident_changed pages page now within =
-    let one = λ use'. cond (is_resident_page use') 1 0 in
+    let one = λ (u : PageUse). cond (is_resident_page u) 1 0 in
     let long : page < length (uses_of_pages pages) = omega (arith, length-map pages use_of_page) in
-    ap (λ use'. resident_pages (uses_of_pages (set pages page now)) + one use')
+    ap (λ u. resident_pages (uses_of_pages (set pages page now)) + one u)
     (sym (get_or-map use_of_page pages page free_page Nothing within))
     ∙ ap (λ uses. resident_pages uses + one (get_or (uses_of_pages pages) page Nothing))
     (map-set use_of_page pages page now)
@@ -46,7 +46,7 @@ fit_changed pages sets after page now resident count fit changes counted =
     let long : length (set pages page now) ≡ length pages = length-set pages page now in
     record {
       few = omega (arith, fit.few);
-      sets = λ some. changes.are_sets;
+      are_sets = λ some. changes.are_sets;
       sorted = λ number within. elim (cases_eq number page) [
         | inl same ↦
             subst (λ (k : ℕ). IsSorted after k (use_of_page (page_at (set pages page now) k))) (sym same)
@@ -61,5 +61,5 @@ fit_changed pages sets after page now resident count fit changes counted =
       no_others = λ s number is_set past few.
           changes.others s number is_set few (λ same. absurd (omega (arith, changes.within)))
           ∙ fit.no_others s number is_set (omega arith) few;
-      resident = omega (arith, fit.resident, resident_changed pages page now changes.within);
+      counted = omega (arith, fit.counted, resident_changed pages page now changes.within);
     }

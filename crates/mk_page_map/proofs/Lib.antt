@@ -2,6 +2,7 @@ pub mod LowestBits
 pub mod SetWords
 pub mod NextPages
 pub mod BlockSets
+pub mod FreeSets
 pub mod Fitting
 pub mod Showing
 pub mod FreeRanges

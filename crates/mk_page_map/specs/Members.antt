@@ -11,7 +11,7 @@ page_at pages number = slice_index_or pages number free_page
 
 -- the page is a block of this class and sort, with a cell that isn't taken
 abbrev pub has_free_cell : ℕ → Bool → PageUse → Bool
-has_free_cell class leaf use = is_some (first_where not (cells_taken class leaf use))
+has_free_cell class leaf stands = is_some (first_where not (cells_taken class leaf stands))
 
 -- something stands on the page
 abbrev pub is_in_use : List Page → ℕ → Bool

@@ -30,13 +30,13 @@ pub record AreSets (sets : List ℕ) : Type 0 where
 -- Sets 0 to 15 have the blocks with a free cell: those of a class and then the leaf blocks of a class. Set 16 has the
 -- free pages, and set 17 all others.
 abbrev pub is_of_set : ℕ → PageUse → Bool
-is_of_set set use =
-    if nat_lt set 16 then has_free_cell (set % 8) (nat_le 8 set) use
-    else if set == 16 then is_free_page use else not (is_free_page use)
+is_of_set set stands =
+    if nat_lt set 16 then has_free_cell (set % 8) (nat_le 8 set) stands
+    else if set == 16 then is_free_page stands else not (is_free_page stands)
 
 -- a page is in those of them that it is of
 abbrev pub IsSorted : List ℕ → ℕ → PageUse → Type 0
-IsSorted sets number use = (set : ℕ) → set < 18 → is_member sets set number ≡ is_of_set set use
+IsSorted sets number stands = (set : ℕ) → set < 18 → is_member sets set number ≡ is_of_set set stands
 
 -- all other pages are in the sets that they were in
 abbrev pub OthersStay : List ℕ → List ℕ → ℕ → Type 0
@@ -46,10 +46,10 @@ OthersStay before after page =
 -- the sets and the count of resident pages fit the pages
 pub record FitPages (pages : List Page) (sets : List ℕ) (resident : ℕ) : Type 0 where
   pub few : length pages ≤ 4096
-  pub sets : 0 < length pages → AreSets sets
+  pub are_sets : 0 < length pages → AreSets sets
   pub sorted : (number : ℕ) → number < length pages → IsSorted sets number (use_of_page (page_at pages number))
   pub no_others : (set number : ℕ) → set < 20 → length pages ≤ number → number < 4096 → is_member sets set number ≡ false
-  pub resident : resident ≡ resident_pages (uses_of_pages pages)
+  pub counted : resident ≡ resident_pages (uses_of_pages pages)
 
 -- of each of this many pages whether it is in the set
 abbrev pub members : List ℕ → ℕ → ℕ → List Bool
