@@ -5,5 +5,7 @@ pub mod BlockSets
 pub mod FreeSets
 pub mod Fitting
 pub mod Showing
+pub mod Reading
+pub mod Storing
 pub mod FreeRanges
 pub mod FirstFit
