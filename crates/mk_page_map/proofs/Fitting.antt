@@ -63,3 +63,26 @@ fit_changed pages sets after page now resident count fit changes counted =
           ∙ fit.no_others s number is_set (omega arith) few;
       counted = omega (arith, fit.counted, resident_changed pages page now changes.within);
     }
+
+-- where a page stays in the sets that tell what stands on it
+pub fit_again : (pages : List Page) (sets after : List ℕ) (page resident : ℕ) → FitPages pages sets resident
+    → AreSets after → page < length pages
+    → ((s : ℕ) → s < 18 → is_member after s page ≡ is_member sets s page) → OthersStay sets after page
+    → FitPages pages after resident
+fit_again pages sets after page resident fit are_sets within stays others =
+    record {
+      few = fit.few;
+      are_sets = λ some. are_sets;
+      sorted = λ number inside s is_set. elim (cases_eq number page) [
+        | inl same ↦
+            ap (is_member after s) same
+            ∙ stays s is_set
+            ∙ ap (is_member sets s) (sym same)
+            ∙ fit.sorted number inside s is_set
+        | inr differ ↦
+            others s number (omega arith) (omega (arith, fit.few)) differ ∙ fit.sorted number inside s is_set
+      ];
+      no_others = λ s number is_set past few.
+          others s number is_set few (λ same. absurd (omega arith)) ∙ fit.no_others s number is_set past few;
+      counted = fit.counted;
+    }

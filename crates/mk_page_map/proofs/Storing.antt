@@ -9,6 +9,7 @@ use Rattle.mk_geom.specs.Headers.{header_of}
 use Rattle.mk_geom.specs.PageUses.{is_resident_page, resident_pages}
 use Rattle.mk_geom.specs.PageWords.{use_of_page, use_under, uses_of_pages}
 use Rattle.mk_page_map.specs.declared.kinds.PageKind.{PageKind}
+use Rattle.mk_page_map.specs.declared.kinds.PageKind.TheVariants.{Free, Block, Run}
 use Rattle.mk_page_map.specs.KnownPages.{KnownPages, Shows}
 use Rattle.mk_page_map.specs.Members.{page_at}
 use Rattle.mk_page_map.specs.PageSets.{AreSets, FitPages, IsSorted, OthersStay, is_member, use_of_kind}
@@ -60,15 +61,15 @@ store_shows known held pages sets slice after vec freed snapshot resident page n
     stores.quarantine s quarantine is_set ∙ ap (λ xs. is_member xs s page) stores.is_slice)
     shows_before))
 
--- a page that was read, and its kind
-pub record IsRead (held : List Page) (page : ℕ) (found : Page) : Type 0 where
-  pub within : page < length held
-  pub is : found ≡ page_at held page
+-- a page of the map, and its words as they were read
+pub page_within : (known : KnownPages) (held : List Page) (sets : List ℕ) (page : ℕ) → known_by held sets ≡ known
+    → page < length known.pages → page < length held
+page_within known held sets page view within =
+    subst (λ (k : KnownPages). page < length k.pages) (sym view) within
 
-pub read_there : (held : List Page) (page : ℕ) (found : Page) → page < length held
-    → found ≡ slice_index_or held page found → IsRead held page found
-read_there held page found within is =
-    record { within = within; is = get_or_read held page found within is free_page }
+pub page_read : (held : List Page) (page : ℕ) (found : Page) → page < length held
+    → found ≡ slice_index_or held page found → found ≡ page_at held page
+page_read held page found within is = get_or_read held page found within is free_page
 
 byte_is : (b : Bool) → from_bool b ≡ cond b 1 0
 byte_is true = refl
@@ -90,3 +91,21 @@ pub counted_anew : (held : List Page) (page resident was is : ℕ) (now : Page) 
     → resident ≡ resident_pages (uses_of_pages held) → was ≤ resident + is
 counted_anew held page resident was is now within old new counted =
     omega (arith, resident_changed held page now within)
+
+-- a used word makes no page resident
+resident_by_kind : (kind : PageKind) (used other : ℕ)
+    → is_resident_page (use_of_kind kind used) ≡ is_resident_page (use_of_kind kind other)
+resident_by_kind Free used other = refl
+resident_by_kind (Block class leaf) used other = refl
+resident_by_kind (Run mapped) used other = refl
+
+pub same_count : (held : List Page) (resident page : ℕ) (found : Page) (used : ℕ) (kind : PageKind)
+    → found ≡ page_at held page → ((n : ℕ) → use_under (header_of found.header) n ≡ use_of_kind kind n)
+    → resident + resident_one (page_at held page)
+    ≡ resident + resident_one (record { header = found.header; used = used })
+same_count held resident page found used kind is is_kind =
+    ap (λ p. resident + resident_one p) (sym is)
+    ∙ ap (λ b. resident + cond b 1 0)
+    (ap is_resident_page (is_kind found.used)
+    ∙ resident_by_kind kind found.used used
+    ∙ sym (ap is_resident_page (is_kind used)))

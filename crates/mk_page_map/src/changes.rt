@@ -5,8 +5,7 @@ ghost use Rattle.mk_page_map.specs.KnownPages.{Shows, with_header, with_used};
 
 use crate::kinds::kind_of;
 use crate::page_map::PageMap;
-use crate::sets::put;
-use crate::sorting::{DIFFERING, QUARANTINED, sort_by_header, sort_by_used};
+use crate::sorting::{sort_by_header, sort_by_quarantine, sort_by_used};
 use mk_geom::Page;
 
 impl PageMap {
@@ -43,7 +42,6 @@ impl PageMap {
         ensures { (pages : List Page) (freed_words snapshots : List ℕ) → Shows self.old pages freed_words snapshots
             → Shows self.new pages (slice_set freed_words page freed) (slice_set snapshots page snapshot) }
     {
-        put(&mut self.sets, QUARANTINED, page, freed != 0);
-        put(&mut self.sets, DIFFERING, page, freed != snapshot);
+        sort_by_quarantine(&mut self.sets, page, freed, snapshot);
     }
 }

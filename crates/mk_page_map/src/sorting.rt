@@ -1,5 +1,5 @@
 //! The sets that a page is in by what stands on it.
-ghost use Rattle.std.specs.Prelude.{◌≡◌, ℕ, ◌<◌, ◌≤◌, ◌==◌, ◌&&◌, IfOk, false, nat_lt};
+ghost use Rattle.std.specs.Prelude.{◌≡◌, ℕ, ◌<◌, ◌≤◌, ◌==◌, ◌&&◌, IfOk, false, nat_lt, not};
 ghost use Rattle.mk_books.specs.FreeCells.{class_place};
 ghost use Rattle.mk_page_map.specs.PageSets.{AreSets, HasClass, IsSorted, OthersStay, is_member, is_of_set, use_of_kind};
 
@@ -97,6 +97,20 @@ pub(crate) fn sort_by_used(sets: &mut [u64], page: u64, kind: PageKind, used: u6
     if let PageKind::Block { class, leaf } = kind {
         put(sets, block_set(class, leaf), page, has_free_cell(class, used));
     }
+}
+
+/// Sorts a page anew whose quarantine word has changed.
+pub(crate) fn sort_by_quarantine(sets: &mut [u64], page: u64, freed: u64, snapshot: u64)
+    requires sets { AreSets sets.old }
+    requires page { page < 4096 }
+    ensures sets { AreSets sets.new }
+    ensures quarantined { is_member sets.new 18 page ≡ not (freed == 0) }
+    ensures differing { is_member sets.new 19 page ≡ not (freed == snapshot) }
+    ensures other_sets { (set : ℕ) → set < 18 → is_member sets.new set page ≡ is_member sets.old set page }
+    ensures other_pages { OthersStay sets.old sets.new page }
+{
+    put(sets, QUARANTINED, page, freed != 0);
+    put(sets, DIFFERING, page, freed != snapshot);
 }
 
 /// The sets of this many free pages.

@@ -1,11 +1,11 @@
-use Rattle.std.proofs.Common.{◌≡◌, ℕ, ◌+◌, ◌<◌, ◌≤◌, List, ◌++◌, take, drop, ◌∙◌, ap, arith, length, subst, sym}
-use Rattle.mk_page_map.specs.KnownPages.{KnownPages}
+use Rattle.std.proofs.Common.{◌≡◌, ℕ, ◌+◌, ◌<◌, ◌≤◌, List, ◌++◌, take, drop, ◌∙◌, ap, arith, length, sym}
 use Rattle.mk_geom.specs.declared.pages.Page.{Page}
 use Rattle.mk_page_map.specs.Members.{page_at}
 use Rattle.mk_page_map.specs.PageSets.{is_of_set}
 use Rattle.mk_page_map.proofs.Fitting.{resident_one}
 use Rattle.mk_page_map.proofs.FreeSets.{written}
-use Rattle.mk_page_map.proofs.Storing.{IsRead, Stores, counted_anew, read_there, resident_byte, store_fits, store_shows}
+use Rattle.mk_page_map.proofs.Storing.{Stores, counted_anew, page_read, page_within, resident_byte, store_fits}
+use Rattle.mk_page_map.proofs.Storing.{store_shows}
 use Rattle.mk_page_map.proofs.page_map.PageMap.header_stored.Goals as goal
 use Rattle.mk_page_map.proofs.page_map.PageMap.header_stored.Goals.{After-from-2}
 
@@ -13,7 +13,8 @@ abbrev now : After-from-2 → Page
 now c = record { header = c.args.header; used = c.index.result.now.used }
 
 within : (c : After-from-2) → c.args.page < length c.self.inside.pages.items
-within c = subst (λ (k : KnownPages). c.args.page < length k.pages) (sym c.self.view_is) c.requires
+within c = page_within c.args.self.now c.self.inside.pages.items c.self.inside.sets.items c.args.page c.self.view_is
+    c.requires
 
 stores : (c : After-from-2)
     → Stores c.self.inside.pages.items c.self.inside.sets.items c.deref_mut.result.now c.sort_by_header.new.sets
@@ -35,8 +36,8 @@ was_counted : (c : After-from-2) → c.from-2.result ≡ resident_one (page_at c
 was_counted c =
     resident_byte c.index-2.result.now c.kind_of-before.result c.is_resident-2.result c.from-2.result
     c.kind_of-before.ensures.kind c.is_resident-2.ensures c.from-2.ensures
-    ∙ ap resident_one (read_there c.self.inside.pages.items c.args.page c.index-2.result.now (within c)
-    c.index-2.ensures).is
+    ∙ ap resident_one
+    (page_read c.self.inside.pages.items c.args.page c.index-2.result.now (within c) c.index-2.ensures)
 
 is_counted : (c : After-from-2) → c.from.result ≡ resident_one (now c)
 is_counted c =
@@ -52,7 +53,8 @@ pub overflow_sub-self : goal.overflow_sub-self
 overflow_sub-self c = enough c
 
 same_sets : (c : After-from-2)
-    → take c.self.inside.sets.len (c.sort_by_header.new.sets ++ drop (length c.sort_by_header.new.sets) c.self.inside.sets.items)
+    → take c.self.inside.sets.len
+    (c.sort_by_header.new.sets ++ drop (length c.sort_by_header.new.sets) c.self.inside.sets.items)
     ≡ c.sort_by_header.new.sets
 same_sets c =
     written c.sort_by_header.new.sets c.self.inside.sets.items c.self.inside.sets.len
@@ -73,7 +75,7 @@ returns c pages freed snapshot shows =
     c.sort_by_header.new.sets _ freed snapshot c.self.inside.resident c.args.page (now x) _ (stores x) (same_sets x)
     c.self.view_is
     (λ same. ap (λ (n : ℕ). record { header = c.args.header; used = n })
-    (ap (λ (p : Page). p.used) (read_there c.self.inside.pages.items c.args.page c.index.result.now (within x)
-    c.index.ensures).is
+    (ap (λ (p : Page). p.used)
+    (page_read c.self.inside.pages.items c.args.page c.index.result.now (within x) c.index.ensures)
     ∙ ap (λ (ps : List Page). (page_at ps c.args.page).used) same))
     shows
