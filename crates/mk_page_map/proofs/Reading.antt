@@ -102,3 +102,14 @@ next_of_quarantine known held pages sets slice freed snapshot resident count set
     ∙ same (shows_held known held pages sets slice freed snapshot resident count shown) number within)
     (subst (λ (n : ℕ). IsNext (is_member slice set) from n next)
     (count_of_shown known held pages sets slice freed snapshot resident count shown) found)
+
+-- the next page of a set, by the pages as they are held
+pub next_of_held : (known : KnownPages) (held : List Page) (sets slice : List ℕ) (resident count set from : ℕ)
+    (passes : ℕ → Bool) (next : Option ℕ) → Reads known held sets slice resident count → set < 18
+    → ((number : ℕ) → is_of_set set (use_of_page (page_at held number)) ≡ passes number)
+    → IsNext (is_member slice set) from count next → IsNext passes from (length held) next
+next_of_held known held sets slice resident count set from passes next reads is_set same found =
+    same_next (is_member slice set) passes from (length held) next
+    (λ number within.
+    ap (λ xs. is_member xs set number) reads.is_slice ∙ reads.fit.sorted number within set is_set ∙ same number)
+    (subst (λ (n : ℕ). IsNext (is_member slice set) from n next) reads.is_count found)
