@@ -1,19 +1,18 @@
 -- The sets of blocks, by class and sort.
-use Rattle.std.proofs.Common.{◌≡◌, ℕ, ◌+◌, ◌*◌, ◌%◌, ◌<◌, ◌≤◌, Bool, true, false, not, ◌&&◌, nat_eq, nat_le, nat_lt, cond}
+use Rattle.std.proofs.Common.{◌≡◌, ℕ, ◌+◌, ◌%◌, ◌<◌, ◌≤◌, Bool, true, false, not, ◌&&◌, nat_eq, nat_le, nat_lt}
 use Rattle.std.proofs.Common.{List, [], refl, ap, sym, ◌∙◌, inl, inr, eqb-true, subst, arith}
 use Rattle.std.specs.Option.{is_some}
-use Rattle.std.proofs.lemmas.Bool.{cases_Bool, cases_lt, and_parts, cond-true, cond-false, lt-ltb, le-ltb, le-leb, lt-leb}
+use Rattle.std.proofs.lemmas.Bool.{cases_Bool, cases_lt, and_parts, cond-true, cond-false, lt-ltb, le-leb, lt-leb}
 use Rattle.std.proofs.lemmas.Bool.{cases_eq, not-true}
 use Rattle.std.proofs.Math.Nat.{div-le_self}
 use Rattle.mk_geom.specs.Classes.{cells_of, class_words_of}
-use Rattle.mk_geom.specs.PageUses.{PageUse, Nothing, Cells, PartOfRun, cells_taken, first_where, is_same_sort}
+use Rattle.mk_geom.specs.PageUses.{PageUse, Nothing, Cells, first_where, is_same_sort}
 use Rattle.mk_geom.specs.PageWords.{bits_of}
 use Rattle.mk_books.specs.FreeCells.{class_place}
 use Rattle.mk_books.proofs.FreeCellLemmas.{cells_taken_alike}
 use Rattle.mk_page_map.specs.Members.{has_free_cell}
 use Rattle.mk_page_map.specs.PageSets.{IsSorted, is_member, is_of_set, use_of_kind}
-use Rattle.mk_page_map.specs.declared.kinds.PageKind.{PageKind}
-use Rattle.mk_page_map.specs.declared.kinds.PageKind.TheVariants.{Free, Block, Run}
+use Rattle.mk_page_map.specs.declared.kinds.PageKind.TheVariants.{Block}
 
 pub of_block_set : (set : ℕ) (use' : PageUse) → set < 16
     → is_of_set set use' ≡ has_free_cell (set % 8) (nat_le 8 set) use'
@@ -73,12 +72,9 @@ of_other_set set class leaf taken block other =
       | inr differ ↦ ap (λ cells. is_some (first_where not cells)) (cond-false test taken [] differ)
     ]
 
--- what is no block is in no set of blocks
+-- a free page is in no set of blocks
 pub nothing_of_set : (set : ℕ) → set < 16 → is_of_set set Nothing ≡ false
 nothing_of_set set block = of_block_set set Nothing block
-
-pub run_of_set : (set : ℕ) (mapped : Bool) → set < 16 → is_of_set set (PartOfRun mapped) ≡ false
-run_of_set set mapped block = of_block_set set (PartOfRun mapped) block
 
 pub cells_few : (class : ℕ) → class < 8 → cells_of class ≤ 64
 cells_few class known = div-le_self 64 (class_words_of class)

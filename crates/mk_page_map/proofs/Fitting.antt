@@ -1,9 +1,9 @@
 -- The sets and the count stay fit for the pages where a page changes.
-use Rattle.std.proofs.Common.{◌≡◌, ℕ, ◌+◌, ◌<◌, ◌≤◌, Bool, false, cond, List, [], length, get_or, set, map, replicate}
-use Rattle.std.proofs.Common.{refl, ap, sym, ◌∙◌, inl, inr, arith, get_or-set_same, get_or-set_other, length-set, subst}
+use Rattle.std.proofs.Common.{◌≡◌, ℕ, ◌+◌, ◌<◌, cond, List, length, get_or, set}
+use Rattle.std.proofs.Common.{ap, sym, ◌∙◌, inl, inr, arith, get_or-set_same, get_or-set_other, length-set, subst}
 use Rattle.std.proofs.lemmas.Bool.{cases_eq}
 use Rattle.std.proofs.lemmas.List.{length-map, map-set, get_or-map}
-use Rattle.std.proofs.lemmas.List.Sums.{sum_by-set, count_by-le-length}
+use Rattle.std.proofs.lemmas.List.Sums.{sum_by-set}
 use Rattle.mk_geom.specs.declared.pages.Page.{Page}
 use Rattle.mk_geom.specs.Storages.{free_page}
 use Rattle.mk_geom.specs.PageUses.{PageUse, Nothing, is_resident_page, resident_pages}
@@ -26,17 +26,13 @@ pub resident_changed : (pages : List Page) (page : ℕ) (now : Page) → page < 
     → resident_pages (uses_of_pages (set pages page now)) + resident_one (page_at pages page)
     ≡ resident_pages (uses_of_pages pages) + resident_one now
 resident_changed pages page now within =
-    let one = λ (u : PageUse). cond (is_resident_page u) 1 0 in
+    let one : PageUse → ℕ = λ u. cond (is_resident_page u) 1 0 in
     let long : page < length (uses_of_pages pages) = omega (arith, length-map pages use_of_page) in
     ap (λ u. resident_pages (uses_of_pages (set pages page now)) + one u)
     (sym (get_or-map use_of_page pages page free_page Nothing within))
     ∙ ap (λ uses. resident_pages uses + one (get_or (uses_of_pages pages) page Nothing))
     (map-set use_of_page pages page now)
     ∙ sum_by-set one (uses_of_pages pages) page (use_of_page now) Nothing long
-
-pub resident_few : (pages : List Page) → resident_pages (uses_of_pages pages) ≤ length pages
-resident_few pages =
-    omega (arith, count_by-le-length is_resident_page (uses_of_pages pages), length-map pages use_of_page)
 
 pub fit_changed : (pages : List Page) (sets after : List ℕ) (page : ℕ) (now : Page) (resident count : ℕ)
     → FitPages pages sets resident → Changes pages sets after page now

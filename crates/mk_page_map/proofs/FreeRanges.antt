@@ -1,12 +1,12 @@
 -- The lowest range of free pages, from one range to the next.
-use Rattle.std.proofs.Common.{◌≡◌, ℕ, zero, suc, ◌+◌, ◌-◌, ◌<◌, ◌≤◌, Bool, true, false, not, List, [], length, get_or, drop}
-use Rattle.std.proofs.Common.{Option, Some, None, refl, ap, sym, ◌∙◌, inl, inr, arith}
+use Rattle.std.proofs.Common.{◌≡◌, ℕ, zero, suc, ◌+◌, ◌-◌, ◌<◌, ◌≤◌, Bool, true, false, List, length}
+use Rattle.std.proofs.Common.{Option, Some, None, ap, sym, ◌∙◌, inl, inr, arith}
 use Rattle.std.specs.Option.{unwrap_or}
 use Rattle.std.proofs.lemmas.Bool.{both_ways, cases_lt, not-false, not-true}
 use Rattle.std.proofs.lemmas.List.{at_drop_all}
 use Rattle.mk_geom.specs.declared.pages.Page.{Page}
 use Rattle.mk_geom.specs.Storages.{free_page}
-use Rattle.mk_geom.specs.PageUses.{is_free_page, free_range, range_start}
+use Rattle.mk_geom.specs.PageUses.{is_free_page, free_range}
 use Rattle.mk_geom.specs.PageWords.{use_of_page, uses_of_pages}
 use Rattle.mk_books.proofs.FreeRangeLemmas.{free_range_from, free_range_from-free, free_range_from-taken}
 use Rattle.mk_books.proofs.FreeRangeLemmas.{range_start_from, first-skip, first-here, first-end}

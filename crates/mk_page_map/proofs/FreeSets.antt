@@ -1,6 +1,6 @@
 -- The sets of a heap whose pages are all free.
-use Rattle.std.proofs.Common.{◌≡◌, ℕ, zero, suc, cond, subst, ◌+◌, ◌*◌, ◌/◌, ◌%◌, ◌<◌, ◌≤◌, Bool, true, false, not, ◌&&◌, nat_eq, nat_lt, List}
-use Rattle.std.proofs.Common.{get_or, length, take, drop, ◌++◌, replicate, refl, ap, sym, ◌∙◌, inl, inr, eq-eqb, arith}
+use Rattle.std.proofs.Common.{◌≡◌, ℕ, zero, suc, cond, subst, ◌+◌, ◌*◌, ◌/◌, ◌%◌, ◌<◌, ◌≤◌, true, false, not, ◌&&◌, nat_eq, nat_lt, List}
+use Rattle.std.proofs.Common.{get_or, length, take, drop, ◌++◌, replicate, refl, ap, sym, ◌∙◌, inl, inr, arith}
 use Rattle.std.specs.Int.{bit_at}
 use Rattle.std.proofs.lemmas.Bool.{and_left, and_right, cases_eq, cases_lt, le-ltb, lt-ltb, ne_eqb}
 use Rattle.std.proofs.lemmas.List.{get_or-replicate, get_or_past, length-replicate, take_at}
@@ -12,8 +12,7 @@ use Rattle.mk_geom.specs.PageUses.{PageUse, Nothing, is_resident_page, resident_
 use Rattle.mk_geom.specs.PageWords.{use_of_page, uses_of_pages}
 use Rattle.mk_page_map.specs.KnownPages.{Shows}
 use Rattle.mk_page_map.specs.Members.{page_at}
-use Rattle.mk_page_map.specs.PageSets.{AreSets, FitPages, IsSorted, OthersStay, is_member, is_of_set, summary_of}
-use Rattle.mk_page_map.specs.PageSets.{word_in_set}
+use Rattle.mk_page_map.specs.PageSets.{AreSets, FitPages, IsSorted, OthersStay, is_member, is_of_set}
 use Rattle.mk_page_map.proofs.BlockSets.{OtherSetsStay, each_set, nothing_of_set}
 use Rattle.mk_page_map.proofs.Showing.{known_by, member_at}
 
@@ -87,8 +86,12 @@ written new old n long = take_at new (drop (length new) old) n long
 none_resident : (n : ℕ) → 0 ≡ resident_pages (uses_of_pages (replicate n free_page))
 none_resident zero = refl
 none_resident (suc n) =
-    omega (arith, none_resident n, sum_by-cons (λ (u : PageUse). cond (is_resident_page u) 1 0) Nothing
-    (uses_of_pages (replicate n free_page)))
+    omega (
+      arith,
+      none_resident n,
+      sum_by-cons (λ (u : PageUse). cond (is_resident_page u) 1 0) Nothing
+          (uses_of_pages (replicate n free_page)),
+    )
 
 free_at : (n number : ℕ) → number < n → page_at (replicate n free_page) number ≡ free_page
 free_at n number within = get_or-replicate n number free_page free_page within

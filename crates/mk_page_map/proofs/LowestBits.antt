@@ -1,5 +1,5 @@
 -- The lowest 1 of a word, from a place on, and a word with one bit put.
-use Rattle.std.proofs.Common.{◌≡◌, ℕ, ◌-◌, ◌*◌, ◌%◌, ◌^◌, ◌<◌, ◌≤◌, min, Bool, true, false, nat_eq, Some, None, bit_and, bit_or}
+use Rattle.std.proofs.Common.{◌≡◌, ℕ, ◌-◌, ◌*◌, ◌%◌, ◌^◌, ◌<◌, ◌≤◌, min, true, false, nat_eq, Some, None, bit_and, bit_or}
 use Rattle.std.proofs.Common.{w64, ap, sym, ◌∙◌, inl, inr, eq-eqb, arith}
 use Rattle.std.specs.Int.{bit_at, bit_not}
 use Rattle.std.proofs.lemmas.Bool.{cases_lt}

@@ -1,11 +1,11 @@
 -- What a map shows, by its pages and sets.
-use Rattle.std.proofs.Common.{◌≡◌, ℕ, ◌+◌, ◌<◌, ◌≤◌, Bool, false, not, nat_eq, List, [], length, get_or, set, map}
-use Rattle.std.proofs.Common.{refl, ap, sym, ◌∙◌, inl, inr, arith, get_or-set_same, get_or-set_other, length-set}
+use Rattle.std.proofs.Common.{◌≡◌, ℕ, ◌<◌, ◌≤◌, false, not, nat_eq, List, length, get_or, set}
+use Rattle.std.proofs.Common.{ap, sym, ◌∙◌, inl, inr, arith, get_or-set_same, get_or-set_other, length-set}
 use Rattle.std.proofs.lemmas.Bool.{cases_eq}
 use Rattle.std.proofs.lemmas.List.FromFn.{get_or-map-range_with_len}
 use Rattle.mk_geom.specs.declared.pages.Page.{Page}
 use Rattle.mk_page_map.specs.KnownPages.{KnownPages, Shows}
-use Rattle.mk_page_map.specs.Members.{has_freed_cells, has_other_cells, page_at}
+use Rattle.mk_page_map.specs.Members.{has_freed_cells, has_other_cells}
 use Rattle.mk_page_map.specs.PageSets.{OthersStay, is_member, members}
 
 abbrev pub known_by : List Page → List ℕ → KnownPages
@@ -46,7 +46,7 @@ changed_shows held pages sets after freed snapshot page now few others same_sets
     let held_long : length (set held page now) ≡ length held = length-set held page now in
     let pages_long : length (set pages page now) ≡ length pages = length-set pages page now in
     let stays : (s number : ℕ) → 18 ≤ s → s < 20 → number < length pages
-        → is_member after s number ≡ is_member sets s number
+    → is_member after s number ≡ is_member sets s number
     = λ s number quarantine is_set within. elim (cases_eq number page) [
       | inl same ↦ ap (is_member after s) same ∙ same_sets s quarantine is_set ∙ ap (is_member sets s) (sym same)
       | inr differ ↦ others s number is_set (omega arith) differ

@@ -21,7 +21,8 @@ impl PageMap {
         let after = kind_of(header);
         self.pages[place] = Page { header, used };
         sort_by_header(&mut self.sets, page, before, after, used);
-        self.resident = self.resident + u64::from(after.is_resident()) - u64::from(before.is_resident());
+        self.resident = self.resident + u64::from(after.is_resident())
+            - u64::from(before.is_resident());
     }
 
     /// A used word was stored.

@@ -60,12 +60,23 @@ fn join_blocks(sets: &mut [u64], page: u64, kind: PageKind, used: u64)
     ensures other_pages { OthersStay sets.old sets.new page }
 {
     if let PageKind::Block { class, leaf } = kind {
-        put(sets, block_set(class, leaf), page, has_free_cell(class, used));
+        put(
+            sets,
+            block_set(class, leaf),
+            page,
+            has_free_cell(class, used),
+        );
     }
 }
 
 /// Sorts a page anew whose header word has changed.
-pub(crate) fn sort_by_header(sets: &mut [u64], page: u64, before: PageKind, after: PageKind, used: u64)
+pub(crate) fn sort_by_header(
+    sets: &mut [u64],
+    page: u64,
+    before: PageKind,
+    after: PageKind,
+    used: u64,
+)
     requires sets { AreSets sets.old }
     requires page { page < 4096 }
     requires class_before { HasClass before }
@@ -95,7 +106,12 @@ pub(crate) fn sort_by_used(sets: &mut [u64], page: u64, kind: PageKind, used: u6
     ensures other_pages { OthersStay sets.old sets.new page }
 {
     if let PageKind::Block { class, leaf } = kind {
-        put(sets, block_set(class, leaf), page, has_free_cell(class, used));
+        put(
+            sets,
+            block_set(class, leaf),
+            page,
+            has_free_cell(class, used),
+        );
     }
 }
 

@@ -1,4 +1,4 @@
-use Rattle.std.proofs.Common.{◌≡◌, ℕ, Bool, true, false, nat_lt, w64, ap, sym, ◌∙◌, refl, arith}
+use Rattle.std.proofs.Common.{◌≡◌, ℕ, Bool, true, false, nat_lt, w64, ap, sym, ◌∙◌, refl}
 use Rattle.std.specs.Int.{trailing_ones}
 use Rattle.std.specs.Option.{is_some}
 use Rattle.std.specs.Bool.{then_some}

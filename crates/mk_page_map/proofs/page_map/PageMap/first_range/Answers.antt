@@ -1,4 +1,4 @@
-use Rattle.std.proofs.Common.{◌≡◌, ℕ, ◌<◌, ◌≤◌, Option, Some, None, length, refl, subst, ap, sym, ◌∙◌, arith}
+use Rattle.std.proofs.Common.{◌≡◌, ℕ, ◌<◌, ◌≤◌, Some, None, length, refl, subst, ap, sym, ◌∙◌, arith}
 use Rattle.std.specs.Option.{unwrap_or}
 use Rattle.mk_geom.specs.PageUses.{range_start}
 use Rattle.mk_geom.specs.PageWords.{uses_of_pages}
@@ -6,7 +6,7 @@ use Rattle.mk_books.proofs.FreeRangeLemmas.{range_start_from}
 use Rattle.mk_page_map.specs.Members.{IsNext, is_in_use}
 use Rattle.mk_page_map.proofs.FreeRanges.{IsRange, is_free_at, no_range, past_pages_in_use, range_from, range_is_long}
 use Rattle.mk_page_map.proofs.FreeRanges.{range_is_short}
-use Rattle.mk_page_map.proofs.Reading.{Reads, next_of_held, no_others_there}
+use Rattle.mk_page_map.proofs.Reading.{next_of_held, no_others_there}
 use Rattle.mk_page_map.proofs.page_map.PageMap.first_range.Goals as goal
 use Rattle.mk_page_map.proofs.page_map.PageMap.first_range.Goals.{After-unwrap_or-end}
 
@@ -102,7 +102,7 @@ loop-start-preserved c =
     record {
       begun = omega (arith, (range x).within, c.len-pages.ensures, c.self.inside.pages.ok.0);
       rest = sym (range_is_short c.in-Some.start c.unwrap_or-end.result c.args.count c.self.inside.pages.items
-      c.requires (range x) c.if-end-start.false)
+          c.requires (range x) c.if-end-start.false)
           ∙ from_there x;
     }
 

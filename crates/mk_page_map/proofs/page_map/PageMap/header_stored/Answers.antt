@@ -58,8 +58,12 @@ same_sets : (c : After-from-2)
     ≡ c.sort_by_header.new.sets
 same_sets c =
     written c.sort_by_header.new.sets c.self.inside.sets.items c.self.inside.sets.len
-    (omega (arith, c.sort_by_header.ensures.sets.long, (c.self.invariant.are_sets (omega (arith, within c))).long,
-    c.self.inside.sets.ok.0))
+    (omega (
+      arith,
+      c.sort_by_header.ensures.sets.long,
+      (c.self.invariant.are_sets (omega (arith, within c))).long,
+      c.self.inside.sets.ok.0,
+    ))
 
 pub invariant_of-self : goal.invariant_of-self
 invariant_of-self c =

@@ -1,4 +1,4 @@
-use Rattle.std.proofs.Common.{◌≡◌, ℕ, List, replicate, subst, sym}
+use Rattle.std.proofs.Common.{◌≡◌, List, replicate, subst, sym}
 use Rattle.mk_geom.specs.declared.pages.Page.{Page}
 use Rattle.mk_geom.specs.Storages.{free_page}
 use Rattle.mk_page_map.specs.KnownPages.{Shows}

@@ -18,8 +18,12 @@ same_sets : (c : After-sort_by_quarantine)
     ≡ c.sort_by_quarantine.new.sets
 same_sets c =
     written c.sort_by_quarantine.new.sets c.self.inside.sets.items c.self.inside.sets.len
-    (omega (arith, c.sort_by_quarantine.ensures.sets.long,
-    (c.self.invariant.are_sets (omega (arith, within c))).long, c.self.inside.sets.ok.0))
+    (omega (
+      arith,
+      c.sort_by_quarantine.ensures.sets.long,
+      (c.self.invariant.are_sets (omega (arith, within c))).long,
+      c.self.inside.sets.ok.0,
+    ))
 
 others : (c : After-sort_by_quarantine)
     → OthersStay c.self.inside.sets.items c.sort_by_quarantine.new.sets c.args.page

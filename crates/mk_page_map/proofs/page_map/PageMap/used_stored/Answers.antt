@@ -1,4 +1,4 @@
-use Rattle.std.proofs.Common.{◌≡◌, ℕ, ◌+◌, ◌<◌, ◌≤◌, List, ◌++◌, take, drop, ◌∙◌, ap, arith, length, sym}
+use Rattle.std.proofs.Common.{◌≡◌, ℕ, ◌<◌, List, ◌++◌, take, drop, ◌∙◌, ap, arith, length, sym}
 use Rattle.mk_geom.specs.declared.pages.Page.{Page}
 use Rattle.mk_geom.specs.PageWords.{use_of_page}
 use Rattle.mk_page_map.specs.Members.{page_at}
@@ -53,8 +53,12 @@ same_sets : (c : After-sort_by_used)
     ≡ c.sort_by_used.new.sets
 same_sets c =
     written c.sort_by_used.new.sets c.self.inside.sets.items c.self.inside.sets.len
-    (omega (arith, c.sort_by_used.ensures.sets.long,
-    (c.self.invariant.are_sets (omega (arith, within c))).long, c.self.inside.sets.ok.0))
+    (omega (
+      arith,
+      c.sort_by_used.ensures.sets.long,
+      (c.self.invariant.are_sets (omega (arith, within c))).long,
+      c.self.inside.sets.ok.0,
+    ))
 
 pub invariant_of-self : goal.invariant_of-self
 invariant_of-self c =
