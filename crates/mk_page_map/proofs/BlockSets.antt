@@ -11,7 +11,7 @@ use Rattle.mk_geom.specs.PageWords.{bits_of}
 use Rattle.mk_books.specs.FreeCells.{class_place}
 use Rattle.mk_books.proofs.FreeCellLemmas.{cells_taken_alike}
 use Rattle.mk_page_map.specs.Members.{has_free_cell}
-use Rattle.mk_page_map.specs.PageSets.{IsSorted, is_member, is_of_set, use_of_kind}
+use Rattle.mk_page_map.specs.PageSets.{IsInItsSets, is_member, is_of_set, use_of_kind}
 use Rattle.mk_page_map.specs.declared.kinds.PageKind.TheVariants.{Block}
 
 pub of_block_set : (set : ℕ) (use' : PageUse) → set < 16
@@ -86,7 +86,7 @@ OtherSetsStay before after page place =
 
 pub left_blocks : (before after : List ℕ) (page class place used : ℕ) (leaf : Bool) → class < 8
     → place ≡ class_place class leaf → is_member after place page ≡ false → OtherSetsStay before after page place
-    → IsSorted before page (use_of_kind (Block class leaf) used) → (set : ℕ) → set < 16
+    → IsInItsSets before page (use_of_kind (Block class leaf) used) → (set : ℕ) → set < 16
     → is_member after set page ≡ false
 left_blocks before after page class place used leaf known is out stay sorted set block = elim (cases_eq set place) [
   | inl same ↦ ap (λ s. is_member after s page) same ∙ out
@@ -140,8 +140,8 @@ same_elsewhere set class leaf earlier used is_set other =
 pub sorted_anew : (before after : List ℕ) (page class place earlier used : ℕ) (leaf free : Bool) → class < 8
     → place ≡ class_place class leaf → place < 16 → free ≡ is_some (first_where not (bits_of (cells_of class) used))
     → is_member after place page ≡ free → OtherSetsStay before after page place
-    → IsSorted before page (use_of_kind (Block class leaf) earlier)
-    → IsSorted after page (use_of_kind (Block class leaf) used)
+    → IsInItsSets before page (use_of_kind (Block class leaf) earlier)
+    → IsInItsSets after page (use_of_kind (Block class leaf) used)
 sorted_anew before after page class place earlier used leaf free known is low is_free put stay sorted set is_set =
     elim (cases_eq set place) [
       | inl same ↦

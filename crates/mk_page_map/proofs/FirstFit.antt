@@ -1,10 +1,12 @@
 -- The place of a small object is in the lowest block that has a free cell.
-use Rattle.std.proofs.Common.{◌≡◌, ℕ, ◌+◌, Bool, false, not, List, [], ◌∷◌, Option, Some, None, option_map, option_and_then}
+use Rattle.std.proofs.Common.{◌≡◌, ℕ, ◌+◌, Bool, false, not, List, [], ◌∷◌, Option, Some, None, option_map}
+use Rattle.std.proofs.Common.{option_and_then}
 use Rattle.std.proofs.Common.{nat_lt, if◌then◌else◌, refl, ap, sym, ◌∙◌, add-one}
 use Rattle.std.specs.Option.{is_some}
 use Rattle.mk_geom.specs.declared.pages.Page.{Page}
 use Rattle.mk_geom.specs.declared.pages.Place.{Place}
-use Rattle.mk_geom.specs.PageUses.{cell_place, cells_taken, first_where, or_else, page_behind, is_free_page, resident_pages}
+use Rattle.mk_geom.specs.PageUses.{cell_place, cells_taken, first_where, or_else, page_behind, is_free_page}
+use Rattle.mk_geom.specs.PageUses.{resident_pages}
 use Rattle.mk_geom.specs.PageUses.{carved}
 use Rattle.mk_geom.specs.PageWords.{use_of_page, uses_of_pages}
 use Rattle.mk_page_map.specs.Laws.{LowestBlockHasThePlace, free_cell_on}
@@ -15,7 +17,8 @@ cell_here number index = record { page = number; index = index; carve = false }
 
 -- the free cell of a page, one page further on
 one_on : (class number : ℕ) (leaf : Bool) (page : Page) (pages : List Page)
-    → option_map page_behind (free_cell_on class leaf pages number) ≡ free_cell_on class leaf (page ∷ pages) (number + 1)
+    → option_map page_behind (free_cell_on class leaf pages number)
+    ≡ free_cell_on class leaf (page ∷ pages) (number + 1)
 one_on class number leaf page pages =
     moved (first_where not (cells_taken class leaf (use_of_page (page_at pages number))))
     ∙ ap (λ p. option_map (cell_here (number + 1)) (first_where not (cells_taken class leaf (use_of_page p))))

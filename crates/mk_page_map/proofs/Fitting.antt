@@ -9,7 +9,7 @@ use Rattle.mk_geom.specs.Storages.{free_page}
 use Rattle.mk_geom.specs.PageUses.{PageUse, Nothing, is_resident_page, resident_pages}
 use Rattle.mk_geom.specs.PageWords.{use_of_page, uses_of_pages}
 use Rattle.mk_page_map.specs.Members.{page_at}
-use Rattle.mk_page_map.specs.PageSets.{AreSets, FitPages, IsSorted, OthersStay, is_member}
+use Rattle.mk_page_map.specs.PageSets.{AreSets, FitPages, IsInItsSets, OthersStay, is_member}
 
 -- 1 for a resident page
 abbrev pub resident_one : Page → ℕ
@@ -19,7 +19,7 @@ resident_one page = cond (is_resident_page (use_of_page page)) 1 0
 pub record Changes (pages : List Page) (sets after : List ℕ) (page : ℕ) (now : Page) : Type 0 where
   pub within : page < length pages
   pub are_sets : AreSets after
-  pub sorted : IsSorted after page (use_of_page now)
+  pub sorted : IsInItsSets after page (use_of_page now)
   pub others : OthersStay sets after page
 
 pub resident_changed : (pages : List Page) (page : ℕ) (now : Page) → page < length pages
@@ -45,13 +45,13 @@ fit_changed pages sets after page now resident count fit changes counted =
       are_sets = λ some. changes.are_sets;
       sorted = λ number within. elim (cases_eq number page) [
         | inl same ↦
-            subst (λ (k : ℕ). IsSorted after k (use_of_page (page_at (set pages page now) k))) (sym same)
-            (subst (λ (p : Page). IsSorted after page (use_of_page p))
+            subst (λ (k : ℕ). IsInItsSets after k (use_of_page (page_at (set pages page now) k))) (sym same)
+            (subst (λ (p : Page). IsInItsSets after page (use_of_page p))
             (sym (get_or-set_same pages page now free_page changes.within)) changes.sorted)
         | inr differ ↦
             λ s is_set.
             changes.others s number (omega arith) (omega (arith, fit.few)) differ
-            ∙ subst (λ (p : Page). IsSorted sets number (use_of_page p))
+            ∙ subst (λ (p : Page). IsInItsSets sets number (use_of_page p))
             (sym (get_or-set_other pages page number now free_page differ)) (fit.sorted number (omega arith)) s is_set
       ];
       no_others = λ s number is_set past few.

@@ -1,5 +1,6 @@
 -- The sets of a heap whose pages are all free.
-use Rattle.std.proofs.Common.{◌≡◌, ℕ, zero, suc, cond, subst, ◌+◌, ◌*◌, ◌/◌, ◌%◌, ◌<◌, ◌≤◌, true, false, not, ◌&&◌, nat_eq, nat_lt, List}
+use Rattle.std.proofs.Common.{◌≡◌, ℕ, zero, suc, cond, subst, ◌+◌, ◌*◌, ◌/◌, ◌%◌, ◌<◌, ◌≤◌, true, false, not, ◌&&◌}
+use Rattle.std.proofs.Common.{nat_eq, nat_lt, List}
 use Rattle.std.proofs.Common.{get_or, length, take, drop, ◌++◌, replicate, refl, ap, sym, ◌∙◌, inl, inr, arith}
 use Rattle.std.specs.Int.{bit_at}
 use Rattle.std.proofs.lemmas.Bool.{and_left, and_right, cases_eq, cases_lt, le-ltb, lt-ltb, ne_eqb}
@@ -12,7 +13,7 @@ use Rattle.mk_geom.specs.PageUses.{PageUse, Nothing, is_resident_page, resident_
 use Rattle.mk_geom.specs.PageWords.{use_of_page, uses_of_pages}
 use Rattle.mk_page_map.specs.KnownPages.{Shows}
 use Rattle.mk_page_map.specs.Members.{page_at}
-use Rattle.mk_page_map.specs.PageSets.{AreSets, FitPages, IsSorted, OthersStay, is_member, is_of_set}
+use Rattle.mk_page_map.specs.PageSets.{AreSets, FitPages, IsInItsSets, OthersStay, is_member, is_of_set}
 use Rattle.mk_page_map.proofs.BlockSets.{OtherSetsStay, each_set, nothing_of_set}
 use Rattle.mk_page_map.proofs.Showing.{known_by, member_at}
 
@@ -104,7 +105,7 @@ free_fits n sets few are_sets free =
       few = omega arith;
       are_sets = λ some. are_sets;
       sorted = λ number within.
-          subst (λ (p : Page). IsSorted sets number (use_of_page p)) (sym (free_at n number (omega arith)))
+          subst (λ (p : Page). IsInItsSets sets number (use_of_page p)) (sym (free_at n number (omega arith)))
           (each_set (λ s. is_member sets s number ≡ is_of_set s Nothing)
           (λ s block.
           free s number (omega arith) (omega arith)

@@ -77,7 +77,8 @@ put_are_sets sets s page inside word summary puts =
               ∙ ap (λ b. nat_eq b 1) (puts.other_marks w within there)
               ∙ puts.are_sets.summaries s w puts.is_set within
               ∙ sym (ap (λ t. not (nat_eq (word_in_set (after_put sets s page word summary) t w) 0)) same
-              ∙ ap (λ n. not (nat_eq n 0)) (other_word sets s page word summary s w within puts.is_page (λ _ here. there here)))
+              ∙ ap (λ n. not (nat_eq n 0))
+              (other_word sets s page word summary s w within puts.is_page (λ _ here. there here)))
         ]
         | inr differ ↦
             ap (λ n. nat_eq (bit_at n w) 1) (other_summary sets s page word summary other puts.is_page differ)

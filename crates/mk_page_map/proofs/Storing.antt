@@ -1,5 +1,6 @@
 -- A store of a page's header or used word keeps a map in step.
-use Rattle.std.proofs.Common.{◌≡◌, ℕ, ◌+◌, ◌<◌, ◌≤◌, Bool, true, false, cond, List, length, set, slice_index_or, refl, ap, sym, ◌∙◌}
+use Rattle.std.proofs.Common.{◌≡◌, ℕ, ◌+◌, ◌<◌, ◌≤◌, Bool, true, false, cond, List, length, set, slice_index_or, refl}
+use Rattle.std.proofs.Common.{ap, sym, ◌∙◌}
 use Rattle.std.proofs.Common.{subst, arith}
 use Rattle.std.specs.Int.{from_bool}
 use Rattle.std.proofs.lemmas.List.{get_or_read}
@@ -12,7 +13,7 @@ use Rattle.mk_page_map.specs.declared.kinds.PageKind.{PageKind}
 use Rattle.mk_page_map.specs.declared.kinds.PageKind.TheVariants.{Free, Block, Run}
 use Rattle.mk_page_map.specs.KnownPages.{KnownPages, Shows}
 use Rattle.mk_page_map.specs.Members.{page_at}
-use Rattle.mk_page_map.specs.PageSets.{AreSets, FitPages, IsSorted, OthersStay, is_member, use_of_kind}
+use Rattle.mk_page_map.specs.PageSets.{AreSets, FitPages, IsInItsSets, OthersStay, is_member, use_of_kind}
 use Rattle.mk_page_map.proofs.Fitting.{Changes, fit_changed, resident_changed, resident_one}
 use Rattle.mk_page_map.proofs.Showing.{changed_shows, known_by}
 
@@ -22,7 +23,7 @@ pub record Stores (held : List Page) (sets slice after : List ℕ) (resident pag
   pub within : page < length held
   pub is_slice : slice ≡ sets
   pub are_sets : AreSets after
-  pub sorted : IsSorted after page (use_of_page now)
+  pub sorted : IsInItsSets after page (use_of_page now)
   pub quarantine : (s : ℕ) → 18 ≤ s → s < 20 → is_member after s page ≡ is_member slice s page
   pub others : OthersStay slice after page
 

@@ -19,6 +19,7 @@ abbrev pub LowestBlockHasThePlace : Type 0
 LowestBlockHasThePlace =
     (limit class : ℕ) (leaf : Bool) (pages : List Page)
     → small_place limit class leaf (uses_of_pages pages)
-    ≡ or_else (option_and_then (free_cell_on class leaf pages) (first_where (has_free_cell class leaf) (uses_of_pages pages)))
+    ≡ or_else
+    (option_and_then (free_cell_on class leaf pages) (first_where (has_free_cell class leaf) (uses_of_pages pages)))
     (if nat_lt (resident_pages (uses_of_pages pages)) limit
     then option_map carved (first_where is_free_page (uses_of_pages pages)) else None)

@@ -34,21 +34,23 @@ is_of_set set stands =
     if nat_lt set 16 then has_free_cell (set % 8) (nat_le 8 set) stands
     else if set == 16 then is_free_page stands else not (is_free_page stands)
 
--- a page is in those of them that it is of
-abbrev pub IsSorted : List ℕ → ℕ → PageUse → Type 0
-IsSorted sets number stands = (set : ℕ) → set < 18 → is_member sets set number ≡ is_of_set set stands
+-- a page is in those of these 18 that it is of, and in no other
+abbrev pub IsInItsSets : List ℕ → ℕ → PageUse → Type 0
+IsInItsSets sets number stands = (set : ℕ) → set < 18 → is_member sets set number ≡ is_of_set set stands
 
 -- all other pages are in the sets that they were in
 abbrev pub OthersStay : List ℕ → List ℕ → ℕ → Type 0
 OthersStay before after page =
-    (set number : ℕ) → set < 20 → number < 4096 → (number ≡ page → ⊥) → is_member after set number ≡ is_member before set number
+    (set number : ℕ) → set < 20 → number < 4096 → (number ≡ page → ⊥)
+    → is_member after set number ≡ is_member before set number
 
 -- the sets and the count of resident pages fit the pages
 pub record FitPages (pages : List Page) (sets : List ℕ) (resident : ℕ) : Type 0 where
   pub few : length pages ≤ 4096
   pub are_sets : 0 < length pages → AreSets sets
-  pub sorted : (number : ℕ) → number < length pages → IsSorted sets number (use_of_page (page_at pages number))
-  pub no_others : (set number : ℕ) → set < 20 → length pages ≤ number → number < 4096 → is_member sets set number ≡ false
+  pub sorted : (number : ℕ) → number < length pages → IsInItsSets sets number (use_of_page (page_at pages number))
+  pub no_others : (set number : ℕ) → set < 20 → length pages ≤ number → number < 4096
+      → is_member sets set number ≡ false
   pub counted : resident ≡ resident_pages (uses_of_pages pages)
 
 -- of each of this many pages whether it is in the set

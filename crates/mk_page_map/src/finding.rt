@@ -4,7 +4,8 @@ ghost use Rattle.mk_geom.specs.declared.pages.Page.{Page};
 ghost use Rattle.mk_geom.specs.PageUses.{first_where, is_free_page, range_start, resident_pages};
 ghost use Rattle.mk_geom.specs.PageWords.{uses_of_pages};
 ghost use Rattle.mk_page_map.specs.KnownPages.{Shows};
-ghost use Rattle.mk_page_map.specs.Members.{IsNext, has_free_cell, has_freed_cells, has_other_cells, is_in_use, page_at};
+ghost use Rattle.mk_page_map.specs.Members.{IsNext, has_free_cell, has_freed_cells, has_other_cells, is_in_use};
+ghost use Rattle.mk_page_map.specs.Members.{page_at};
 ghost use Rattle.mk_page_map.specs.PageSets.{AreSets, is_member};
 
 use crate::page_map::PageMap;

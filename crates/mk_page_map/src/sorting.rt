@@ -1,7 +1,8 @@
 //! The sets that a page is in by what stands on it.
 ghost use Rattle.std.specs.Prelude.{◌≡◌, ℕ, ◌<◌, ◌≤◌, ◌==◌, ◌&&◌, IfOk, false, nat_lt, not};
 ghost use Rattle.mk_books.specs.FreeCells.{class_place};
-ghost use Rattle.mk_page_map.specs.PageSets.{AreSets, HasClass, IsSorted, OthersStay, is_member, is_of_set, use_of_kind};
+ghost use Rattle.mk_page_map.specs.PageSets.{AreSets, HasClass, IsInItsSets, OthersStay, is_member, is_of_set};
+ghost use Rattle.mk_page_map.specs.PageSets.{use_of_kind};
 
 use crate::kinds::{PageKind, has_free_cell};
 use crate::sets::{SET_WORDS, put};
@@ -37,7 +38,7 @@ fn leave_blocks(sets: &mut [u64], page: u64, kind: PageKind)
     requires sets { AreSets sets.old }
     requires page { page < 4096 }
     requires class { HasClass kind }
-    requires sorted { (used : ℕ) × IsSorted sets.old page (use_of_kind kind used) }
+    requires sorted { (used : ℕ) × IsInItsSets sets.old page (use_of_kind kind used) }
     ensures sets { AreSets sets.new }
     ensures left { (set : ℕ) → set < 16 → is_member sets.new set page ≡ false }
     ensures other_sets { (set : ℕ) → 16 ≤ set → set < 20 → is_member sets.new set page ≡ is_member sets.old set page }
@@ -81,9 +82,9 @@ pub(crate) fn sort_by_header(
     requires page { page < 4096 }
     requires class_before { HasClass before }
     requires class_after { HasClass after }
-    requires sorted { IsSorted sets.old page (use_of_kind before used) }
+    requires sorted { IsInItsSets sets.old page (use_of_kind before used) }
     ensures sets { AreSets sets.new }
-    ensures sorted { IsSorted sets.new page (use_of_kind after used) }
+    ensures sorted { IsInItsSets sets.new page (use_of_kind after used) }
     ensures other_sets { (set : ℕ) → 18 ≤ set → set < 20 → is_member sets.new set page ≡ is_member sets.old set page }
     ensures other_pages { OthersStay sets.old sets.new page }
 {
@@ -99,9 +100,9 @@ pub(crate) fn sort_by_used(sets: &mut [u64], page: u64, kind: PageKind, used: u6
     requires sets { AreSets sets.old }
     requires page { page < 4096 }
     requires class { HasClass kind }
-    requires sorted { (before : ℕ) × IsSorted sets.old page (use_of_kind kind before) }
+    requires sorted { (before : ℕ) × IsInItsSets sets.old page (use_of_kind kind before) }
     ensures sets { AreSets sets.new }
-    ensures sorted { IsSorted sets.new page (use_of_kind kind used) }
+    ensures sorted { IsInItsSets sets.new page (use_of_kind kind used) }
     ensures other_sets { (set : ℕ) → 18 ≤ set → set < 20 → is_member sets.new set page ≡ is_member sets.old set page }
     ensures other_pages { OthersStay sets.old sets.new page }
 {

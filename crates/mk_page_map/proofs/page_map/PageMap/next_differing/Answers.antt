@@ -18,8 +18,9 @@ next_page-requires-clause-no_others c =
 
 pub returns : goal.returns
 returns c pages freed snapshot shows =
-    next_of_quarantine c.args.self.now c.self.inside.pages.items pages c.self.inside.sets.items c.deref.result.now freed snapshot
-    c.self.inside.resident c.len.result 19 c.args.from (has_other_cells freed snapshot) c.next_page.result
+    next_of_quarantine c.args.self.now c.self.inside.pages.items pages c.self.inside.sets.items c.deref.result.now
+    freed snapshot c.self.inside.resident c.len.result 19 c.args.from (has_other_cells freed snapshot)
+    c.next_page.result
     (record {
       reads = record {
         view = c.self.view_is;
