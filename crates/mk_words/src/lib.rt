@@ -4,8 +4,10 @@
 mod call_steps;
 mod finals;
 mod granting;
+mod handing;
 mod indexes;
 mod laws;
+mod map_reads;
 mod marker_steps;
 mod passes;
 mod performing;

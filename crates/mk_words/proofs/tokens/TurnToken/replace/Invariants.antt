@@ -1,4 +1,4 @@
-use Rattle.mk_words.proofs.tokens.SeatToken.replace.Given as goal
+use Rattle.mk_words.proofs.tokens.TurnToken.replace.Given as goal
 
 -- the event of the step that the call is given
 abbrev pub ghosts-replace_as : goal.ghosts-replace_as

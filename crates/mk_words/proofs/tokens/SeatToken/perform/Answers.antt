@@ -1,10 +1,10 @@
-use Rattle.std.proofs.Common.{◌≡◌, sym, subst}
+use Rattle.std.proofs.Common.{◌≡◌, ◌∙◌, sym, subst}
 use Rattle.mk_core.specs.Accesses.{word_accessed, access}
 use Rattle.mk_words.specs.Seats.{Has}
 use Rattle.mk_words.specs.States.{PassState, now_of, event_of}
 use Rattle.mk_words.specs.Passes.{state_of}
 use Rattle.mk_words.specs.Steps.{May, Tells}
-use Rattle.mk_words.proofs.tokens.SeatToken.perform_among.Goals as goal
+use Rattle.mk_words.proofs.tokens.SeatToken.perform.Goals as goal
 
 pub perform_as-requires-clause-one_table : goal.perform_as-requires-clause-one_table
 perform_as-requires-clause-one_table c =
@@ -24,7 +24,11 @@ perform_as-requires-clause-access c =
     (sym c.self.view_is) c.requires.access
 
 pub invariant_of-self : goal.invariant_of-self
-invariant_of-self c = c.perform_as.ensures.order
+invariant_of-self c =
+    record {
+      order = c.perform_as.ensures.order;
+      no_slot = c.perform_as.ensures.slots ∙ c.self.invariant.no_slot;
+    }
 
 pub returns-clause-told : goal.returns-clause-told
 returns-clause-told c =
@@ -33,7 +37,7 @@ returns-clause-told c =
     (state_of f.new.token.table_id f.new.token.me c.self.inside.seat)) c.self.view_is f.ensures.told
 
 pub returns-clause-own : goal.returns-clause-own
-returns-clause-own c = subst (λ (r : PassState). Has r.seats r.seat) c.self.view_is c.self.invariant.own
+returns-clause-own c = subst (λ (r : PassState). Has r.seats r.seat) c.self.view_is c.self.invariant.order.own
 
 pub returns-clause-history : goal.returns-clause-history
 returns-clause-history c = c.perform_as.ensures.order.history

@@ -1,0 +1,157 @@
+-- The sets of blocks, by class and sort.
+use Rattle.std.proofs.Common.{◌≡◌, ℕ, ◌+◌, ◌%◌, ◌<◌, ◌≤◌, Bool, true, false, not, ◌&&◌, nat_eq, nat_le, nat_lt}
+use Rattle.std.proofs.Common.{List, [], refl, ap, sym, ◌∙◌, inl, inr, eqb-true, subst, arith}
+use Rattle.std.specs.Option.{is_some}
+use Rattle.std.proofs.lemmas.Bool.{cases_Bool, cases_lt, and_parts, cond-true, cond-false, lt-ltb, le-leb, lt-leb}
+use Rattle.std.proofs.lemmas.Bool.{cases_eq, not-true}
+use Rattle.std.proofs.Math.Nat.{div-le_self}
+use Rattle.mk_geom.specs.Classes.{cells_of, class_words_of}
+use Rattle.mk_geom.specs.PageUses.{PageUse, Nothing, Cells, first_where, is_same_sort}
+use Rattle.mk_geom.specs.PageWords.{bits_of}
+use Rattle.mk_books.specs.FreeCells.{class_place}
+use Rattle.mk_books.proofs.FreeCellLemmas.{cells_taken_alike}
+use Rattle.mk_page_map.specs.Members.{has_free_cell}
+use Rattle.mk_page_map.specs.PageSets.{IsInItsSets, is_member, is_of_set, use_of_kind}
+use Rattle.mk_page_map.specs.declared.kinds.PageKind.TheVariants.{Block}
+
+pub of_block_set : (set : ℕ) (use' : PageUse) → set < 16
+    → is_of_set set use' ≡ has_free_cell (set % 8) (nat_le 8 set) use'
+of_block_set set use' block = cond-true (nat_lt set 16) _ _ (lt-ltb set 16 block)
+
+class_of_place : (class : ℕ) (leaf : Bool) → class < 8 → class_place class leaf % 8 ≡ class
+class_of_place class true known = let same : (8 + class) % 8 ≡ class = omega arith in same
+class_of_place class false known = omega arith
+
+sort_of_place : (class : ℕ) (leaf : Bool) → class < 8 → nat_le 8 (class_place class leaf) ≡ leaf
+sort_of_place class true known = le-leb 8 (8 + class) (omega arith)
+sort_of_place class false known = lt-leb 8 class known
+
+place_within : (class : ℕ) (leaf : Bool) → class < 8 → class_place class leaf < 16
+place_within class true known = omega arith
+place_within class false known = omega arith
+
+place_of_set : (set : ℕ) → set < 16 → class_place (set % 8) (nat_le 8 set) ≡ set
+place_of_set set block = elim (cases_lt set 8) [
+  | inl low ↦ ap (class_place (set % 8)) (lt-leb 8 set low) ∙ omega arith
+  | inr high ↦ ap (class_place (set % 8)) (le-leb 8 set high)
+      ∙ (let same : 8 + set % 8 ≡ set = omega arith in same)
+]
+
+-- a block's own set
+pub of_own_set : (class : ℕ) (leaf : Bool) (use' : PageUse) → class < 8
+    → is_of_set (class_place class leaf) use' ≡ has_free_cell class leaf use'
+of_own_set class leaf use' known =
+    of_block_set (class_place class leaf) use' (place_within class leaf known)
+    ∙ ap (λ c. has_free_cell c (nat_le 8 (class_place class leaf)) use') (class_of_place class leaf known)
+    ∙ ap (λ l. has_free_cell class l use') (sort_of_place class leaf known)
+
+pub free_in_own_set : (class : ℕ) (leaf : Bool) (used : ℕ) → class < 8
+    → is_of_set (class_place class leaf) (Cells class leaf (bits_of (cells_of class) used))
+    ≡ is_some (first_where not (bits_of (cells_of class) used))
+free_in_own_set class leaf used known =
+    of_own_set class leaf (Cells class leaf (bits_of (cells_of class) used)) known
+    ∙ ap (λ taken. is_some (first_where not taken))
+    (cells_taken_alike (Cells class leaf (bits_of (cells_of class) used)) class class leaf leaf used refl refl refl)
+
+same_sorts : (a b : Bool) → is_same_sort a b ≡ true → a ≡ b
+same_sorts true b same = sym same
+same_sorts false b same = sym (not-true b same)
+
+-- no other set of blocks is its own
+pub of_other_set : (set class : ℕ) (leaf : Bool) (taken : List Bool) → set < 16 → (set ≡ class_place class leaf → ⊥)
+    → is_of_set set (Cells class leaf taken) ≡ false
+of_other_set set class leaf taken block other =
+    let test = nat_eq (set % 8) class && is_same_sort (nat_le 8 set) leaf in
+    of_block_set set (Cells class leaf taken) block
+    ∙ elim (cases_Bool test) [
+      | inl same ↦
+          let parts = and_parts (nat_eq (set % 8) class) (is_same_sort (nat_le 8 set) leaf) same in
+          absurd (other (sym (place_of_set set block)
+          ∙ ap (λ c. class_place c (nat_le 8 set)) (eqb-true (set % 8) class parts.0)
+          ∙ ap (class_place class) (same_sorts (nat_le 8 set) leaf parts.1)))
+      | inr differ ↦ ap (λ cells. is_some (first_where not cells)) (cond-false test taken [] differ)
+    ]
+
+-- a free page is in no set of blocks
+pub nothing_of_set : (set : ℕ) → set < 16 → is_of_set set Nothing ≡ false
+nothing_of_set set block = of_block_set set Nothing block
+
+pub cells_few : (class : ℕ) → class < 8 → cells_of class ≤ 64
+cells_few class known = div-le_self 64 (class_words_of class)
+
+-- what a put of a page into one set, or out of it, leaves of the others
+abbrev pub OtherSetsStay : List ℕ → List ℕ → ℕ → ℕ → Type 0
+OtherSetsStay before after page place =
+    (other : ℕ) → other < 20 → (other ≡ place → ⊥) → is_member after other page ≡ is_member before other page
+
+pub left_blocks : (before after : List ℕ) (page class place used : ℕ) (leaf : Bool) → class < 8
+    → place ≡ class_place class leaf → is_member after place page ≡ false → OtherSetsStay before after page place
+    → IsInItsSets before page (use_of_kind (Block class leaf) used) → (set : ℕ) → set < 16
+    → is_member after set page ≡ false
+left_blocks before after page class place used leaf known is out stay sorted set block = elim (cases_eq set place) [
+  | inl same ↦ ap (λ s. is_member after s page) same ∙ out
+  | inr other ↦
+      stay set (omega arith) other
+      ∙ sorted set (omega arith)
+      ∙ of_other_set set class leaf (bits_of (cells_of class) used) block (λ same. other (same ∙ sym is))
+]
+
+pub joined_blocks : (before after : List ℕ) (page class place used : ℕ) (leaf free : Bool) → class < 8
+    → place ≡ class_place class leaf → free ≡ is_some (first_where not (bits_of (cells_of class) used))
+    → is_member after place page ≡ free → OtherSetsStay before after page place
+    → ((set : ℕ) → set < 16 → is_member before set page ≡ false) → (set : ℕ) → set < 16
+    → is_member after set page ≡ is_of_set set (use_of_kind (Block class leaf) used)
+joined_blocks before after page class place used leaf free known is is_free put stay out set block =
+    elim (cases_eq set place) [
+      | inl same ↦
+          ap (λ s. is_member after s page) same
+          ∙ put
+          ∙ is_free
+          ∙ sym (free_in_own_set class leaf used known)
+          ∙ ap (λ s. is_of_set s (use_of_kind (Block class leaf) used)) (sym is ∙ sym same)
+      | inr other ↦
+          stay set (omega arith) other
+          ∙ out set block
+          ∙ sym (of_other_set set class leaf (bits_of (cells_of class) used) block (λ same. other (same ∙ sym is)))
+    ]
+
+-- each set of the first 18
+pub each_set : (P : ℕ → Type 0) → ((set : ℕ) → set < 16 → P set) → P 16 → P 17 → (set : ℕ) → set < 18 → P set
+each_set P blocks free in_use set is_set = elim (cases_lt set 16) [
+  | inl block ↦ blocks set block
+  | inr above ↦ elim (cases_eq set 16) [
+    | inl same ↦ subst P (sym same) free
+    | inr other ↦ let last : set ≡ 17 = omega arith in subst P (sym last) in_use
+  ]
+]
+
+-- used words tell blocks of one class and sort apart in their own set alone
+same_elsewhere : (set class : ℕ) (leaf : Bool) (earlier used : ℕ) → set < 18 → (set ≡ class_place class leaf → ⊥)
+    → is_of_set set (use_of_kind (Block class leaf) earlier) ≡ is_of_set set (use_of_kind (Block class leaf) used)
+same_elsewhere set class leaf earlier used is_set other =
+    each_set (λ s. (s ≡ class_place class leaf → ⊥)
+    → is_of_set s (use_of_kind (Block class leaf) earlier) ≡ is_of_set s (use_of_kind (Block class leaf) used))
+    (λ s block differ.
+    of_other_set s class leaf (bits_of (cells_of class) earlier) block differ
+    ∙ sym (of_other_set s class leaf (bits_of (cells_of class) used) block differ))
+    (λ _. refl) (λ _. refl) set is_set other
+
+-- a block whose used word changes
+pub sorted_anew : (before after : List ℕ) (page class place earlier used : ℕ) (leaf free : Bool) → class < 8
+    → place ≡ class_place class leaf → place < 16 → free ≡ is_some (first_where not (bits_of (cells_of class) used))
+    → is_member after place page ≡ free → OtherSetsStay before after page place
+    → IsInItsSets before page (use_of_kind (Block class leaf) earlier)
+    → IsInItsSets after page (use_of_kind (Block class leaf) used)
+sorted_anew before after page class place earlier used leaf free known is low is_free put stay sorted set is_set =
+    elim (cases_eq set place) [
+      | inl same ↦
+          ap (λ s. is_member after s page) same
+          ∙ put
+          ∙ is_free
+          ∙ sym (free_in_own_set class leaf used known)
+          ∙ ap (λ s. is_of_set s (use_of_kind (Block class leaf) used)) (sym is ∙ sym same)
+      | inr other ↦
+          stay set (omega arith) other
+          ∙ sorted set is_set
+          ∙ same_elsewhere set class leaf earlier used is_set (λ same. other (same ∙ sym is))
+    ]

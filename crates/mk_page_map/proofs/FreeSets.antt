@@ -1,0 +1,139 @@
+-- The sets of a heap whose pages are all free.
+use Rattle.std.proofs.Common.{◌≡◌, ℕ, zero, suc, cond, subst, ◌+◌, ◌*◌, ◌/◌, ◌%◌, ◌<◌, ◌≤◌, true, false, not, ◌&&◌}
+use Rattle.std.proofs.Common.{nat_eq, nat_lt, List}
+use Rattle.std.proofs.Common.{get_or, length, take, drop, ◌++◌, replicate, refl, ap, sym, ◌∙◌, inl, inr, arith}
+use Rattle.std.specs.Int.{bit_at}
+use Rattle.std.proofs.lemmas.Bool.{and_left, and_right, cases_eq, cases_lt, le-ltb, lt-ltb, ne_eqb}
+use Rattle.std.proofs.lemmas.List.{get_or-replicate, get_or_past, length-replicate, take_at}
+use Rattle.std.proofs.lemmas.Nat.Bits.{bit_at-zero}
+use Rattle.std.proofs.lemmas.List.Sums.{sum_by-cons}
+use Rattle.mk_geom.specs.declared.pages.Page.{Page}
+use Rattle.mk_geom.specs.Storages.{free_page}
+use Rattle.mk_geom.specs.PageUses.{PageUse, Nothing, is_resident_page, resident_pages}
+use Rattle.mk_geom.specs.PageWords.{use_of_page, uses_of_pages}
+use Rattle.mk_page_map.specs.KnownPages.{Shows}
+use Rattle.mk_page_map.specs.Members.{page_at}
+use Rattle.mk_page_map.specs.PageSets.{AreSets, FitPages, IsInItsSets, OthersStay, is_member, is_of_set}
+use Rattle.mk_page_map.proofs.BlockSets.{OtherSetsStay, each_set, nothing_of_set}
+use Rattle.mk_page_map.proofs.Showing.{known_by, member_at}
+
+-- the first pages are in set 16, and nothing is in another
+abbrev pub HaveFree : List ℕ → ℕ → Type 0
+HaveFree sets pages =
+    (set number : ℕ) → set < 20 → number < 4096 → is_member sets set number ≡ (nat_eq set 16 && nat_lt number pages)
+
+zero_at : (n i : ℕ) → get_or {A = ℕ} (replicate n 0) i 0 ≡ 0
+zero_at n i = elim (cases_lt i n) [
+  | inl within ↦ get_or-replicate n i 0 0 within
+  | inr past ↦ get_or_past (replicate n 0) i 0 (omega (arith, length-replicate {A = ℕ} n 0))
+]
+
+zero_bit : (n i k : ℕ) → nat_eq (bit_at (get_or (replicate n 0) i 0) k) 1 ≡ false
+zero_bit n i k = ap (λ m. nat_eq (bit_at m k) 1) (zero_at n i) ∙ ap (λ b. nat_eq b 1) (bit_at-zero k)
+
+pub zero_sets : AreSets (replicate 1300 0)
+zero_sets = record {
+  long = length-replicate {A = ℕ} 1300 0;
+  summaries = λ set word is_set within.
+      zero_bit 1300 (65 * set) word
+      ∙ sym (ap (λ n. not (nat_eq n 0)) (zero_at 1300 (65 * set + 1 + word)));
+}
+
+-- no page is in a set of words that are 0
+pub none_in_zeros : (n set number : ℕ) → is_member (replicate n 0) set number ≡ false
+none_in_zeros n set number = zero_bit n (65 * set + 1 + number / 64) (number % 64)
+
+pub none_free : HaveFree (replicate 1300 0) 0
+none_free set number is_set few =
+    none_in_zeros 1300 set number ∙ sym (and_right (nat_eq set 16) (nat_lt number 0) (le-ltb number 0 (omega arith)))
+
+-- one page more
+pub one_free_more : (before after : List ℕ) (page : ℕ) → HaveFree before page → is_member after 16 page ≡ true
+    → OtherSetsStay before after page 16 → OthersStay before after page → HaveFree after (page + 1)
+one_free_more before after page free put sets pages set number is_set few = elim (cases_eq number page) [
+  | inl same ↦ elim (cases_eq set 16) [
+    | inl own ↦
+        ap (λ s. is_member after s number) own
+        ∙ ap (is_member after 16) same
+        ∙ put
+        ∙ sym (ap (λ s. nat_eq s 16 && nat_lt number (page + 1)) own
+        ∙ lt-ltb number (page + 1) (omega arith))
+    | inr other ↦
+        ap (is_member after set) same
+        ∙ sets set is_set other
+        ∙ ap (is_member before set) (sym same)
+        ∙ free set number is_set few
+        ∙ and_left (nat_eq set 16) (nat_lt number page) (ne_eqb set 16 other)
+        ∙ sym (and_left (nat_eq set 16) (nat_lt number (page + 1)) (ne_eqb set 16 other))
+  ]
+  | inr differ ↦
+      pages set number is_set few differ
+      ∙ free set number is_set few
+      ∙ ap (λ t. nat_eq set 16 && t) (later number page differ)
+]
+  where
+    later : (n m : ℕ) → (n ≡ m → ⊥) → nat_lt n m ≡ nat_lt n (m + 1)
+    later n m differ = elim (cases_lt n m) [
+      | inl low ↦ lt-ltb n m low ∙ sym (lt-ltb n (m + 1) (omega arith))
+      | inr high ↦ le-ltb n m high ∙ sym (le-ltb n (m + 1) (omega arith))
+    ]
+
+-- what a Vec holds after a write through its slice
+pub written : (new old : List ℕ) (n : ℕ) → length new ≡ n → take n (new ++ drop (length new) old) ≡ new
+written new old n long = take_at new (drop (length new) old) n long
+
+-- ---- the map of free pages
+
+none_resident : (n : ℕ) → 0 ≡ resident_pages (uses_of_pages (replicate n free_page))
+none_resident zero = refl
+none_resident (suc n) =
+    omega (
+      arith,
+      none_resident n,
+      sum_by-cons (λ (u : PageUse). cond (is_resident_page u) 1 0) Nothing
+          (uses_of_pages (replicate n free_page)),
+    )
+
+free_at : (n number : ℕ) → number < n → page_at (replicate n free_page) number ≡ free_page
+free_at n number within = get_or-replicate n number free_page free_page within
+
+pub free_fits : (n : ℕ) (sets : List ℕ) → n ≤ 4096 → AreSets sets → HaveFree sets n
+    → FitPages (replicate n free_page) sets 0
+free_fits n sets few are_sets free =
+    let long : length (replicate n free_page) ≡ n = length-replicate n free_page in
+    record {
+      few = omega arith;
+      are_sets = λ some. are_sets;
+      sorted = λ number within.
+          subst (λ (p : Page). IsInItsSets sets number (use_of_page p)) (sym (free_at n number (omega arith)))
+          (each_set (λ s. is_member sets s number ≡ is_of_set s Nothing)
+          (λ s block.
+          free s number (omega arith) (omega arith)
+          ∙ and_left (nat_eq s 16) (nat_lt number n) (ne_eqb s 16 (λ same. absurd (omega arith)))
+          ∙ sym (nothing_of_set s block))
+          (free 16 number (omega arith) (omega arith) ∙ lt-ltb number n (omega arith))
+          (free 17 number (omega arith) (omega arith)));
+      no_others = λ s number is_set past short.
+          free s number is_set short ∙ and_right (nat_eq s 16) (nat_lt number n) (le-ltb number n (omega arith));
+      counted = none_resident n;
+    }
+
+pub free_shows : (n : ℕ) (sets : List ℕ) → n ≤ 4096 → HaveFree sets n
+    → Shows (known_by (replicate n free_page) sets) (replicate n free_page) (replicate n 0) (replicate n 0)
+free_shows n sets few free =
+    let long : length (replicate n free_page) ≡ n = length-replicate n free_page in
+    let zeros : length (replicate {A = ℕ} n 0) ≡ n = length-replicate {A = ℕ} n 0 in
+    record {
+      page_by_page = refl;
+      freed_words = zeros ∙ sym long;
+      snapshot_words = zeros ∙ sym long;
+      quarantined = λ number within.
+          member_at sets 18 (length (replicate n free_page)) number within
+          ∙ free 18 number (omega arith) (omega arith)
+          ∙ sym (ap (λ m. not (nat_eq m 0)) (zero_at n number));
+      differing = λ number within.
+          member_at sets 19 (length (replicate n free_page)) number within
+          ∙ free 19 number (omega arith) (omega arith)
+          ∙ sym (ap (λ m. not (nat_eq m (get_or (replicate n 0) number 0))) (zero_at n number)
+          ∙ ap (λ m. not (nat_eq 0 m)) (zero_at n number));
+    }

@@ -1,0 +1,11 @@
+pub mod LowestBits
+pub mod SetWords
+pub mod NextPages
+pub mod BlockSets
+pub mod FreeSets
+pub mod Fitting
+pub mod Showing
+pub mod Reading
+pub mod Storing
+pub mod FreeRanges
+pub mod FirstFit

@@ -1,0 +1,72 @@
+-- The lowest 1 of a word, from a place on, and a word with one bit put.
+use Rattle.std.proofs.Common.{◌≡◌, ℕ, ◌-◌, ◌*◌, ◌%◌, ◌^◌, ◌<◌, ◌≤◌, min, true, false, nat_eq, Some, None, bit_and}
+use Rattle.std.proofs.Common.{bit_or}
+use Rattle.std.proofs.Common.{w64, ap, sym, ◌∙◌, inl, inr, eq-eqb, arith}
+use Rattle.std.specs.Int.{bit_at, bit_not}
+use Rattle.std.proofs.lemmas.Bool.{cases_lt}
+use Rattle.std.proofs.lemmas.Nat.Bits.{bit_at_and, bit_at-lt, bit_at-zero, bit_at_mask_inside, bit_at_mask_below}
+use Rattle.std.proofs.lemmas.Nat.Bits.{ones_shl}
+use Rattle.std.proofs.lemmas.Nat.Bits.{bit_at_set_same, bit_at_set_other, bit_at_clear_same, bit_at_clear_other}
+use Rattle.mk_page_map.specs.Members.{IsNext}
+
+-- the word without its bits below a place, as the code computes it
+abbrev pub rest_from : ℕ → ℕ → ℕ
+rest_from word from = bit_and word ((2 ^ 64 - 1) * 2 ^ from % 2 ^ 64)
+
+rest_kept : (word from k : ℕ) → from ≤ k → k < 64 → bit_at (rest_from word from) k ≡ bit_at word k
+rest_kept word from k above within =
+    let one : bit_at (2 ^ 64 - 2 ^ from) k ≡ 1 = bit_at_mask_inside from 64 k above within in
+    ap (λ mask. bit_at (bit_and word mask) k) (ones_shl 64 from (omega arith))
+    ∙ bit_at_and word (2 ^ 64 - 2 ^ from) k
+    ∙ ap (min (bit_at word k)) one
+    ∙ (let few = bit_at-lt word k in omega arith)
+
+rest_dropped : (word from k : ℕ) → from ≤ 64 → k < from → bit_at (rest_from word from) k ≡ 0
+rest_dropped word from k fits below =
+    let none : bit_at (2 ^ 64 - 2 ^ from) k ≡ 0 = bit_at_mask_below from 64 k below in
+    ap (λ mask. bit_at (bit_and word mask) k) (ones_shl 64 from fits)
+    ∙ bit_at_and word (2 ^ 64 - 2 ^ from) k
+    ∙ ap (min (bit_at word k)) none
+    ∙ omega arith
+
+zero_is_no_one : (bit : ℕ) → bit ≡ 0 → nat_eq bit 1 ≡ false
+zero_is_no_one bit zero = ap (λ b. nat_eq b 1) zero
+
+pub lowest_is_next : (word from place : ℕ) → from < 64 → place < 64 → bit_at (rest_from word from) place ≡ 1
+    → ((below : ℕ) → below < place → bit_at (rest_from word from) below ≡ 0)
+    → IsNext (λ k. nat_eq (bit_at word k) 1) from 64 (Some place)
+lowest_is_next word from place begun within one lowest =
+    let above : from ≤ place = elim (cases_lt place from) [
+      | inl below ↦ absurd (omega (arith, rest_dropped word from place (omega arith) below))
+      | inr above ↦ above
+    ] in (
+      above,
+      within,
+      eq-eqb (bit_at word place) 1 (sym (rest_kept word from place above within) ∙ one),
+      λ k low high. zero_is_no_one (bit_at word k) (sym (rest_kept word from k low (omega arith)) ∙ lowest k high),
+    )
+
+pub none_is_next : (word from : ℕ) → rest_from word from ≡ 0 → IsNext (λ k. nat_eq (bit_at word k) 1) from 64 None
+none_is_next word from zero k low high =
+    zero_is_no_one (bit_at word k)
+    (sym (rest_kept word from k low high) ∙ ap (λ rest. bit_at rest k) zero ∙ bit_at-zero k)
+
+-- a word with one bit set or cleared, as the code computes it
+abbrev pub with_one : ℕ → ℕ → ℕ
+with_one word place = bit_or word (1 * 2 ^ place % 2 ^ 64)
+
+abbrev pub with_zero : ℕ → ℕ → ℕ
+with_zero word place = bit_and word (bit_not w64 (1 * 2 ^ place % 2 ^ 64))
+
+pub set_bit_is : (word place : ℕ) → place < 64 → nat_eq (bit_at (with_one word place) place) 1 ≡ true
+set_bit_is word place within = eq-eqb _ 1 (bit_at_set_same w64 word place within)
+
+pub cleared_bit_is : (word place : ℕ) → place < 64 → nat_eq (bit_at (with_zero word place) place) 1 ≡ false
+cleared_bit_is word place within = zero_is_no_one _ (bit_at_clear_same w64 word place within)
+
+pub set_bit_others : (word place k : ℕ) → place < 64 → (k ≡ place → ⊥) → bit_at (with_one word place) k ≡ bit_at word k
+set_bit_others word place k within other = bit_at_set_other w64 word place within k other
+
+pub cleared_bit_others : (word place k : ℕ) → place < 64 → k < 64 → (k ≡ place → ⊥)
+    → bit_at (with_zero word place) k ≡ bit_at word k
+cleared_bit_others word place k within short other = bit_at_clear_other w64 word place within k short other

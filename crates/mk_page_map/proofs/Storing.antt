@@ -1,0 +1,112 @@
+-- A store of a page's header or used word keeps a map in step.
+use Rattle.std.proofs.Common.{◌≡◌, ℕ, ◌+◌, ◌<◌, ◌≤◌, Bool, true, false, cond, List, length, set, slice_index_or, refl}
+use Rattle.std.proofs.Common.{ap, sym, ◌∙◌}
+use Rattle.std.proofs.Common.{subst, arith}
+use Rattle.std.specs.Int.{from_bool}
+use Rattle.std.proofs.lemmas.List.{get_or_read}
+use Rattle.mk_geom.specs.declared.pages.Page.{Page}
+use Rattle.mk_geom.specs.Storages.{free_page}
+use Rattle.mk_geom.specs.Headers.{header_of}
+use Rattle.mk_geom.specs.PageUses.{is_resident_page, resident_pages}
+use Rattle.mk_geom.specs.PageWords.{use_of_page, use_under, uses_of_pages}
+use Rattle.mk_page_map.specs.declared.kinds.PageKind.{PageKind}
+use Rattle.mk_page_map.specs.declared.kinds.PageKind.TheVariants.{Free, Block, Run}
+use Rattle.mk_page_map.specs.KnownPages.{KnownPages, Shows}
+use Rattle.mk_page_map.specs.Members.{page_at}
+use Rattle.mk_page_map.specs.PageSets.{AreSets, FitPages, IsInItsSets, OthersStay, is_member, use_of_kind}
+use Rattle.mk_page_map.proofs.Fitting.{Changes, fit_changed, resident_changed, resident_one}
+use Rattle.mk_page_map.proofs.Showing.{changed_shows, known_by}
+
+-- a store: the pages and the sets before it, the sets as they were passed on and left, and the page then
+pub record Stores (held : List Page) (sets slice after : List ℕ) (resident page : ℕ) (now : Page) : Type 0 where
+  pub fit : FitPages held sets resident
+  pub within : page < length held
+  pub is_slice : slice ≡ sets
+  pub are_sets : AreSets after
+  pub sorted : IsInItsSets after page (use_of_page now)
+  pub quarantine : (s : ℕ) → 18 ≤ s → s < 20 → is_member after s page ≡ is_member slice s page
+  pub others : OthersStay slice after page
+
+changes_of : (held : List Page) (sets slice after : List ℕ) (resident page : ℕ) (now : Page)
+    → Stores held sets slice after resident page now → Changes held sets after page now
+changes_of held sets slice after resident page now stores =
+    record {
+      within = stores.within;
+      are_sets = stores.are_sets;
+      sorted = stores.sorted;
+      others = subst (λ (xs : List ℕ). OthersStay xs after page) stores.is_slice stores.others;
+    }
+
+pub store_fits : (held : List Page) (sets slice after vec : List ℕ) (resident count page : ℕ) (now : Page)
+    → Stores held sets slice after resident page now → vec ≡ after
+    → count + resident_one (page_at held page) ≡ resident + resident_one now
+    → FitPages (set held page now) vec count
+store_fits held sets slice after vec resident count page now stores written counted =
+    subst (λ (xs : List ℕ). FitPages (set held page now) xs count) (sym written)
+    (fit_changed held sets after page now resident count stores.fit
+    (changes_of held sets slice after resident page now stores) counted)
+
+pub store_shows : (known : KnownPages) (held pages : List Page) (sets slice after vec freed snapshot : List ℕ)
+    (resident page : ℕ) (now stored : Page) → Stores held sets slice after resident page now → vec ≡ after
+    → known_by held sets ≡ known → (held ≡ pages → now ≡ stored) → Shows known pages freed snapshot
+    → Shows (known_by (set held page now) vec) (set pages page stored) freed snapshot
+store_shows known held pages sets slice after vec freed snapshot resident page now stored stores written view same shows
+    =
+    let shows_before = subst (λ (k : KnownPages). Shows k pages freed snapshot) (sym view) shows in
+    let changes = changes_of held sets slice after resident page now stores in
+    subst (λ (p : Page). Shows (known_by (set held page now) vec) (set pages page p) freed snapshot)
+    (same shows_before.page_by_page)
+    (subst (λ (xs : List ℕ). Shows (known_by (set held page now) xs) (set pages page now) freed snapshot) (sym written)
+    (changed_shows held pages sets after freed snapshot page now stores.fit.few changes.others
+    (λ s quarantine is_set.
+    stores.quarantine s quarantine is_set ∙ ap (λ xs. is_member xs s page) stores.is_slice)
+    shows_before))
+
+-- a page of the map, and its words as they were read
+pub page_within : (known : KnownPages) (held : List Page) (sets : List ℕ) (page : ℕ) → known_by held sets ≡ known
+    → page < length known.pages → page < length held
+page_within known held sets page view within =
+    subst (λ (k : KnownPages). page < length k.pages) (sym view) within
+
+pub page_read : (held : List Page) (page : ℕ) (found : Page) → page < length held
+    → found ≡ slice_index_or held page found → found ≡ page_at held page
+page_read held page found within is = get_or_read held page found within is free_page
+
+byte_is : (b : Bool) → from_bool b ≡ cond b 1 0
+byte_is true = refl
+byte_is false = refl
+
+-- the byte that the code counts a page by
+pub resident_byte : (page : Page) (kind : PageKind) (is_resident : Bool) (byte : ℕ)
+    → ((used : ℕ) → use_under (header_of page.header) used ≡ use_of_kind kind used)
+    → ((used : ℕ) → is_resident_page (use_of_kind kind used) ≡ is_resident) → byte ≡ from_bool is_resident
+    → byte ≡ resident_one page
+resident_byte page kind is_resident byte is_kind resident is =
+    is
+    ∙ byte_is is_resident
+    ∙ ap (λ b. cond b 1 0) (sym (ap is_resident_page (is_kind page.used) ∙ resident page.used))
+
+-- one page more or less
+pub counted_anew : (held : List Page) (page resident was is : ℕ) (now : Page) → page < length held
+    → was ≡ resident_one (page_at held page) → is ≡ resident_one now
+    → resident ≡ resident_pages (uses_of_pages held) → was ≤ resident + is
+counted_anew held page resident was is now within old new counted =
+    omega (arith, resident_changed held page now within)
+
+-- a used word makes no page resident
+resident_by_kind : (kind : PageKind) (used other : ℕ)
+    → is_resident_page (use_of_kind kind used) ≡ is_resident_page (use_of_kind kind other)
+resident_by_kind Free used other = refl
+resident_by_kind (Block class leaf) used other = refl
+resident_by_kind (Run mapped) used other = refl
+
+pub same_count : (held : List Page) (resident page : ℕ) (found : Page) (used : ℕ) (kind : PageKind)
+    → found ≡ page_at held page → ((n : ℕ) → use_under (header_of found.header) n ≡ use_of_kind kind n)
+    → resident + resident_one (page_at held page)
+    ≡ resident + resident_one (record { header = found.header; used = used })
+same_count held resident page found used kind is is_kind =
+    ap (λ p. resident + resident_one p) (sym is)
+    ∙ ap (λ b. resident + cond b 1 0)
+    (ap is_resident_page (is_kind found.used)
+    ∙ resident_by_kind kind found.used used
+    ∙ sym (ap is_resident_page (is_kind used)))

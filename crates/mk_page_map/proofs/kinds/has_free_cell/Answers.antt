@@ -1,0 +1,21 @@
+use Rattle.std.proofs.Common.{◌≡◌, ℕ, Bool, true, false, nat_lt, w64, ap, sym, ◌∙◌, refl}
+use Rattle.std.specs.Int.{trailing_ones}
+use Rattle.std.specs.Option.{is_some}
+use Rattle.std.specs.Bool.{then_some}
+use Rattle.mk_geom.specs.Classes.{cells_of}
+use Rattle.mk_books.proofs.UsedBitLemmas.{first_where-bits_of}
+use Rattle.mk_page_map.proofs.BlockSets.{cells_few}
+use Rattle.mk_page_map.proofs.kinds.has_free_cell.Goals as goal
+
+some_where : (test : Bool) (n : ℕ) → test ≡ is_some (then_some test n)
+some_where true n = refl
+some_where false n = refl
+
+pub returns : goal.returns
+returns c =
+    let place = trailing_ones w64 c.args.used in
+    let count = cells_of c.args.class in
+    ap (λ k. nat_lt k c.cells.result) (c.from.ensures ∙ c.trailing_ones.ensures)
+    ∙ ap (nat_lt place) c.cells.ensures
+    ∙ some_where (nat_lt place count) place
+    ∙ ap is_some (sym (first_where-bits_of count c.args.used (cells_few c.args.class c.requires) c.ranges.used.fits))

@@ -1,0 +1,15 @@
+use Rattle.std.proofs.Common.{◌≡◌, ◌≤◌, ◌-◌}
+use Rattle.mk_geom.specs.PageUses.{range_start}
+use Rattle.mk_geom.specs.PageWords.{uses_of_pages}
+use Rattle.mk_books.proofs.FreeRangeLemmas.{range_start_from}
+use Rattle.mk_page_map.proofs.page_map.PageMap.first_range.Given as goal
+
+abbrev pub invariant-loop-start : goal.invariant-loop-start
+invariant-loop-start l = record {
+  begun : l.from ≤ l.pages;
+  rest : range_start_from l.from l.count l.self-inside.pages.items
+      ≡ range_start l.count (uses_of_pages l.self-inside.pages.items);
+}
+
+abbrev pub decreases-loop-start : goal.decreases-loop-start
+decreases-loop-start l = l.pages - l.from

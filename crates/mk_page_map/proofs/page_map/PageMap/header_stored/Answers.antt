@@ -1,0 +1,85 @@
+use Rattle.std.proofs.Common.{◌≡◌, ℕ, ◌+◌, ◌<◌, ◌≤◌, List, ◌++◌, take, drop, ◌∙◌, ap, arith, length, sym}
+use Rattle.mk_geom.specs.declared.pages.Page.{Page}
+use Rattle.mk_page_map.specs.Members.{page_at}
+use Rattle.mk_page_map.specs.PageSets.{is_of_set}
+use Rattle.mk_page_map.proofs.Fitting.{resident_one}
+use Rattle.mk_page_map.proofs.FreeSets.{written}
+use Rattle.mk_page_map.proofs.Storing.{Stores, counted_anew, page_read, page_within, resident_byte, store_fits}
+use Rattle.mk_page_map.proofs.Storing.{store_shows}
+use Rattle.mk_page_map.proofs.page_map.PageMap.header_stored.Goals as goal
+use Rattle.mk_page_map.proofs.page_map.PageMap.header_stored.Goals.{After-from-2}
+
+abbrev now : After-from-2 → Page
+now c = record { header = c.args.header; used = c.index.result.now.used }
+
+within : (c : After-from-2) → c.args.page < length c.self.inside.pages.items
+within c = page_within c.args.self.now c.self.inside.pages.items c.self.inside.sets.items c.args.page c.self.view_is
+    c.requires
+
+stores : (c : After-from-2)
+    → Stores c.self.inside.pages.items c.self.inside.sets.items c.deref_mut.result.now c.sort_by_header.new.sets
+    c.self.inside.resident c.args.page (now c)
+stores c =
+    record {
+      fit = c.self.invariant;
+      within = within c;
+      is_slice = c.deref_mut.ensures.value;
+      are_sets = c.sort_by_header.ensures.sets;
+      sorted = λ s is_set.
+          c.sort_by_header.ensures.sorted s is_set
+          ∙ ap (is_of_set s) (sym (c.kind_of-after.ensures.kind c.index.result.now.used));
+      quarantine = c.sort_by_header.ensures.other_sets;
+      others = c.sort_by_header.ensures.other_pages;
+    }
+
+was_counted : (c : After-from-2) → c.from-2.result ≡ resident_one (page_at c.self.inside.pages.items c.args.page)
+was_counted c =
+    resident_byte c.index-2.result.now c.kind_of-before.result c.is_resident-2.result c.from-2.result
+    c.kind_of-before.ensures.kind c.is_resident-2.ensures c.from-2.ensures
+    ∙ ap resident_one
+    (page_read c.self.inside.pages.items c.args.page c.index-2.result.now (within c) c.index-2.ensures)
+
+is_counted : (c : After-from-2) → c.from.result ≡ resident_one (now c)
+is_counted c =
+    resident_byte (now c) c.kind_of-after.result c.is_resident.result c.from.result c.kind_of-after.ensures.kind
+    c.is_resident.ensures c.from.ensures
+
+enough : (c : After-from-2) → c.from-2.result ≤ c.self.inside.resident + c.from.result
+enough c =
+    counted_anew c.self.inside.pages.items c.args.page c.self.inside.resident c.from-2.result c.from.result (now c)
+    (within c) (was_counted c) (is_counted c) c.self.invariant.counted
+
+pub overflow_sub-self : goal.overflow_sub-self
+overflow_sub-self c = enough c
+
+same_sets : (c : After-from-2)
+    → take c.self.inside.sets.len
+    (c.sort_by_header.new.sets ++ drop (length c.sort_by_header.new.sets) c.self.inside.sets.items)
+    ≡ c.sort_by_header.new.sets
+same_sets c =
+    written c.sort_by_header.new.sets c.self.inside.sets.items c.self.inside.sets.len
+    (omega (
+      arith,
+      c.sort_by_header.ensures.sets.long,
+      (c.self.invariant.are_sets (omega (arith, within c))).long,
+      c.self.inside.sets.ok.0,
+    ))
+
+pub invariant_of-self : goal.invariant_of-self
+invariant_of-self c =
+    let x = (goal.at.invariant_of-self c).After-from-2 in
+    store_fits c.self.inside.pages.items c.self.inside.sets.items c.deref_mut.result.now c.sort_by_header.new.sets _
+    c.self.inside.resident _ c.args.page (now x) (stores x) (same_sets x)
+    (omega (arith, was_counted x, is_counted x, enough x))
+
+pub returns : goal.returns
+returns c pages freed snapshot shows =
+    let x = (goal.at.returns c).After-from-2 in
+    store_shows c.args.self.now c.self.inside.pages.items pages c.self.inside.sets.items c.deref_mut.result.now
+    c.sort_by_header.new.sets _ freed snapshot c.self.inside.resident c.args.page (now x) _ (stores x) (same_sets x)
+    c.self.view_is
+    (λ same. ap (λ (n : ℕ). record { header = c.args.header; used = n })
+    (ap (λ (p : Page). p.used)
+    (page_read c.self.inside.pages.items c.args.page c.index.result.now (within x) c.index.ensures)
+    ∙ ap (λ (ps : List Page). (page_at ps c.args.page).used) same))
+    shows

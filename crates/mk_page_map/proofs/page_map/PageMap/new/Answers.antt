@@ -1,0 +1,24 @@
+use Rattle.std.proofs.Common.{◌≡◌, List, replicate, subst, sym}
+use Rattle.mk_geom.specs.declared.pages.Page.{Page}
+use Rattle.mk_geom.specs.Storages.{free_page}
+use Rattle.mk_page_map.specs.KnownPages.{Shows}
+use Rattle.mk_page_map.specs.PageSets.{FitPages}
+use Rattle.mk_page_map.proofs.FreeSets.{free_fits, free_shows}
+use Rattle.mk_page_map.proofs.Showing.{known_by}
+use Rattle.mk_page_map.proofs.page_map.PageMap.new.Goals as goal
+
+pub invariant_of-result : goal.invariant_of-result
+invariant_of-result c =
+    let free : c.in_ok-pages.pages.items ≡ replicate c.args.pages free_page
+    = c.in_ok-pages.ensures.items_if_clones_equal (λ y same. same) in
+    subst (λ (ps : List Page). FitPages ps c.in_ok-sets.sets.items 0) (sym free)
+    (free_fits c.args.pages c.in_ok-sets.sets.items c.requires c.in_ok-sets.ensures.sets
+    c.in_ok-sets.ensures.members)
+
+pub returns : goal.returns
+returns c =
+    let free : c.in_ok-pages.pages.items ≡ replicate c.args.pages free_page
+    = c.in_ok-pages.ensures.items_if_clones_equal (λ y same. same) in
+    subst (λ (ps : List Page). Shows (known_by ps c.in_ok-sets.sets.items) (replicate c.args.pages free_page)
+    (replicate c.args.pages 0) (replicate c.args.pages 0)) (sym free)
+    (free_shows c.args.pages c.in_ok-sets.sets.items c.requires c.in_ok-sets.ensures.members)

@@ -1,0 +1,32 @@
+use Rattle.std.proofs.Common.{arith}
+use Rattle.mk_page_map.specs.Members.{has_freed_cells}
+use Rattle.mk_page_map.proofs.Reading.{next_of_quarantine, no_others_there}
+use Rattle.mk_page_map.proofs.Showing.{member_of_freed}
+use Rattle.mk_page_map.proofs.page_map.PageMap.next_quarantined.Goals as goal
+
+pub next_page-requires-clause-no_others : goal.next_page-requires-clause-no_others
+next_page-requires-clause-no_others c =
+    no_others_there c.args.self.now c.self.inside.pages.items c.self.inside.sets.items c.deref.result.now
+    c.self.inside.resident c.len.result 18
+    (record {
+      view = c.self.view_is;
+      fit = c.self.invariant;
+      is_slice = c.deref.ensures.value;
+      is_count = omega (arith, c.len.ensures, c.self.inside.pages.ok.0);
+    })
+    (omega arith)
+
+pub returns : goal.returns
+returns c pages freed snapshot shows =
+    next_of_quarantine c.args.self.now c.self.inside.pages.items pages c.self.inside.sets.items c.deref.result.now
+    freed snapshot c.self.inside.resident c.len.result 18 c.args.from (has_freed_cells freed) c.next_page.result
+    (record {
+      reads = record {
+        view = c.self.view_is;
+        fit = c.self.invariant;
+        is_slice = c.deref.ensures.value;
+        is_count = omega (arith, c.len.ensures, c.self.inside.pages.ok.0);
+      };
+      shows = shows;
+    })
+    (member_of_freed c.self.inside.pages.items pages c.self.inside.sets.items freed snapshot) c.next_page.ensures

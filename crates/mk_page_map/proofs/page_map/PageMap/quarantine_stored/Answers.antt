@@ -1,0 +1,53 @@
+use Rattle.std.proofs.Common.{◌≡◌, ℕ, ◌<◌, List, ◌++◌, set, take, drop, ◌∙◌, ap, arith, length, subst, sym}
+use Rattle.mk_page_map.specs.KnownPages.{KnownPages, Shows}
+use Rattle.mk_page_map.specs.PageSets.{FitPages, OthersStay, is_member}
+use Rattle.mk_page_map.proofs.Fitting.{fit_again}
+use Rattle.mk_page_map.proofs.FreeSets.{written}
+use Rattle.mk_page_map.proofs.Showing.{known_by, quarantine_shows}
+use Rattle.mk_page_map.proofs.Storing.{page_within}
+use Rattle.mk_page_map.proofs.page_map.PageMap.quarantine_stored.Goals as goal
+use Rattle.mk_page_map.proofs.page_map.PageMap.quarantine_stored.Goals.{After-sort_by_quarantine}
+
+within : (c : After-sort_by_quarantine) → c.args.page < length c.self.inside.pages.items
+within c = page_within c.args.self.now c.self.inside.pages.items c.self.inside.sets.items c.args.page c.self.view_is
+    c.requires
+
+same_sets : (c : After-sort_by_quarantine)
+    → take c.self.inside.sets.len
+    (c.sort_by_quarantine.new.sets ++ drop (length c.sort_by_quarantine.new.sets) c.self.inside.sets.items)
+    ≡ c.sort_by_quarantine.new.sets
+same_sets c =
+    written c.sort_by_quarantine.new.sets c.self.inside.sets.items c.self.inside.sets.len
+    (omega (
+      arith,
+      c.sort_by_quarantine.ensures.sets.long,
+      (c.self.invariant.are_sets (omega (arith, within c))).long,
+      c.self.inside.sets.ok.0,
+    ))
+
+others : (c : After-sort_by_quarantine)
+    → OthersStay c.self.inside.sets.items c.sort_by_quarantine.new.sets c.args.page
+others c =
+    subst (λ (xs : List ℕ). OthersStay xs c.sort_by_quarantine.new.sets c.args.page) c.deref_mut.ensures.value
+    c.sort_by_quarantine.ensures.other_pages
+
+pub invariant_of-self : goal.invariant_of-self
+invariant_of-self c =
+    let x = (goal.at.invariant_of-self c).After-sort_by_quarantine in
+    subst (λ (xs : List ℕ). FitPages c.self.inside.pages.items xs c.self.inside.resident) (sym (same_sets x))
+    (fit_again c.self.inside.pages.items c.self.inside.sets.items c.sort_by_quarantine.new.sets c.args.page
+    c.self.inside.resident c.self.invariant c.sort_by_quarantine.ensures.sets (within x)
+    (λ s is_set.
+    c.sort_by_quarantine.ensures.other_sets s is_set
+    ∙ ap (λ xs. is_member xs s c.args.page) c.deref_mut.ensures.value)
+    (others x))
+
+pub returns : goal.returns
+returns c pages freed_words snapshots shows =
+    let x = (goal.at.returns c).After-sort_by_quarantine in
+    let before = subst (λ (k : KnownPages). Shows k pages freed_words snapshots) (sym c.self.view_is) shows in
+    subst (λ (xs : List ℕ). Shows (known_by c.self.inside.pages.items xs) pages
+    (set freed_words c.args.page c.args.freed) (set snapshots c.args.page c.args.snapshot)) (sym (same_sets x))
+    (quarantine_shows c.self.inside.pages.items pages c.self.inside.sets.items c.sort_by_quarantine.new.sets
+    freed_words snapshots c.args.page c.args.freed c.args.snapshot c.self.invariant.few (within x) (others x)
+    c.sort_by_quarantine.ensures.quarantined c.sort_by_quarantine.ensures.differing before)

@@ -1,0 +1,80 @@
+use Rattle.std.proofs.Common.{◌≡◌, ℕ, ◌<◌, List, ◌++◌, take, drop, ◌∙◌, ap, arith, length, sym}
+use Rattle.mk_geom.specs.declared.pages.Page.{Page}
+use Rattle.mk_geom.specs.PageWords.{use_of_page}
+use Rattle.mk_page_map.specs.Members.{page_at}
+use Rattle.mk_page_map.specs.PageSets.{is_member, is_of_set}
+use Rattle.mk_page_map.proofs.FreeSets.{written}
+use Rattle.mk_page_map.proofs.Storing.{Stores, page_read, page_within, same_count, store_fits, store_shows}
+use Rattle.mk_page_map.proofs.page_map.PageMap.used_stored.Goals as goal
+use Rattle.mk_page_map.proofs.page_map.PageMap.used_stored.Goals.{After-sort_by_used}
+
+abbrev now : After-sort_by_used → Page
+now c = record { header = c.index.result.now.header; used = c.args.used }
+
+within : (c : After-sort_by_used) → c.args.page < length c.self.inside.pages.items
+within c = page_within c.args.self.now c.self.inside.pages.items c.self.inside.sets.items c.args.page c.self.view_is
+    c.requires
+
+read : (c : After-sort_by_used) → c.index.result.now ≡ page_at c.self.inside.pages.items c.args.page
+read c = page_read c.self.inside.pages.items c.args.page c.index.result.now (within c) c.index.ensures
+
+pub sort_by_used-requires-clause-sorted : goal.sort_by_used-requires-clause-sorted
+sort_by_used-requires-clause-sorted c =
+    let inside = page_within c.args.self.now c.self.inside.pages.items c.self.inside.sets.items c.args.page
+    c.self.view_is c.requires in
+    let is = page_read c.self.inside.pages.items c.args.page c.index.result.now inside c.index.ensures in (
+      c.index.result.now.used,
+      λ s is_set.
+          ap (λ xs. is_member xs s c.args.page) c.deref_mut.ensures.value
+          ∙ c.self.invariant.sorted c.args.page inside s is_set
+          ∙ ap (λ (p : Page). is_of_set s (use_of_page p)) (sym is)
+          ∙ ap (is_of_set s) (c.kind_of.ensures.kind c.index.result.now.used),
+    )
+
+stores : (c : After-sort_by_used)
+    → Stores c.self.inside.pages.items c.self.inside.sets.items c.deref_mut.result.now c.sort_by_used.new.sets
+    c.self.inside.resident c.args.page (now c)
+stores c =
+    record {
+      fit = c.self.invariant;
+      within = within c;
+      is_slice = c.deref_mut.ensures.value;
+      are_sets = c.sort_by_used.ensures.sets;
+      sorted = λ s is_set.
+          c.sort_by_used.ensures.sorted s is_set
+          ∙ ap (is_of_set s) (sym (c.kind_of.ensures.kind c.args.used));
+      quarantine = c.sort_by_used.ensures.other_sets;
+      others = c.sort_by_used.ensures.other_pages;
+    }
+
+same_sets : (c : After-sort_by_used)
+    → take c.self.inside.sets.len
+    (c.sort_by_used.new.sets ++ drop (length c.sort_by_used.new.sets) c.self.inside.sets.items)
+    ≡ c.sort_by_used.new.sets
+same_sets c =
+    written c.sort_by_used.new.sets c.self.inside.sets.items c.self.inside.sets.len
+    (omega (
+      arith,
+      c.sort_by_used.ensures.sets.long,
+      (c.self.invariant.are_sets (omega (arith, within c))).long,
+      c.self.inside.sets.ok.0,
+    ))
+
+pub invariant_of-self : goal.invariant_of-self
+invariant_of-self c =
+    let x = (goal.at.invariant_of-self c).After-sort_by_used in
+    store_fits c.self.inside.pages.items c.self.inside.sets.items c.deref_mut.result.now c.sort_by_used.new.sets _
+    c.self.inside.resident c.self.inside.resident c.args.page (now x) (stores x) (same_sets x)
+    (same_count c.self.inside.pages.items c.self.inside.resident c.args.page c.index.result.now c.args.used
+    c.kind_of.result (read x) c.kind_of.ensures.kind)
+
+pub returns : goal.returns
+returns c pages freed snapshot shows =
+    let x = (goal.at.returns c).After-sort_by_used in
+    store_shows c.args.self.now c.self.inside.pages.items pages c.self.inside.sets.items c.deref_mut.result.now
+    c.sort_by_used.new.sets _ freed snapshot c.self.inside.resident c.args.page (now x) _ (stores x)
+    (same_sets x) c.self.view_is
+    (λ same. ap (λ (n : ℕ). record { header = n; used = c.args.used })
+    (ap (λ (p : Page). p.header) (read x)
+    ∙ ap (λ (ps : List Page). (page_at ps c.args.page).header) same))
+    shows

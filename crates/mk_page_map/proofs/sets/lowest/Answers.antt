@@ -1,0 +1,14 @@
+use Rattle.std.proofs.Common.{ℕ, ◌<◌, w64, subst, ap, ◌∙◌}
+use Rattle.std.specs.Int.{bit_at}
+use Rattle.std.proofs.lemmas.Nat.Bits.{bit_at-trailing_zeros}
+use Rattle.mk_page_map.proofs.sets.lowest.Goals as goal
+
+pub returns-clause-one : goal.returns-clause-one
+returns-clause-one c =
+    ap (bit_at c.args.word) c.from.ensures
+    ∙ (bit_at-trailing_zeros w64 c.args.word c.requires c.ranges.word.fits).1
+
+pub returns-clause-lowest : goal.returns-clause-lowest
+returns-clause-lowest c below lower =
+    (bit_at-trailing_zeros w64 c.args.word c.requires c.ranges.word.fits).2 below
+    (subst (λ (k : ℕ). below < k) c.from.ensures lower)

@@ -1,0 +1,10 @@
+use Rattle.mk_page_map.proofs.LowestBits.{lowest_is_next, none_is_next}
+use Rattle.mk_page_map.proofs.sets.lowest_from.Goals as goal
+
+pub returns-then-rest-eq0 : goal.returns-then-rest-eq0
+returns-then-rest-eq0 c = none_is_next c.args.word c.args.from c.if-rest-eq0.true
+
+pub returns-else-rest-eq0 : goal.returns-else-rest-eq0
+returns-else-rest-eq0 c =
+    lowest_is_next c.args.word c.args.from c.lowest.result c.if-from-ge64.false c.lowest.ensures.within
+    c.lowest.ensures.one c.lowest.ensures.lowest

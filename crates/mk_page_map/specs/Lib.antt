@@ -1,0 +1,4 @@
+pub mod Members
+pub mod KnownPages
+pub mod PageSets
+pub mod Laws

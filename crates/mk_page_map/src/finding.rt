@@ -1,0 +1,106 @@
+//! What a page map answers.
+ghost use Rattle.std.specs.Prelude.{◌≡◌, ℕ, ◌<◌, ◌≤◌, List, length, false};
+ghost use Rattle.mk_geom.specs.declared.pages.Page.{Page};
+ghost use Rattle.mk_geom.specs.PageUses.{first_where, is_free_page, range_start, resident_pages};
+ghost use Rattle.mk_geom.specs.PageWords.{uses_of_pages};
+ghost use Rattle.mk_page_map.specs.KnownPages.{Shows};
+ghost use Rattle.mk_page_map.specs.Members.{IsNext, has_free_cell, has_freed_cells, has_other_cells, is_in_use};
+ghost use Rattle.mk_page_map.specs.Members.{page_at};
+ghost use Rattle.mk_page_map.specs.PageSets.{AreSets, is_member};
+
+use crate::page_map::PageMap;
+use crate::sets::next_in;
+use crate::sorting::{DIFFERING, FREE, IN_USE, QUARANTINED, block_set};
+use mk_geom::Page;
+
+/// The lowest page of a set that isn't below this one, of a map of this many pages.
+fn next_page(count: usize, sets: &[u64], set: usize, from: u64) -> Option<u64>
+    requires sets { 0 < count → AreSets sets.now }
+    requires set { set < 20 }
+    requires few { count ≤ 4096 }
+    requires no_others { (number : ℕ) → count ≤ number → number < 4096 → is_member sets.now set number ≡ false }
+    ensures { IsNext (is_member sets.now set) from count result }
+{
+    if count == 0 {
+        return None;
+    }
+    next_in(sets, set, from)
+}
+
+impl PageMap {
+    /// The lowest free page.
+    pub fn first_free(&self) -> Option<u64>
+        ensures { (pages : List Page) (freed snapshot : List ℕ) → Shows self.now pages freed snapshot
+            → result ≡ first_where is_free_page (uses_of_pages pages) }
+    {
+        next_page(self.pages.len(), &self.sets, FREE, 0)
+    }
+
+    /// The lowest block of a class and sort that has a free cell.
+    pub fn first_block(&self, class: u64, leaf: bool) -> Option<u64>
+        requires { class < 8 }
+        ensures { (pages : List Page) (freed snapshot : List ℕ) → Shows self.now pages freed snapshot
+            → result ≡ first_where (has_free_cell class leaf) (uses_of_pages pages) }
+    {
+        next_page(self.pages.len(), &self.sets, block_set(class, leaf), 0)
+    }
+
+    /// The lowest page that isn't free, of those from this one on.
+    pub fn next_in_use(&self, from: u64) -> Option<u64>
+        ensures { (pages : List Page) (freed snapshot : List ℕ) → Shows self.now pages freed snapshot
+            → IsNext (is_in_use pages) from (length pages) result }
+    {
+        next_page(self.pages.len(), &self.sets, IN_USE, from)
+    }
+
+    /// The lowest page that has freed cells, of those from this one on.
+    pub fn next_quarantined(&self, from: u64) -> Option<u64>
+        ensures { (pages : List Page) (freed snapshot : List ℕ) → Shows self.now pages freed snapshot
+            → IsNext (has_freed_cells freed) from (length pages) result }
+    {
+        next_page(self.pages.len(), &self.sets, QUARANTINED, from)
+    }
+
+    /// The lowest page whose freed cells aren't those of its snapshot, of those from this one on.
+    pub fn next_differing(&self, from: u64) -> Option<u64>
+        ensures { (pages : List Page) (freed snapshot : List ℕ) → Shows self.now pages freed snapshot
+            → IsNext (has_other_cells freed snapshot) from (length pages) result }
+    {
+        next_page(self.pages.len(), &self.sets, DIFFERING, from)
+    }
+
+    /// The lowest of this many neighbours that are free. It goes from one range of free pages to the next.
+    pub fn first_range(&self, count: u64) -> Option<u64>
+        requires { 1 ≤ count }
+        ensures { (pages : List Page) (freed snapshot : List ℕ) → Shows self.now pages freed snapshot
+            → result ≡ range_start count (uses_of_pages pages) }
+    {
+        let pages = self.pages.len();
+        let mut from = 0;
+        while let Some(start) = next_page(pages, &self.sets, FREE, from) {
+            let end = next_page(pages, &self.sets, IN_USE, start).unwrap_or(pages as u64);
+            if end - start >= count {
+                return Some(start);
+            }
+            from = end;
+        }
+        None
+    }
+
+    /// How many pages are resident.
+    pub fn resident(&self) -> u64
+        ensures { (pages : List Page) (freed snapshot : List ℕ) → Shows self.now pages freed snapshot
+            → result ≡ resident_pages (uses_of_pages pages) }
+    {
+        self.resident
+    }
+
+    /// The header and used word of a page.
+    pub fn page(&self, page: u64) -> Page
+        requires { page < length self.now.pages }
+        ensures { (pages : List Page) (freed snapshot : List ℕ) → Shows self.now pages freed snapshot
+            → result ≡ page_at pages page }
+    {
+        self.pages[page as usize]
+    }
+}

@@ -1,0 +1,78 @@
+//! Sets of page numbers, as bits: 64 pages in a word, and 64 words in a set, after a summary of which of them aren't 0.
+//! So a set's next page is found by two words of it and the summary.
+ghost use Rattle.std.specs.Prelude.{◌≡◌, ℕ, ◌+◌, ◌*◌, ◌<◌, ◌==◌};
+ghost use Rattle.std.specs.Int.{bit_at};
+ghost use Rattle.mk_page_map.specs.Members.{IsNext};
+ghost use Rattle.mk_page_map.specs.PageSets.{AreSets, OthersStay, is_member};
+
+/// A summary and 64 words.
+pub(crate) const SET_WORDS: usize = 65;
+
+/// The place of the lowest 1.
+fn lowest(word: u64) -> u64
+    requires { 0 < word }
+    ensures within { result < 64 }
+    ensures one { bit_at word result ≡ 1 }
+    ensures lowest { (below : ℕ) → below < result → bit_at word below ≡ 0 }
+{
+    u64::from(word.trailing_zeros())
+}
+
+/// The place of the lowest 1 that isn't below this one.
+fn lowest_from(word: u64, from: u64) -> Option<u64>
+    ensures { IsNext (λ place. bit_at word place == 1) from 64 result }
+{
+    if from >= 64 {
+        return None;
+    }
+    let rest = word & (u64::MAX << from);
+    if rest == 0 { None } else { Some(lowest(rest)) }
+}
+
+/// The lowest page of a set that isn't below this one.
+pub(crate) fn next_in(sets: &[u64], set: usize, from: u64) -> Option<u64>
+    requires sets { AreSets sets.now }
+    requires set { set < 20 }
+    ensures { IsNext (is_member sets.now set) from 4096 result }
+{
+    let summary = SET_WORDS * set;
+    let word = from / 64;
+    if word >= 64 {
+        return None;
+    }
+    let here = sets[summary + 1 + word as usize];
+    if let Some(bit) = lowest_from(here, from % 64) {
+        return Some(64 * word + bit);
+    }
+    let later = lowest_from(sets[summary], word + 1)?;
+    let there = sets[summary + 1 + later as usize];
+    Some(64 * later + lowest(there))
+}
+
+/// The word with this bit 1 or 0.
+fn with_bit(word: u64, place: u64, is_one: bool) -> u64
+    requires { place < 64 }
+    ensures this { (bit_at result place == 1) ≡ is_one }
+    ensures others { (other : ℕ) → other < 64 → (other ≡ place → ⊥) → bit_at result other ≡ bit_at word other }
+{
+    let bit = 1u64 << place;
+    if is_one { word | bit } else { word & !bit }
+}
+
+/// Puts a page into a set, or takes it out.
+pub(crate) fn put(sets: &mut [u64], set: usize, page: u64, inside: bool)
+    requires sets { AreSets sets.old }
+    requires set { set < 20 }
+    requires page { page < 4096 }
+    ensures sets { AreSets sets.new }
+    ensures this { is_member sets.new set page ≡ inside }
+    ensures other_sets { (other : ℕ) → other < 20 → (other ≡ set → ⊥)
+        → is_member sets.new other page ≡ is_member sets.old other page }
+    ensures other_pages { OthersStay sets.old sets.new page }
+{
+    let summary = SET_WORDS * set;
+    let at = summary + 1 + (page / 64) as usize;
+    let word = with_bit(sets[at], page % 64, inside);
+    sets[at] = word;
+    sets[summary] = with_bit(sets[summary], page / 64, word != 0);
+}

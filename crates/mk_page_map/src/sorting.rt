@@ -1,0 +1,145 @@
+//! The sets that a page is in by what stands on it.
+ghost use Rattle.std.specs.Prelude.{◌≡◌, ℕ, ◌<◌, ◌≤◌, ◌==◌, ◌&&◌, IfOk, false, nat_lt, not};
+ghost use Rattle.mk_books.specs.FreeCells.{class_place};
+ghost use Rattle.mk_page_map.specs.PageSets.{AreSets, HasClass, IsInItsSets, OthersStay, is_member, is_of_set};
+ghost use Rattle.mk_page_map.specs.PageSets.{use_of_kind};
+
+use crate::kinds::{PageKind, has_free_cell};
+use crate::sets::{SET_WORDS, put};
+use std::alloc::{AllocError, Global};
+
+/// The set of the free pages. Sets 0 to 15 have the blocks with a free cell.
+pub(crate) const FREE: usize = 16;
+
+/// The set of the pages that aren't free.
+pub(crate) const IN_USE: usize = 17;
+
+/// The set of the pages that have freed cells.
+pub(crate) const QUARANTINED: usize = 18;
+
+/// The set of the pages whose freed cells aren't those of their snapshot.
+pub(crate) const DIFFERING: usize = 19;
+
+/// The number of sets.
+pub(crate) const SETS: usize = 20;
+
+/// The set of the blocks of a class and sort that have a free cell.
+pub(crate) fn block_set(class: u64, leaf: bool) -> usize
+    requires { class < 8 }
+    ensures place { result ≡ class_place class leaf }
+    ensures within { result < 16 }
+{
+    let class = class as usize;
+    if leaf { 8 + class } else { class }
+}
+
+/// Takes a block out of the set that it is in.
+fn leave_blocks(sets: &mut [u64], page: u64, kind: PageKind)
+    requires sets { AreSets sets.old }
+    requires page { page < 4096 }
+    requires class { HasClass kind }
+    requires sorted { (used : ℕ) × IsInItsSets sets.old page (use_of_kind kind used) }
+    ensures sets { AreSets sets.new }
+    ensures left { (set : ℕ) → set < 16 → is_member sets.new set page ≡ false }
+    ensures other_sets { (set : ℕ) → 16 ≤ set → set < 20 → is_member sets.new set page ≡ is_member sets.old set page }
+    ensures other_pages { OthersStay sets.old sets.new page }
+{
+    if let PageKind::Block { class, leaf } = kind {
+        put(sets, block_set(class, leaf), page, false);
+    }
+}
+
+/// Puts a block that is in no set of blocks into its own, where it has a free cell.
+fn join_blocks(sets: &mut [u64], page: u64, kind: PageKind, used: u64)
+    requires sets { AreSets sets.old }
+    requires page { page < 4096 }
+    requires class { HasClass kind }
+    requires left { (set : ℕ) → set < 16 → is_member sets.old set page ≡ false }
+    ensures sets { AreSets sets.new }
+    ensures joined { (set : ℕ) → set < 16 → is_member sets.new set page ≡ is_of_set set (use_of_kind kind used) }
+    ensures other_sets { (set : ℕ) → 16 ≤ set → set < 20 → is_member sets.new set page ≡ is_member sets.old set page }
+    ensures other_pages { OthersStay sets.old sets.new page }
+{
+    if let PageKind::Block { class, leaf } = kind {
+        put(
+            sets,
+            block_set(class, leaf),
+            page,
+            has_free_cell(class, used),
+        );
+    }
+}
+
+/// Sorts a page anew whose header word has changed.
+pub(crate) fn sort_by_header(
+    sets: &mut [u64],
+    page: u64,
+    before: PageKind,
+    after: PageKind,
+    used: u64,
+)
+    requires sets { AreSets sets.old }
+    requires page { page < 4096 }
+    requires class_before { HasClass before }
+    requires class_after { HasClass after }
+    requires sorted { IsInItsSets sets.old page (use_of_kind before used) }
+    ensures sets { AreSets sets.new }
+    ensures sorted { IsInItsSets sets.new page (use_of_kind after used) }
+    ensures other_sets { (set : ℕ) → 18 ≤ set → set < 20 → is_member sets.new set page ≡ is_member sets.old set page }
+    ensures other_pages { OthersStay sets.old sets.new page }
+{
+    leave_blocks(sets, page, before);
+    join_blocks(sets, page, after, used);
+    let is_free = after.is_free();
+    put(sets, FREE, page, is_free);
+    put(sets, IN_USE, page, !is_free);
+}
+
+/// Sorts a page anew whose used word has changed.
+pub(crate) fn sort_by_used(sets: &mut [u64], page: u64, kind: PageKind, used: u64)
+    requires sets { AreSets sets.old }
+    requires page { page < 4096 }
+    requires class { HasClass kind }
+    requires sorted { (before : ℕ) × IsInItsSets sets.old page (use_of_kind kind before) }
+    ensures sets { AreSets sets.new }
+    ensures sorted { IsInItsSets sets.new page (use_of_kind kind used) }
+    ensures other_sets { (set : ℕ) → 18 ≤ set → set < 20 → is_member sets.new set page ≡ is_member sets.old set page }
+    ensures other_pages { OthersStay sets.old sets.new page }
+{
+    if let PageKind::Block { class, leaf } = kind {
+        put(
+            sets,
+            block_set(class, leaf),
+            page,
+            has_free_cell(class, used),
+        );
+    }
+}
+
+/// Sorts a page anew whose quarantine word has changed.
+pub(crate) fn sort_by_quarantine(sets: &mut [u64], page: u64, freed: u64, snapshot: u64)
+    requires sets { AreSets sets.old }
+    requires page { page < 4096 }
+    ensures sets { AreSets sets.new }
+    ensures quarantined { is_member sets.new 18 page ≡ not (freed == 0) }
+    ensures differing { is_member sets.new 19 page ≡ not (freed == snapshot) }
+    ensures other_sets { (set : ℕ) → set < 18 → is_member sets.new set page ≡ is_member sets.old set page }
+    ensures other_pages { OthersStay sets.old sets.new page }
+{
+    put(sets, QUARANTINED, page, freed != 0);
+    put(sets, DIFFERING, page, freed != snapshot);
+}
+
+/// The sets of this many free pages.
+pub(crate) fn free_sets(alloc: Global, pages: u64) -> Result<Vec<u64>, AllocError>
+    requires { pages ≤ 4096 }
+    ensures sets { IfOk result (λ sets. AreSets sets.items) }
+    ensures members { IfOk result (λ sets. (set number : ℕ) → set < 20 → number < 4096
+        → is_member sets.items set number ≡ (set == 16) && nat_lt number pages) }
+{
+    let mut sets = vec![in alloc; 0; SETS * SET_WORDS]?;
+    for page in 0..pages {
+        put(&mut sets, FREE, page, true);
+    }
+    Ok(sets)
+}
