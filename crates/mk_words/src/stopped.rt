@@ -273,6 +273,7 @@ impl Stopped {
             TableWord::Named(Word::Phase),
             Access::Add(1),
         );
+        words.wake_markers();
     }
 
     /// Closes the marks.
