@@ -1,4 +1,4 @@
-//! Waiting for the turn.
+//! Waiting for the turn, and how whoever waits for long pauses.
 #![tactic(auto)]
 
 mod patience;
