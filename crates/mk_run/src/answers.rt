@@ -7,12 +7,12 @@ ghost use Rattle.mk_caller.specs.States.{number_of, Admits};
 ghost use Rattle.mk_turns.specs.Sweeping.{SweepsNothing};
 ghost use Rattle.mk_run.specs.Scripts.{IsCalled, StaysAdmitted, Answers};
 
-use crossbeam_utils::Backoff;
 use mk_alloc::{free_object, new_object};
 use mk_caller::{Caller, Refusal};
 use mk_core::Answer;
 use mk_cycle::{Bench, Engine};
 use mk_never::Op;
+use mk_waiting::Patience;
 use mk_words::Held;
 use std::sync::Wait;
 use std::thread::Threads;
@@ -90,18 +90,21 @@ fn call(caller: &mut Caller, op: Op) -> Result<Answer, Held>
 /// The same, tried again while the gate is held.
 fn call_until_open<R: Wait>(rt: &R, caller: &mut Caller, op: Op) -> Answer
     requires home { caller.old.home ≡ true }
+    requires exists { number_of caller.old.pass < caller.old.pass.table.config.callers }
     requires entered { is_under_turn op ≡ false }
     requires admitted { StaysAdmitted caller.old.pass op }
     ensures home { caller.new.home ≡ true }
     ensures answers { (on : Bool) → Answers on caller.old.pass op result caller.new.pass }
     ensures reached { SweepsNothing caller.old.pass caller.new.pass }
 {
-    let backoff = Backoff::new();
+    let words = caller.words();
+    let number = caller.number();
+    let mut patience = Patience::new();
     'held: for _ in rt.forever() {
         caller.is_idle();
         match call(caller, op) {
             Ok(told) => return told,
-            Err(_) => backoff.snooze(),
+            Err(_) => patience.pause_for_gate(rt, words, number),
         }
     }
     unreachable!()

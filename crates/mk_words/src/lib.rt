@@ -13,6 +13,7 @@ mod passes;
 mod performing;
 mod rule;
 mod scans;
+mod sleeping;
 mod stop_steps;
 mod stopped;
 mod telling;

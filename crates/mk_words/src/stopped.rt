@@ -266,6 +266,7 @@ impl Stopped {
             TableWord::Named(Word::Phase),
             Access::Add(1),
         );
+        words.wake_markers();
     }
 
     /// Closes the marks.
