@@ -18,6 +18,7 @@ use std::sync::Wait;
 use std::thread::Threads;
 
 /// An access through a register.
+#[inline(always)]
 fn access(caller: &mut Caller, op: Op) -> Result<Answer, Refusal>
     requires home { caller.old.home ≡ true }
     requires access { is_access op ≡ true }
@@ -50,6 +51,7 @@ fn access(caller: &mut Caller, op: Op) -> Result<Answer, Refusal>
 }
 
 /// An operation on registers and globals, or an access.
+#[inline(always)]
 fn call(caller: &mut Caller, op: Op) -> Result<Answer, Held>
     requires home { caller.old.home ≡ true }
     requires entered { is_under_turn op ≡ false }
@@ -88,6 +90,8 @@ fn call(caller: &mut Caller, op: Op) -> Result<Answer, Held>
 }
 
 /// The same, tried again while the gate is held.
+#[cold]
+#[inline(never)]
 fn call_until_open<R: Wait>(rt: &R, caller: &mut Caller, op: Op) -> Answer
     requires home { caller.old.home ≡ true }
     requires exists { number_of caller.old.pass < caller.old.pass.table.config.callers }
@@ -108,6 +112,23 @@ fn call_until_open<R: Wait>(rt: &R, caller: &mut Caller, op: Op) -> Answer
         }
     }
     unreachable!()
+}
+
+/// The same, tried once where the gate is open, as it mostly is.
+#[inline(always)]
+fn call_at_once<R: Wait>(rt: &R, caller: &mut Caller, op: Op) -> Answer
+    requires home { caller.old.home ≡ true }
+    requires entered { is_under_turn op ≡ false }
+    requires admitted { StaysAdmitted caller.old.pass op }
+    ensures home { caller.new.home ≡ true }
+    ensures answers { (on : Bool) → Answers on caller.old.pass op result caller.new.pass }
+    ensures reached { SweepsNothing caller.old.pass caller.new.pass }
+{
+    caller.is_idle();
+    match call(caller, op) {
+        Ok(told) => told,
+        Err(_) => call_until_open(rt, caller, op),
+    }
 }
 
 /// Carries out an operation, and tells its answer. Which pointer was loaded isn't said.
@@ -139,6 +160,6 @@ pub fn answer_to<E: Engine, R: Threads + Wait + Sync>(
             Ok(_) => Answer::Done,
             Err(_) => Answer::Double,
         },
-        _ => call_until_open(rt, caller, op),
+        _ => call_at_once(rt, caller, op),
     }
 }

@@ -10,11 +10,10 @@ use Rattle.mk_check.specs.Steps.{op_asked, after_answer, stop_on_answer}
 use Rattle.mk_check.specs.Trees.{IsTree, Place, left_in, kept_in, stopped_in, node_at, with_kept}
 use Rattle.mk_check.specs.Feeding.{FeedState, StandsForSome, IsFeed, IsWaiting, op_of_node, op_in, work_left}
 use Rattle.mk_check.specs.Feeding.{TakesAnswer}
-use Rattle.mk_check.proofs.AtOnce.{feeds_at_once, nearer_at_once, stops_at_once, takes_at_once}
 use Rattle.mk_check.proofs.Stands.{answer_stands, answer_stops, op_of_others, waits_for_answer}
 use Rattle.mk_check.proofs.WorkLaws.{answer_nearer}
-use Rattle.mk_check.proofs.feeding.Feed.answer.Goals as goal
-use Rattle.mk_check.proofs.feeding.Feed.answer.Goals.{After-follow}
+use Rattle.mk_check.proofs.feeding.Feed.answer_ahead.Goals as goal
+use Rattle.mk_check.proofs.feeding.Feed.answer_ahead.Goals.{After-follow}
 
 -- the node that waits is that of the line
 waits : (c : After-follow)
@@ -121,51 +120,3 @@ returns-clause-nearer c =
     (λ _ e. subst (λ (s : FeedState). work_left after < work_left s) c.self.view_is
     (answer_nearer nodes p c.follow.new.self c.in-Line.line c.in-Line.instruction c.in-Line.next c.args.answer
     c.in-Line.ensures.tree c.self.invariant.stop.within (waits c) (stops c e))) c.follow.ensures.ok
-
--- An answer at which nothing is printed, before a line that asks.
-
-pub invariant_of-self : goal.invariant_of-self
-invariant_of-self c =
-    let nodes = c.self.inside.tree in
-    let p = c.self.inside.running in
-    let here = ap (node_at nodes) (sym c.at.ensures) ∙ sym c.in-Line.ensures.value in
-    let silent = sym c.is_silent.ensures ∙ c.if-is_silent.true in
-    let asks = λ (numbers : List ℕ). sym (c.asks.ensures numbers) ∙ c.if-asks.true in
-    let behind =
-    stops_at_once nodes p c.take_at.new.self c.in-Line.line c.in-Line.instruction c.in-Line.next c.args.answer
-    c.in-Line.ensures.tree c.self.invariant.stop.within here silent asks c.take_at.ensures in
-    feeds_at_once (record { nodes = nodes; place = p }) c.take_at.new.self c.args.answer c.in-Line.line
-    c.in-Line.instruction c.in-Line.next c.in-Line.ensures.tree c.self.invariant
-    (subst (λ (s : FeedState). IsWaiting s) (sym c.self.view_is) c.requires) here behind
-
-pub returns-then-is_silent-clause-ok : goal.returns-then-is_silent-clause-ok
-returns-then-is_silent-clause-ok c =
-    let nodes = c.self.inside.tree in
-    let p = c.self.inside.running in
-    let here = ap (node_at nodes) (sym c.at.ensures) ∙ sym c.in-Line.ensures.value in
-    let silent = sym c.is_silent.ensures ∙ c.if-is_silent.true in
-    let asks = λ (numbers : List ℕ). sym (c.asks.ensures numbers) ∙ c.if-asks.true in
-    let behind =
-    stops_at_once nodes p c.take_at.new.self c.in-Line.line c.in-Line.instruction c.in-Line.next c.args.answer
-    c.in-Line.ensures.tree c.self.invariant.stop.within here silent asks c.take_at.ensures in
-    subst (λ (s : FeedState). TakesAnswer s c.args.answer (record { nodes = nodes; place = c.take_at.new.self }))
-    c.self.view_is
-    (takes_at_once (record { nodes = nodes; place = p }) c.take_at.new.self c.args.answer c.in-Line.line
-    c.in-Line.instruction c.in-Line.next c.in-Line.ensures.tree c.self.invariant
-    (subst (λ (s : FeedState). IsWaiting s) (sym c.self.view_is) c.requires) here behind)
-
-pub returns-then-is_silent-clause-nearer : goal.returns-then-is_silent-clause-nearer
-returns-then-is_silent-clause-nearer c =
-    let nodes = c.self.inside.tree in
-    let p = c.self.inside.running in
-    let here = ap (node_at nodes) (sym c.at.ensures) ∙ sym c.in-Line.ensures.value in
-    let silent = sym c.is_silent.ensures ∙ c.if-is_silent.true in
-    let asks = λ (numbers : List ℕ). sym (c.asks.ensures numbers) ∙ c.if-asks.true in
-    let behind =
-    stops_at_once nodes p c.take_at.new.self c.in-Line.line c.in-Line.instruction c.in-Line.next c.args.answer
-    c.in-Line.ensures.tree c.self.invariant.stop.within here silent asks c.take_at.ensures in
-    subst (λ (s : FeedState). work_left (record { nodes = nodes; place = c.take_at.new.self }) < work_left s)
-    c.self.view_is
-    (nearer_at_once (record { nodes = nodes; place = p }) c.take_at.new.self c.args.answer c.in-Line.line
-    c.in-Line.instruction c.in-Line.next c.in-Line.ensures.tree c.self.invariant
-    (subst (λ (s : FeedState). IsWaiting s) (sym c.self.view_is) c.requires) here behind)
