@@ -16,7 +16,7 @@ use Rattle.mk_quarantine.proofs.EndedCycles.{fresh_is_quarter_of_held}
 use Rattle.mk_quarantine.proofs.EndedFrees.{CallersAreExact}
 use Rattle.mk_quarantine.proofs.HeldQuarters.{IsLate, quarter_or_late}
 use Rattle.mk_quarantine.proofs.KeptAllocations.{quarantine_is_fresh_or_kept}
-use Rattle.mk_quarantine.proofs.Quarters.{fresh_is_quarter}
+use Rattle.mk_quarantine.proofs.Quarters.{fresh_is_quarter, quarantine_is_quarter_and_kept}
 use Rattle.mk_quarantine.proofs.TouchedAllocations.{kept_are_touched}
 use Rattle.mk_quarantine.proofs.UnmappedRuns.{freed_runs_take_no_memory}
 
@@ -64,5 +64,8 @@ quarantines_are_bounded on c es h exact last =
           (host_before c es front more is last) free;
       quarantined = λ front more is. quarantine_is_fresh_or_kept c front (earlier c es front more is h);
       kept = λ front more is. kept_are_touched c front (earlier c es front more is h);
+      in_memory = λ front more is free.
+          quarantine_is_quarter_and_kept on c front (earlier c es front more is h)
+          (exact_before c es front more is on exact) free;
       large = λ front more is free. freed_runs_take_no_memory c front (earlier c es front more is h) free;
     }

@@ -30,7 +30,7 @@ use Rattle.mk_quarantine.specs.GivenBack.{words_given_back}
 
 -- The counts as sums over all.
 
-sum_filtered : (f : PlacedAllocation → ℕ) (p : PlacedAllocation → Bool) (xs : List PlacedAllocation)
+pub sum_filtered : (f : PlacedAllocation → ℕ) (p : PlacedAllocation → Bool) (xs : List PlacedAllocation)
     → sum_by f (filter p xs) ≡ sum_by (λ (a : PlacedAllocation). if p a then f a else 0) xs
 sum_filtered f p [] = refl
 sum_filtered f p (a ∷ xs) =

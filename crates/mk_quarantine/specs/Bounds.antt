@@ -12,7 +12,8 @@ use Rattle.mk_readings.specs.UnmappedRuns.{is_resident_in}
 use Rattle.mk_theorems.specs.Promises.{AtEachMoment}
 use Rattle.mk_alloc.specs.TurnCycles.{TurnsOfAreExact, has_step}
 use Rattle.mk_quarantine.specs.GivenBack.{given_back}
-use Rattle.mk_quarantine.specs.KeptAllocations.{KeptAreTouched, QuarantineIsFreshOrKept}
+use Rattle.mk_quarantine.specs.KeptAllocations.{KeptAreTouched, QuarantineIsFreshOrKept, kept_mapped}
+use Rattle.mk_quarantine.specs.KeptAllocations.{quarantined_mapped}
 
 -- the words that are held after a list of events, and those of objects that were freed since the last `begin`
 
@@ -44,6 +45,12 @@ ReleasesInTurnOfBegin es =
 abbrev pub FreshIsQuarterWhereReleasedInTurn : Config → List Event → Type 0
 FreshIsQuarterWhereReleasedInTurn c es = ReleasesInTurnOfBegin es → FreshIsQuarterOfHeld c es
 
+-- So all that quarantine holds in memory is at most a quarter of the same, and what was freed before the last `begin`.
+abbrev pub QuarantineIsQuarterAndKept : Config → List Event → Type 0
+QuarantineIsQuarterAndKept c es =
+    4 * quarantined_mapped c (left c es).allocations
+    ≤ held_after c es + given_back c es + 4 * kept_mapped c (left c es).allocations
+
 -- No page of a freed large allocation is resident.
 abbrev pub FreedRunsTakeNoMemory : Config → List Event → Type 0
 FreedRunsTakeNoMemory c es =
@@ -54,11 +61,16 @@ FreedRunsTakeNoMemory c es =
 
 -- What quarantine costs in a history; `on` tells whether cycles go on after the calls that begin them.
 pub record QuarantineIsBounded (on : Bool) (c : Config) (es : List Event) : Type 0 where
+  -- A quarter: of what is held and was given back, and of what is held alone where no `release` came in a later turn than
+  -- its `begin`; so always where calls end the cycles that they begin.
   pub with_given_back : WhereTurnIsFree FreshIsQuarterWithGivenBack c es
   pub released_in_turn : WhereTurnIsFree FreshIsQuarterWhereReleasedInTurn c es
   pub of_held : on ≡ false → WhereTurnIsFree FreshIsQuarterOfHeld c es
+  -- In quarantine: what was freed since the last `begin`, and what the last cycle kept, since pointers led to it.
   pub quarantined : AtEachMoment QuarantineIsFreshOrKept c es
   pub kept : AtEachMoment KeptAreTouched c es
+  pub in_memory : WhereTurnIsFree QuarantineIsQuarterAndKept c es
+  -- Large ones hold no memory.
   pub large : WhereTurnIsFree FreedRunsTakeNoMemory c es
 
 -- No caller steps after a `begin` of the host.

@@ -1,8 +1,8 @@
 -- What the last cycle kept: the allocations of its snapshot that it didn't release.
-use Rattle.std.specs.Prelude.{◌≡◌, ◌⊎◌, ℕ, true, false, List}
+use Rattle.std.specs.Prelude.{◌≡◌, ◌⊎◌, ℕ, true, false, ◌&&◌, not, List, filter, sum_by}
 use Rattle.mk_core.specs.declared.config.Config.{Config}
 use Rattle.mk_core.specs.declared.events.Event.{Event}
-use Rattle.mk_core.specs.Allocations.{placed_at}
+use Rattle.mk_core.specs.Allocations.{PlacedAllocation, is_mapped, placed_at, storage_words}
 use Rattle.mk_core.specs.Cycles.{Cycle, IsInSnapshot, NoneSweeps, is_end, is_quarantined}
 use Rattle.mk_core.specs.History.{World, left}
 use Rattle.mk_core.specs.Touched.{IsTouched}
@@ -33,3 +33,12 @@ abbrev pub KeptAreTouched : Config → List Event → Type 0
 KeptAreTouched c es =
     (number : ℕ) (k : IsKeptByLastCycle c es number) → NoneSweeps c k.cycle.releasing.marking
     → IsTouched c k.cycle.releasing.marking number
+
+-- the storage words of the mapped allocations in quarantine, and of those of them that were freed before the last
+-- `begin`: where no cycle is on these are kept
+
+abbrev pub quarantined_mapped : Config → List PlacedAllocation → ℕ
+quarantined_mapped c xs = sum_by (storage_words c) (filter (λ a. is_mapped c a && a.freed) xs)
+
+abbrev pub kept_mapped : Config → List PlacedAllocation → ℕ
+kept_mapped c xs = sum_by (storage_words c) (filter (λ a. is_mapped c a && a.freed && not a.fresh) xs)
