@@ -8,6 +8,7 @@ pub mod EvaluatedBounds
 pub mod HeldQuarters
 pub mod HeldTurns
 pub mod KeptAllocations
+pub mod LittleHeld
 pub mod OneTurn
 pub mod OpenFrees
 pub mod Quarters
