@@ -25,6 +25,7 @@ use Rattle.mk_heap.specs.Reports as report
 use Rattle.mk_heap.specs.Reports.{IsWhole}
 use Rattle.mk_run.specs.declared.outcomes.Outcome.{Outcome}
 use Rattle.mk_run.specs.Running.{answers_in, IsRunOf}
+use Rattle.mk_run.proofs.BoundedRuns.{quarantine_of_run_is_bounded}
 use Rattle.mk_run.proofs.UnsweptHistories.{unswept_is_precise}
 use Rattle.mk_run.specs.Headline.{cycles_go_on, RunsToItsEnd, RunsStandInOneHistory, RunsPrintTheirTexts}
 
@@ -89,6 +90,7 @@ runs_stand_in_one_history program markers sweep last_cycle outcome tell bytes ru
       cycles = λ k is. (runs.follows k is).exact;
       host = runs.host;
       precise = λ none. unswept_is_precise c es kept (unswept none);
+      bounded = quarantine_of_run_is_bounded (cycles_go_on markers) last_cycle program markers outcome runs;
       told = told;
     }
 

@@ -7,6 +7,7 @@ mod MarkersBeside
 mod NotedCalls
 mod ScriptCalls
 mod WholeRuns
+pub mod BoundedRuns
 pub mod Headline
 pub mod LastTurns
 pub mod LastCycles

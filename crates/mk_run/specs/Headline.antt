@@ -18,6 +18,7 @@ use Rattle.mk_heap.specs.Reports as report
 use Rattle.mk_alloc.specs.TurnCycles.{TurnsOfAreExact}
 use Rattle.mk_precision.specs.Precision.{CyclesArePrecise}
 use Rattle.mk_theorems.specs.Promises.{KeepsAllPromises}
+use Rattle.mk_quarantine.specs.Bounds.{QuarantineIsBounded}
 use Rattle.mk_run.specs.declared.outcomes.Outcome.{Outcome}
 use Rattle.mk_run.specs.HostTurns.{HostComesLast}
 use Rattle.mk_run.specs.Running.{answers_in, IsRunOf}
@@ -62,6 +63,9 @@ pub record StandsInOneHistory (program : List Item) (markers : ℕ) (sweep last_
   -- Unless a sweep makes the marks, each cycle releases all of its snapshot that no pointer led to from the `begin` to
   -- the `close`, and after its `end` that storage counts as free.
   pub precise : sweep ≡ false → CyclesArePrecise (config_of program markers) history
+  -- Quarantine is bounded: where the turn is free, what was freed since the last `begin` is at most a quarter of what is
+  -- held and was given back since, the last cycle kept the rest, and freed large objects take no memory.
+  pub bounded : QuarantineIsBounded (cycles_go_on markers) (config_of program markers) history
   -- This is said of it, whole.
   pub told : bytes ≡ tell (config_of program markers) history
 

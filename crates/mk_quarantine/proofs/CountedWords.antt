@@ -1,0 +1,197 @@
+-- What one event makes of the words that are held, fresh and given back.
+use Rattle.std.proofs.Common.{◌≡◌, ℕ, ◌+◌, ◌*◌, ◌≤◌, Bool, true, false, List, [], ◌∷◌, ◌++◌, map, refl, sym, ◌∙◌}
+use Rattle.std.proofs.Common.{ap, subst, arith}
+use Rattle.std.specs.Prelude.{◌&&◌, ◌||◌, not, Option, Some, None, if◌then◌else◌, filter, is_some, sum_by}
+use Rattle.std.proofs.lemmas.Bool.{true≢false}
+use Rattle.std.proofs.lemmas.List.Sums.{sum_by-cons, sum_by-append}
+use Rattle.mk_never.specs.Types.{is_large, kinds_of}
+use Rattle.mk_geom.specs.Addresses.{address_of}
+use Rattle.mk_geom.specs.declared.addresses.Cell.{Cell}
+use Rattle.mk_core.specs.declared.config.Config.{Config}
+use Rattle.mk_core.specs.declared.events.Event.{Event}
+use Rattle.mk_core.specs.declared.events.Seat.{Seat}
+use Rattle.mk_core.specs.declared.events.Step.{Step}
+use Rattle.mk_core.specs.declared.events.Step.TheVariants as step
+use Rattle.mk_core.specs.Allocations.{PlacedAllocation, freed_where_it_stands, fresh_words_of, granted}
+use Rattle.mk_core.specs.Allocations.{held_by_allocations, is_mapped, storage_words, with_released}
+use Rattle.mk_core.specs.Bounded.{is_some_and}
+use Rattle.mk_core.specs.Cells.{is_left_unmarked, pointed_cell}
+use Rattle.mk_core.specs.Counts.{decides_freed}
+use Rattle.mk_core.specs.Cycles.{is_begin, is_release}
+use Rattle.mk_core.specs.History.{World, first_world, left, left_from, world_behind}
+use Rattle.mk_core.specs.Moments.{flight_of}
+use Rattle.mk_core.specs.TurnConditions.{cell_freed}
+use Rattle.mk_core.proofs.ChangedAllocations.{none_freed}
+use Rattle.mk_protocol.proofs.OthersMoves.{WorldBehind}
+use Rattle.mk_objects.proofs.HeldFreed.{held_part, held_sum}
+use Rattle.mk_placement.proofs.FreshWords.{fresh_part, fresh_pushed, none_fresh}
+use Rattle.mk_quarantine.specs.GivenBack.{given_back, given_back_behind, given_back_from, is_given_back}
+use Rattle.mk_quarantine.specs.GivenBack.{words_given_back}
+
+-- The counts as sums over all.
+
+pub sum_filtered : (f : PlacedAllocation → ℕ) (p : PlacedAllocation → Bool) (xs : List PlacedAllocation)
+    → sum_by f (filter p xs) ≡ sum_by (λ (a : PlacedAllocation). if p a then f a else 0) xs
+sum_filtered f p [] = refl
+sum_filtered f p (a ∷ xs) =
+    first (p a) ∙ ap (λ n. (if p a then f a else 0) + n) (sum_filtered f p xs)
+    ∙ sym (sum_by-cons (λ (b : PlacedAllocation). if p b then f b else 0) a xs)
+  where
+    rest : List PlacedAllocation
+    rest = filter p xs
+
+    first : (b : Bool) → sum_by f (if b then a ∷ rest else rest) ≡ (if b then f a else 0) + sum_by f rest
+    first true = sum_by-cons f a rest
+    first false = omega arith
+
+abbrev given_part : Config → World → PlacedAllocation → ℕ
+given_part c w a = if is_given_back c w a then storage_words c a else 0
+
+-- A `release` gives back what is held no more, and makes nothing fresh.
+
+released_part : (n : ℕ) (released more mapped : Bool)
+    → (if not (released || more) && mapped then n else 0)
+    + (if (not released && mapped) && (released || more) then n else 0)
+    ≡ (if not released && mapped then n else 0)
+released_part n true more mapped = omega arith
+released_part n false true true = omega arith
+released_part n false true false = omega arith
+released_part n false false true = omega arith
+released_part n false false false = omega arith
+
+stays_stale : (n : ℕ) (released more mapped fresh : Bool)
+    → (if (not (released || more) && mapped) && fresh then n else 0)
+    ≤ (if (not released && mapped) && fresh then n else 0)
+stays_stale n true more mapped fresh = omega arith
+stays_stale n false true true fresh = omega arith
+stays_stale n false true false fresh = omega arith
+stays_stale n false false true fresh = omega arith
+stays_stale n false false false fresh = omega arith
+
+module _ (c : Config) (w : World) where
+  abbrev released : PlacedAllocation → PlacedAllocation
+  released a = with_released c w.now.words a
+
+  abbrev more_of : PlacedAllocation → Bool
+  more_of a = is_some_and (is_left_unmarked w.now.words) (pointed_cell c.pages w.now.words.pages (address_of a.base))
+
+  abbrev mapped_of : PlacedAllocation → Bool
+  mapped_of a = not (a.freed && is_large (kinds_of c.types a.ty))
+
+  sums_released : (xs : List PlacedAllocation)
+      → sum_by (held_part c) (map released xs) + sum_by (given_part c w) xs ≡ sum_by (held_part c) xs
+  sums_released [] = refl
+  sums_released (a ∷ xs) =
+      let one = released_part (storage_words c a) a.released (more_of a) (mapped_of a) in
+      let rest = sums_released xs in
+      let behind = sum_by-cons (held_part c) (released a) (map released xs) in
+      let given = sum_by-cons (given_part c w) a xs in
+      let before = sum_by-cons (held_part c) a xs in
+      omega arith
+
+  held_released : held_by_allocations c (map released w.allocations) + words_given_back c w
+      ≡ held_by_allocations c w.allocations
+  held_released =
+      let sums = sums_released w.allocations in
+      let behind = held_sum c (map released w.allocations) in
+      let before = held_sum c w.allocations in
+      let given = sum_filtered (storage_words c) (is_given_back c w) w.allocations in
+      omega arith
+
+  sums_stale : (xs : List PlacedAllocation) → sum_by (fresh_part c) (map released xs) ≤ sum_by (fresh_part c) xs
+  sums_stale [] = omega arith
+  sums_stale (a ∷ xs) =
+      let one = stays_stale (storage_words c a) a.released (more_of a) (mapped_of a) a.fresh in
+      let rest = sums_stale xs in
+      let behind = sum_by-cons (fresh_part c) (released a) (map released xs) in
+      let before = sum_by-cons (fresh_part c) a xs in
+      omega arith
+
+  fresh_released : fresh_words_of c (map released w.allocations) ≤ fresh_words_of c w.allocations
+  fresh_released =
+      let sums = sums_stale w.allocations in
+      let behind = sum_filtered (storage_words c) (λ (a : PlacedAllocation). is_mapped c a && a.fresh)
+      (map released w.allocations) in
+      let before = sum_filtered (storage_words c) (λ (a : PlacedAllocation). is_mapped c a && a.fresh) w.allocations in
+      omega arith
+
+held_pushed : (c : Config) (xs : List PlacedAllocation) (a : PlacedAllocation)
+    → held_by_allocations c xs ≤ held_by_allocations c (xs ++ a ∷ [])
+held_pushed c xs a =
+    let before = held_sum c xs in
+    let behind = held_sum c (xs ++ a ∷ []) in
+    let parts = sum_by-append (held_part c) xs (a ∷ []) in
+    omega arith
+
+-- A quarter, where n words were given back.
+abbrev pub IsQuarter : Config → World → ℕ → Type 0
+IsQuarter c w n = 4 * fresh_words_of c w.allocations ≤ held_by_allocations c w.allocations + n
+
+-- what a `quar` frees, if it doesn't decide a Free
+frees_none : (c : Config) (w : World) (cell : Option Cell) → is_some cell ≡ false
+    → map (freed_where_it_stands w.now.words cell) w.allocations ≡ w.allocations
+frees_none c w None none = none_freed w.now.words w.allocations
+frees_none c w (Some cell) none = absurd (true≢false none)
+
+-- An event that frees nothing leaves it a quarter.
+pub quarter_stays : (c : Config) (w : World) (seat : Seat) (x : Step) (n : ℕ)
+    → decides_freed c w.now (flight_of w.now seat) x ≡ false → IsQuarter c w n
+    → IsQuarter c (WorldBehind c w seat x) (given_back_behind c w x n)
+quarter_stays c w seat step.Grant n none quarter =
+    let a : PlacedAllocation = granted c w.now (flight_of w.now seat) in
+    let held = held_pushed c w.allocations a in
+    let fresh = fresh_pushed c w.allocations a refl in
+    omega arith
+quarter_stays c w seat (step.Quar p v) n none quarter =
+    subst
+    (λ (xs : List PlacedAllocation). 4 * fresh_words_of c xs ≤ held_by_allocations c xs + n)
+    (sym (frees_none c w (cell_freed c.pages w.now.words (flight_of w.now seat) p v) none)) quarter
+quarter_stays c w seat step.Begin n none quarter = let fresh = none_fresh c w.allocations in omega arith
+quarter_stays c w seat step.Release n none quarter =
+    let held = held_released c w in
+    let fresh = fresh_released c w in
+    omega arith
+quarter_stays c w seat _ n none quarter = quarter
+
+-- After a `begin` nothing is fresh,
+pub none_fresh_begun : (c : Config) (w : World) (seat : Seat) (x : Step) → is_begin x ≡ true
+    → fresh_words_of c (WorldBehind c w seat x).allocations ≡ 0
+none_fresh_begun c w seat step.Begin is = none_fresh c w.allocations
+none_fresh_begun c w seat _ is = cc
+
+-- and so it stays where nothing is freed.
+pub none_fresh_stays : (c : Config) (w : World) (seat : Seat) (x : Step)
+    → decides_freed c w.now (flight_of w.now seat) x ≡ false → fresh_words_of c w.allocations ≡ 0
+    → fresh_words_of c (WorldBehind c w seat x).allocations ≡ 0
+none_fresh_stays c w seat step.Grant none stale =
+    fresh_pushed c w.allocations (granted c w.now (flight_of w.now seat)) refl ∙ stale
+none_fresh_stays c w seat (step.Quar p v) none stale =
+    ap (λ (xs : List PlacedAllocation). fresh_words_of c xs)
+    (frees_none c w (cell_freed c.pages w.now.words (flight_of w.now seat) p v) none) ∙ stale
+none_fresh_stays c w seat step.Begin none stale = none_fresh c w.allocations
+none_fresh_stays c w seat step.Release none stale = let fresh = fresh_released c w in omega arith
+none_fresh_stays c w seat _ none stale = stale
+
+-- What was given back, with one event more.
+
+given_more_from : (c : Config) (w : World) (n : ℕ) (es : List Event) (e : Event)
+    → given_back_from c w n (es ++ e ∷ [])
+    ≡ given_back_behind c (left_from c w es) e.step (given_back_from c w n es)
+unfolding given_back_from left_from
+given_more_from c w n [] e = refl
+given_more_from c w n (x ∷ es) e =
+    given_more_from c (world_behind c w x) (given_back_behind c w x.step n) es e
+
+pub given_more : (c : Config) (es : List Event) (e : Event)
+    → given_back c (es ++ e ∷ []) ≡ given_back_behind c (left c es) e.step (given_back c es)
+given_more c es e = given_more_from c (first_world c) 0 es e
+
+pub none_given : (c : Config) → given_back c [] ≡ 0
+unfolding given_back_from
+none_given c = refl
+
+-- Only a `release` gives back.
+pub given_at : (c : Config) (w : World) (x : Step) → is_release x ≡ false → given_back_behind c w x 0 ≡ 0
+given_at c w step.Begin none = refl
+given_at c w step.Release none = cc
+given_at c w _ none = refl

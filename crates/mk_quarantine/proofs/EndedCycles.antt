@@ -1,0 +1,237 @@
+-- Where calls end the cycles that they begin, no `release` stands in a later turn than its `begin`.
+use Rattle.std.proofs.Common.{◌≡◌, ◌⊎◌, ⊎_elim, ℕ, ◌<◌, true, false, List, [], ◌∷◌, ◌++◌, refl, sym}
+use Rattle.std.proofs.Common.{◌∙◌, ap, subst, arith, append_assoc, inl, inr}
+use Rattle.std.specs.Prelude.{Option, Some, None}
+use Rattle.std.proofs.lemmas.Bool.{eq-eqb, ltb-true, or_from, or_parts, true≢false}
+use Rattle.mk_never.specs.declared.operations.Op.{Op}
+use Rattle.mk_never.specs.declared.operations.Op.TheVariants as op
+use Rattle.mk_core.specs.declared.config.Config.{Config}
+use Rattle.mk_core.specs.declared.events.Event.{Event}
+use Rattle.mk_core.specs.declared.events.Seat.{Seat}
+use Rattle.mk_core.specs.declared.events.Seat.TheVariants.{Caller, Host, Marker}
+use Rattle.mk_core.specs.declared.events.Step.{Step}
+use Rattle.mk_core.specs.declared.events.Step.TheVariants as step
+use Rattle.mk_core.specs.Calls.{is_under_turn}
+use Rattle.mk_core.specs.Cycles.{At, Next, TurnOf, is_begin, is_end, is_give, is_release, through}
+use Rattle.mk_core.specs.Growing.{AreOfOthers, is_one_of, is_same_seat}
+use Rattle.mk_core.specs.History.{AreEnabledFrom, IsHistory, World, left, left_from, world_behind}
+use Rattle.mk_core.specs.Moments.{flight_of}
+use Rattle.mk_core.specs.Order.{comes_next, seat_exists}
+use Rattle.mk_core.specs.Words.{phase_of}
+use Rattle.mk_core.proofs.HistoryParts.{enabled_in_parts}
+use Rattle.mk_protocol.proofs.Known.{known_left}
+use Rattle.mk_protocol.proofs.NextSteps.{at_no_take, at_take}
+use Rattle.mk_protocol.proofs.Orderly.{turn_of}
+use Rattle.mk_protocol.proofs.Views.{HoldsTurn, view_of}
+use Rattle.mk_invariant.proofs.Induction.{before_it}
+use Rattle.mk_placement.proofs.Longer.{taken}
+use Rattle.mk_readings.proofs.CyclePhases.{AsksPhase, moves_phase, phase_behind}
+use Rattle.mk_alloc.specs.TurnCycles.{CallIsExact, EndsExactly, RunsOneCycle, has_step}
+use Rattle.mk_alloc.proofs.ListParts.{Lacks, lacks_at, lacks_second}
+use Rattle.mk_quarantine.specs.Bounds.{FreshIsQuarterOfHeld, HostBeginsLast, fresh_after}
+use Rattle.mk_quarantine.proofs.BegunTurns.{begin_gives_none, beginner_holds, begun_in_turn}
+use Rattle.mk_quarantine.proofs.CountedWords.{IsQuarter}
+use Rattle.mk_quarantine.proofs.EndedFrees.{CallersAreExact, caller_of}
+use Rattle.mk_quarantine.proofs.HeldQuarters.{FreesIn, IsLate, quarter_or_late, since_begin}
+use Rattle.mk_quarantine.proofs.HeldTurns.{first_giver, next_of, turn_stays_taken}
+use Rattle.mk_quarantine.proofs.OpenFrees.{freer_has_free}
+
+-- After an `end` no `release` comes before the next `begin`.
+
+abbrev Rests : ℕ → Type 0
+Rests p = (p ≡ 0) ⊎ (p ≡ 5)
+
+rest_step : (x : Step) (p : ℕ) → AsksPhase x p → Rests p → is_begin x ≡ false
+    → Rests (phase_behind x p) × (is_release x ≡ false)
+rest_step step.Begin p asks rests none = cc
+rest_step step.Want p asks (inl z) none = absurd (omega arith)
+rest_step step.Want p asks (inr z) none = absurd (omega arith)
+rest_step step.Close p asks (inl z) none = absurd (omega arith)
+rest_step step.Close p asks (inr z) none = absurd (omega arith)
+rest_step step.Release p asks (inl z) none = absurd (omega arith)
+rest_step step.Release p asks (inr z) none = absurd (omega arith)
+rest_step step.End p asks rests none = (inl refl, refl)
+rest_step step.Over p asks rests none = (inr refl, refl)
+rest_step _ p asks rests none = (rests, refl)
+
+releases_none : (c : Config) (w : World) (es : List Event) → AreEnabledFrom c w es → Rests (phase_of w.now.words)
+    → Lacks is_begin es → Lacks is_release es
+releases_none c w [] on rests none = refl
+releases_none c w (e ∷ es) on rests none =
+    let parts = or_parts (is_begin e.step) (has_step is_begin es) none in
+    let moves = moves_phase c w e es on in
+    let one = rest_step e.step (phase_of w.now.words) moves.0 rests parts.0 in
+    or_from (is_release e.step) (has_step is_release es) one.1
+    (releases_none c (world_behind c w e) es moves.2 (subst Rests (sym moves.1) one.0) parts.1)
+
+end_is : (x : Step) → is_end x ≡ true → x ≡ step.End
+end_is step.End is = refl
+end_is _ is = cc
+
+released_no_more : (c : Config) (es : List Event) (end : Event) (more : List Event) → IsHistory c (es ++ end ∷ more)
+    → is_end end.step ≡ true → Lacks is_begin more → Lacks is_release more
+released_no_more c es end more h ends none =
+    let moves = moves_phase c (left c es) end more ((enabled_in_parts c es (end ∷ more)).0 h.enabled).1 in
+    let zero : phase_of (world_behind c (left c es) end).now.words ≡ 0 =
+    moves.1 ∙ ap (λ (x : Step). phase_behind x (phase_of (left c es).now.words)) (end_is end.step ends) in
+    releases_none c (world_behind c (left c es) end) more moves.2 (inl zero) none
+
+-- Each event of these is of other seats, and so are all after it.
+
+pub others_at : (seats : List Seat) (xs : List Event) (e : Event) (ys : List Event) → AreOfOthers seats (xs ++ e ∷ ys)
+    → is_one_of seats e.seat ≡ false
+unfolding AreOfOthers
+others_at seats [] e ys others = others.0
+others_at seats (x ∷ xs) e ys others = others_at seats xs e ys others.1
+
+pub others_behind : (seats : List Seat) (xs : List Event) (e : Event) (ys : List Event)
+    → AreOfOthers seats (xs ++ e ∷ ys) → AreOfOthers seats ys
+unfolding AreOfOthers
+others_behind seats [] e ys others = others.1
+others_behind seats (x ∷ xs) e ys others = others_behind seats xs e ys others.1
+
+-- A caller's turn that is given back has one cycle, and its end, where cycles don't go on.
+
+is_for : (o : Op) → is_under_turn o ≡ true → (c : Config) (s : Seat) (es : List Event) (t : TurnOf c s es)
+    → CallIsExact false t (Some o) → RunsOneCycle t.behind
+is_for (op.New d ty full) under c s es t exact = exact.one
+is_for (op.Free p) under c s es t exact = exact.one refl
+is_for _ under c s es t exact = cc
+
+runs_one : (c : Config) (k : ℕ) (es : List Event) → IsHistory c es → (ends : EndsExactly false c (Caller k) es)
+    → RunsOneCycle ends.turn.behind
+runs_one c k es h ends = by ends.turn.op refl
+  where
+    by : (o : Option Op) → ends.turn.op ≡ o → RunsOneCycle ends.turn.behind
+    by (Some o) is =
+        let meets = (before_it c es ends.turn.before (taken ends.turn) ends.turn.behind h ends.turn.is).1 in
+        let f = flight_of (left c ends.turn.before).now (Caller k) in
+        let under = (at_take f.stage f.op o
+        (subst (λ (x : Option Op). comes_next f.stage f.op (step.Take x) ≡ true) is meets.order)).1 in
+        is_for o under c (Caller k) es ends.turn (subst (λ (x : Option Op). CallIsExact false ends.turn x) is ends.exact)
+    by None is =
+        let meets = (before_it c es ends.turn.before (taken ends.turn) ends.turn.behind h ends.turn.is).1 in
+        let f = flight_of (left c ends.turn.before).now (Caller k) in
+        absurd (at_no_take f.stage f.op
+        (subst (λ (x : Option Op). comes_next f.stage f.op (step.Take x) ≡ true) is meets.order))
+
+module _ (c : Config) (es : List Event) (h : IsHistory c es) (exact : CallersAreExact false c es) (l : IsLate es) where
+  abbrev b : At is_begin es
+  b = l.begin
+
+  -- the first `give` after it, which stands before the `release`
+
+  given : Next is_give l.release.before
+  given = next_of is_give l.release.before (λ none. true≢false (sym l.later ∙ none))
+
+  abbrev later : List Event
+  later = given.at.behind ++ l.release.event ∷ l.release.behind
+
+  parts : b.behind ≡ given.at.before ++ given.at.event ∷ later
+  parts =
+      l.release.is ∙ ap (λ (xs : List Event). xs ++ l.release.event ∷ l.release.behind) given.at.is
+      ∙ append_assoc given.at.before (given.at.event ∷ given.at.behind) (l.release.event ∷ l.release.behind)
+
+  abbrev next : Next is_give b.behind
+  next =
+      record {
+        at = record {
+          before = given.at.before;
+          event = given.at.event;
+          behind = later;
+          is = parts;
+          of_kind = given.at.of_kind;
+        };
+        none_before = given.none_before;
+      }
+
+  whole : es ≡ through b ++ b.behind
+  whole = b.is ∙ sym (append_assoc b.before (b.event ∷ []) b.behind)
+
+  -- An `end` before that `give` is followed by no `release`.
+  no_release : At is_end given.at.before → ⊥
+  no_release end =
+      let tail : List Event = end.behind ++ given.at.event ∷ later in
+      let split : b.behind ≡ end.before ++ end.event ∷ tail =
+      parts ∙ ap (λ (xs : List Event). xs ++ given.at.event ∷ later) end.is
+      ∙ append_assoc end.before (end.event ∷ end.behind) (given.at.event ∷ later) in
+      let all : es ≡ (through b ++ end.before) ++ end.event ∷ tail =
+      whole ∙ ap (λ (xs : List Event). through b ++ xs) split
+      ∙ sym (append_assoc (through b) end.before (end.event ∷ tail)) in
+      let last : Lacks is_begin (end.event ∷ tail) =
+      lacks_second is_begin end.before (end.event ∷ tail)
+      (ap (λ (xs : List Event). has_step is_begin xs) (sym split) ∙ l.last) in
+      let none = released_no_more c (through b ++ end.before) end.event tail
+      (subst (λ (xs : List Event). IsHistory c xs) all h) end.of_kind
+      (or_parts (is_begin end.event.step) (has_step is_begin tail) last).1 in
+      lacks_at is_release tail (end.behind ++ given.at.event ∷ given.at.behind) l.release.event l.release.behind none
+      (sym (append_assoc end.behind (given.at.event ∷ given.at.behind) (l.release.event ∷ l.release.behind)))
+      l.release.of_kind
+
+  -- A caller ends its cycle in its turn.
+  by_caller : (k : ℕ) → b.event.seat ≡ Caller k → ⊥
+  by_caller k seat =
+      let here = before_it c es b.before b.event b.behind h b.is in
+      let holds : HoldsTurn c (view_of (left c b.before).now) (Caller k) =
+      subst (λ (s : Seat). HoldsTurn c (view_of (left c b.before).now) s) seat (beginner_holds c es b h) in
+      let turn = turn_of c (view_of (left c b.before).now) (Caller k)
+      (known_left c b.before here.0.within_limits here.0.enabled).orderly holds in
+      let kept = turn_stays_taken c b.before (b.event ∷ []) (λ z. omega arith)
+      (or_from (is_give b.event.step) false (begin_gives_none b.event.step b.of_kind) refl) in
+      let giver = first_giver c (through b) b.behind k (subst (λ (xs : List Event). IsHistory c xs) whole h) holds.0
+      (kept ∙ turn) next in
+      let front : List Event = b.before ++ b.event ∷ given.at.before in
+      let split : es ≡ front ++ given.at.event ∷ later =
+      b.is ∙ ap (λ (xs : List Event). b.before ++ b.event ∷ xs) parts
+      ∙ sym (append_assoc b.before (b.event ∷ given.at.before) (given.at.event ∷ later)) in
+      let ends = exact k holds.0 front given.at.event later split giver.0 giver.1 in
+      let at_front = (before_it c es front given.at.event later h split).0 in
+      let i = begun_in_turn c k front
+      (record { before = b.before; event = b.event; behind = given.at.before; is = refl; of_kind = b.of_kind })
+      at_front given.none_before ends.turn in
+      no_release
+      (runs_one c k front at_front ends
+      (record { before = i.before; event = b.event; behind = given.at.before; is = i.is; of_kind = b.of_kind })).1
+
+  -- After one of the host no caller frees anything.
+  by_host : HostBeginsLast c es → b.event.seat ≡ Host → fresh_after c es ≡ 0
+  by_host last seat =
+      ⊎_elim
+      (λ (stale : fresh_after c es ≡ 0). stale)
+      (λ (f : FreesIn c (left c (through b)) b.behind). absurd (none_frees f))
+      (since_begin c es b)
+    where
+      none_frees : FreesIn c (left c (through b)) b.behind → ⊥
+      none_frees f =
+          let w : World = left_from c (left c (through b)) f.before in
+          let caller = caller_of w.now f.event.seat (freer_has_free c w f.event.seat f.event.step f.frees) in
+          let one : es ≡ (through b ++ f.before) ++ f.event ∷ f.behind =
+          whole ∙ ap (λ (xs : List Event). through b ++ xs) f.is
+          ∙ sym (append_assoc (through b) f.before (f.event ∷ f.behind)) in
+          let meets = (before_it c es (through b ++ f.before) f.event f.behind h one).1 in
+          let lt : caller.0 < c.callers =
+          ltb-true caller.0 c.callers (subst (λ (s : Seat). seat_exists c s ≡ true) caller.1 meets.seat) in
+          let others = subst (λ (xs : List Event). AreOfOthers (Caller caller.0 ∷ []) xs) f.is
+          (last b.before b.event b.behind b.is b.of_kind seat caller.0 lt) in
+          let other = others_at (Caller caller.0 ∷ []) f.before f.event f.behind others in
+          true≢false
+          (sym (eq-eqb caller.0 caller.0 refl)
+          ∙ (or_parts (is_same_seat (Caller caller.0) (Caller caller.0)) false
+          (subst (λ (s : Seat). is_one_of (Caller caller.0 ∷ []) s ≡ false) caller.1 other)).0)
+
+  stale_where_late : HostBeginsLast c es → fresh_after c es ≡ 0
+  stale_where_late last = by b.event.seat refl
+    where
+      by : (s : Seat) → b.event.seat ≡ s → fresh_after c es ≡ 0
+      by (Caller k) is = absurd (by_caller k is)
+      by (Marker k) is =
+          absurd (subst (λ (s : Seat). HoldsTurn c (view_of (left c b.before).now) s) is (beginner_holds c es b h))
+      by Host is = by_host last is
+
+pub fresh_is_quarter_of_held : (c : Config) (es : List Event) → IsHistory c es → CallersAreExact false c es
+    → HostBeginsLast c es → (left c es).now.words.turn ≡ 0 → FreshIsQuarterOfHeld c es
+fresh_is_quarter_of_held c es h exact last free =
+    ⊎_elim
+    (λ (quarter : IsQuarter c (left c es) 0). omega arith)
+    (λ (l : IsLate es). (let stale = stale_where_late c es h exact l last in omega arith))
+    (quarter_or_late false c es h exact free)

@@ -1,0 +1,183 @@
+-- A Free that has freed its object, and whose turn was given back: what that turn did.
+use Rattle.std.proofs.Common.{◌≡◌, ℕ, ◌+◌, ◌<◌, Bool, true, false, List, [], ◌∷◌, ◌++◌, refl, sym, ◌∙◌, ap}
+use Rattle.std.proofs.Common.{subst, arith, append_assoc}
+use Rattle.std.specs.Prelude.{◌&&◌, Option, Some}
+use Rattle.std.specs.List.{list_any}
+use Rattle.std.proofs.lemmas.Bool.{ltb-true, or_from}
+use Rattle.std.proofs.Math.Bool.{and-false}
+use Rattle.mk_never.specs.declared.operations.Op.{Op}
+use Rattle.mk_never.specs.declared.operations.Op.TheVariants as op
+use Rattle.mk_core.specs.declared.config.Config.{Config}
+use Rattle.mk_core.specs.declared.events.Event.{Event}
+use Rattle.mk_core.specs.declared.events.Seat.{Seat}
+use Rattle.mk_core.specs.declared.events.Seat.TheVariants.{Caller, Host, Marker}
+use Rattle.mk_core.specs.declared.events.Step.{Step}
+use Rattle.mk_core.specs.declared.events.Step.TheVariants as step
+use Rattle.mk_core.specs.declared.seats.Flight.{Flight}
+use Rattle.mk_core.specs.Counts.{decides_freed}
+use Rattle.mk_core.specs.Cycles.{Next, TurnOf, is_give}
+use Rattle.mk_core.specs.Growing.{is_same_seat}
+use Rattle.mk_core.specs.History.{IsHistory, left}
+use Rattle.mk_core.specs.Moments.{Moment, flight_of}
+use Rattle.mk_core.specs.NewPlaces.{is_undecided_free}
+use Rattle.mk_core.specs.Order.{seat_exists}
+use Rattle.mk_core.proofs.HistoryParts.{earlier_part_is_history}
+use Rattle.mk_core.proofs.PlacesNow.{undecided_free}
+use Rattle.mk_protocol.proofs.Actors.{Meets}
+use Rattle.mk_protocol.proofs.Known.{known_left}
+use Rattle.mk_protocol.proofs.Orderly.{turn_of}
+use Rattle.mk_protocol.proofs.Views.{view_of}
+use Rattle.mk_layout.proofs.Holders.{free_has_turn}
+use Rattle.mk_invariant.proofs.Induction.{before_it}
+use Rattle.mk_placement.proofs.Longer.{taken}
+use Rattle.mk_alloc.specs.TurnCycles.{CallIsExact, EndsExactly, FreeIsExact, TurnsOfAreExact}
+use Rattle.mk_alloc.proofs.OwnGives.{GivesNone, gives_append, own_give}
+use Rattle.mk_quarantine.proofs.HeldTurns.{first_giver, lacks_own, next_of, turn_stays_held}
+use Rattle.mk_quarantine.proofs.OneTurn.{IsSameTurn, one_turn}
+use Rattle.mk_quarantine.proofs.OpenFrees.{FreesNoneFrom, OpenFree, freer_has_free, open_frees_have_turns}
+use Rattle.mk_quarantine.proofs.OpenFrees.{undecided_is_open}
+
+-- the callers' turns are exact
+abbrev pub CallersAreExact : Bool → Config → List Event → Type 0
+CallersAreExact on c es = (k : ℕ) → k < c.callers → TurnsOfAreExact on c (Caller k) es
+
+-- The event frees an object in a turn that goes on with these events and is then given back. What came in the turn
+-- before it freed nothing.
+pub record EndedFree (on : Bool) (c : Config) (before : List Event) (e : Event) (behind : List Event) : Type 0 where
+  pub caller : ℕ
+  pub more : List Event
+  pub rest : List Event
+  pub is : behind ≡ more ++ rest
+  pub turn : TurnOf c (Caller caller) (before ++ e ∷ more)
+  pub exact : FreeIsExact on turn
+  pub done : List Event
+  pub first : before ≡ turn.before ++ taken turn ∷ done
+  pub parts : turn.behind ≡ done ++ e ∷ more
+  pub none : FreesNoneFrom c (left c (turn.before ++ taken turn ∷ [])) done
+
+pub caller_of : (m : Moment) (s : Seat) → is_undecided_free (flight_of m s) ≡ true → (k : ℕ) × (s ≡ Caller k)
+caller_of m (Caller k) h = (k, refl)
+caller_of m (Marker k) h = cc
+caller_of m Host h = cc
+
+no_give : (c : Config) (m : Moment) (f : Flight) (x : Step) → decides_freed c m f x ≡ true → is_give x ≡ false
+no_give c m f (step.Quar p v) h = refl
+no_give c m f step.Give h = cc
+no_give c m f _ h = cc
+
+-- the turn of an open Free, longer
+module _ (c : Config) (before : List Event) (k : ℕ) (o : OpenFree c before (left c before) k) (e : Event)
+    (more : List Event) (none : GivesNone (Caller k) (e ∷ more)) where
+  abbrev longer : TurnOf c (Caller k) (before ++ e ∷ more)
+  longer =
+      record {
+        before = o.turn.before;
+        op = o.turn.op;
+        behind = o.turn.behind ++ e ∷ more;
+        is = ap (λ (l : List Event). l ++ e ∷ more) o.turn.is
+            ∙ append_assoc o.turn.before (taken o.turn ∷ o.turn.behind) (e ∷ more);
+        took = o.turn.took;
+        goes_on = gives_append (Caller k) o.turn.behind (e ∷ more) o.turn.goes_on none;
+      }
+
+  -- whatever turn it is after these
+  ends_free : (on : Bool) (behind rest : List Event) → behind ≡ more ++ rest → IsHistory c (before ++ e ∷ more)
+      → is_undecided_free (flight_of (left c before).now (Caller k)) ≡ true
+      → EndsExactly on c (Caller k) (before ++ e ∷ more) → EndedFree on c before e behind
+  ends_free on behind rest is h undecided ends =
+      let same : IsSameTurn c k (before ++ e ∷ more) longer ends.turn =
+      one_turn c k (before ++ e ∷ more) longer ends.turn h in
+      let free = undecided_free (flight_of (left c before).now (Caller k)) undecided in
+      let op : ends.turn.op ≡ Some (op.Free free.p) = same.op ∙ o.op ∙ ap Some free.op in
+      let take : taken ends.turn ≡ taken o.turn =
+      ap (λ (x : Option Op). record { seat = Caller k; step = step.Take x }) same.op in
+      let start : ends.turn.before ++ taken ends.turn ∷ [] ≡ o.turn.before ++ taken o.turn ∷ [] =
+      ap (λ (l : List Event). l ++ taken ends.turn ∷ []) same.before
+      ∙ ap (λ (x : Event). o.turn.before ++ x ∷ []) take in
+      record {
+        caller = k;
+        more = more;
+        rest = rest;
+        is = is;
+        turn = ends.turn;
+        exact = subst (λ (x : Option Op). CallIsExact on ends.turn x) op ends.exact;
+        done = o.turn.behind;
+        first =
+            o.turn.is
+            ∙ sym (ap (λ (l : List Event). l ++ taken ends.turn ∷ o.turn.behind) same.before
+            ∙ ap (λ (x : Event). o.turn.before ++ x ∷ o.turn.behind) take);
+        parts = same.behind;
+        none = subst (λ (l : List Event). FreesNoneFrom c (left c l) o.turn.behind) (sym start) o.none;
+      }
+
+module _ (on : Bool) (c : Config) (es before : List Event) (e : Event) (behind : List Event) (h : IsHistory c es)
+    (exact : CallersAreExact on c es) (free : (left c es).now.words.turn ≡ 0) (is : es ≡ before ++ e ∷ behind)
+    (frees : decides_freed c (left c before).now (flight_of (left c before).now e.seat) e.step ≡ true) where
+  module _ (k : ℕ) (seat : e.seat ≡ Caller k) where
+    here : IsHistory c before × Meets c (left c before).now e.seat e.step
+    here = before_it c es before e behind h is
+
+    exists : seat_exists c (Caller k) ≡ true
+    exists = subst (λ (s : Seat). seat_exists c s ≡ true) seat here.1.seat
+
+    lt : k < c.callers
+    lt = ltb-true k c.callers exists
+
+    undecided : is_undecided_free (flight_of (left c before).now (Caller k)) ≡ true
+    undecided =
+        subst (λ (s : Seat). is_undecided_free (flight_of (left c before).now s) ≡ true) seat
+        (freer_has_free c (left c before) e.seat e.step frees)
+
+    turn_before : (left c before).now.words.turn ≡ 1 + k
+    turn_before =
+        turn_of c (view_of (left c before).now) (Caller k)
+        (known_left c before here.0.within_limits here.0.enabled).orderly
+        (free_has_turn c (left c before).now (Caller k) exists undecided)
+
+    not_given : own_give (Caller k) e ≡ false
+    not_given =
+        ap (λ (b : Bool). is_same_seat (Caller k) e.seat && b)
+        (no_give c (left c before).now (flight_of (left c before).now e.seat) e.step frees)
+        ∙ and-false (is_same_seat (Caller k) e.seat)
+
+    parts : es ≡ (before ++ e ∷ []) ++ behind
+    parts = is ∙ sym (append_assoc before (e ∷ []) behind)
+
+    whole : IsHistory c ((before ++ e ∷ []) ++ behind)
+    whole = subst (λ (l : List Event). IsHistory c l) parts h
+
+    turn_behind : (left c (before ++ e ∷ [])).now.words.turn ≡ 1 + k
+    turn_behind =
+        turn_stays_held c before (e ∷ []) k (earlier_part_is_history c (before ++ e ∷ []) behind whole) lt turn_before
+        (or_from (own_give (Caller k) e) false not_given refl)
+
+    -- the next `give` is its own
+    given : Next is_give behind
+    given =
+        next_of is_give behind (λ lacks.
+        let kept = turn_stays_held c (before ++ e ∷ []) behind k whole lt turn_behind
+        (lacks_own (Caller k) behind lacks) in
+        let none : (left c ((before ++ e ∷ []) ++ behind)).now.words.turn ≡ 0 =
+        ap (λ (l : List Event). (left c l).now.words.turn) (sym parts) ∙ free in
+        omega arith)
+
+    by_caller : EndedFree on c before e behind
+    by_caller =
+        let giver = first_giver c (before ++ e ∷ []) behind k whole lt turn_behind given in
+        let split : es ≡ (before ++ e ∷ given.at.before) ++ given.at.event ∷ given.at.behind =
+        is ∙ ap (λ (l : List Event). before ++ e ∷ l) given.at.is
+        ∙ sym (append_assoc before (e ∷ given.at.before) (given.at.event ∷ given.at.behind)) in
+        let f = flight_of (left c before).now (Caller k) in
+        let open_free = open_frees_have_turns c before here.0 k lt (undecided_is_open f.stage f.op undecided) in
+        ends_free c before k open_free e given.at.before
+        (or_from (own_give (Caller k) e) (list_any (own_give (Caller k)) given.at.before) not_given
+        (lacks_own (Caller k) given.at.before given.none_before))
+        on behind (given.at.event ∷ given.at.behind) given.at.is
+        (before_it c es (before ++ e ∷ given.at.before) given.at.event given.at.behind h split).0 undecided
+        (exact k lt (before ++ e ∷ given.at.before) given.at.event given.at.behind split giver.0 giver.1)
+
+  -- Where the turn is free in the end, it was given back.
+  pub ended_free : EndedFree on c before e behind
+  ended_free =
+      let caller = caller_of (left c before).now e.seat (freer_has_free c (left c before) e.seat e.step frees) in
+      by_caller caller.0 caller.1

@@ -1,0 +1,61 @@
+-- What the definitions say of small schedules.
+use Rattle.std.proofs.Common.{◌≡◌, ◌≤◌, take, refl, arith}
+use Rattle.mk_core.specs.Allocations.{unreleased_storage}
+use Rattle.mk_core.specs.Bounded.{all_below}
+use Rattle.mk_core.specs.Cells.{pointed_cell}
+use Rattle.mk_core.specs.Cycles.{is_begin, is_close, is_end, is_release}
+use Rattle.mk_core.specs.History.{left, left_from}
+use Rattle.mk_core.specs.StopConditions.{may_turn_black}
+use Rattle.mk_core.proofs.EventsAt.{at_number, event_number}
+use Rattle.mk_core.proofs.MoreSchedules.{full_then_reused, two_pages}
+use Rattle.mk_core.proofs.Schedules.{by, c0, host, one_page}
+use Rattle.mk_quarantine.specs.Bounds.{FreshIsQuarterOfHeld, fresh_after, held_after}
+use Rattle.mk_quarantine.specs.GivenBack.{given_back, given_back_from}
+use Rattle.mk_quarantine.specs.KeptAllocations.{IsKeptByLastCycle}
+use Rattle.mk_quarantine.proofs.BoundSchedules.{released_later}
+
+-- Before the host's `release` 2 of 8 words are fresh, and nothing was given back; after it the 6 words of the larger
+-- object are.
+
+pub before_release : (held_after two_pages (take 33 released_later) ≡ 8)
+    × (fresh_after two_pages (take 33 released_later) ≡ 2) × (given_back two_pages (take 33 released_later) ≡ 0)
+unfolding by c0 host all_below pointed_cell two_pages released_later left_from unreleased_storage given_back_from
+before_release = (refl, refl, refl)
+
+-- In the end the turn is free, and the 2 words that are held are fresh: that is more than a quarter of them, and just a
+-- quarter of the 8 words with those that were given back.
+pub in_the_end : ((left two_pages released_later).now.words.turn ≡ 0) × (held_after two_pages released_later ≡ 2)
+    × (fresh_after two_pages released_later ≡ 2) × (given_back two_pages released_later ≡ 6)
+unfolding by c0 host all_below pointed_cell two_pages released_later left_from unreleased_storage given_back_from
+in_the_end = (refl, refl, refl, refl)
+
+pub more_than_a_quarter : FreshIsQuarterOfHeld two_pages released_later → ⊥
+unfolding by c0 host all_below pointed_cell two_pages released_later left_from unreleased_storage
+more_than_a_quarter h = let wrong : 8 ≤ 2 = h in omega arith
+
+-- Of two cycles the first released nothing, and the second the 32 words of an object.
+pub given_back_at_last : (given_back one_page full_then_reused ≡ 32)
+    × (given_back one_page (take 40 full_then_reused) ≡ 0)
+unfolding by c0 all_below pointed_cell may_turn_black one_page full_then_reused left_from unreleased_storage
+    given_back_from
+given_back_at_last = (refl, refl)
+
+-- The first cycle of that schedule kept the object that a register still pointed to.
+pub kept_by_first : IsKeptByLastCycle one_page (take 36 full_then_reused) 1
+unfolding by c0 all_below pointed_cell may_turn_black one_page full_then_reused left_from event_number at_number
+kept_by_first =
+    record {
+      cycle = record {
+        releasing = record {
+          marking = record {
+            begin = at_number is_begin 19 (take 36 full_then_reused) refl refl;
+            close = record { at = at_number is_close 7 _ refl refl; none_before = refl };
+          };
+          release = record { at = at_number is_release 0 _ refl refl; none_before = refl };
+        };
+        end = record { at = at_number is_end 0 _ refl refl; none_before = refl };
+      };
+      last = refl;
+      snapshot = refl;
+      unreleased = refl;
+    }

@@ -1,0 +1,266 @@
+-- What is freed and unreleased where no cycle is on: what was freed since the last `begin`, or what the last cycle kept.
+use Rattle.std.proofs.Common.{◌≡◌, ◌⊎◌, ℕ, Bool, true, false, List, [], ◌∷◌, ◌++◌, length}
+use Rattle.std.proofs.Common.{refl, sym, ◌∙◌, ap, subst, arith, inl, inr}
+use Rattle.std.specs.Prelude.{◌||◌, ◌&&◌, not, Option, if◌then◌else◌}
+use Rattle.std.proofs.lemmas.Bool.{and_parts, cases_Bool, cases_eq, cases_lt, not-true}
+use Rattle.std.proofs.lemmas.Bool.{true≢false}
+use Rattle.std.proofs.lemmas.List.{get_or_past, length-append}
+use Rattle.mk_geom.specs.declared.addresses.Cell.{Cell}
+use Rattle.mk_core.specs.declared.config.Config.{Config}
+use Rattle.mk_core.specs.declared.events.Event.{Event}
+use Rattle.mk_core.specs.declared.events.Seat.{Seat}
+use Rattle.mk_core.specs.declared.events.Step.{Step}
+use Rattle.mk_core.specs.declared.events.Step.TheVariants as step
+use Rattle.mk_core.specs.Allocations.{PlacedAllocation, freed_where_it_stands, granted, never_granted, no_longer_fresh}
+use Rattle.mk_core.specs.Allocations.{placed_at, stands_in, with_released}
+use Rattle.mk_core.specs.Bounded.{is_some_and}
+use Rattle.mk_core.specs.Cycles.{At, Next, is_begin, is_close, is_end, is_quarantined, is_release}
+use Rattle.mk_core.specs.History.{World, first_world, left, left_from, world_behind}
+use Rattle.mk_core.specs.Moments.{flight_of}
+use Rattle.mk_core.specs.TurnConditions.{cell_freed}
+use Rattle.mk_core.specs.Words.{Words, phase_of}
+use Rattle.mk_core.proofs.ChangedAllocations.{changed_at, earlier_at, freed_leaves, granted_at}
+use Rattle.mk_core.proofs.Histories.{left_more}
+use Rattle.mk_protocol.proofs.Actors.{Meets}
+use Rattle.mk_protocol.proofs.OthersMoves.{WorldBehind}
+use Rattle.mk_invariant.specs.Theorems.{OfHistories}
+use Rattle.mk_invariant.proofs.Induction.{KeptByEvents, before_it, holds_of_histories}
+use Rattle.mk_placement.proofs.Longer.{longer_at, longer_next, next_at_end}
+use Rattle.mk_readings.proofs.CyclePhases.{AsksPhase, phase_asked, phase_behind, phase_moves}
+use Rattle.mk_alloc.proofs.ListParts.{Lacks, lacks_append, lacks_one}
+use Rattle.mk_quarantine.specs.KeptAllocations.{IsKeptByLastCycle, QuarantineIsFreshOrKept}
+
+-- the cycle of a `begin` by the events after it, and the phase
+
+data CycleSoFar (phase : ℕ) (es : List Event) : Type 0 where
+  Marks : (phase ≡ 1) ⊎ (phase ≡ 2) → Lacks is_close es → CycleSoFar phase es
+  Stops : phase ≡ 3 → (k : Next is_close es) → Lacks is_release k.at.behind → CycleSoFar phase es
+  Releases : phase ≡ 4 → (k : Next is_close es) (r : Next is_release k.at.behind) → Lacks is_end r.at.behind
+      → CycleSoFar phase es
+  Ended : (phase ≡ 0) ⊎ (phase ≡ 5) → (k : Next is_close es) (r : Next is_release k.at.behind)
+      (e : Next is_end r.at.behind) → Lacks is_end e.at.behind → CycleSoFar phase es
+
+-- an event that no cycle waits for
+quiet : (p : ℕ) (es : List Event) (e : Event) → is_close e.step ≡ false → is_release e.step ≡ false
+    → is_end e.step ≡ false → CycleSoFar p es → CycleSoFar p (es ++ e ∷ [])
+quiet p es e close release end (Marks at none) =
+    Marks at (lacks_append is_close es (e ∷ []) none (lacks_one is_close e close))
+quiet p es e close release end (Stops at k none) =
+    Stops at (longer_next (e ∷ []) k)
+    (lacks_append is_release k.at.behind (e ∷ []) none (lacks_one is_release e release))
+quiet p es e close release end (Releases at k r none) =
+    Releases at (longer_next (e ∷ []) k) (longer_next (e ∷ []) r)
+    (lacks_append is_end r.at.behind (e ∷ []) none (lacks_one is_end e end))
+quiet p es e close release end (Ended at k r x none) =
+    Ended at (longer_next (e ∷ []) k) (longer_next (e ∷ []) r) (longer_next (e ∷ []) x)
+    (lacks_append is_end x.at.behind (e ∷ []) none (lacks_one is_end e end))
+
+-- the events that it waits for
+module _ (seat : Seat) (p : ℕ) (es : List Event) where
+  wants : p ≡ 1 → CycleSoFar p es → CycleSoFar 2 (es ++ record { seat = seat; step = step.Want } ∷ [])
+  wants asks (Marks at none) =
+      Marks (inr refl) (lacks_append is_close es (record { seat = seat; step = step.Want } ∷ []) none refl)
+  wants asks (Stops at k none) = absurd (omega arith)
+  wants asks (Releases at k r none) = absurd (omega arith)
+  wants asks (Ended at k r x none) = elim at [ inl z ↦ absurd (omega arith) | inr z ↦ absurd (omega arith) ]
+
+  closes : p ≡ 2 → CycleSoFar p es → CycleSoFar 3 (es ++ record { seat = seat; step = step.Close } ∷ [])
+  closes asks (Marks at none) = Stops refl (next_at_end es (record { seat = seat; step = step.Close }) none refl) refl
+  closes asks (Stops at k none) = absurd (omega arith)
+  closes asks (Releases at k r none) = absurd (omega arith)
+  closes asks (Ended at k r x none) = elim at [ inl z ↦ absurd (omega arith) | inr z ↦ absurd (omega arith) ]
+
+  releases : p ≡ 3 → CycleSoFar p es → CycleSoFar 4 (es ++ record { seat = seat; step = step.Release } ∷ [])
+  releases asks (Marks at none) = elim at [ inl z ↦ absurd (omega arith) | inr z ↦ absurd (omega arith) ]
+  releases asks (Stops at k none) =
+      Releases refl (longer_next (record { seat = seat; step = step.Release } ∷ []) k)
+      (next_at_end k.at.behind (record { seat = seat; step = step.Release }) none refl) refl
+  releases asks (Releases at k r none) = absurd (omega arith)
+  releases asks (Ended at k r x none) = elim at [ inl z ↦ absurd (omega arith) | inr z ↦ absurd (omega arith) ]
+
+  ends : p ≡ 4 → CycleSoFar p es → CycleSoFar 0 (es ++ record { seat = seat; step = step.End } ∷ [])
+  ends asks (Marks at none) = elim at [ inl z ↦ absurd (omega arith) | inr z ↦ absurd (omega arith) ]
+  ends asks (Stops at k none) = absurd (omega arith)
+  ends asks (Releases at k r none) =
+      Ended (inl refl) (longer_next (record { seat = seat; step = step.End } ∷ []) k)
+      (longer_next (record { seat = seat; step = step.End } ∷ []) r)
+      (next_at_end r.at.behind (record { seat = seat; step = step.End }) none refl) refl
+  ends asks (Ended at k r x none) = elim at [ inl z ↦ absurd (omega arith) | inr z ↦ absurd (omega arith) ]
+
+  overs : p ≡ 0 → CycleSoFar p es → CycleSoFar 5 (es ++ record { seat = seat; step = step.Over } ∷ [])
+  overs asks (Marks at none) = elim at [ inl z ↦ absurd (omega arith) | inr z ↦ absurd (omega arith) ]
+  overs asks (Stops at k none) = absurd (omega arith)
+  overs asks (Releases at k r none) = absurd (omega arith)
+  overs asks (Ended at k r x none) =
+      let more : List Event = record { seat = seat; step = step.Over } ∷ [] in
+      Ended (inr refl) (longer_next more k) (longer_next more r) (longer_next more x)
+      (lacks_append is_end x.at.behind more none refl)
+
+so_far : (seat : Seat) (x : Step) (p : ℕ) (es : List Event) → AsksPhase x p → is_begin x ≡ false → CycleSoFar p es
+    → CycleSoFar (phase_behind x p) (es ++ record { seat = seat; step = x } ∷ [])
+so_far seat step.Begin p es asks none k = cc
+so_far seat step.Want p es asks none k = wants seat p es asks k
+so_far seat step.Close p es asks none k = closes seat p es asks k
+so_far seat step.Release p es asks none k = releases seat p es asks k
+so_far seat step.End p es asks none k = ends seat p es asks k
+so_far seat step.Over p es asks none k = overs seat p es asks k
+so_far seat _ p es asks none k = quiet p es _ refl refl refl k
+
+-- What is in quarantine and was freed before the last `begin` was so before each event, but a `begin`.
+
+record IsStale (a : PlacedAllocation) : Type 0 where
+  quarantined : is_quarantined a ≡ true
+  stale : a.fresh ≡ false
+
+none_stale : IsStale never_granted → ⊥
+none_stale h = let q : false ≡ true = h.quarantined in true≢false (sym q)
+
+unfreed_not_stale : (a : PlacedAllocation) → a.freed ≡ false → IsStale a → ⊥
+unfreed_not_stale a live h = true≢false (sym (and_parts a.freed (not a.released) h.quarantined).0 ∙ live)
+
+stale_granted : (xs : List PlacedAllocation) (a : PlacedAllocation) (i : ℕ) → a.freed ≡ false
+    → IsStale (placed_at (xs ++ a ∷ []) i) → IsStale (placed_at xs i)
+stale_granted xs a i live h = elim (cases_lt i (length xs)) [
+  | inl lt ↦ subst IsStale (earlier_at xs a i lt) h
+  | inr past ↦ elim (cases_eq i (length xs)) [
+    | inl own ↦
+        absurd (unfreed_not_stale a live
+        (subst IsStale (ap (λ j. placed_at (xs ++ a ∷ []) j) own ∙ granted_at xs a) h))
+    | inr ne ↦
+        absurd (none_stale
+        (subst IsStale (get_or_past (xs ++ a ∷ []) i never_granted
+        (let both = length-append xs (a ∷ []) in omega arith)) h))
+  ]
+]
+
+stale_freed : (w : Words) (cell : Option Cell) (a : PlacedAllocation) → IsStale (freed_where_it_stands w cell a)
+    → IsStale a
+stale_freed w cell a h = by (is_some_and (λ (x : Cell). stands_in w x a) cell) h
+  where
+    by : (b : Bool) → IsStale (if b then record a { freed = true; fresh = true } else a) → IsStale a
+    by true h = let s : true ≡ false = h.stale in absurd (true≢false s)
+    by false h = h
+
+stale_released : (freed released more : Bool) → (freed && not (released || more)) ≡ true
+    → (freed && not released) ≡ true
+stale_released true false more h = refl
+stale_released true true more h = cc
+stale_released false released more h = cc
+
+stale_was : (c : Config) (w : World) (seat : Seat) (x : Step) (i : ℕ) → is_begin x ≡ false
+    → IsStale (placed_at (WorldBehind c w seat x).allocations i) → IsStale (placed_at w.allocations i)
+stale_was c w seat step.Begin i none h = cc
+stale_was c w seat step.Grant i none h =
+    stale_granted w.allocations (granted c w.now (flight_of w.now seat)) i refl h
+stale_was c w seat (step.Quar p v) i none h =
+    let cell = cell_freed c.pages w.now.words (flight_of w.now seat) p v in
+    stale_freed w.now.words cell (placed_at w.allocations i)
+    (subst IsStale
+    (changed_at (freed_where_it_stands w.now.words cell) w.allocations i (freed_leaves w.now.words cell).none) h)
+stale_was c w seat step.Release i none h =
+    let a : PlacedAllocation = placed_at w.allocations i in
+    let at = subst IsStale (changed_at (with_released c w.now.words) w.allocations i refl) h in
+    record {
+      quarantined = stale_released a.freed a.released _ at.quarantined;
+      stale = at.stale;
+    }
+stale_was c w seat _ i none h = h
+
+-- at a `begin`
+stale_begun : (c : Config) (w : World) (seat : Seat) (x : Step) (i : ℕ) → is_begin x ≡ true
+    → is_quarantined (placed_at (WorldBehind c w seat x).allocations i) ≡ true
+    → is_quarantined (placed_at w.allocations i) ≡ true
+stale_begun c w seat step.Begin i is h =
+    ap (λ (a : PlacedAllocation). is_quarantined a) (sym (changed_at no_longer_fresh w.allocations i refl)) ∙ h
+stale_begun c w seat _ i is h = cc
+
+-- After every history: no cycle was begun and all in quarantine is fresh, or what isn't fresh is in the snapshot of the
+-- last one.
+
+abbrev StaleAre : World → (ℕ → Type 0) → Type 0
+StaleAre w claim = (i : ℕ) → IsStale (placed_at w.allocations i) → claim i
+
+abbrev IsQuarantinedIn : World → ℕ → Type 0
+IsQuarantinedIn w i = is_quarantined (placed_at w.allocations i) ≡ true
+
+data SinceBegin (c : Config) (es : List Event) (w : World) : Type 0 where
+  NeverBegun : StaleAre w (λ i. ⊥) → SinceBegin c es w
+  Begun : (b : At is_begin es) → CycleSoFar (phase_of w.now.words) b.behind
+      → StaleAre w (IsQuarantinedIn (left c b.before)) → SinceBegin c es w
+
+abbrev SinceLastBegin : Config → List Event → Type 0
+SinceLastBegin c es = SinceBegin c es (left c es)
+
+since_behind : (c : Config) (es : List Event) (e : Event) → Meets c (left c es).now e.seat e.step → SinceLastBegin c es
+    → SinceBegin c (es ++ e ∷ []) (world_behind c (left c es) e)
+since_behind c es e meets since = elim (cases_Bool (is_begin e.step)) [
+  | inl begins ↦
+      Begun (record { before = es; event = e; behind = []; is = refl; of_kind = begins })
+      (Marks (inl (phase_moves c (left c es).now e.seat e.step meets ∙ begun_phase e.step begins)) refl)
+      (λ i h. stale_begun c (left c es) e.seat e.step i begins h.quarantined)
+  | inr none ↦ by none since
+]
+  where
+    begun_phase : (x : Step) → is_begin x ≡ true → phase_behind x (phase_of (left c es).now.words) ≡ 1
+    begun_phase step.Begin is = refl
+    begun_phase _ is = cc
+
+    by : is_begin e.step ≡ false → SinceLastBegin c es → SinceBegin c (es ++ e ∷ []) (world_behind c (left c es) e)
+    by none (NeverBegun stale) = NeverBegun (λ i h. stale i (stale_was c (left c es) e.seat e.step i none h))
+    by none (Begun b cycle stale) =
+        Begun (longer_at (e ∷ []) b)
+        (subst (λ p. CycleSoFar p (b.behind ++ e ∷ []))
+        (sym (phase_moves c (left c es).now e.seat e.step meets))
+        (so_far e.seat e.step (phase_of (left c es).now.words) b.behind
+        (phase_asked c (left c es).now e.seat e.step meets) none cycle))
+        (λ i h. stale i (stale_was c (left c es) e.seat e.step i none h))
+
+since_kept : KeptByEvents SinceLastBegin
+since_kept c es e h since =
+    let here = before_it c (es ++ e ∷ []) es e [] h refl in
+    subst (λ (w : World). SinceBegin c (es ++ e ∷ []) w) (sym (left_more c (first_world c) es e))
+    (since_behind c es e here.1 since)
+
+since_first : (c : Config) → SinceLastBegin c []
+unfolding left_from
+since_first c = NeverBegun (λ i h. none_stale h)
+
+since_last_begin : OfHistories SinceLastBegin
+since_last_begin = holds_of_histories SinceLastBegin since_first since_kept
+
+pub quarantine_is_fresh_or_kept : OfHistories QuarantineIsFreshOrKept
+quarantine_is_fresh_or_kept c es h idle i quarantined = elim
+    (cases_Bool (placed_at (left c es).allocations i).fresh) [
+      | inl fresh ↦ inl fresh
+      | inr stale ↦ inr (by idle (record { quarantined = quarantined; stale = stale }) (since_last_begin c es h))
+    ]
+  where
+    a : PlacedAllocation
+    a = placed_at (left c es).allocations i
+
+    ended : (b : At is_begin es) → (phase_of (left c es).now.words ≡ 0) ⊎ (phase_of (left c es).now.words ≡ 5)
+        → IsQuarantinedIn (left c b.before) i
+        → CycleSoFar (phase_of (left c es).now.words) b.behind → IsKeptByLastCycle c es i
+    ended b idle snapshot (Ended at k r e none) =
+        record {
+          cycle = record {
+            releasing = record { marking = record { begin = b; close = k }; release = r };
+            end = e;
+          };
+          last = none;
+          snapshot = snapshot;
+          unreleased = not-true a.released (and_parts a.freed (not a.released) quarantined).1;
+        }
+    ended b (inl z) snapshot (Marks at none) =
+        elim at [ inl y ↦ absurd (omega arith) | inr y ↦ absurd (omega arith) ]
+    ended b (inr z) snapshot (Marks at none) =
+        elim at [ inl y ↦ absurd (omega arith) | inr y ↦ absurd (omega arith) ]
+    ended b (inl z) snapshot (Stops at k none) = absurd (omega arith)
+    ended b (inr z) snapshot (Stops at k none) = absurd (omega arith)
+    ended b (inl z) snapshot (Releases at k r none) = absurd (omega arith)
+    ended b (inr z) snapshot (Releases at k r none) = absurd (omega arith)
+
+    by : (phase_of (left c es).now.words ≡ 0) ⊎ (phase_of (left c es).now.words ≡ 5) → IsStale a
+        → SinceLastBegin c es → IsKeptByLastCycle c es i
+    by idle h (NeverBegun stale) = absurd (stale i h)
+    by idle h (Begun b cycle stale) = ended b idle (stale i h) cycle

@@ -1,0 +1,16 @@
+pub mod BegunTurns
+pub mod BoundSchedules
+pub mod Bounds
+pub mod CountedWords
+pub mod EndedCycles
+pub mod EndedFrees
+pub mod EvaluatedBounds
+pub mod HeldQuarters
+pub mod HeldTurns
+pub mod KeptAllocations
+pub mod LittleHeld
+pub mod OneTurn
+pub mod OpenFrees
+pub mod Quarters
+pub mod TouchedAllocations
+pub mod UnmappedRuns

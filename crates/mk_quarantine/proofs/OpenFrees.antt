@@ -1,0 +1,367 @@
+-- A Free that isn't decided yet: its turn, in which nothing was freed so far.
+use Rattle.std.proofs.Common.{◌≡◌, ℕ, ◌+◌, ◌<◌, Bool, true, false, List, [], ◌∷◌, ◌++◌, length}
+use Rattle.std.proofs.Common.{refl, sym, ◌∙◌, ap, subst, arith, inl, inr}
+use Rattle.std.specs.Prelude.{⊤, Option, Some, None, ◌&&◌, ◌==◌, if◌then◌else◌, is_some, slice_index_or, slice_set}
+use Rattle.std.proofs.lemmas.Bool.{and_parts, cases_eq, cases_lt, eq-eqb, eqb-true, false_from_ne_true, true≢false}
+use Rattle.std.proofs.lemmas.List.{get_or-set_other, get_or-set_same, set_past}
+use Rattle.mk_never.specs.declared.operations.Op.{Op}
+use Rattle.mk_never.specs.declared.operations.Op.TheVariants as op
+use Rattle.mk_geom.specs.declared.addresses.Cell.{Cell}
+use Rattle.mk_core.specs.declared.config.Config.{Config}
+use Rattle.mk_core.specs.declared.events.Answer.TheVariants as answer
+use Rattle.mk_core.specs.declared.events.Event.{Event}
+use Rattle.mk_core.specs.declared.events.Seat.{Seat}
+use Rattle.mk_core.specs.declared.events.Seat.TheVariants.{Caller, Host, Marker}
+use Rattle.mk_core.specs.declared.events.Step.{Step}
+use Rattle.mk_core.specs.declared.events.Step.TheVariants as step
+use Rattle.mk_core.specs.declared.seats.Flight.{Flight}
+use Rattle.mk_core.specs.declared.seats.Holding.{Holding}
+use Rattle.mk_core.specs.declared.seats.Stage.{Stage}
+use Rattle.mk_core.specs.declared.seats.Stage.TheVariants as stage
+use Rattle.mk_core.specs.Accesses.{found}
+use Rattle.mk_core.specs.Calls.{at_rest, begun, onward, still, progress_p, progress_reg}
+use Rattle.mk_core.specs.Counts.{decides_freed}
+use Rattle.mk_core.specs.Cycles.{TurnOf, is_give}
+use Rattle.mk_core.specs.Effects.{progress_freed}
+use Rattle.mk_core.specs.History.{IsHistory, World, first_world, left, left_from, world_behind}
+use Rattle.mk_core.specs.Moments.{flight_of}
+use Rattle.mk_core.specs.NewPlaces.{is_free_at, is_undecided_free}
+use Rattle.mk_core.specs.Order.{comes_next}
+use Rattle.mk_core.specs.TurnConditions.{cell_freed}
+use Rattle.mk_core.proofs.Histories.{left_more}
+use Rattle.mk_core.proofs.PlacesNow.{freed_cell}
+use Rattle.mk_protocol.proofs.Actors.{Meets}
+use Rattle.mk_protocol.proofs.Known.{Known, known_left}
+use Rattle.mk_protocol.proofs.Moves.{Move, Enters, GoesOn, Gives, Leaves, Stays, Takes, Works}
+use Rattle.mk_protocol.proofs.NextSteps.{at_no_take}
+use Rattle.mk_protocol.proofs.Orderly.{same_holder}
+use Rattle.mk_protocol.proofs.OrderlyLists.{at_first, event_moves}
+use Rattle.mk_protocol.proofs.OthersMoves.{WorldBehind}
+use Rattle.mk_protocol.proofs.SameWords.{tally_keeps}
+use Rattle.mk_protocol.proofs.Services.{Service, Fills, Frees, Goes, Grants, Loads, Places}
+use Rattle.mk_protocol.proofs.Standings.{InCall, UnderTurn, standing, standing_at}
+use Rattle.mk_protocol.proofs.Views.{View, flight_in, view_of}
+use Rattle.mk_layout.proofs.Before.{reg_leaves}
+use Rattle.mk_layout.proofs.Holders.{free_has_turn}
+use Rattle.mk_invariant.specs.Theorems.{OfHistories}
+use Rattle.mk_invariant.proofs.Induction.{KeptByEvents, before_it, holds_of_histories}
+use Rattle.mk_placement.proofs.Longer.{gives_turn, left_in_turn, longer_turn, taken}
+
+-- before the event that decides it
+
+abbrev pub is_open_at : Stage → Op → Bool
+is_open_at stage.LoadP (op.Free p) = true
+is_open_at stage.Turn (op.Free p) = true
+is_open_at _ _ = false
+
+abbrev pub is_open_free : Flight → Bool
+is_open_free f = is_open_at f.stage f.op
+
+abbrev HasOpen : World → ℕ → Type 0
+HasOpen w k = is_open_free (flight_of w.now (Caller k)) ≡ true
+
+open_stands : (s : Stage) (o : Op) → is_open_at s o ≡ true → standing_at s o ≡ UnderTurn
+open_stands stage.LoadP (op.Free p) h = refl
+open_stands stage.Turn (op.Free p) h = refl
+open_stands _ _ h = cc
+
+pub undecided_is_open : (s : Stage) (o : Op) → is_free_at s o ≡ true → is_open_at s o ≡ true
+undecided_is_open stage.Turn (op.Free p) h = refl
+undecided_is_open _ _ h = cc
+
+call_not_open : (f : Flight) → standing f ≡ InCall → is_open_free f ≡ true → ⊥
+call_not_open f is waits = let e : InCall ≡ UnderTurn = sym is ∙ open_stands f.stage f.op waits in apart e
+  where
+    apart : InCall ≡ UnderTurn → ⊥
+    apart e = cc
+
+give_not_open : (o : Op) → is_open_at stage.Give o ≡ true → ⊥
+give_not_open o h = cc
+
+-- Where it comes from, by what the protocol reads.
+
+data Came (v : View) (k : ℕ) (n : View) : Type 0 where
+  Stayed : flight_in n k ≡ flight_in v k → Came v k n
+  Took : v.turn ≡ 0 → n.turn ≡ 1 + k → Came v k n
+  Loaded : (flight_in v k).stage ≡ stage.LoadP → standing (flight_in v k) ≡ UnderTurn → Came v k n
+
+abbrev call_in : List Flight → ℕ → Flight
+call_in fs k = slice_index_or fs k at_rest
+
+own_call : (fs : List Flight) (k : ℕ) (f : Flight) → (is_open_free f ≡ true → f ≡ call_in fs k)
+    → is_open_free (call_in (slice_set fs k f) k) ≡ true → call_in (slice_set fs k f) k ≡ call_in fs k
+own_call fs k f same waits = elim (cases_lt k (length fs)) [
+  | inl lt ↦
+      let now : call_in (slice_set fs k f) k ≡ f = get_or-set_same fs k f at_rest lt in
+      now ∙ same (ap (λ (x : Flight). is_open_free x) (sym now) ∙ waits)
+  | inr past ↦ ap (λ (xs : List Flight). call_in xs k) (set_past fs k f past)
+]
+
+came : (c : Config) (v : View) (k : ℕ) (n : View) → Move c v (Caller k) n → is_open_free (flight_in n k) ≡ true
+    → Came v k n
+came c v k n Stays waits = Stayed refl
+came c v k n (Enters f lt z was is) waits = Stayed (own_call v.flights k f (λ x. absurd (call_not_open f is x)) waits)
+came c v k n (GoesOn f lt was is) waits = Stayed (own_call v.flights k f (λ x. absurd (call_not_open f is x)) waits)
+came c v k n (Leaves lt was) waits = Stayed (own_call v.flights k at_rest (λ x. cc) waits)
+came c v k n (Takes f z may) waits = Took z refl
+came c v k n (Gives t none at) waits = Stayed (own_call v.flights k at_rest (λ x. cc) waits)
+came c v k n (Works f i t s) waits = by f i s waits
+  where
+    by : (f : Flight) (i : Holding) → Service (flight_in v k) v.holding f i
+        → is_open_free (call_in (slice_set v.flights k f) k) ≡ true
+        → Came v k (record v { flights = slice_set v.flights k f; holding = i })
+    by f i (Goes _ p q) waits = Stayed (own_call v.flights k (flight_in v k) (λ x. refl) waits)
+    by f i (Loads _ at stands other) waits = Loaded at t.1
+    by f i (Places _ was p q) waits = Stayed (own_call v.flights k (flight_in v k) (λ x. refl) waits)
+    by f i (Fills was p) waits =
+        Stayed (own_call v.flights k _ (λ x. absurd (give_not_open (flight_in v k).op x)) waits)
+    by f i (Grants was) waits =
+        Stayed (own_call v.flights k _ (λ x. absurd (give_not_open (flight_in v k).op x)) waits)
+    by f i (Frees _ free p) waits =
+        Stayed (own_call v.flights k _ (λ x. absurd (give_not_open (flight_in v k).op x)) waits)
+came c v k n _ waits = Stayed refl
+
+-- A free turn is taken by a `take` alone (as in mk_placement's Undecided).
+
+record IsTake (x : Step) : Type 0 where
+  op : Option Op
+  is : x ≡ step.Take op
+
+taken_by_take : (c : Config) (w : World) (seat : Seat) (x : Step) (n : ℕ) → w.now.words.turn ≡ 0
+    → (WorldBehind c w seat x).now.words.turn ≡ 1 + n → IsTake x
+taken_by_take c w seat (step.Take o) n free now = record { op = o; is = refl }
+taken_by_take c w seat step.Give n free now = absurd (omega arith)
+taken_by_take c w seat step.Reg n free now = let same = (reg_leaves c w seat).turn in absurd (omega arith)
+taken_by_take c w seat (step.Tally t v) n free now =
+    let same = (tally_keeps w.now.words t v).turn in absurd (omega arith)
+taken_by_take c w seat _ n free now = absurd (omega arith)
+
+-- Where it comes from, by events.
+data FreeCame (c : Config) (w : World) (seat : Seat) (x : Step) (k : ℕ) : Type 0 where
+  IsTaken : (o : Op) → seat ≡ Caller k → x ≡ step.Take (Some o) → w.now.words.turn ≡ 0
+      → (flight_of (WorldBehind c w seat x).now (Caller k)).op ≡ o → FreeCame c w seat x k
+  WasOpen : HasOpen w k
+      → (flight_of (WorldBehind c w seat x).now (Caller k)).op ≡ (flight_of w.now (Caller k)).op
+      → FreeCame c w seat x k
+
+load_is_open : (o : Op) → standing_at stage.LoadP o ≡ UnderTurn → is_open_at stage.LoadP o ≡ true
+load_is_open (op.Free p) h = refl
+load_is_open _ h = cc
+
+load_by_reg : (o : Op) (x : Step) → comes_next stage.LoadP o x ≡ true → x ≡ step.Reg
+load_by_reg o step.Reg h = refl
+load_by_reg o _ h = cc
+
+op_of_load : (f : Flight) (o : Op) (n : ℕ) → (progress_p f o n).flight.op ≡ f.op
+op_of_load f (op.IsNull p) n = refl
+op_of_load f (op.Free p) n = by (n == 0)
+  where
+    by : (b : Bool)
+        → (if b
+        then record { flight = record f { stage = stage.Give; p = n }; answer = Some answer.Done }
+        else onward (record f { p = n }) None).flight.op
+        ≡ f.op
+    by true = refl
+    by false = refl
+op_of_load f _ n = refl
+
+module _ (c : Config) (w : World) (k : ℕ) (known : Known c w.now) (lt : k < c.callers) where
+  abbrev f : Flight
+  f = flight_of w.now (Caller k)
+
+  within : k < length w.now.seats.flights
+  within = omega (arith, known.orderly.flights)
+
+  took_it : (o : Op) → w.now.words.turn ≡ 0
+      → (flight_of (WorldBehind c w (Caller k) (step.Take (Some o))).now (Caller k)).op ≡ o
+  took_it o free =
+      ap (λ (g : Flight). g.op) (get_or-set_same w.now.seats.flights k _ at_rest within)
+      ∙ ap (λ (b : Bool). (if b then record { flight = begun o; answer = None } else still f).flight.op)
+      (eq-eqb w.now.words.turn 0 free)
+
+  taken_free : (o : Option Op) → w.now.words.turn ≡ 0 → Meets c w.now (Caller k) (step.Take o)
+      → FreeCame c w (Caller k) (step.Take o) k
+  taken_free (Some o) free meets = IsTaken o refl refl free (took_it o free)
+  taken_free None free meets = absurd (at_no_take f.stage f.op meets.order)
+
+  loaded : f.stage ≡ stage.LoadP → standing f ≡ UnderTurn → FreeCame c w (Caller k) step.Reg k
+  loaded at stands =
+      WasOpen
+      (ap (λ (s : Stage). is_open_at s f.op) at
+      ∙ load_is_open f.op (ap (λ (s : Stage). standing_at s f.op) (sym at) ∙ stands))
+      (ap (λ (g : Flight). g.op) (get_or-set_same w.now.seats.flights k _ at_rest within)
+      ∙ ap (λ (s : Stage). (progress_reg f s (found c w.now (record { seat = Caller k; step = step.Reg }))).flight.op)
+      at
+      ∙ op_of_load f f.op (found c w.now (record { seat = Caller k; step = step.Reg })))
+
+  own_came : (x : Step) → Meets c w.now (Caller k) x → HasOpen (WorldBehind c w (Caller k) x) k
+      → FreeCame c w (Caller k) x k
+  own_came x meets waits =
+      by (came c (view_of w.now) k (view_of (WorldBehind c w (Caller k) x).now)
+      (event_moves c w.now (Caller k) x known.orderly meets) waits)
+    where
+      by : Came (view_of w.now) k (view_of (WorldBehind c w (Caller k) x).now) → FreeCame c w (Caller k) x k
+      by (Stayed same) =
+          WasOpen (ap (λ (g : Flight). is_open_free g) (sym same) ∙ waits) (ap (λ (g : Flight). g.op) same)
+      by (Took free now) =
+          let take = taken_by_take c w (Caller k) x k free now in
+          subst (λ (y : Step). FreeCame c w (Caller k) y k) (sym take.is)
+          (taken_free take.op free (subst (λ (y : Step). Meets c w.now (Caller k) y) take.is meets))
+      by (Loaded at stands) =
+          let reg : x ≡ step.Reg =
+          load_by_reg f.op x (subst (λ (s : Stage). comes_next s f.op x ≡ true) at meets.order) in
+          subst (λ (y : Step). FreeCame c w (Caller k) y k) (sym reg) (loaded at stands)
+
+free_came : (c : Config) (w : World) (seat : Seat) (x : Step) (k : ℕ) → Known c w.now → Meets c w.now seat x
+    → k < c.callers → HasOpen (WorldBehind c w seat x) k → FreeCame c w seat x k
+free_came c w (Marker j) x k known meets lt waits = WasOpen waits refl
+free_came c w Host x k known meets lt waits = WasOpen waits refl
+free_came c w (Caller j) x k known meets lt waits = elim (cases_eq k j) [
+  | inr ne ↦
+      let same = get_or-set_other w.now.seats.flights j k _ at_rest ne in
+      WasOpen (ap (λ (g : Flight). is_open_free g) (sym same) ∙ waits) (ap (λ (g : Flight). g.op) same)
+  | inl own ↦
+      subst (λ i. Meets c w.now (Caller i) x → HasOpen (WorldBehind c w (Caller i) x) k → FreeCame c w (Caller i) x k)
+      own (own_came c w k known lt x) meets waits
+]
+
+-- The event that frees an object decides its Free.
+
+decides_of_free : (c : Config) (w : World) (seat : Seat) (x : Step)
+    → decides_freed c w.now (flight_of w.now seat) x ≡ true → is_undecided_free (flight_of w.now seat) ≡ true
+decides_of_free c w seat (step.Quar p v) h =
+    by (cell_freed c.pages w.now.words (flight_of w.now seat) p v) refl h
+  where
+    by : (cell : Option Cell) → cell_freed c.pages w.now.words (flight_of w.now seat) p v ≡ cell → is_some cell ≡ true
+        → is_undecided_free (flight_of w.now seat) ≡ true
+    by (Some cell) is h = (freed_cell c.pages w.now.words (flight_of w.now seat) p v cell is).free
+    by None is h = cc
+decides_of_free c w seat _ h = cc
+
+pub freer_has_free : (c : Config) (w : World) (seat : Seat) (x : Step)
+    → decides_freed c w.now (flight_of w.now seat) x ≡ true → is_undecided_free (flight_of w.now seat) ≡ true
+freer_has_free c w seat x h = decides_of_free c w seat x h
+
+decided_gives : (c : Config) (w : World) (k : ℕ) (x : Step) → k < length w.now.seats.flights
+    → decides_freed c w.now (flight_of w.now (Caller k)) x ≡ true → HasOpen (WorldBehind c w (Caller k) x) k → ⊥
+decided_gives c w k (step.Quar p v) within h waits =
+    by (cell_freed c.pages w.now.words (flight_of w.now (Caller k)) p v) h
+    (ap (λ (g : Flight). is_open_free g) (sym (get_or-set_same w.now.seats.flights k _ at_rest within)) ∙ waits)
+  where
+    by : (cell : Option Cell) → is_some cell ≡ true
+        → is_open_free (progress_freed (flight_of w.now (Caller k)) cell).flight ≡ true → ⊥
+    by (Some cell) h waits = give_not_open (flight_of w.now (Caller k)).op waits
+    by None h waits = cc
+decided_gives c w k _ within h waits = cc
+
+-- Where the Free is open after it, the event has freed nothing,
+frees_off : (c : Config) (w : World) (seat : Seat) (x : Step) (k : ℕ) → Known c w.now → Meets c w.now seat x
+    → k < c.callers → HasOpen w k → HasOpen (WorldBehind c w seat x) k
+    → decides_freed c w.now (flight_of w.now seat) x ≡ false
+frees_off c w seat x k known meets lt was waits =
+    false_from_ne_true (decides_freed c w.now (flight_of w.now seat) x) (λ frees.
+    let holds = free_has_turn c w.now seat meets.seat (decides_of_free c w seat x frees) in
+    let same : seat ≡ Caller k =
+    same_holder c (view_of w.now) seat (Caller k) known.orderly holds
+    (lt, open_stands (flight_of w.now (Caller k)).stage (flight_of w.now (Caller k)).op was) in
+    decided_gives c w k x (omega (arith, known.orderly.flights))
+    (subst (λ (s : Seat). decides_freed c w.now (flight_of w.now s) x ≡ true) same frees)
+    (subst (λ (s : Seat). HasOpen (WorldBehind c w s x) k) same waits))
+
+-- and given no turn of its caller back.
+gives_off : (c : Config) (w : World) (seat : Seat) (x : Step) (k : ℕ) → Known c w.now → k < c.callers
+    → HasOpen (WorldBehind c w seat x) k → gives_turn (Caller k) (record { seat = seat; step = x }) ≡ false
+gives_off c w (Marker j) x k known lt waits = refl
+gives_off c w Host x k known lt waits = refl
+gives_off c w (Caller j) x k known lt waits =
+    false_from_ne_true ((k == j) && is_give x)
+    (λ is. let both = and_parts (k == j) (is_give x) is in by j x (eqb-true k j both.0) both.1 waits)
+  where
+    by : (j : ℕ) (x : Step) → k ≡ j → is_give x ≡ true → HasOpen (WorldBehind c w (Caller j) x) k → ⊥
+    by j step.Give own is waits =
+        let rests = get_or-set_same w.now.seats.flights k at_rest at_rest (omega (arith, known.orderly.flights)) in
+        let mine : HasOpen (WorldBehind c w (Caller k) step.Give) k =
+        subst (λ i. HasOpen (WorldBehind c w (Caller i) step.Give) k) (sym own) waits in
+        true≢false (sym mine ∙ ap (λ (g : Flight). is_open_free g) rests)
+    by j _ own is waits = cc
+
+-- No event of the list frees an object.
+unfoldable pub FreesNoneFrom : Config → World → List Event → Type 0
+FreesNoneFrom c w [] = ⊤
+FreesNoneFrom c w (e ∷ es) = (decides_freed c w.now (flight_of w.now e.seat) e.step ≡ false)
+    × FreesNoneFrom c (world_behind c w e) es
+
+frees_none_more : (c : Config) (w : World) (es : List Event) (e : Event) → FreesNoneFrom c w es
+    → decides_freed c (left_from c w es).now (flight_of (left_from c w es).now e.seat) e.step ≡ false
+    → FreesNoneFrom c w (es ++ e ∷ [])
+unfolding FreesNoneFrom left_from
+frees_none_more c w [] e none last = (last, tt)
+frees_none_more c w (x ∷ es) e none last = (none.0, frees_none_more c (world_behind c w x) es e none.1 last)
+
+pub frees_none_at : (c : Config) (w : World) (xs : List Event) (e : Event) (ys : List Event)
+    → FreesNoneFrom c w (xs ++ e ∷ ys)
+    → decides_freed c (left_from c w xs).now (flight_of (left_from c w xs).now e.seat) e.step ≡ false
+unfolding FreesNoneFrom left_from
+frees_none_at c w [] e ys none = none.0
+frees_none_at c w (x ∷ xs) e ys none = frees_none_at c (world_behind c w x) xs e ys none.1
+
+-- The turn of an open Free: it was taken for it, and has freed nothing.
+pub record OpenFree (c : Config) (es : List Event) (w : World) (k : ℕ) : Type 0 where
+  pub turn : TurnOf c (Caller k) es
+  pub op : turn.op ≡ Some (flight_of w.now (Caller k)).op
+  pub none : FreesNoneFrom c (left c (turn.before ++ taken turn ∷ [])) turn.behind
+
+abbrev pub OpenFreesHaveTurns : Config → List Event → Type 0
+OpenFreesHaveTurns c es = (k : ℕ) → k < c.callers → HasOpen (left c es) k → OpenFree c es (left c es) k
+
+one_behind : (c : Config) (es : List Event) (seat : Seat) (x : Step) (k : ℕ) → FreeCame c (left c es) seat x k
+    → OpenFreesHaveTurns c es → IsHistory c es → Meets c (left c es).now seat x → k < c.callers
+    → HasOpen (WorldBehind c (left c es) seat x) k
+    → OpenFree c (es ++ record { seat = seat; step = x } ∷ []) (WorldBehind c (left c es) seat x) k
+unfolding FreesNoneFrom
+one_behind c es seat x k (IsTaken o own take free same) all h meets lt waits =
+    record {
+      turn = record {
+        before = es;
+        op = Some o;
+        behind = [];
+        is = ap (λ (s : Seat). es ++ record { seat = s; step = x } ∷ []) own
+            ∙ ap (λ (y : Step). es ++ record { seat = Caller k; step = y } ∷ []) take;
+        took = free;
+        goes_on = refl;
+      };
+      op = ap Some (sym same);
+      none = tt;
+    }
+one_behind c es seat x k (WasOpen was same) all h meets lt waits =
+    let e : Event = record { seat = seat; step = x } in
+    let known = known_left c es h.within_limits h.enabled in
+    let t : OpenFree c es (left c es) k = all k lt was in
+    let on = gives_off c (left c es) seat x k known lt waits in
+    let here = left_in_turn c (Caller k) es t.turn in
+    record {
+      turn = longer_turn t.turn e on;
+      op = t.op ∙ ap Some (sym same);
+      none =
+          frees_none_more c (left c (t.turn.before ++ taken t.turn ∷ [])) t.turn.behind e t.none
+          (ap (λ (w : World). decides_freed c w.now (flight_of w.now seat) x) here
+          ∙ frees_off c (left c es) seat x k known meets lt was waits);
+    }
+
+one_more : KeptByEvents OpenFreesHaveTurns
+one_more c es e h all k lt waits =
+    let here = before_it c (es ++ e ∷ []) es e [] h refl in
+    let more : left c (es ++ e ∷ []) ≡ world_behind c (left c es) e = left_more c (first_world c) es e in
+    let behind : HasOpen (world_behind c (left c es) e) k = subst (λ (w : World). HasOpen w k) more waits in
+    let known = known_left c es here.0.within_limits here.0.enabled in
+    let came = free_came c (left c es) e.seat e.step k known here.1 lt behind in
+    subst (λ (w : World). OpenFree c (es ++ e ∷ []) w k) (sym more)
+    (one_behind c es e.seat e.step k came all here.0 here.1 lt behind)
+
+at_the_first : (c : Config) → OpenFreesHaveTurns c []
+unfolding left_from
+at_the_first c k lt waits =
+    absurd (true≢false (sym waits ∙ ap (λ (g : Flight). is_open_free g) (at_first c.callers k at_rest)))
+
+pub open_frees_have_turns : OfHistories OpenFreesHaveTurns
+open_frees_have_turns = holds_of_histories OpenFreesHaveTurns at_the_first one_more

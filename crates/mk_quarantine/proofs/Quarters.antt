@@ -1,0 +1,245 @@
+-- What was freed since the last `begin` is a quarter, unless a free that is due waits for its `begin`.
+use Rattle.std.proofs.Common.{◌≡◌, ◌⊎◌, ⊎_elim, ℕ, ◌+◌, ◌*◌, ◌<◌, ◌≤◌, Bool, true, false, List, [], ◌∷◌, ◌++◌, refl}
+use Rattle.std.proofs.Common.{sym, ◌∙◌, ap, subst, arith, append_assoc, inl, inr}
+use Rattle.std.specs.Prelude.{◌&&◌, not, if◌then◌else◌, sum_by}
+use Rattle.std.proofs.lemmas.List.Sums.{sum_by-cons}
+use Rattle.std.proofs.lemmas.Bool.{cases_Bool, cases_lt, true≢false}
+use Rattle.mk_core.specs.declared.config.Config.{Config}
+use Rattle.mk_core.specs.declared.events.Event.{Event}
+use Rattle.mk_core.specs.declared.events.Step.{Step}
+use Rattle.mk_core.specs.declared.events.Step.TheVariants as step
+use Rattle.mk_core.specs.Allocations.{PlacedAllocation, fresh_words_of, held_by_allocations, is_mapped}
+use Rattle.mk_core.specs.Allocations.{storage_words}
+use Rattle.mk_core.specs.Counts.{IsDue, decides_freed}
+use Rattle.mk_core.specs.Cycles.{is_begin}
+use Rattle.mk_core.specs.History.{IsHistory, World, first_world, left, left_from, world_behind}
+use Rattle.mk_core.specs.Moments.{Moment, flight_of}
+use Rattle.mk_core.specs.declared.seats.Flight.{Flight}
+use Rattle.mk_core.proofs.Histories.{left_more}
+use Rattle.mk_core.proofs.HistoryParts.{left_in_parts}
+use Rattle.mk_invariant.specs.Theorems.{OfHistories}
+use Rattle.mk_invariant.proofs.Induction.{KeptByEvents, holds_of_histories}
+use Rattle.mk_placement.proofs.Longer.{taken}
+use Rattle.mk_alloc.specs.TurnCycles.{FreesFirst, IsDueIn, has_step, is_of_cycle, within_turn}
+use Rattle.mk_alloc.proofs.ListParts.{InFirst, InSecond, Lacks, lacks_append, lacks_at, lacks_first, lacks_one, stands}
+use Rattle.mk_quarantine.specs.Bounds.{FreshIsQuarterWithGivenBack, QuarantineIsQuarterAndKept}
+use Rattle.mk_quarantine.specs.GivenBack.{given_back, given_back_behind}
+use Rattle.mk_quarantine.specs.KeptAllocations.{kept_mapped, quarantined_mapped}
+use Rattle.mk_quarantine.proofs.CountedWords.{IsQuarter, given_more, none_fresh_begun, quarter_stays}
+use Rattle.mk_quarantine.proofs.CountedWords.{sum_filtered}
+use Rattle.mk_quarantine.proofs.EndedFrees.{CallersAreExact, EndedFree, ended_free}
+use Rattle.mk_quarantine.proofs.OpenFrees.{FreesNoneFrom, frees_none_at}
+
+-- A free is due, and no cycle was begun since.
+pub record IsPending (c : Config) (es : List Event) : Type 0 where
+  pub before : List Event
+  pub event : Event
+  pub behind : List Event
+  pub is : es ≡ before ++ event ∷ behind
+  pub due : IsDue c before event
+  pub none : Lacks is_begin behind
+
+pub pending_longer : (c : Config) (es : List Event) (e : Event) → is_begin e.step ≡ false → IsPending c es
+    → IsPending c (es ++ e ∷ [])
+pending_longer c es e none p =
+    record {
+      before = p.before;
+      event = p.event;
+      behind = p.behind ++ e ∷ [];
+      is = ap (λ (l : List Event). l ++ e ∷ []) p.is ∙ append_assoc p.before (p.event ∷ p.behind) (e ∷ []);
+      due = p.due;
+      none = lacks_append is_begin p.behind (e ∷ []) p.none (lacks_one is_begin e none);
+    }
+
+begins_free_none : (c : Config) (m : Moment) (f : Flight) (x : Step) → decides_freed c m f x ≡ true
+    → is_begin x ≡ false
+begins_free_none c m f step.Begin frees = cc
+begins_free_none c m f _ frees = refl
+
+-- An event that frees: it is a quarter after it, or the free is due.
+pub freed_or_due : (c : Config) (es : List Event) (e : Event)
+    → decides_freed c (left c es).now (flight_of (left c es).now e.seat) e.step ≡ true
+    → IsQuarter c (world_behind c (left c es) e) 0 ⊎ IsPending c (es ++ e ∷ [])
+freed_or_due c es e frees = elim
+    (cases_lt (held_by_allocations c (world_behind c (left c es) e).allocations)
+    (4 * fresh_words_of c (world_behind c (left c es) e).allocations)) [
+      | inl lt ↦
+          inr (record {
+            before = es;
+            event = e;
+            behind = [];
+            is = refl;
+            due = record {
+              decides = frees;
+              quarter = subst
+                  (λ (w : World). held_by_allocations c w.allocations < 4 * fresh_words_of c w.allocations)
+                  (sym (left_more c (first_world c) es e)) lt;
+            };
+            none = refl;
+          })
+      | inr le ↦ inl (omega arith)
+    ]
+
+pub Quarters : Config → List Event → Type 0
+Quarters c es = IsQuarter c (left c es) (given_back c es) ⊎ IsPending c es
+
+to_longer : (c : Config) (es : List Event) (e : Event)
+    → IsQuarter c (world_behind c (left c es) e) (given_back_behind c (left c es) e.step (given_back c es))
+    → IsQuarter c (left c (es ++ e ∷ [])) (given_back c (es ++ e ∷ []))
+to_longer c es e quarter =
+    subst (λ n. IsQuarter c (left c (es ++ e ∷ [])) n) (sym (given_more c es e))
+    (subst (λ (w : World). IsQuarter c w (given_back_behind c (left c es) e.step (given_back c es)))
+    (sym (left_more c (first_world c) es e)) quarter)
+
+quarters_kept : KeptByEvents Quarters
+unfolding Quarters
+quarters_kept c es e h (inl quarter) = elim
+    (cases_Bool (decides_freed c (left c es).now (flight_of (left c es).now e.seat) e.step)) [
+      | inl frees ↦
+          ⊎_elim
+          (λ (now : IsQuarter c (world_behind c (left c es) e) 0). inl (to_longer c es e (omega arith)))
+          (λ (p : IsPending c (es ++ e ∷ [])). inr p)
+          (freed_or_due c es e frees)
+      | inr none ↦ inl (to_longer c es e (quarter_stays c (left c es) e.seat e.step (given_back c es) none quarter))
+    ]
+quarters_kept c es e h (inr p) = elim (cases_Bool (is_begin e.step)) [
+  | inl begins ↦
+      let stale = none_fresh_begun c (left c es) e.seat e.step begins in
+      inl (to_longer c es e (omega arith))
+  | inr none ↦ inr (pending_longer c es e none p)
+]
+
+quarters_first : (c : Config) → Quarters c []
+unfolding Quarters left_from
+quarters_first c = inl (omega arith)
+
+pub quarters : OfHistories Quarters
+quarters = holds_of_histories Quarters quarters_first quarters_kept
+
+-- A due free of an ended turn has its `begin` in that turn.
+
+module _ (on : Bool) (c : Config) (before : List Event) (e : Event) (behind : List Event)
+    (f : EndedFree on c before e behind) where
+  -- no cycle before the free, since a free of that turn is due before all that it does with cycles
+  pub cycles_later : IsDueIn f.turn → Lacks is_of_cycle f.done
+  cycles_later due =
+      let first : FreesFirst f.turn = f.exact.first due in
+      ⊎_elim
+      (λ (s : InFirst f.done first.due.before first.due.event). absurd (twice first s))
+      (λ (s : InSecond f.done (e ∷ f.more) first.due.before first.due.event first.due.behind).
+      lacks_first is_of_cycle f.done s.rest
+      (ap (λ (l : List Event). has_step is_of_cycle l) (sym s.first) ∙ first.no_cycle))
+      (stands f.done (e ∷ f.more) first.due.before first.due.event first.due.behind (sym f.parts ∙ first.due.is))
+    where
+      twice : (first : FreesFirst f.turn) → InFirst f.done first.due.before first.due.event → ⊥
+      twice first s =
+          let start : List Event = f.turn.before ++ taken f.turn ∷ [] in
+          let off = frees_none_at c (left c start) first.due.before first.due.event s.behind
+          (subst (λ (l : List Event). FreesNoneFrom c (left c start) l) s.is f.none) in
+          let same : left_from c (left c start) first.due.before ≡ left c (within_turn f.turn first.due.before) =
+          sym (left_in_parts c start first.due.before)
+          ∙ ap (λ (l : List Event). left c l) (append_assoc f.turn.before (taken f.turn ∷ []) first.due.before) in
+          true≢false
+          (sym first.due.due.decides
+          ∙ ap (λ (w : World). decides_freed c w.now (flight_of w.now first.due.event.seat) first.due.event.step)
+          (sym same)
+          ∙ off)
+
+pub begin_is_of_cycle : (x : Step) → is_begin x ≡ true → is_of_cycle x ≡ true
+begin_is_of_cycle step.Begin is = refl
+begin_is_of_cycle _ is = cc
+
+-- So a free isn't pending where the turn is free.
+pub none_pending : (on : Bool) (c : Config) (es : List Event) → IsHistory c es → CallersAreExact on c es
+    → (left c es).now.words.turn ≡ 0 → IsPending c es → ⊥
+none_pending on c es h exact free p =
+    let f = ended_free on c es p.before p.event p.behind h exact free p.is p.due.decides in
+    let due : IsDueIn f.turn = record {
+      before = f.done;
+      event = p.event;
+      behind = f.more;
+      is = f.parts;
+      due = subst (λ (l : List Event). IsDue c l p.event) f.first p.due;
+    } in
+    let later = cycles_later on c p.before p.event p.behind f due in
+    let b = f.exact.begins.1 due in
+    let none : Lacks is_begin f.more =
+    lacks_first is_begin f.more f.rest (ap (λ (l : List Event). has_step is_begin l) (sym f.is) ∙ p.none) in
+    ⊎_elim
+    (λ (s : InFirst f.done b.before b.event).
+    lacks_at is_of_cycle f.done b.before b.event s.behind later s.is (begin_is_of_cycle b.event.step b.of_kind))
+    (λ (s : InSecond f.done (p.event ∷ f.more) b.before b.event b.behind).
+    by b.event b.behind b.of_kind f.more none s.rest s.is)
+    (stands f.done (p.event ∷ f.more) b.before b.event b.behind (sym f.parts ∙ b.is))
+  where
+    by : (begin : Event) (behind : List Event) → is_begin begin.step ≡ true → (more : List Event) → Lacks is_begin more
+        → (rest : List Event) → p.event ∷ more ≡ rest ++ begin ∷ behind → ⊥
+    by begin behind begins more none [] is =
+        let same : p.event ≡ begin = cc in
+        true≢false
+        (sym begins ∙ ap (λ (x : Event). is_begin x.step) (sym same)
+        ∙ begins_free_none c (left c p.before).now (flight_of (left c p.before).now p.event.seat) p.event.step
+        p.due.decides)
+    by begin behind begins more none (y ∷ ys) is =
+        let tail : more ≡ ys ++ begin ∷ behind = cc in
+        lacks_at is_begin more ys begin behind none tail begins
+
+pub fresh_is_quarter : (on : Bool) (c : Config) (es : List Event) → IsHistory c es → CallersAreExact on c es
+    → (left c es).now.words.turn ≡ 0 → FreshIsQuarterWithGivenBack c es
+unfolding Quarters
+fresh_is_quarter on c es h exact free =
+    ⊎_elim
+    (λ (quarter : IsQuarter c (left c es) (given_back c es)). quarter)
+    (λ (p : IsPending c es). absurd (none_pending on c es h exact free p))
+    (quarters c es h)
+
+-- All that quarantine holds in memory is fresh, or was freed before the last `begin`.
+
+fresh_or_kept : (n : ℕ) (mapped freed fresh : Bool)
+    → (if mapped && freed then n else 0)
+    ≤ (if mapped && fresh then n else 0) + (if mapped && freed && not fresh then n else 0)
+fresh_or_kept n false freed fresh = omega arith
+fresh_or_kept n true false fresh = omega arith
+fresh_or_kept n true true true = omega arith
+fresh_or_kept n true true false = omega arith
+
+module _ (c : Config) where
+  abbrev counted : (PlacedAllocation → Bool) → PlacedAllocation → ℕ
+  counted test a = if test a then storage_words c a else 0
+
+  abbrev is_quarantined_mapped : PlacedAllocation → Bool
+  is_quarantined_mapped a = is_mapped c a && a.freed
+
+  abbrev is_fresh_mapped : PlacedAllocation → Bool
+  is_fresh_mapped a = is_mapped c a && a.fresh
+
+  abbrev is_kept_mapped : PlacedAllocation → Bool
+  is_kept_mapped a = is_mapped c a && a.freed && not a.fresh
+
+  sums : (xs : List PlacedAllocation)
+      → sum_by (counted is_quarantined_mapped) xs
+      ≤ sum_by (counted is_fresh_mapped) xs + sum_by (counted is_kept_mapped) xs
+  sums [] = omega arith
+  sums (a ∷ xs) =
+      let one = fresh_or_kept (storage_words c a) (is_mapped c a) a.freed a.fresh in
+      let rest = sums xs in
+      let all = sum_by-cons (counted is_quarantined_mapped) a xs in
+      let fresh = sum_by-cons (counted is_fresh_mapped) a xs in
+      let kept = sum_by-cons (counted is_kept_mapped) a xs in
+      omega arith
+
+  quarantined_is_fresh_or_kept : (xs : List PlacedAllocation)
+      → quarantined_mapped c xs ≤ fresh_words_of c xs + kept_mapped c xs
+  quarantined_is_fresh_or_kept xs =
+      let words = sums xs in
+      let all = sum_filtered (storage_words c) is_quarantined_mapped xs in
+      let fresh = sum_filtered (storage_words c) is_fresh_mapped xs in
+      let kept = sum_filtered (storage_words c) is_kept_mapped xs in
+      omega arith
+
+pub quarantine_is_quarter_and_kept : (on : Bool) (c : Config) (es : List Event) → IsHistory c es
+    → CallersAreExact on c es → (left c es).now.words.turn ≡ 0 → QuarantineIsQuarterAndKept c es
+quarantine_is_quarter_and_kept on c es h exact free =
+    let quarter = fresh_is_quarter on c es h exact free in
+    let parts = quarantined_is_fresh_or_kept c (left c es).allocations in
+    omega arith

@@ -1,0 +1,128 @@
+-- What the last cycle kept is touched: released allocations stay so, so it was kept at the cycle's `release`.
+use Rattle.std.proofs.Common.{◌≡◌, ℕ, ◌<◌, Bool, true, false, List, [], ◌∷◌, ◌++◌, length, refl, sym}
+use Rattle.std.proofs.Common.{◌∙◌, ap, subst, arith, append_assoc, inl, inr}
+use Rattle.std.specs.Prelude.{◌||◌}
+use Rattle.std.proofs.lemmas.Bool.{cases_lt, false_from_ne_true, true≢false}
+use Rattle.std.proofs.lemmas.List.{get_or_past, length-append, length-map}
+use Rattle.mk_core.specs.declared.config.Config.{Config}
+use Rattle.mk_core.specs.declared.events.Event.{Event}
+use Rattle.mk_core.specs.declared.events.Seat.{Seat}
+use Rattle.mk_core.specs.declared.events.Step.{Step}
+use Rattle.mk_core.specs.declared.events.Step.TheVariants as step
+use Rattle.mk_core.specs.Allocations.{PlacedAllocation, freed_where_it_stands, granted, never_granted, no_longer_fresh}
+use Rattle.mk_core.specs.Allocations.{placed_at, with_released}
+use Rattle.mk_core.specs.Cycles.{Releasing, before_begin, before_release, is_quarantined}
+use Rattle.mk_core.specs.History.{World, left, left_from, world_behind}
+use Rattle.mk_core.specs.Moments.{flight_of}
+use Rattle.mk_core.specs.TurnConditions.{cell_freed}
+use Rattle.mk_core.proofs.ChangedAllocations.{changed_at, earlier_at, freed_leaves, freed_released}
+use Rattle.mk_core.proofs.HistoryParts.{left_in_parts}
+use Rattle.mk_protocol.proofs.OthersMoves.{WorldBehind}
+use Rattle.mk_invariant.specs.Theorems.{OfHistories}
+use Rattle.mk_precision.specs.Precision.{through_release}
+use Rattle.mk_precision.proofs.Stopped.{keeps_only_the_touched}
+use Rattle.mk_precision.proofs.Stretches.{at_release}
+use Rattle.mk_quarantine.specs.KeptAllocations.{KeptAreTouched}
+
+-- The allocation was granted.
+abbrev IsThere : World → ℕ → Type 0
+IsThere w i = i < length w.allocations
+
+there_behind : (c : Config) (w : World) (seat : Seat) (x : Step) (i : ℕ) → IsThere w i
+    → IsThere (WorldBehind c w seat x) i
+there_behind c w seat step.Grant i there =
+    let both = length-append w.allocations (granted c w.now (flight_of w.now seat) ∷ []) in omega arith
+there_behind c w seat (step.Quar p v) i there =
+    let same = length-map w.allocations
+    (freed_where_it_stands w.now.words (cell_freed c.pages w.now.words (flight_of w.now seat) p v)) in
+    omega arith
+there_behind c w seat step.Begin i there = let same = length-map w.allocations no_longer_fresh in omega arith
+there_behind c w seat step.Release i there =
+    let same = length-map w.allocations (with_released c w.now.words) in omega arith
+there_behind c w seat _ i there = there
+
+there_from : (c : Config) (w : World) (es : List Event) (i : ℕ) → IsThere w i → IsThere (left_from c w es) i
+unfolding left_from
+there_from c w [] i there = there
+there_from c w (e ∷ es) i there = there_from c (world_behind c w e) es i (there_behind c w e.seat e.step i there)
+
+-- One that is released stays so.
+abbrev IsReleased : World → ℕ → Type 0
+IsReleased w i = (placed_at w.allocations i).released ≡ true
+
+still_true : (a b : Bool) → a ≡ true → (a || b) ≡ true
+still_true true b is = refl
+still_true false b is = cc
+
+released_behind : (c : Config) (w : World) (seat : Seat) (x : Step) (i : ℕ) → IsThere w i → IsReleased w i
+    → IsReleased (WorldBehind c w seat x) i
+released_behind c w seat step.Grant i there is =
+    ap (λ (a : PlacedAllocation). a.released)
+    (earlier_at w.allocations (granted c w.now (flight_of w.now seat)) i there) ∙ is
+released_behind c w seat (step.Quar p v) i there is =
+    let cell = cell_freed c.pages w.now.words (flight_of w.now seat) p v in
+    ap (λ (a : PlacedAllocation). a.released)
+    (changed_at (freed_where_it_stands w.now.words cell) w.allocations i (freed_leaves w.now.words cell).none)
+    ∙ freed_released w.now.words cell (placed_at w.allocations i) ∙ is
+released_behind c w seat step.Begin i there is =
+    ap (λ (a : PlacedAllocation). a.released) (changed_at no_longer_fresh w.allocations i refl) ∙ is
+released_behind c w seat step.Release i there is =
+    ap (λ (a : PlacedAllocation). a.released) (changed_at (with_released c w.now.words) w.allocations i refl)
+    ∙ still_true (placed_at w.allocations i).released _ is
+released_behind c w seat _ i there is = is
+
+released_from : (c : Config) (w : World) (es : List Event) (i : ℕ) → IsThere w i → IsReleased w i
+    → IsReleased (left_from c w es) i
+unfolding left_from
+released_from c w [] i there is = is
+released_from c w (e ∷ es) i there is =
+    released_from c (world_behind c w e) es i (there_behind c w e.seat e.step i there)
+    (released_behind c w e.seat e.step i there is)
+
+-- What is in quarantine was granted.
+quarantined_is_there : (w : World) (i : ℕ) → is_quarantined (placed_at w.allocations i) ≡ true → IsThere w i
+quarantined_is_there w i h = elim (cases_lt i (length w.allocations)) [
+  | inl lt ↦ lt
+  | inr past ↦
+      let none : false ≡ true =
+      ap (λ (a : PlacedAllocation). is_quarantined a) (sym (get_or_past w.allocations i never_granted past)) ∙ h in
+      absurd (true≢false (sym none))
+]
+
+-- What comes up to a `release` begins with what came before the cycle.
+from_begin : {X : Type 0} (a p q s : List X) (x : X)
+    → (((a ++ x ∷ []) ++ p) ++ q) ++ s ≡ a ++ (((x ∷ p) ++ q) ++ s)
+from_begin {X} a p q s x =
+    ap (λ (l : List X). (l ++ q) ++ s) (append_assoc a (x ∷ []) p) ∙ ap (λ (l : List X). l ++ s)
+    (append_assoc a (x ∷ p) q)
+    ∙ append_assoc a ((x ∷ p) ++ q) s
+
+module _ (c : Config) {es : List Event} (r : Releasing es) (i : ℕ)
+    (snapshot : is_quarantined (placed_at (left c (before_begin r.marking)).allocations i) ≡ true) where
+  there_at_release : IsThere (left c (through_release r)) i
+  there_at_release =
+      let k = r.marking in
+      let more : List Event =
+      ((k.begin.event ∷ k.close.at.before) ++ k.close.at.event ∷ r.release.at.before) ++ r.release.at.event ∷ [] in
+      let split : through_release r ≡ k.begin.before ++ more =
+      from_begin k.begin.before k.close.at.before (k.close.at.event ∷ r.release.at.before) (r.release.at.event ∷ [])
+      k.begin.event in
+      subst (λ (w : World). IsThere w i)
+      (sym (ap (λ (l : List Event). left c l) split ∙ left_in_parts c k.begin.before more))
+      (there_from c (left c k.begin.before) more i (quarantined_is_there (left c k.begin.before) i snapshot))
+
+  -- Released at the `release`, it is so in the end.
+  released_in_the_end : IsReleased (left c (through_release r)) i → IsReleased (left c es) i
+  released_in_the_end released =
+      let whole : es ≡ through_release r ++ r.release.at.behind =
+      at_release r ∙ sym (append_assoc (before_release r) (r.release.at.event ∷ []) r.release.at.behind) in
+      subst (λ (w : World). IsReleased w i)
+      (sym (ap (λ (l : List Event). left c l) whole ∙ left_in_parts c (through_release r) r.release.at.behind))
+      (released_from c (left c (through_release r)) r.release.at.behind i there_at_release released)
+
+pub kept_are_touched : OfHistories KeptAreTouched
+kept_are_touched c es h i k unswept =
+    let r : Releasing es = k.cycle.releasing in
+    keeps_only_the_touched c es h r unswept i k.snapshot
+    (false_from_ne_true (placed_at (left c (through_release r)).allocations i).released
+    (λ released. true≢false (sym (released_in_the_end c r i k.snapshot released) ∙ k.unreleased)))
