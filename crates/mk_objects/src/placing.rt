@@ -10,7 +10,7 @@ ghost use Rattle.mk_objects.specs.Placing.{GoesTo, HasCarved, HeldIsExact, MayTa
 ghost use Rattle.mk_objects.specs.Placing.{IsGranted, object_for};
 ghost use Rattle.mk_objects.specs.Shapes.{object_shaped};
 
-use crate::looking::{fill, look_at, look_at_page, look_at_phase};
+use crate::looking::{fill, look_at, look_at_phase};
 use crate::objects::{Shape, shape_of};
 use crate::seeking::seek;
 use mk_books::Book;
@@ -174,7 +174,7 @@ pub fn place_object(words: &Words, turn: &mut Turn, book: &mut Book) -> bool
             false
         }
         Some(place) => {
-            let page = look_at_page(words, turn, place.page);
+            let page = turn.page(place.page);
             serve_now(words, turn, shape, place, page);
             true
         }
