@@ -1,8 +1,7 @@
 -- What a page map shows stays while nobody has the turn: no step but a `take` changes a word of a page.
-use Rattle.std.proofs.Common.{◌≡◌, ℕ, false, List, [], ◌∷◌, ◌++◌, refl, sym, ◌∙◌, ap, subst}
+use Rattle.std.proofs.Common.{◌≡◌, ℕ, true, false, List, [], ◌∷◌, ◌++◌, refl, sym, ◌∙◌, ap, subst}
 use Rattle.mk_geom.specs.declared.pages.Page.{Page}
-use Rattle.mk_page_map.specs.KnownPages.{KnownPages}
-use Rattle.mk_page_map.specs.KnownPages.{Shows}
+use Rattle.mk_page_map.specs.KnownPages.{KnownPages, Shows}
 use Rattle.mk_core.specs.declared.config.Config.{Config}
 use Rattle.mk_core.specs.declared.events.Seat.{Seat}
 use Rattle.mk_core.specs.declared.events.Step.{Step}
@@ -21,6 +20,7 @@ use Rattle.mk_protocol.proofs.NextSteps.{is_take}
 use Rattle.mk_protocol.proofs.OthersMoves.{free_move}
 use Rattle.mk_protocol.proofs.TurnFrame.{steady_out}
 use Rattle.mk_words.specs.PageMaps.{IsMapOf, is_handing}
+use Rattle.mk_words.specs.TurnSteps.{turn_stays}
 
 -- the words that a page map shows
 
@@ -36,12 +36,18 @@ steady_page_words y = (y.pages, y.freed, y.snapshot)
 pub map_of_same : (map : KnownPages) (w v : Words) → page_words w ≡ page_words v → IsMapOf map w → IsMapOf map v
 map_of_same map w v same shows = subst (λ (x : PageWords). Shows map x.0 x.1 x.2) same shows
 
+-- A turn that goes on isn't handed over.
+pub hands_none : (s : Step) → turn_stays s ≡ true → is_handing s ≡ false
+hands_none (step.Take o) stays = cc
+hands_none step.Give stays = cc
+hands_none _ stays = refl
+
 no_take : (s : Step) → is_handing s ≡ false → is_take s ≡ false
 no_take (step.Take o) h = cc
 no_take _ h = refl
 
 -- The turn word is another only after `take` and `give`.
-turn_word_stays : (c : Config) (m : Moment) (seat : Seat) (s : Step) → is_handing s ≡ false
+pub turn_word_stays : (c : Config) (m : Moment) (seat : Seat) (s : Step) → is_handing s ≡ false
     → (Behind c m seat s).words.turn ≡ m.words.turn
 turn_word_stays c m seat (step.Take o) h = cc
 turn_word_stays c m seat step.Give h = cc

@@ -23,17 +23,12 @@ use Rattle.mk_core.specs.Moments.{Moment, flight_of}
 use Rattle.mk_core.proofs.Conditions.{enabled_meets}
 use Rattle.mk_core.proofs.Lengths.{histories_keep_lengths}
 use Rattle.mk_protocol.proofs.SameWords.{Behind}
-use Rattle.mk_words.specs.PageMaps.{IsMapOf, is_handing, stores_page_word}
+use Rattle.mk_words.specs.PageMaps.{IsMapOf, stores_page_word}
 use Rattle.mk_words.specs.States.{PassState, now_of, event_of}
 use Rattle.mk_words.specs.Steps.{IsEnabledTo}
-use Rattle.mk_words.specs.TurnSteps.{turn_stays, world_at, Acts}
+use Rattle.mk_words.specs.TurnSteps.{world_at, Acts}
 use Rattle.mk_words.proofs.FreeTurns.{PageWords, page_words, steady_page_words, map_of_same}
 use Rattle.mk_words.proofs.TakenCells.{may_take_cell}
-
-pub hands_none : (s : Step) → turn_stays s ≡ true → is_handing s ≡ false
-hands_none (step.Take o) stays = cc
-hands_none step.Give stays = cc
-hands_none _ stays = refl
 
 pub takes_none : (s : Step) → stores_page_word s ≡ false → may_take_cell s ≡ false
 takes_none (step.Used p v) leaves = cc

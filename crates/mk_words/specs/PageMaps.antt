@@ -1,7 +1,6 @@
 -- The page map of a heap: what it shows of the words, and the steps by which it changes hands or has to follow.
 use Rattle.std.specs.Prelude.{Bool, true, false}
-use Rattle.mk_page_map.specs.KnownPages.{KnownPages}
-use Rattle.mk_page_map.specs.KnownPages.{Shows}
+use Rattle.mk_page_map.specs.KnownPages.{KnownPages, Shows}
 use Rattle.mk_core.specs.declared.events.Step.{Step}
 use Rattle.mk_core.specs.declared.events.Step.TheVariants as step
 use Rattle.mk_core.specs.Words.{Words}

@@ -3,7 +3,8 @@ use Rattle.mk_words.specs.States.{TurnState}
 use Rattle.mk_words.specs.TurnSteps.{Acts}
 use Rattle.mk_words.proofs.TurnSteps.{still_turn, acts}
 use Rattle.mk_words.proofs.TakenCells.{knows_still}
-use Rattle.mk_words.proofs.MapSteps.{hands_none, takes_none, shows_still}
+use Rattle.mk_words.proofs.FreeTurns.{hands_none}
+use Rattle.mk_words.proofs.MapSteps.{takes_none, shows_still}
 use Rattle.mk_words.proofs.turns.Turn.perform.Goals as goal
 
 pub perform-requires-clause-hands_none : goal.perform-requires-clause-hands_none
