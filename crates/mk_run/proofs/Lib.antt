@@ -13,3 +13,4 @@ pub mod LastCycles
 pub mod LastOvers
 pub mod UnsweptHistories
 pub mod UnsweptScripts
+pub mod BegunScripts

@@ -1,5 +1,6 @@
 use Rattle.std.proofs.Common.{refl}
 use Rattle.mk_core.specs.declared.events.Answer.TheVariants as answer
+use Rattle.mk_run.proofs.BegunScripts.{beside_begun}
 use Rattle.mk_run.proofs.ScriptCalls.{answered_new, answered_free, type_exists}
 use Rattle.mk_run.proofs.answers.answer_to.Goals as goal
 
