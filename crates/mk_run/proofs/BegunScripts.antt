@@ -159,8 +159,8 @@ module _ (begins : Config → Seat → List Event → List Event → Type 0) whe
       by : (s : Seat) → seat_exists (config_of program markers) s ≡ true
           → is_open_to s (group_of b.event.step) ≡ true → b.event.seat ≡ s
           → IsBegunFirst begins (config_of program markers) s (through b) b.behind
-      by (Caller j) exists open is =
+      by (Caller j) exists may is =
           scripts.callers j (omega arith) (ltb-true j (length (script_names program)) exists) b is
-      by (Marker j) exists open is =
-          absurd (true≢false (sym b.of_kind ∙ marker_begins_none j b.event.step open))
-      by Host exists open is = scripts.host b is
+      by (Marker j) exists may is =
+          absurd (true≢false (sym b.of_kind ∙ marker_begins_none j b.event.step may))
+      by Host exists may is = scripts.host b is
