@@ -9,7 +9,7 @@ use Rattle.mk_core.specs.declared.events.Seat.TheVariants.{Caller, Host, Marker}
 use Rattle.mk_core.specs.declared.events.Step.{Step}
 use Rattle.mk_core.specs.declared.events.Step.TheVariants as step
 use Rattle.mk_core.specs.Cycles.{At, is_begin, through}
-use Rattle.mk_core.specs.Growing.{AreOfOthers, Grows}
+use Rattle.mk_core.specs.Growing.{Grows}
 use Rattle.mk_core.specs.History.{AreEnabledFrom, IsHistory, left}
 use Rattle.mk_core.specs.Order.{group_of, is_open_to, seat_exists}
 use Rattle.mk_core.proofs.Conditions.{enabled_meets}
@@ -18,7 +18,7 @@ use Rattle.mk_words.specs.Seats.{Has}
 use Rattle.mk_words.specs.States.{PassState, WordsState}
 use Rattle.mk_words.proofs.Seats.{has_first}
 use Rattle.mk_caller.specs.States.{CallerState, at_home}
-use Rattle.mk_cycle.specs.Begun.{AreBegunFirst, CyclesAreBegun, EachIsBegun, IsBegunFirst}
+use Rattle.mk_cycle.specs.Begun.{CyclesAreBegun, EachIsBegun, IsBegunFirst}
 use Rattle.mk_cycle.proofs.Begun.{HaveNoBegin, begun_append, kinds_begin_none, others_begin_none}
 use Rattle.mk_script.specs.declared.items.Item.{Item}
 use Rattle.mk_script.specs.Scopes.{script_names}

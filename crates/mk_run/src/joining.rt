@@ -133,8 +133,8 @@ pub(crate) fn run_from<E: Engine + Send, P: Pace + Sync, R: Threads + Wait + Syn
             ensures joined { AreJoined E.on program.entry.now heap.entry.now (k + 1) host.markers result }
             ensures reached { E.sweeps ≡ false
                 → ScriptsSweepNothing program.entry.now (k + 1) heap.entry.now.config result.host.pass.seen }
-            ensures begun {
-                ScriptsBeginCycles E.begins program.entry.now (k + 1) heap.entry.now.config result.host.pass.seen }
+            ensures begun { ScriptsBeginCycles E.begins program.entry.now (k + 1) heap.entry.now.config
+                result.host.pass.seen }
         { run_from(rt, alloc, heap, program, pace, k + 1, host, benches) },
     );
     let Ran { pass, text } = ran;

@@ -163,8 +163,8 @@ pub(crate) fn run_beside<E: Engine + Send, P: Pace + Sync, R: Threads + Wait + S
                 → TakesLastTurns (E.tells result.bench.engine) heap.entry.now result.joined.host.pass }
             ensures reached { E.sweeps ≡ false
                 → ScriptsSweepNothing program.entry.now 0 heap.entry.now.config result.joined.host.pass.seen }
-            ensures begun {
-                ScriptsBeginCycles E.begins program.entry.now 0 heap.entry.now.config result.joined.host.pass.seen }
+            ensures begun { ScriptsBeginCycles E.begins program.entry.now 0 heap.entry.now.config
+                result.joined.host.pass.seen }
         {
             run_beside(
                 rt,

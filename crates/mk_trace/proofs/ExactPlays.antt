@@ -1,5 +1,5 @@
 -- The turns of a trace's caller stay exact, and the host makes no cycle, from the first event to the last.
-use Rattle.std.proofs.Common.{◌≡◌, ℕ, ◌<◌, Bool, true, false, List, [], ◌∷◌, ◌++◌, refl, sym, ◌∙◌, ap, subst, arith}
+use Rattle.std.proofs.Common.{◌≡◌, ℕ, Bool, true, false, List, [], ◌∷◌, ◌++◌, refl, sym, ◌∙◌, ap, subst, arith}
 use Rattle.std.specs.Prelude.{◌&&◌}
 use Rattle.std.specs.List.{list_any}
 use Rattle.std.proofs.lemmas.Bool.{ltb-true, or_from, or_parts}
@@ -29,7 +29,6 @@ use Rattle.mk_alloc.specs.Laws.{OwnAreExact}
 use Rattle.mk_alloc.specs.TurnCycles.{TurnsOfAreExact, has_step, is_of_cycle}
 use Rattle.mk_alloc.proofs.ExactTurns.{stay_exact_behind_others}
 use Rattle.mk_alloc.proofs.ListParts.{lacks_append}
-use Rattle.mk_alloc.proofs.OwnGives.{none_more}
 use Rattle.mk_run.specs.Scripts.{Answers}
 use Rattle.mk_run.specs.Unswept.{IsUnswept}
 use Rattle.mk_run.specs.UnsweptSeats.{SeatSweepsNothing}
@@ -207,7 +206,8 @@ exact_over c es0 es1 es2 es3 es4 before call looks more exact = more (looks (cal
 
 -- The whole history has no sweeping mark: it is of the caller and the host alone.
 
-each_seat : (trace : Contents) (es : List Event) → IsHistory (config_of trace) es → AllTurnsAreExact (config_of trace) es
+each_seat : (trace : Contents) (es : List Event) → IsHistory (config_of trace) es
+    → AllTurnsAreExact (config_of trace) es
     → (s : Seat) → seat_exists (config_of trace) s ≡ true
     → SweepsNothingFrom (config_of trace) s (first_world (config_of trace)) es
 each_seat trace es history exact (Caller k) exists =

@@ -102,8 +102,8 @@ pub record IsPlayed (trace : Contents) (es : List Event) : Type 0 where
   -- object fits nowhere. The host makes none.
   pub cycles : TurnsOfAreExact false (config_of trace) (Caller 0) es
   pub host : MakesNoCycle Host es
-  -- No mark is a sweeping one. So each cycle releases all of its snapshot that no pointer led to from the `begin` to the
-  -- `close`, and after its `end` that storage counts as free.
+  -- No mark is a sweeping one. So each cycle releases all of its snapshot that no pointer led to from the `begin` to
+  -- the `close`, and after its `end` that storage counts as free.
   pub unswept : IsUnswept (config_of trace) es
   pub precise : CyclesArePrecise (config_of trace) es
 

@@ -35,7 +35,8 @@ returns-clause-runs g c =
       report = c.close-report.result;
     })
     made c.run_beside-joined.ensures.over.is_host c.run_beside-joined.ensures.over.last texts
-    c.close-report.ensures.history c.close-report.ensures.config c.close-report.ensures.whole c.close-report.ensures.counts
+    c.close-report.ensures.history c.close-report.ensures.config c.close-report.ensures.whole
+    c.close-report.ensures.counts
 
 pub returns-clause-cycle : goal.returns-clause-cycle
 returns-clause-cycle g c asked =

@@ -118,4 +118,5 @@ returns-clause-exact g c = λ off unswept.
     let x = (goal.at.returns-clause-exact g c).After-is_in_order in
     call_stays_exact c.args.heap.now c.args.host.now c.caller_again-caller.result.pass g.E.Engine.on c.args.op
     c.answer_to-answer.result c.answer_to-answer.new.caller.pass c.join_caller.new.self.pass.seen c.requires.home
-    (caller g x) c.answer_to-answer.ensures.answers (own g x) (came g x) (c.answer_to-answer.ensures.reached unswept) off
+    (caller g x) c.answer_to-answer.ensures.answers (own g x) (came g x)
+    (c.answer_to-answer.ensures.reached unswept) off
