@@ -14,3 +14,4 @@ pub mod LastCycles
 pub mod LastOvers
 pub mod UnsweptHistories
 pub mod UnsweptScripts
+pub mod BegunScripts

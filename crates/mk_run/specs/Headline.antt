@@ -15,6 +15,7 @@ use Rattle.mk_check.specs.Output.{output}
 use Rattle.mk_check.specs.declared.text.Text.{Text}
 use Rattle.mk_heap.specs.Reports.{IsWhole}
 use Rattle.mk_heap.specs.Reports as report
+use Rattle.mk_engines.specs.Roots.{CyclesMarkRootsFirst}
 use Rattle.mk_alloc.specs.TurnCycles.{TurnsOfAreExact}
 use Rattle.mk_precision.specs.Precision.{CyclesArePrecise}
 use Rattle.mk_theorems.specs.Promises.{KeepsAllPromises}
@@ -57,6 +58,10 @@ pub record StandsInOneHistory (program : List Item) (markers : ℕ) (sweep last_
   pub cycles :
       (k : ℕ) → IsScript program k
       → TurnsOfAreExact (cycles_go_on markers) (config_of program markers) (Caller k) history
+  -- With markers each cycle begins with the roots: directly after its `begin`, and in the same turn, there is a look at
+  -- each register of each caller and at each global, and by their end what was found there points into nothing or into
+  -- a marked cell.
+  pub roots : cycles_go_on markers ≡ true → CyclesMarkRootsFirst (config_of program markers) history
   -- No step of a script stands after one of the host. The host begins one cycle where a last one is asked for, and else
   -- none.
   pub host : HostComesLast (config_of program markers).callers last_cycle history
@@ -79,6 +84,8 @@ RunsStandInOneHistory =
     (program : List Item) (markers : ℕ) (sweep last_cycle : Bool) (outcome : Outcome)
     (tell : Config → List Event → List ℕ) (bytes : List ℕ)
     → IsRunOf (cycles_go_on markers) last_cycle program markers outcome
+    → (cycles_go_on markers ≡ true
+    → CyclesMarkRootsFirst (config_of program markers) (report.history_of outcome.report))
     → (sweep ≡ false → IsUnswept (config_of program markers) (report.history_of outcome.report))
     → bytes ≡ tell (config_of program markers) (report.history_of outcome.report)
     → StandsInOneHistory program markers sweep last_cycle tell bytes

@@ -5,6 +5,7 @@ ghost use Rattle.mk_caller.specs.Causes.{FindsGateHeld, IsRefused};
 ghost use Rattle.mk_caller.specs.Moves.{is_access};
 ghost use Rattle.mk_caller.specs.States.{number_of, Admits};
 ghost use Rattle.mk_turns.specs.Sweeping.{SweepsNothing};
+ghost use Rattle.mk_cycle.specs.Begun.{EachIsBegun};
 ghost use Rattle.mk_run.specs.Scripts.{IsCalled, StaysAdmitted, Answers};
 
 use crossbeam_utils::Backoff;
@@ -125,6 +126,7 @@ pub fn answer_to<E: Engine, R: Threads + Wait + Sync>(
     ensures book { length bench.new.book ≡ length bench.old.book }
     ensures answers { Answers E.on caller.old.pass op result caller.new.pass }
     ensures reached { E.sweeps ≡ false → SweepsNothing caller.old.pass caller.new.pass }
+    ensures begun { EachIsBegun E.begins caller.old.pass caller.new.pass }
 {
     caller.is_idle();
     match op {

@@ -4,6 +4,7 @@ ghost use Rattle.std.specs.Thread.{IsSync};
 ghost use denote.Param.Send.{IsSend};
 ghost use Rattle.mk_marker.specs.Markers.{attends};
 ghost use Rattle.mk_script.specs.Scopes.{script_names};
+ghost use Rattle.mk_run.specs.BegunSeats.{ScriptsBeginCycles};
 ghost use Rattle.mk_run.specs.Joining.{IsHeapOf, HasMade};
 ghost use Rattle.mk_run.specs.LastTurns.{TakesLastTurns};
 ghost use Rattle.mk_run.specs.Marking.{IsMarkersPass, IsOver};
@@ -88,6 +89,7 @@ fn run_scripts<E: Engine + Send, P: Pace + Sync, R: Threads + Wait + Sync>(
         → TakesLastTurns (E.tells result.bench.engine) heap.now result.joined.host.pass }
     ensures reached { E.sweeps ≡ false
         → ScriptsSweepNothing program.now 0 heap.now.config result.joined.host.pass.seen }
+    ensures begun { ScriptsBeginCycles E.begins program.now 0 heap.now.config result.joined.host.pass.seen }
 {
     let Joined { mut host, texts } = run_from(rt, alloc, heap, program, pace, 0, host, benches);
     let mut bench = bench;
@@ -129,6 +131,7 @@ pub(crate) fn run_beside<E: Engine + Send, P: Pace + Sync, R: Threads + Wait + S
         → TakesLastTurns (E.tells result.bench.engine) heap.now result.joined.host.pass }
     ensures reached { E.sweeps ≡ false
         → ScriptsSweepNothing program.now 0 heap.now.config result.joined.host.pass.seen }
+    ensures begun { ScriptsBeginCycles E.begins program.now 0 heap.now.config result.joined.host.pass.seen }
 {
     if number >= markers {
         return run_scripts(
@@ -160,6 +163,8 @@ pub(crate) fn run_beside<E: Engine + Send, P: Pace + Sync, R: Threads + Wait + S
                 → TakesLastTurns (E.tells result.bench.engine) heap.entry.now result.joined.host.pass }
             ensures reached { E.sweeps ≡ false
                 → ScriptsSweepNothing program.entry.now 0 heap.entry.now.config result.joined.host.pass.seen }
+            ensures begun {
+                ScriptsBeginCycles E.begins program.entry.now 0 heap.entry.now.config result.joined.host.pass.seen }
         {
             run_beside(
                 rt,

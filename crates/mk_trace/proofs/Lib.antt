@@ -9,6 +9,7 @@ pub mod EndsInLists
 pub mod EvaluatedPeaks
 pub mod EvaluatedPlays
 pub mod EvaluatedTraces
+pub mod ExactPlays
 pub mod FewEvents
 pub mod FirstLedgers
 pub mod FlagSteps

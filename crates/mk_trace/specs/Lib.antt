@@ -1,5 +1,6 @@
 pub mod Calls
 pub mod Ends
+pub mod ExactPlays
 pub mod Freeing
 pub mod Grammar
 pub mod Laws
