@@ -10,9 +10,9 @@ use Rattle.mk_core.specs.Cells.{pointed_cell}
 use Rattle.mk_core.proofs.MoreSchedules.{two_pages}
 use Rattle.mk_core.proofs.Schedules.{by, c0, fault, first_fault, host}
 
--- Of an object of 2 words and one of 6 the larger is freed first. That is due, so it begins a cycle, which goes on. Then
--- the smaller is freed, which isn't due. When the caller has cleared its registers the host ends the cycle, in a later
--- turn.
+-- Of an object of 2 words and one of 6 the larger is freed first. That is due, so it begins a cycle, which goes on.
+-- Then the smaller is freed, which isn't due. When the caller has cleared its registers the host ends the cycle, in a
+-- later turn.
 unfoldable pub released_later : List Event
 released_later =
     by c0 (step.Take (Some (op.New 0 0 false)) ∷ step.Head 0 13 ∷ step.Used 0 1 ∷ step.Grant ∷ step.Tally

@@ -1,7 +1,7 @@
 -- All bounds, from the theorems.
 use Rattle.std.proofs.Common.{◌≡◌, ⊎_elim, ℕ, Bool, true, false, List, [], ◌∷◌, ◌++◌, refl, sym, ◌∙◌, ap}
 use Rattle.std.proofs.Common.{subst, arith, append_assoc}
-use Rattle.std.specs.Prelude.{◌&&◌, ◌||◌}
+use Rattle.std.specs.Prelude.{◌&&◌}
 use Rattle.std.specs.List.{list_any}
 use Rattle.std.proofs.lemmas.Bool.{and_from, or_parts, true≢false}
 use Rattle.std.proofs.lemmas.List.Folds.{list_any-append}
@@ -45,7 +45,8 @@ module _ (c : Config) (es front more : List Event) (is : es ≡ front ++ more) w
 
   host_before : HostBeginsLast c es → HostBeginsLast c front
   host_before last before e behind at begins host k lt =
-      others_first (Caller k ∷ []) behind more (last before e (behind ++ more) (split before e behind at) begins host k lt)
+      others_first (Caller k ∷ []) behind more
+      (last before e (behind ++ more) (split before e behind at) begins host k lt)
 
 quarter_in_turn : (on : Bool) (c : Config) (es : List Event) → IsHistory c es → CallersAreExact on c es
     → (left c es).now.words.turn ≡ 0 → FreshIsQuarterWhereReleasedInTurn c es

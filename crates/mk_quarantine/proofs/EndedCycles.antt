@@ -108,7 +108,8 @@ runs_one c k es h ends = by ends.turn.op refl
         let f = flight_of (left c ends.turn.before).now (Caller k) in
         let under = (at_take f.stage f.op o
         (subst (λ (x : Option Op). comes_next f.stage f.op (step.Take x) ≡ true) is meets.order)).1 in
-        is_for o under c (Caller k) es ends.turn (subst (λ (x : Option Op). CallIsExact false ends.turn x) is ends.exact)
+        is_for o under c (Caller k) es ends.turn
+        (subst (λ (x : Option Op). CallIsExact false ends.turn x) is ends.exact)
     by None is =
         let meets = (before_it c es ends.turn.before (taken ends.turn) ends.turn.behind h ends.turn.is).1 in
         let f = flight_of (left c ends.turn.before).now (Caller k) in

@@ -192,7 +192,8 @@ released c es e h meets is =
       | inr none ↦
           ⊎_elim
           (λ (stale : fresh_after c es ≡ 0).
-          (let now = none_fresh_stays c (left c es) e.seat e.step (released_none c (left c es) e.seat e.step is) stale in
+          (let none_freed = released_none c (left c es) e.seat e.step is in
+          let now = none_fresh_stays c (left c es) e.seat e.step none_freed stale in
           to_longer c es e (omega arith)))
           (λ (f : FreesIn c (left c (through b.at)) b.at.behind).
           Early (early_longer c es e (record { begin = b.at; free = f; in_turn = in_front f none })))

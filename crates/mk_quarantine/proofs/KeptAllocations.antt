@@ -1,4 +1,4 @@
--- What is freed and unreleased where no cycle is on: what was freed since the last `begin`, or what the last cycle kept.
+-- What is in quarantine where no cycle is on: what was freed since the last `begin`, or what the last cycle kept.
 use Rattle.std.proofs.Common.{◌≡◌, ◌⊎◌, ℕ, Bool, true, false, List, [], ◌∷◌, ◌++◌, length}
 use Rattle.std.proofs.Common.{refl, sym, ◌∙◌, ap, subst, arith, inl, inr}
 use Rattle.std.specs.Prelude.{◌||◌, ◌&&◌, not, Option, if◌then◌else◌}

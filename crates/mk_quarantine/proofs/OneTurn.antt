@@ -48,7 +48,8 @@ module _ (c : Config) (k : ℕ) (es : List Event) (h : IsHistory c es) (t : Turn
       (sym (list_any-append (own_give (Caller k)) part rest)
       ∙ ap (λ (l : List Event). list_any (own_give (Caller k)) l) (sym is) ∙ t.goes_on)).0 in
       ap (λ (l : List Event). (left c l).now.words.turn) (sym split)
-      ∙ turn_stays_held c (t.before ++ taken t ∷ []) part k (subst (λ (l : List Event). IsHistory c l) (sym split) first)
+      ∙ turn_stays_held c (t.before ++ taken t ∷ []) part k
+      (subst (λ (l : List Event). IsHistory c l) (sym split) first)
       taker_exists turn_taken none
 
 pub record IsSameTurn (c : Config) (k : ℕ) (es : List Event) (t u : TurnOf c (Caller k) es) : Type 0 where

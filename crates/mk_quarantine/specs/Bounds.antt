@@ -61,8 +61,8 @@ FreedRunsTakeNoMemory c es =
 
 -- What quarantine costs in a history; `on` tells whether cycles go on after the calls that begin them.
 pub record QuarantineIsBounded (on : Bool) (c : Config) (es : List Event) : Type 0 where
-  -- A quarter: of what is held and was given back, and of what is held alone where no `release` came in a later turn than
-  -- its `begin`; so always where calls end the cycles that they begin.
+  -- A quarter: of what is held and was given back, and of what is held alone where no `release` came in a later turn
+  -- than its `begin`; so always where calls end the cycles that they begin.
   pub with_given_back : WhereTurnIsFree FreshIsQuarterWithGivenBack c es
   pub released_in_turn : WhereTurnIsFree FreshIsQuarterWhereReleasedInTurn c es
   pub of_held : on ≡ false → WhereTurnIsFree FreshIsQuarterOfHeld c es

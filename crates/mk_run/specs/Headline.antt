@@ -68,8 +68,8 @@ pub record StandsInOneHistory (program : List Item) (markers : ℕ) (sweep last_
   -- Unless a sweep makes the marks, each cycle releases all of its snapshot that no pointer led to from the `begin` to
   -- the `close`, and after its `end` that storage counts as free.
   pub precise : sweep ≡ false → CyclesArePrecise (config_of program markers) history
-  -- Quarantine is bounded: where the turn is free, what was freed since the last `begin` is at most a quarter of what is
-  -- held and was given back since, the last cycle kept the rest, and freed large objects take no memory.
+  -- Quarantine is bounded: where nobody holds the turn, what was freed since the last `begin` is at most a quarter of
+  -- what is held and was given back since, the last cycle kept the rest, and freed large objects take no memory.
   pub bounded : QuarantineIsBounded (cycles_go_on markers) (config_of program markers) history
   -- This is said of it, whole.
   pub told : bytes ≡ tell (config_of program markers) history

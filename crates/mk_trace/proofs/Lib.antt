@@ -44,6 +44,7 @@ pub mod NoForm
 pub mod NumberLists
 pub mod OneCaller
 pub mod OwnPieces
+pub mod PeakBounds
 pub mod PeakParts
 pub mod PeaksGrow
 pub mod Playable

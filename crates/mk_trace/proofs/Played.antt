@@ -22,6 +22,7 @@ use Rattle.mk_caller.specs.States.{CallerState, at_home}
 use Rattle.mk_heap.specs.Hosts.{HostState, first_host, pass_for}
 use Rattle.mk_heap.specs.Reports.{IsWhole}
 use Rattle.mk_theorems.proofs.Promises.{histories_keep_all_promises}
+use Rattle.mk_quarantine.proofs.Bounds.{quarantine_of_one_is_bounded}
 use Rattle.mk_trace.specs.declared.trace.TraceEvent.{TraceEvent}
 use Rattle.mk_trace.specs.declared.trace.TraceEvent.TheVariants.{A, K, F, C, W}
 use Rattle.mk_trace.specs.Calls.{AreNull, MayBePlayed, SameCalls, PlaysEvent, EventsAreAdmitted, HasPlayed}
@@ -113,6 +114,7 @@ is_played trace refused es h whole exact =
       host = exact.host;
       unswept = unswept;
       precise = unswept_is_precise (config_of trace) es kept unswept;
+      bounded = quarantine_of_one_is_bounded false (config_of trace) es refl whole.history exact.caller exact.host;
     }
 
 -- The host looks before an event and after it.

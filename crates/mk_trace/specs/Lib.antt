@@ -8,6 +8,7 @@ pub mod Ledgers
 pub mod Lines
 pub mod Looking
 pub mod Numbers
+pub mod PeakBounds
 pub mod Peaks
 pub mod Playing
 pub mod Printed

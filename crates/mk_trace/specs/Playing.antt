@@ -23,6 +23,7 @@ pub use Rattle.mk_check.specs.Feed.{is_refusal}
 use Rattle.mk_precision.specs.Precision.{CyclesArePrecise}
 use Rattle.mk_heap.specs.Reports as report
 use Rattle.mk_alloc.specs.TurnCycles.{TurnsOfAreExact, is_of_cycle}
+use Rattle.mk_quarantine.specs.Bounds.{QuarantineIsBounded}
 use Rattle.mk_run.specs.Unswept.{IsUnswept}
 use Rattle.mk_trace.specs.declared.trace.TraceEvent.{TraceEvent}
 use Rattle.mk_trace.specs.declared.trace.TraceEvent.TheVariants.{A, K, F, C, W}
@@ -106,6 +107,9 @@ pub record IsPlayed (trace : Contents) (es : List Event) : Type 0 where
   -- the `close`, and after its `end` that storage counts as free.
   pub unswept : IsUnswept (config_of trace) es
   pub precise : CyclesArePrecise (config_of trace) es
+  -- What quarantine costs: where nobody holds the turn, what was freed since the last `begin` is at most a quarter of
+  -- what is held, the last cycle kept the rest, and freed large objects take no memory.
+  pub bounded : QuarantineIsBounded false (config_of trace) es
 
 -- the history of the heap on which the trace was played
 abbrev pub history_of : Peaks → List Event
