@@ -1,8 +1,7 @@
 -- A whole cycle with one sweep releases what isn't swept, where the seats of all markers are in the pass of the turn.
 use Rattle.std.proofs.Common.{◌≡◌, ℕ, Bool, true, false, List, [], ◌∷◌, ◌++◌, refl, sym, ◌∙◌, ap, subst}
-use Rattle.std.proofs.Common.{append-nil, append_assoc}
-use Rattle.std.specs.Prelude.{◌&&◌, not, slice_index}
-use Rattle.std.specs.List.{list_any}
+use Rattle.std.proofs.Common.{append_assoc}
+use Rattle.std.specs.Prelude.{not, slice_index}
 use Rattle.std.proofs.lemmas.Bool.{and_parts, false_from_ne_true, not-true}
 use Rattle.mk_geom.specs.declared.addresses.Cell.{Cell}
 use Rattle.mk_core.specs.declared.config.Config.{Config}
@@ -12,11 +11,11 @@ use Rattle.mk_core.specs.declared.events.Step.{Step}
 use Rattle.mk_core.specs.declared.events.Step.TheVariants as step
 use Rattle.mk_core.specs.Allocations.{PlacedAllocation, cell_of_allocation, placed_at}
 use Rattle.mk_core.specs.Cells.{is_marked}
-use Rattle.mk_core.specs.Cycles.{Marking, Releasing, IsInSnapshot, before_close, before_release, is_begin, is_close}
+use Rattle.mk_core.specs.Cycles.{Releasing, IsInSnapshot, before_close, before_release, is_close}
 use Rattle.mk_core.specs.Cycles.{is_release}
 use Rattle.mk_core.specs.Frames.{IsLeft, Steady, Written, written_of}
 use Rattle.mk_core.specs.Growing.{AreOfOthers}
-use Rattle.mk_core.specs.History.{IsHistory, World, left, left_from, world_behind}
+use Rattle.mk_core.specs.History.{IsHistory, World, left, left_from}
 use Rattle.mk_core.specs.Moments.{others_are_held}
 use Rattle.mk_core.specs.Readings.{Holds}
 use Rattle.mk_core.specs.Touched.{PointsIntoAllocation}
