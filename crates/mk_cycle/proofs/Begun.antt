@@ -22,7 +22,7 @@ use Rattle.mk_words.proofs.Seats.{same_self}
 use Rattle.mk_turns.specs.Doing.{Does, are_of}
 use Rattle.mk_turns.proofs.Doing.{does_step, not_own, own_in_parts}
 use Rattle.mk_turns.proofs.Sweeping.{only_seen, only_seen_by}
-use Rattle.mk_cycle.specs.Begun.{AreBegunFirst, EachIsBegun, IsBegun, IsBegunFirst, SaysNothing}
+use Rattle.mk_cycle.specs.Begun.{AreBegunFirst, DoesNothing, EachIsBegun, IsBegun, IsBegunFirst}
 use Rattle.mk_cycle.specs.FinishCycle.{FinishesCycle}
 use Rattle.mk_cycle.specs.Kinds.{begins_marking, clears, closes_marks, gives_back, holds_gates, sets_tallies}
 use Rattle.mk_cycle.proofs.InParts.{InFirst, InSecond, in_parts}
@@ -125,8 +125,8 @@ others_begin_none seats s (x ∷ xs) has others (b ∷ bs) e behind is own =
     others_begin_none seats s xs has others.1 bs e behind tail own
 
 -- An engine that does nothing as a cycle begins.
-pub does_no_part : (p : PassState) → IsBegun SaysNothing p p
-does_no_part p = record { more = []; is = sym (append-nil p.seen); part = tt }
+pub does_no_part : (p : PassState) → IsBegun DoesNothing p p
+does_no_part p = record { more = []; is = sym (append-nil p.seen); part = refl }
 
 pub has_on : (p q : PassState) → q ≡ record p { seen = q.seen } → Has p.seats p.seat → Has q.seats q.seat
 has_on p q same has = subst (λ (x : PassState). Has x.seats x.seat) (sym same) has

@@ -3,7 +3,7 @@ use Rattle.std.proofs.Common.{◌≡◌, ℕ, ◌+◌, ◌<◌, ◌≤◌, ◌�
 use Rattle.mk_words.specs.States.{PassState, now_of}
 use Rattle.mk_core.specs.Words.{header_at}
 use Rattle.mk_cycle.specs.declared.finishing.Released.{Released}
-use Rattle.mk_cycle.specs.Freeing.{Frees, FreesNone, FreesPage, HasFreeCells, IsSettledPage, SamePage}
+use Rattle.mk_cycle.specs.Freeing.{Frees, GivesNothingBack, FreesPage, HasFreeCells, IsSettledPage, SamePage}
 use Rattle.mk_cycle.specs.HeldPages.{held_at}
 use Rattle.mk_cycle.specs.ReleasedPages.{released_below, sum_below}
 use Rattle.mk_cycle.specs.TurnKeeps.{InTurn}
@@ -29,7 +29,8 @@ module _ (p q r : PassState) (n pages : ℕ) (page : FreesPage n q r) where
   same_on before s le = page.others s (λ e. absurd (omega (arith, e, le))) ∙ before s (omega (arith, le))
 
 -- A free page is settled as it is.
-module _ (q r : PassState) (n : ℕ) (look : FreesNone q r) (t : InTurn r) (bare : header_at (now_of r).words n ≡ 0) where
+module _ (q r : PassState) (n : ℕ) (look : GivesNothingBack q r) (t : InTurn r) (bare : header_at (now_of r).words n
+    ≡ 0) where
   pub bare_page : FreesPage n q r
   bare_page = page_at_once n q r look
 

@@ -6,10 +6,9 @@ ghost use Rattle.mk_core.specs.Cells.{cells_under};
 ghost use Rattle.mk_tracing.specs.Grays.{HasNoGray, IsGray, MarksOn};
 ghost use Rattle.mk_tracing.specs.Stops.{IsWanted, still_words};
 
-use crate::cells::{cells_under, has_bit};
 use crate::stepping::{look_among, look_at};
 use crate::worklist::Worklist;
-use mk_core::Word;
+use mk_core::{Word, cells_under, has_bit};
 use mk_geom::Cell;
 use mk_words::{Stopped, Words};
 

@@ -6,11 +6,10 @@ ghost use Rattle.mk_core.specs.StopConditions.{may_turn_black};
 ghost use Rattle.mk_core.specs.Words.{named_word};
 ghost use Rattle.mk_tracing.specs.Grays.{with_marks, with_blacks, without_blacks, without_dirty, HasDirtyPart, IsGray};
 ghost use Rattle.mk_tracing.specs.Grays.{IsInHand, HandPointsInto, MarksOn};
-ghost use Rattle.mk_tracing.specs.Stops.{IsWanted, hand_of, is_plain, is_root, still_words};
+ghost use Rattle.mk_tracing.specs.Stops.{IsWanted, hand_of, is_page_word, is_root, still_words};
 
-use crate::cells::{PAGE_WORDS, bit};
-use mk_core::Word;
-use mk_geom::Cell;
+use mk_core::{Word, bit};
+use mk_geom::{Cell, PAGE_WORDS};
 use mk_words::{Stopped, Words};
 
 /// Looks at a word that gives no hand, in a table of this many pages.
@@ -20,7 +19,7 @@ pub(crate) fn look_among(words: &Words, stop: &mut Stopped, pages: u64, x: Word)
     requires pages { pages ≡ words.now.config.pages }
     requires wanted { IsWanted stop.old.pass }
     requires word { is_word words.now.config x ≡ true }
-    requires plain { is_plain x ≡ true }
+    requires plain { is_page_word x ≡ true }
     ensures on { MarksOn stop.old stop.new }
     ensures words { still_words stop.new.pass ≡ still_words stop.old.pass }
     ensures hand { hand_of stop.new.pass ≡ hand_of stop.old.pass }
@@ -35,7 +34,7 @@ pub(crate) fn look_at(words: &Words, stop: &mut Stopped, x: Word) -> u64
     requires one_table { stop.old.pass.table ≡ words.now }
     requires wanted { IsWanted stop.old.pass }
     requires word { is_word words.now.config x ≡ true }
-    requires plain { is_plain x ≡ true }
+    requires plain { is_page_word x ≡ true }
     ensures on { MarksOn stop.old stop.new }
     ensures words { still_words stop.new.pass ≡ still_words stop.old.pass }
     ensures hand { hand_of stop.new.pass ≡ hand_of stop.old.pass }

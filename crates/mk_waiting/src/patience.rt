@@ -16,7 +16,8 @@ const FIRST: u64 = 50;
 const LONGEST: u64 = 1000;
 
 /// One who waits: it spins for about as long as a turn lasts, then leaves the processor to others a few times, and then
-/// sleeps, each time twice as long as before. It is seen as its next sleep, in microseconds.
+/// sleeps, each time twice as long as before. After a sleep it spins again, since one look alone may often come too
+/// early or too late. It is seen as its next sleep, in microseconds.
 #[derive(Drop)]
 pub struct Patience {
     backoff: Backoff,
@@ -62,6 +63,7 @@ impl Patience {
         if self.backoff.is_completed() {
             let sleep = Duration::from_micros(self.micros);
             self.micros = (2 * self.micros).min(LONGEST);
+            self.backoff.reset();
             Some(sleep)
         } else {
             self.backoff.snooze();

@@ -1,8 +1,10 @@
+use Rattle.std.proofs.Common.{ℕ, ap, ◌∙◌}
+use Rattle.std.specs.Prelude.{◌==◌}
 use Rattle.mk_objects.proofs.Looks.{acting_now, found_phase, look_reaches}
 use Rattle.mk_objects.proofs.MayAct.{may_look_phase}
 use Rattle.mk_objects.proofs.Unchanged.{OfPhase}
 use Rattle.mk_core.specs.declared.events.Word.TheVariants as word
-use Rattle.mk_objects.proofs.looking.look_at_phase.Goals as goal
+use Rattle.mk_objects.proofs.looking.is_marking.Goals as goal
 
 pub look-found-requires-clause-enabled : goal.look-found-requires-clause-enabled
 look-found-requires-clause-enabled c =
@@ -19,6 +21,8 @@ returns-clause-looks c =
 pub returns-clause-finds : goal.returns-clause-finds
 returns-clause-finds c =
     let t = c.args.turn.now in
-    found_phase t.pass c.look-found.new.self.pass t.op c.look-found.result c.is_in_order.ensures.turn
+    c.is_in.ensures
+    ∙ ap (λ (n : ℕ). n == 1)
+    (found_phase t.pass c.look-found.new.self.pass t.op c.look-found.result c.is_in_order.ensures.turn
     c.look-found.ensures.finds
-    c.is_in_order.ensures.own c.is_in_order-2.ensures.history
+    c.is_in_order.ensures.own c.is_in_order-2.ensures.history)
