@@ -44,6 +44,30 @@ sum_filtered f p (a ∷ xs) =
     first true = sum_by-cons f a rest
     first false = omega arith
 
+-- a sum over those that pass a test, where each that does passes one of two others
+pub filtered_in_parts : (f : PlacedAllocation → ℕ) (p q r : PlacedAllocation → Bool)
+    → ((a : PlacedAllocation) → (if p a then f a else 0) ≤ (if q a then f a else 0) + (if r a then f a else 0))
+    → (xs : List PlacedAllocation) → sum_by f (filter p xs) ≤ sum_by f (filter q xs) + sum_by f (filter r xs)
+filtered_in_parts f p q r each xs =
+    let sums = in_parts xs in
+    let all = sum_filtered f p xs in
+    let one = sum_filtered f q xs in
+    let two = sum_filtered f r xs in
+    omega arith
+  where
+    in_parts : (xs : List PlacedAllocation)
+        → sum_by (λ (a : PlacedAllocation). if p a then f a else 0) xs
+        ≤ sum_by (λ (a : PlacedAllocation). if q a then f a else 0) xs
+        + sum_by (λ (a : PlacedAllocation). if r a then f a else 0) xs
+    in_parts [] = omega arith
+    in_parts (a ∷ xs) =
+        let here = each a in
+        let rest = in_parts xs in
+        let all = sum_by-cons (λ (b : PlacedAllocation). if p b then f b else 0) a xs in
+        let one = sum_by-cons (λ (b : PlacedAllocation). if q b then f b else 0) a xs in
+        let two = sum_by-cons (λ (b : PlacedAllocation). if r b then f b else 0) a xs in
+        omega arith
+
 abbrev given_part : Config → World → PlacedAllocation → ℕ
 given_part c w a = if is_given_back c w a then storage_words c a else 0
 

@@ -1,8 +1,7 @@
 -- What was freed since the last `begin` is a quarter, unless a free that is due waits for its `begin`.
 use Rattle.std.proofs.Common.{◌≡◌, ◌⊎◌, ⊎_elim, ℕ, ◌+◌, ◌*◌, ◌<◌, ◌≤◌, Bool, true, false, List, [], ◌∷◌, ◌++◌, refl}
 use Rattle.std.proofs.Common.{sym, ◌∙◌, ap, subst, arith, append_assoc, inl, inr}
-use Rattle.std.specs.Prelude.{◌&&◌, not, if◌then◌else◌, sum_by}
-use Rattle.std.proofs.lemmas.List.Sums.{sum_by-cons}
+use Rattle.std.specs.Prelude.{◌&&◌, not, if◌then◌else◌}
 use Rattle.std.proofs.lemmas.Bool.{cases_Bool, cases_lt, true≢false}
 use Rattle.mk_core.specs.declared.config.Config.{Config}
 use Rattle.mk_core.specs.declared.events.Event.{Event}
@@ -26,7 +25,7 @@ use Rattle.mk_quarantine.specs.Bounds.{FreshIsQuarterWithGivenBack, QuarantineIs
 use Rattle.mk_quarantine.specs.GivenBack.{given_back, given_back_behind}
 use Rattle.mk_quarantine.specs.KeptAllocations.{kept_mapped, quarantined_mapped}
 use Rattle.mk_quarantine.proofs.CountedWords.{IsQuarter, given_more, none_fresh_begun, quarter_stays}
-use Rattle.mk_quarantine.proofs.CountedWords.{sum_filtered}
+use Rattle.mk_quarantine.proofs.CountedWords.{filtered_in_parts}
 use Rattle.mk_quarantine.proofs.EndedFrees.{CallersAreExact, EndedFree, ended_free}
 use Rattle.mk_quarantine.proofs.OpenFrees.{FreesNoneFrom, frees_none_at}
 
@@ -203,39 +202,12 @@ fresh_or_kept n true false fresh = omega arith
 fresh_or_kept n true true true = omega arith
 fresh_or_kept n true true false = omega arith
 
-module _ (c : Config) where
-  abbrev counted : (PlacedAllocation → Bool) → PlacedAllocation → ℕ
-  counted test a = if test a then storage_words c a else 0
-
-  abbrev is_quarantined_mapped : PlacedAllocation → Bool
-  is_quarantined_mapped a = is_mapped c a && a.freed
-
-  abbrev is_fresh_mapped : PlacedAllocation → Bool
-  is_fresh_mapped a = is_mapped c a && a.fresh
-
-  abbrev is_kept_mapped : PlacedAllocation → Bool
-  is_kept_mapped a = is_mapped c a && a.freed && not a.fresh
-
-  sums : (xs : List PlacedAllocation)
-      → sum_by (counted is_quarantined_mapped) xs
-      ≤ sum_by (counted is_fresh_mapped) xs + sum_by (counted is_kept_mapped) xs
-  sums [] = omega arith
-  sums (a ∷ xs) =
-      let one = fresh_or_kept (storage_words c a) (is_mapped c a) a.freed a.fresh in
-      let rest = sums xs in
-      let all = sum_by-cons (counted is_quarantined_mapped) a xs in
-      let fresh = sum_by-cons (counted is_fresh_mapped) a xs in
-      let kept = sum_by-cons (counted is_kept_mapped) a xs in
-      omega arith
-
-  quarantined_is_fresh_or_kept : (xs : List PlacedAllocation)
-      → quarantined_mapped c xs ≤ fresh_words_of c xs + kept_mapped c xs
-  quarantined_is_fresh_or_kept xs =
-      let words = sums xs in
-      let all = sum_filtered (storage_words c) is_quarantined_mapped xs in
-      let fresh = sum_filtered (storage_words c) is_fresh_mapped xs in
-      let kept = sum_filtered (storage_words c) is_kept_mapped xs in
-      omega arith
+pub quarantined_is_fresh_or_kept : (c : Config) (xs : List PlacedAllocation)
+    → quarantined_mapped c xs ≤ fresh_words_of c xs + kept_mapped c xs
+quarantined_is_fresh_or_kept c xs =
+    filtered_in_parts (storage_words c) (λ a. is_mapped c a && a.freed) (λ a. is_mapped c a && a.fresh)
+    (λ a. is_mapped c a && a.freed && not a.fresh)
+    (λ a. fresh_or_kept (storage_words c a) (is_mapped c a) a.freed a.fresh) xs
 
 pub quarantine_is_quarter_and_kept : (on : Bool) (c : Config) (es : List Event) → IsHistory c es
     → CallersAreExact on c es → (left c es).now.words.turn ≡ 0 → QuarantineIsQuarterAndKept c es
