@@ -1,7 +1,7 @@
 -- Steps that come to an operation before anything is printed, and before a block begins or ends.
-use Rattle.std.proofs.Common.{◌≡◌, ℕ, zero, suc, ◌+◌, ◌-◌, ◌<◌, ◌≤◌, Bool, true, false, List, [], ◌∷◌, ◌++◌, length}
-use Rattle.std.proofs.Common.{refl, ap, sym, ◌∙◌, subst, arith, take, drop, IsTrue}
-use Rattle.std.specs.Prelude.{not, ◌&&◌, ◌||◌, is_some, Option, Some, None, slice_get, slice_set, slice_index_or}
+use Rattle.std.proofs.Common.{◌≡◌, ℕ, zero, suc, ◌+◌, ◌-◌, ◌<◌, Bool, true, false, List, [], ◌∷◌, ◌++◌, length}
+use Rattle.std.proofs.Common.{refl, ap, sym, ◌∙◌, subst, arith, take, IsTrue}
+use Rattle.std.specs.Prelude.{not, ◌&&◌, ◌||◌, is_some, Option, Some, None, slice_get, slice_set}
 use Rattle.std.proofs.lemmas.List.{length_push, take_all, take_more, set_split, drop_all}
 use Rattle.std.proofs.lemmas.Option.{slice_get_within, get_or_from_slice_get, slice_get-get_or}
 use Rattle.mk_check.specs.declared.feeding.instructions.Instruction.{Instruction}
@@ -11,9 +11,10 @@ use Rattle.mk_check.specs.declared.feeding.tree.Node.{Node}
 use Rattle.mk_check.specs.declared.feeding.tree.Node.TheVariants as node
 use Rattle.mk_check.specs.declared.feeding.tree.Frame.{Frame}
 use Rattle.mk_check.specs.declared.feeding.tree.Frame.TheVariants as frame
-use Rattle.mk_check.specs.Steps.{after_line, asks_first, is_asking, is_print, op_asked, stop_of}
-use Rattle.mk_check.specs.Trees.{FrameIsWithin, FramesAreWithin, HasStopped, IsBelow, IsTree, IsWithin, LeavesBlock, MovesOn, MovesToOp, Place}
-use Rattle.mk_check.specs.Trees.{innermost, kept_in, left_in, node_after, node_at, node_to_go_on, place_behind_block}
+use Rattle.mk_check.specs.Steps.{after_line, asks_first, is_asking, is_print, op_asked}
+use Rattle.mk_check.specs.Trees.{FrameIsWithin, FramesAreWithin, HasStopped, IsBelow, IsTree, IsWithin, LeavesBlock}
+use Rattle.mk_check.specs.Trees.{MovesOn, MovesToOp, Place}
+use Rattle.mk_check.specs.Trees.{innermost, kept_in, node_after, node_at, node_to_go_on, place_behind_block}
 use Rattle.mk_check.specs.Trees.{resumed_node, steps_at, steps_from, trees, with_kept}
 use Rattle.mk_check.proofs.Moves.{FramesAreWithin_pop, asks_at, end_goes_on, line_goes_on, steps_at-trees}
 

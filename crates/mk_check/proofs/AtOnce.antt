@@ -1,5 +1,5 @@
 -- An answer at which nothing is printed, where the next line asks: the script stops there.
-use Rattle.std.proofs.Common.{◌≡◌, ℕ, ◌<◌, true, List, ◌++◌, length, refl, ap, sym, ◌∙◌, subst, arith}
+use Rattle.std.proofs.Common.{◌≡◌, ℕ, ◌<◌, true, List, ◌++◌, length, refl, ap, sym, ◌∙◌}
 use Rattle.std.specs.Prelude.{[], ◌∷◌, not, is_some}
 use Rattle.std.proofs.lemmas.Bool.{and_parts}
 use Rattle.std.proofs.lemmas.List.{append-nil}
@@ -12,7 +12,7 @@ use Rattle.mk_check.specs.Feed.{is_refusal, refusal_line, refusal_text}
 use Rattle.mk_check.specs.Feeding.{FeedState, IsFeed, IsWaiting, TakesAnswer, op_of_node, work_left}
 use Rattle.mk_check.specs.Steps.{Kept, Steps, after_answer, is_show, is_silent, op_asked, stop_of, stop_on_answer}
 use Rattle.mk_check.specs.Steps.{with_text}
-use Rattle.mk_check.specs.Trees.{HasStopped, IsBelow, IsTree, IsWithin, Place, StopsAt, kept_in, left_in, node_at}
+use Rattle.mk_check.specs.Trees.{HasStopped, IsTree, IsWithin, Place, StopsAt, kept_in, left_in, node_at}
 use Rattle.mk_check.specs.Trees.{stopped_in, with_kept}
 use Rattle.mk_check.proofs.Moves.{asks_at, unfolded_line}
 use Rattle.mk_check.proofs.Stands.{answer_stands, waits_for_answer}

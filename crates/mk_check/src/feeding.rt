@@ -114,7 +114,9 @@ impl Feed {
         ensures refused { result ≡ false → self.new ≡ self.old }
     {
         let Node::Line {
-            instruction, next, ..
+            instruction,
+            next,
+            ..
         } = self.tree.node(self.running.at())
         else {
             unreachable!()

@@ -442,7 +442,9 @@ impl Running {
         ensures stops { result ≡ false → HasStopped tree.now self.old self.new }
     {
         let Node::Line {
-            instruction, next, ..
+            instruction,
+            next,
+            ..
         } = tree.node(self.at)
         else {
             unreachable!()

@@ -49,13 +49,7 @@ impl Frame {
         ensures { result ≡ node_after self }
     {
         match self {
-            Frame::Rounds { rounds, body, next } => {
-                if rounds == 0 {
-                    next
-                } else {
-                    body
-                }
-            }
+            Frame::Rounds { rounds, body, next } => { if rounds == 0 { next } else { body } }
             Frame::Branch { next } => next,
         }
     }
@@ -136,7 +130,9 @@ impl Tree {
     {
         let mut here = at;
         'lines: while let Node::Line {
-            instruction, next, ..
+            instruction,
+            next,
+            ..
         } = self.node(here)
         {
             if instruction.asks() {

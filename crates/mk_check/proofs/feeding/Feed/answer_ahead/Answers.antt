@@ -1,4 +1,4 @@
-use Rattle.std.proofs.Common.{◌≡◌, ◌<◌, ℕ, List, [], ◌∷◌, ◌++◌, true, false, ap, sym, ◌∙◌, subst, rules}
+use Rattle.std.proofs.Common.{◌≡◌, ◌<◌, [], ◌∷◌, ◌++◌, true, false, ap, sym, ◌∙◌, subst, rules}
 use Rattle.std.specs.Prelude.{Option, None, is_some, OnOk, OnErr, Ok, Err}
 use Rattle.std.specs.declared.result.Result.{Result}
 use Rattle.mk_never.specs.declared.operations.Op.{Op}
@@ -8,7 +8,7 @@ use Rattle.mk_check.specs.declared.feeding.tree.Node.TheVariants as node
 use Rattle.mk_check.specs.Feed.{refusal_line, refusal_text}
 use Rattle.mk_check.specs.Steps.{op_asked, after_answer, stop_on_answer}
 use Rattle.mk_check.specs.Trees.{IsTree, Place, left_in, kept_in, stopped_in, node_at, with_kept}
-use Rattle.mk_check.specs.Feeding.{FeedState, StandsForSome, IsFeed, IsWaiting, op_of_node, op_in, work_left}
+use Rattle.mk_check.specs.Feeding.{FeedState, StandsForSome, IsFeed, op_of_node, op_in, work_left}
 use Rattle.mk_check.specs.Feeding.{TakesAnswer}
 use Rattle.mk_check.proofs.Stands.{answer_stands, answer_stops, op_of_others, waits_for_answer}
 use Rattle.mk_check.proofs.WorkLaws.{answer_nearer}

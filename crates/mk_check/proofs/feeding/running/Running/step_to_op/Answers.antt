@@ -48,7 +48,8 @@ returns-clause-goes_on c =
     let p = c.args.self.now in
     let asks : is_asking l.instruction ≡ false =
     sym (asked_so [] l.instruction) ∙ (sym (c.asks.ensures []) ∙ c.if-asks.false) in
-    λ t. subst (λ (q : Place). MovesOn c.args.tree.now p q) (sym (new ((goal.at.returns-clause-goes_on c).After-calculate)))
+    λ t. subst (λ (q : Place). MovesOn c.args.tree.now p q)
+    (sym (new ((goal.at.returns-clause-goes_on c).After-calculate)))
     (line_to_op c.args.tree.now p l.line l.instruction l.next l.ensures.tree c.requires.within
     (here ((goal.at.returns-clause-goes_on c).In-Line)) asks)
 
@@ -63,6 +64,7 @@ returns-clause-first c =
     let prints : is_print l.instruction ≡ false =
     no_print_here nodes p.at l.line l.instruction l.next l.ensures.tree c.requires.within.at at asks c.requires.first
     in
-    λ t. ap (λ (q : Place). asks_first (steps_at (trees nodes) q.at)) (new ((goal.at.returns-clause-first c).After-calculate))
+    λ t. ap (λ (q : Place). asks_first (steps_at (trees nodes) q.at))
+    (new ((goal.at.returns-clause-first c).After-calculate))
     ∙ (sym (first_later nodes p.at l.line l.instruction l.next l.ensures.tree c.requires.within.at at asks prints)
     ∙ c.requires.first)
