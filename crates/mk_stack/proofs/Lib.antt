@@ -1,0 +1,17 @@
+pub mod Heaps
+pub mod Roles
+pub mod Invariant
+pub mod Frames
+pub mod Chains
+pub mod Assembly
+pub mod Registered
+pub mod Writes
+pub mod Points
+pub mod Exchanges
+pub mod Pushing
+pub mod Popping
+pub mod Freeing
+pub mod Grants
+pub mod Stepping
+pub mod Running
+pub mod Linearizable

@@ -1,0 +1,7 @@
+//! Numbers on a stack that callers share: Treiber's stack, on a heap as it stands. A popped node is freed at once.
+#![tactic(auto)]
+
+mod jobs;
+pub mod laws;
+
+pub use jobs::{Done, Job};
