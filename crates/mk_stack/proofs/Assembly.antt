@@ -6,9 +6,10 @@ use Rattle.mk_never.specs.NeverHeap.{NeverState, register_at, bit}
 use Rattle.mk_stack.specs.declared.jobs.Job.{Job}
 use Rattle.mk_stack.specs.declared.jobs.Job.TheVariants.{Push, Pop}
 use Rattle.mk_stack.specs.declared.jobs.Done.{Done}
-use Rattle.mk_stack.specs.Jobs.{Point, Replied}
-use Rattle.mk_stack.specs.Jobs.{Founding, Placing, Founded, Starting, Checking, Making, Filling, Looking, Linking}
-use Rattle.mk_stack.specs.Jobs.{Publishing}
+use Rattle.mk_stack.specs.Jobs.{Replied}
+use Rattle.mk_stack.specs.declared.points.Point.{Point}
+use Rattle.mk_stack.specs.declared.points.Point.TheVariants.{Founding, Placing, Founded, Starting, Checking, Making, Filling, Looking, Linking}
+use Rattle.mk_stack.specs.declared.points.Point.TheVariants.{Publishing}
 use Rattle.mk_stack.specs.Orders.{Ordered, left_by}
 use Rattle.mk_stack.specs.Laws.{numbers_in, freed_by}
 use Rattle.mk_stack.proofs.Roles.{Role, Private, Taken, is_gone, put, put_by}

@@ -8,7 +8,8 @@ use Rattle.mk_never.specs.declared.values.Value.{Value}
 use Rattle.mk_never.specs.NeverHeap.{NeverState, with_word, words_of, allocation_at}
 use Rattle.mk_never.specs.NeverHeap.{bit}
 use Rattle.mk_stack.specs.declared.jobs.Done.{Done}
-use Rattle.mk_stack.specs.Jobs.{Point, Replied}
+use Rattle.mk_stack.specs.Jobs.{Replied}
+use Rattle.mk_stack.specs.declared.points.Point.{Point}
 use Rattle.mk_stack.specs.Orders.{Ordered}
 use Rattle.mk_stack.specs.Laws.{numbers_in, freed_by, IsOneOf}
 use Rattle.mk_stack.proofs.Heaps.{other_words, written_size, written_flag, written_type}

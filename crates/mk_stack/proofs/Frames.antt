@@ -7,9 +7,10 @@ use Rattle.mk_never.specs.NeverHeap.{NeverState, register_at, words_of, word_at,
 use Rattle.mk_stack.specs.declared.jobs.Done.{Done}
 use Rattle.mk_stack.specs.declared.jobs.Done.TheVariants.{Popped, Empty}
 use Rattle.mk_stack.specs.declared.jobs.Job.{Job}
-use Rattle.mk_stack.specs.Jobs.{Point, done_without}
-use Rattle.mk_stack.specs.Jobs.{Founding, Placing, Founded, Starting, Checking, Making, Filling, Looking, Linking}
-use Rattle.mk_stack.specs.Jobs.{Publishing, Peeking, Testing, Following, Taking, Freeing, Reading, Ended}
+use Rattle.mk_stack.specs.Jobs.{done_without}
+use Rattle.mk_stack.specs.declared.points.Point.{Point}
+use Rattle.mk_stack.specs.declared.points.Point.TheVariants.{Founding, Placing, Founded, Starting, Checking, Making, Filling, Looking, Linking}
+use Rattle.mk_stack.specs.declared.points.Point.TheVariants.{Publishing, Peeking, Testing, Following, Taking, Freeing, Reading, Ended}
 use Rattle.mk_stack.proofs.Roles.{Role, Base, RoleKeeps, private_keeps, taken_keeps, published_keeps}
 use Rattle.mk_stack.proofs.Invariant.{HasTop, HasOwn, HasFilled, HasLinked, HasSeen, HasFollowed, HasTaken, HasFreed}
 use Rattle.mk_stack.proofs.Invariant.{HasBase, Local}

@@ -7,7 +7,8 @@ use Rattle.mk_never.specs.declared.values.Value.TheVariants.{Null, Ptr}
 use Rattle.mk_never.specs.NeverHeap.{NeverState, register_at, with_freed, word_at, words_of, allocation_at, number_of, bit}
 use Rattle.mk_stack.specs.declared.jobs.Done.{Done}
 use Rattle.mk_stack.specs.declared.jobs.Done.TheVariants.{Popped}
-use Rattle.mk_stack.specs.Jobs.{Replied, Freeing, Reading}
+use Rattle.mk_stack.specs.Jobs.{Replied}
+use Rattle.mk_stack.specs.declared.points.Point.TheVariants.{Freeing, Reading}
 use Rattle.mk_stack.specs.Laws.{freed_by, IsOneOf}
 use Rattle.mk_stack.proofs.Heaps.{freed_words, freed_type, freed_flag, other_flag}
 use Rattle.mk_stack.proofs.Roles.{Role, Unborn, Base, Private, Stacked, Taken, Freed, RoleKeeps, IsPublished, same_role}

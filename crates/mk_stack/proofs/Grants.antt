@@ -9,7 +9,8 @@ use Rattle.mk_never.specs.Types.{kinds_of, zero_words}
 use Rattle.mk_never.specs.NeverHeap.{NeverState, Allocation, no_allocation, with_register, with_new, word_at}
 use Rattle.mk_never.specs.NeverHeap.{words_of, allocation_at, bit}
 use Rattle.mk_stack.specs.declared.jobs.Done.{Done}
-use Rattle.mk_stack.specs.Jobs.{Point, Replied}
+use Rattle.mk_stack.specs.Jobs.{Replied}
+use Rattle.mk_stack.specs.declared.points.Point.{Point}
 use Rattle.mk_stack.specs.Laws.{freed_by, IsOneOf}
 use Rattle.mk_stack.proofs.Heaps.{register_of_other, other_allocation}
 use Rattle.mk_stack.proofs.Roles.{Role, Unborn, Base, Private, Stacked, Taken, RoleKeeps, same_role}

@@ -7,9 +7,10 @@ use Rattle.mk_never.specs.Types.{kinds_of}
 use Rattle.mk_never.specs.NeverHeap.{NeverState, register_at, global_at, allocation_at, words_of, word_at, number_of}
 use Rattle.mk_stack.specs.declared.jobs.Done.{Done}
 use Rattle.mk_stack.specs.declared.jobs.Done.TheVariants.{Popped, Empty}
-use Rattle.mk_stack.specs.Jobs.{Point, Replied, JobRun, done_without, node_kinds, top_kinds}
-use Rattle.mk_stack.specs.Jobs.{Founding, Placing, Founded, Starting, Checking, Making, Filling, Looking, Linking}
-use Rattle.mk_stack.specs.Jobs.{Publishing, Peeking, Testing, Following, Taking, Freeing, Reading, Ended}
+use Rattle.mk_stack.specs.Jobs.{Replied, JobRun, done_without, node_kinds, top_kinds}
+use Rattle.mk_stack.specs.declared.points.Point.{Point}
+use Rattle.mk_stack.specs.declared.points.Point.TheVariants.{Founding, Placing, Founded, Starting, Checking, Making, Filling, Looking, Linking}
+use Rattle.mk_stack.specs.declared.points.Point.TheVariants.{Publishing, Peeking, Testing, Following, Taking, Freeing, Reading, Ended}
 use Rattle.mk_stack.specs.Laws.{IsOneOf}
 use Rattle.mk_stack.proofs.Roles.{Role, Base, Private, Stacked, Taken, Unborn, size_of, is_gone, IsPublished}
 

@@ -6,7 +6,7 @@ pub mod Chains
 pub mod Assembly
 pub mod Registered
 pub mod Writes
-pub mod Points
+pub mod JobGoals
 pub mod Exchanges
 pub mod Pushing
 pub mod Popping

@@ -7,7 +7,8 @@ use Rattle.std.proofs.lemmas.List.{length-replicate}
 use Rattle.mk_never.specs.declared.types.Kind.{Kind}
 use Rattle.mk_never.specs.declared.values.Value.TheVariants.{Null}
 use Rattle.mk_never.specs.NeverHeap.{NeverState, Call, start_of, allocation_at, after_calls, bit}
-use Rattle.mk_stack.specs.Jobs.{Replied, JobRun, Founding, Founded}
+use Rattle.mk_stack.specs.Jobs.{Replied, JobRun}
+use Rattle.mk_stack.specs.declared.points.Point.TheVariants.{Founding, Founded}
 use Rattle.mk_stack.specs.Interleavings.{IsInterleaved, first_of, order_of, own_decisions, AreDecidedOnce}
 use Rattle.mk_stack.specs.Laws.{IsLinearized, LeaksNothing, IsExplained, StacksAreLinearizable, IsOneOf, times_freed}
 use Rattle.mk_stack.proofs.Roles.{Role, Unborn, Base, Private, Stacked, Taken, Freed, is_gone}

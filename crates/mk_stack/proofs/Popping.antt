@@ -8,7 +8,8 @@ use Rattle.mk_never.specs.declared.values.Value.TheVariants.{Null, Ptr}
 use Rattle.mk_never.specs.NeverHeap.{NeverState, register_at, with_word, word_at, words_of, number_of}
 use Rattle.mk_stack.specs.declared.jobs.Job.TheVariants.{Pop}
 use Rattle.mk_stack.specs.declared.jobs.Done.TheVariants.{Popped}
-use Rattle.mk_stack.specs.Jobs.{Replied, Taking, Freeing}
+use Rattle.mk_stack.specs.Jobs.{Replied}
+use Rattle.mk_stack.specs.declared.points.Point.TheVariants.{Taking, Freeing}
 use Rattle.mk_stack.specs.Laws.{numbers_in, freed_by, IsOneOf}
 use Rattle.mk_stack.proofs.Heaps.{written}
 use Rattle.mk_stack.proofs.Roles.{Role, Private, Stacked, Taken, put, put_by, put_same, put_other, size_of}

@@ -7,7 +7,8 @@ use Rattle.mk_never.specs.declared.values.Value.TheVariants.{Null, Ptr}
 use Rattle.mk_never.specs.NeverHeap.{NeverState, with_register, with_global, word_at}
 use Rattle.std.proofs.lemmas.List.{get_or-set_same}
 use Rattle.mk_stack.specs.declared.jobs.Done.{Done}
-use Rattle.mk_stack.specs.Jobs.{Point, Replied}
+use Rattle.mk_stack.specs.Jobs.{Replied}
+use Rattle.mk_stack.specs.declared.points.Point.{Point}
 use Rattle.mk_stack.specs.Orders.{Ordered}
 use Rattle.mk_stack.specs.Laws.{numbers_in, freed_by}
 use Rattle.mk_stack.proofs.Heaps.{register_of_other}

@@ -7,7 +7,9 @@ use Rattle.mk_never.specs.declared.operations.Op.{Op}
 use Rattle.mk_never.specs.NeverHeap.{NeverState, Call, reply_of, after_op, after_calls, replies_of, bit}
 use Rattle.mk_stack.specs.declared.jobs.Job.{Job}
 use Rattle.mk_stack.specs.declared.jobs.Done.{Done}
-use Rattle.mk_stack.specs.Jobs.{Point, Replied, JobRun, Asks, Leads, IsJobRun, all_of, Founded, Starting, Ended}
+use Rattle.mk_stack.specs.Jobs.{Replied, JobRun, Asks, Leads, IsJobRun, all_of}
+use Rattle.mk_stack.specs.declared.points.Point.{Point}
+use Rattle.mk_stack.specs.declared.points.Point.TheVariants.{Founded, Starting, Ended}
 use Rattle.mk_stack.specs.Orders.{Ordered, left_by_all}
 use Rattle.mk_stack.specs.Interleavings.{own_replied, AreJobRuns, AreBelow, order_of, own_decisions, AreDecidedOnce}
 use Rattle.mk_stack.specs.Laws.{numbers_in, times_freed, NoneIsDouble}
@@ -15,7 +17,7 @@ use Rattle.mk_stack.proofs.Roles.{Role, Private, Taken, is_gone, put, put_by, pu
 use Rattle.mk_stack.proofs.Invariant.{Core, Local, IsHeld, IsPushing, IsFreeing, Work, Inv}
 use Rattle.mk_stack.proofs.Assembly.{Stepped, Decides, nothing, settles, IsLeft, IsOfJob, job_at, moved}
 use Rattle.mk_stack.proofs.Stepping.{steps, single}
-use Rattle.mk_stack.proofs.Points.{IsGoal, goal_pushes_nothing, goal_frees_nothing, no_founding, same_job}
+use Rattle.mk_stack.proofs.JobGoals.{IsGoal, goal_pushes_nothing, goal_frees_nothing, no_founding, same_job}
 
 -- what a caller still has to do
 pub record IsWork (n : NeverState) (calls : List Call) (k : ℕ) (w : Work) : Type 0 where

@@ -21,9 +21,10 @@ use Rattle.mk_stack.specs.declared.jobs.Job.{Job}
 use Rattle.mk_stack.specs.declared.jobs.Job.TheVariants.{Push, Pop}
 use Rattle.mk_stack.specs.declared.jobs.Done.{Done}
 use Rattle.mk_stack.specs.declared.jobs.Done.TheVariants.{Pushed, Full, Popped, Empty}
-use Rattle.mk_stack.specs.Jobs.{Point, Replied, done_without, Asks}
-use Rattle.mk_stack.specs.Jobs.{Founding, Placing, Founded, Starting, Checking, Making, Filling, Looking, Linking}
-use Rattle.mk_stack.specs.Jobs.{Publishing, Peeking, Testing, Following, Taking, Freeing, Reading, Ended}
+use Rattle.mk_stack.specs.Jobs.{Replied, done_without, Asks}
+use Rattle.mk_stack.specs.declared.points.Point.{Point}
+use Rattle.mk_stack.specs.declared.points.Point.TheVariants.{Founding, Placing, Founded, Starting, Checking, Making, Filling, Looking, Linking}
+use Rattle.mk_stack.specs.declared.points.Point.TheVariants.{Publishing, Peeking, Testing, Following, Taking, Freeing, Reading, Ended}
 use Rattle.mk_stack.specs.Jobs.{found, find_no_room, place, start, lack, go_push, go_pop, make, fail, fill, look, link}
 use Rattle.mk_stack.specs.Jobs.{publish, push_again, peek, miss, meet, follow, unlink, pop_again, free, free_again, read}
 use Rattle.mk_stack.specs.Orders.{Ordered, left_by}

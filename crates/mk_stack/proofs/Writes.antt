@@ -8,7 +8,8 @@ use Rattle.mk_never.specs.declared.values.Value.{Value}
 use Rattle.mk_never.specs.declared.values.Value.TheVariants.{Null}
 use Rattle.mk_never.specs.NeverHeap.{NeverState, with_word, word_at, words_of}
 use Rattle.mk_stack.specs.declared.jobs.Done.{Done}
-use Rattle.mk_stack.specs.Jobs.{Point, Replied}
+use Rattle.mk_stack.specs.Jobs.{Replied}
+use Rattle.mk_stack.specs.declared.points.Point.{Point}
 use Rattle.mk_stack.specs.Laws.{freed_by}
 use Rattle.mk_stack.proofs.Heaps.{other_words, written_size, written_flag, written_type}
 use Rattle.mk_stack.proofs.Roles.{Role, Unborn, Base, Private, Stacked, Taken, RoleKeeps, same_role}

@@ -5,7 +5,8 @@ use Rattle.mk_never.specs.declared.types.Kind.{Kind}
 use Rattle.mk_never.specs.Types.{kinds_of}
 use Rattle.mk_never.specs.NeverHeap.{NeverState, Call, start_of}
 use Rattle.mk_never.specs.NeverHeap.{reply_of, after_op}
-use Rattle.mk_stack.specs.Jobs.{Replied, JobRun, Leads, IsJobRun, all_of, Founding, Founded, node_kinds, top_kinds}
+use Rattle.mk_stack.specs.Jobs.{Replied, JobRun, Leads, IsJobRun, all_of, node_kinds, top_kinds}
+use Rattle.mk_stack.specs.declared.points.Point.TheVariants.{Founding, Founded}
 use Rattle.mk_stack.specs.Orders.{Ordered}
 
 -- a caller's own operations among those of all, with their replies

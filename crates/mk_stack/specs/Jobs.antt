@@ -7,6 +7,10 @@ use Rattle.mk_never.specs.declared.operations.Op.{Op}
 use Rattle.mk_never.specs.declared.operations.Op.TheVariants as op
 use Rattle.mk_never.specs.declared.operations.Reply.{Reply}
 use Rattle.mk_never.specs.declared.operations.Reply.TheVariants as reply
+use Rattle.mk_stack.specs.declared.points.Point.{Point}
+use Rattle.mk_stack.specs.declared.points.Point.TheVariants.{Founding, Placing, Founded, Starting, Checking, Making}
+use Rattle.mk_stack.specs.declared.points.Point.TheVariants.{Filling, Looking, Linking, Publishing, Peeking, Testing}
+use Rattle.mk_stack.specs.declared.points.Point.TheVariants.{Following, Taking, Freeing, Reading, Ended}
 use Rattle.mk_stack.specs.declared.jobs.Job.{Job}
 use Rattle.mk_stack.specs.declared.jobs.Job.TheVariants.{Push, Pop}
 use Rattle.mk_stack.specs.declared.jobs.Done.{Done}
@@ -19,30 +23,6 @@ node_kinds = Number ∷ To 0 0 ∷ []
 
 abbrev pub top_kinds : List Kind
 top_kinds = To 0 0 ∷ []
-
--- where a caller is in its job
-pub data Point : Type 0 where
-  -- The first caller makes the top, and stores it in global 0.
-  Founding : Point
-  Placing : Point
-  Founded : Point
-  -- Each job loads the top from global 0, and looks whether there is one.
-  Starting : Job → Point
-  Checking : Job → Point
-  -- A push makes a node, fills it in, and then tries to exchange the uppermost node for it, as often as it must.
-  Making : ℕ → Point
-  Filling : ℕ → Point
-  Looking : ℕ → Point
-  Linking : ℕ → Point
-  Publishing : ℕ → Point
-  -- A pop loads the uppermost node, and tries to exchange it for the one below. It frees its node, and then reads it.
-  Peeking : Point
-  Testing : Point
-  Following : Point
-  Taking : Point
-  Freeing : Point
-  Reading : Point
-  Ended : Done → Point
 
 -- what a job ends with where there is nothing to work on
 abbrev pub done_without : Job → Done

@@ -3,5 +3,7 @@
 
 mod jobs;
 pub mod laws;
+mod points;
 
 pub use jobs::{Done, Job};
+pub use points::Point;

@@ -4,9 +4,10 @@ use Rattle.mk_never.specs.declared.operations.Op.{Op}
 use Rattle.mk_never.specs.declared.operations.Reply.{Reply}
 use Rattle.mk_never.specs.NeverHeap.{NeverState}
 use Rattle.mk_stack.specs.declared.jobs.Done.{Done}
-use Rattle.mk_stack.specs.Jobs.{Point, Replied, Asks, Leads}
-use Rattle.mk_stack.specs.Jobs.{Founded}
-use Rattle.mk_stack.specs.Jobs.{Ended}
+use Rattle.mk_stack.specs.Jobs.{Replied, Asks, Leads}
+use Rattle.mk_stack.specs.declared.points.Point.{Point}
+use Rattle.mk_stack.specs.declared.points.Point.TheVariants.{Founded}
+use Rattle.mk_stack.specs.declared.points.Point.TheVariants.{Ended}
 use Rattle.mk_stack.specs.Jobs.{found, find_no_room, place, start, lack, go_push, go_pop, make, fail, fill, look, link}
 use Rattle.mk_stack.specs.Jobs.{publish, push_again, peek, miss, meet, follow, unlink, pop_again, free, free_again, read}
 use Rattle.mk_stack.proofs.Roles.{Role}
