@@ -15,3 +15,4 @@ pub mod Grants
 pub mod Stepping
 pub mod Running
 pub mod Linearizable
+pub mod Replies

@@ -2,3 +2,5 @@ pub mod Jobs
 pub mod Orders
 pub mod Interleavings
 pub mod Laws
+pub mod Passes
+pub mod Advancing
