@@ -16,3 +16,5 @@ pub mod Stepping
 pub mod Running
 pub mod Linearizable
 pub mod Replies
+pub mod NodeKinds
+pub mod Advances

@@ -73,9 +73,10 @@ pub record Happens (p : PassState) (o : Op) (a : Answer) (q : PassState) : Type 
   pub n : NeverState
   pub types : n.types ≡ p.table.config.types
   pub typed : IsTyped p.table.config.globals n
+  pub count : length n.globals ≡ 64
   pub caller : IsCaller n (number_of p)
   pub before : KeepsRegisters (number_of p) (never_of p) n
-  pub after : KeepsRegisters (number_of p) (after_op n (number_of p) o) (never_of q)
+  pub after : (r : ℕ) → r < 8 → value_of q r ≡ register_at (after_op n (number_of p) o) (number_of p) r
   pub bases : List ℕ
   pub image : a ≡ answer_of bases (reply_of n (number_of p) o)
   pub did : replied_to q ≡ replied_to p ++ record { op = o; reply = reply_of n (number_of p) o } ∷ []
@@ -201,6 +202,7 @@ module _ (p : PassState) (o : Op) (a : Answer) (more : List Event) (once : flagg
         n = never_behind c before;
         types = mirrors.types;
         typed = mirrors.typed;
+        count = mirrors.global_count;
         caller = admitted.0.of_a_caller;
         before = decided.known;
         after = decided.left_so;

@@ -1,6 +1,7 @@
 //! Numbers on a stack that callers share: Treiber's stack, on a heap as it stands. A popped node is freed at once.
 #![tactic(auto)]
 
+mod advancing;
 mod jobs;
 pub mod laws;
 mod points;
