@@ -1,7 +1,6 @@
 -- Each call of a job is its next operation, and what its caller's registers hold after it.
-use Rattle.std.proofs.Common.{◌≡◌, ◌≢◌, ℕ, ◌+◌, ◌*◌, ◌<◌, ◌≤◌, Bool, true, false, List, [], ◌∷◌, ◌++◌, length, refl, sym, ◌∙◌}
-use Rattle.std.proofs.Common.{ap, subst, arith, Some, None, Option}
-use Rattle.std.specs.Prelude.{slice_get}
+use Rattle.std.proofs.Common.{◌≡◌, ◌≢◌, ℕ, ◌+◌, ◌*◌, ◌<◌, ◌≤◌, Bool, true, false, List, length, refl, sym, ◌∙◌}
+use Rattle.std.proofs.Common.{ap, subst, arith, Some, None}
 use Rattle.std.proofs.lemmas.Bool.{false≢true}
 use Rattle.mk_never.specs.declared.types.Kind.{Kind}
 use Rattle.mk_never.specs.declared.operations.Op.{Op}
@@ -12,20 +11,17 @@ use Rattle.mk_never.specs.declared.values.Target.{Target}
 use Rattle.mk_never.specs.declared.values.Value.{Value}
 use Rattle.mk_never.specs.declared.values.Value.TheVariants.{Null, Num, Ptr}
 use Rattle.mk_never.specs.Types.{kinds_of}
-use Rattle.mk_never.specs.Admitted.{IsCaller}
 use Rattle.mk_never.specs.NeverHeap.{NeverState, register_at, global_at, word_at, target_of, reply_at, left_at, reply_of}
 use Rattle.mk_never.specs.NeverHeap.{after_op, after_free, with_register, with_new, number_of as number_in, is_same, bit}
-use Rattle.mk_never.proofs.Later.{calls_stay}
-use Rattle.mk_core.specs.declared.config.Config.{Config}
 use Rattle.mk_core.specs.declared.events.Answer.{Answer}
 use Rattle.mk_core.specs.declared.events.Answer.TheVariants as answer
 use Rattle.mk_core.specs.Calls.{one_if, q_of}
-use Rattle.mk_core.specs.Decided.{asked, flagged}
-use Rattle.mk_core.specs.History.{IsHistory, calls, never_first}
+use Rattle.mk_core.specs.Decided.{flagged}
+use Rattle.mk_core.specs.History.{IsHistory}
 use Rattle.mk_core.specs.Image.{answer_of}
 use Rattle.mk_frames.proofs.LastEvents.{stands}
 use Rattle.mk_words.specs.States.{PassState}
-use Rattle.mk_caller.specs.States.{never_of, number_of, value_of, Admits}
+use Rattle.mk_caller.specs.States.{never_of, number_of, value_of}
 use Rattle.mk_caller.specs.Called.{Called, IsAnswered, Says}
 use Rattle.mk_caller.specs.Causes.{IsRefused}
 use Rattle.mk_caller.specs.declared.refusals.Refusal.{Refusal}
@@ -44,10 +40,10 @@ use Rattle.mk_stack.specs.Jobs.{Asks, done_without, node_kinds, top_kinds}
 use Rattle.mk_stack.specs.Jobs.{found, find_no_room, place, start, lack, go_push, go_pop, make, fail, fill, look, link}
 use Rattle.mk_stack.specs.Jobs.{publish, push_again, peek, miss, meet, follow, unlink, pop_again, free, free_again, read}
 use Rattle.mk_stack.specs.Passes.{HasStackTypes}
-use Rattle.mk_stack.specs.Advancing.{Advances, Holds, IsPointerTo, MayPointTo, Stays}
+use Rattle.mk_stack.specs.Advancing.{Advances, Holds, IsPointerTo, MayPointTo}
 use Rattle.mk_stack.proofs.Heaps.{set_register, other_register}
 use Rattle.mk_stack.proofs.NodeKinds.{IsStackState, gets_to, top_word, node_link, global_kind, not_null_points}
-use Rattle.mk_stack.proofs.Replies.{Happens, from_called, from_turn, stays_held}
+use Rattle.mk_stack.proofs.Replies.{Happens, from_called, from_turn}
 
 -- the replies of which these are the images
 
@@ -237,17 +233,18 @@ module _ (p q : PassState) (types : HasStackTypes p.table.config) (history : IsH
   make_advances x on top called =
       let h = from_turn on p q (op.New 1 0 false) answer.Done refl history called in
       let room : 8 * k + 7 < length h.n.registers = h.caller in
-      advance p q (op.New 1 0 false) answer.Done (Making x) (Filling x) reply.Done h refl make
-      (points_on 1 (value_of p 0) (value_of q 0)
-      (h.after 0 (omega arith)
-      ∙ other_register (with_new h.n 0) k 1 0 (Ptr (length h.n.allocations) 0 0) (omega arith)
-      ∙ h.before 0 (omega arith))
-      top,
-      record {
-        number = length h.n.allocations;
-        is = h.after 1 (omega arith)
-            ∙ set_register (with_new h.n 0) k 1 (Ptr (length h.n.allocations) 0 0) (omega (arith, room));
-      })
+      advance p q (op.New 1 0 false) answer.Done (Making x) (Filling x) reply.Done h refl make (
+        points_on 1 (value_of p 0) (value_of q 0)
+            (h.after 0 (omega arith)
+            ∙ other_register (with_new h.n 0) k 1 0 (Ptr (length h.n.allocations) 0 0) (omega arith)
+            ∙ h.before 0 (omega arith))
+            top,
+        record {
+          number = length h.n.allocations;
+          is = h.after 1 (omega arith)
+              ∙ set_register (with_new h.n 0) k 1 (Ptr (length h.n.allocations) 0 0) (omega (arith, room));
+        },
+      )
 
   pub fail_advances : (x : ℕ) (on : Bool) → CalledInTurn on p (op.New 1 0 false) answer.Full q
       → Advances p (Making x) q (Ended Full)
@@ -288,9 +285,10 @@ module _ (p q : PassState) (types : HasStackTypes p.table.config) (history : IsH
       let same : (r : ℕ) → r < 8 → value_of q r ≡ value_of p r =
       λ r lt. kept p q (op.SetNum 1 0 x) answer.Done called r lt (λ e. none_is_not r e) in
       advance p q (op.SetNum 1 0 x) answer.Done (Filling x) (Looking x) reply.Done h
-      (done_reply h.bases _ h.image) fill
-      (points_on 1 (value_of p 0) (value_of q 0) (same 0 (omega arith)) holds.0,
-      points_on 0 (value_of p 1) (value_of q 1) (same 1 (omega arith)) holds.1)
+      (done_reply h.bases _ h.image) fill (
+        points_on 1 (value_of p 0) (value_of q 0) (same 0 (omega arith)) holds.0,
+        points_on 0 (value_of p 1) (value_of q 1) (same 1 (omega arith)) holds.1,
+      )
 
   -- What a load of the top's word leaves
   pub loaded_top : IsPointerTo 1 (value_of p 0) → IsAnswered p (op.GetPtr 2 0 0) q → MayPointTo 0 (value_of q 2)
@@ -321,18 +319,20 @@ module _ (p q : PassState) (types : HasStackTypes p.table.config) (history : IsH
   look_advances x holds called =
       let h = from_called p q (op.GetPtr 2 0 0) (answer.Word called.word) refl history called.called in
       let v = word_reply h.bases called.word _ h.image in
-      advance p q (op.GetPtr 2 0 0) (answer.Word called.word) (Looking x) (Linking x) (reply.Val v.value) h v.is look
-      (points_on 1 (value_of p 0) (value_of q 0) (load_keeps 0 2 (omega arith) (omega arith) 0 0 called) holds.0,
-      points_on 0 (value_of p 1) (value_of q 1) (load_keeps 1 2 (omega arith) (omega arith) 0 0 called) holds.1,
-      loaded_top holds.0 called)
+      advance p q (op.GetPtr 2 0 0) (answer.Word called.word) (Looking x) (Linking x) (reply.Val v.value) h v.is look (
+        points_on 1 (value_of p 0) (value_of q 0) (load_keeps 0 2 (omega arith) (omega arith) 0 0 called) holds.0,
+        points_on 0 (value_of p 1) (value_of q 1) (load_keeps 1 2 (omega arith) (omega arith) 0 0 called) holds.1,
+        loaded_top holds.0 called,
+      )
 
   pub peek_advances : Holds p Peeking → IsAnswered p (op.GetPtr 2 0 0) q → Advances p Peeking q Testing
   peek_advances holds called =
       let h = from_called p q (op.GetPtr 2 0 0) (answer.Word called.word) refl history called.called in
       let v = word_reply h.bases called.word _ h.image in
-      advance p q (op.GetPtr 2 0 0) (answer.Word called.word) Peeking Testing (reply.Val v.value) h v.is peek
-      (points_on 1 (value_of p 0) (value_of q 0) (load_keeps 0 2 (omega arith) (omega arith) 0 0 called) holds,
-      loaded_top holds called)
+      advance p q (op.GetPtr 2 0 0) (answer.Word called.word) Peeking Testing (reply.Val v.value) h v.is peek (
+        points_on 1 (value_of p 0) (value_of q 0) (load_keeps 0 2 (omega arith) (omega arith) 0 0 called) holds,
+        loaded_top holds called,
+      )
 
   pub link_advances : (x : ℕ) → Holds p (Linking x) → Called p (op.SetPtr 1 1 2) answer.Done q
       → Advances p (Linking x) q (Publishing x)
@@ -341,10 +341,11 @@ module _ (p q : PassState) (types : HasStackTypes p.table.config) (history : IsH
       let same : (r : ℕ) → r < 8 → value_of q r ≡ value_of p r =
       λ r lt. kept p q (op.SetPtr 1 1 2) answer.Done called r lt (λ e. none_is_not r e) in
       advance p q (op.SetPtr 1 1 2) answer.Done (Linking x) (Publishing x) reply.Done h
-      (done_reply h.bases _ h.image) link
-      (points_on 1 (value_of p 0) (value_of q 0) (same 0 (omega arith)) holds.0,
-      points_on 0 (value_of p 1) (value_of q 1) (same 1 (omega arith)) holds.1,
-      may_on 0 (value_of p 2) (value_of q 2) (same 2 (omega arith)) holds.2)
+      (done_reply h.bases _ h.image) link (
+        points_on 1 (value_of p 0) (value_of q 0) (same 0 (omega arith)) holds.0,
+        points_on 0 (value_of p 1) (value_of q 1) (same 1 (omega arith)) holds.1,
+        may_on 0 (value_of p 2) (value_of q 2) (same 2 (omega arith)) holds.2,
+      )
 
   pub publish_advances : (x : ℕ) → Says p (op.CasPtr 0 0 2 1) true q → Advances p (Publishing x) q (Ended Pushed)
   publish_advances x called =
@@ -359,9 +360,10 @@ module _ (p q : PassState) (types : HasStackTypes p.table.config) (history : IsH
       let same : (r : ℕ) → r < 8 → value_of q r ≡ value_of p r =
       λ r lt. kept p q (op.CasPtr 0 0 2 1) (answer.Num 0) called r lt (λ e. none_is_not r e) in
       advance p q (op.CasPtr 0 0 2 1) (answer.Num 0) (Publishing x) (Looking x) (reply.Num 0) h
-      (num_reply h.bases 0 _ h.image) push_again
-      (points_on 1 (value_of p 0) (value_of q 0) (same 0 (omega arith)) holds.0,
-      points_on 0 (value_of p 1) (value_of q 1) (same 1 (omega arith)) holds.1)
+      (num_reply h.bases 0 _ h.image) push_again (
+        points_on 1 (value_of p 0) (value_of q 0) (same 0 (omega arith)) holds.0,
+        points_on 0 (value_of p 1) (value_of q 1) (same 1 (omega arith)) holds.1,
+      )
 
   -- A node is taken off.
 
@@ -378,9 +380,10 @@ module _ (p q : PassState) (types : HasStackTypes p.table.config) (history : IsH
       let same : (r : ℕ) → r < 8 → value_of q r ≡ value_of p r =
       λ r lt. kept p q (op.IsNull 2) (answer.Num 0) called r lt (λ e. none_is_not r e) in
       advance p q (op.IsNull 2) (answer.Num 0) Testing Following (reply.Num 0) h
-      (num_reply h.bases 0 _ h.image) meet
-      (points_on 1 (value_of p 0) (value_of q 0) (same 0 (omega arith)) holds.0,
-      points_on 0 (value_of p 2) (value_of q 2) (same 2 (omega arith)) (points 0 2 (omega arith) holds.1 differs))
+      (num_reply h.bases 0 _ h.image) meet (
+        points_on 1 (value_of p 0) (value_of q 0) (same 0 (omega arith)) holds.0,
+        points_on 0 (value_of p 2) (value_of q 2) (same 2 (omega arith)) (points 0 2 (omega arith) holds.1 differs),
+      )
 
   -- What a load of a node's link leaves
   loaded_link : IsPointerTo 0 (value_of p 2) → IsAnswered p (op.GetPtr 3 2 1) q → MayPointTo 0 (value_of q 3)
@@ -404,10 +407,11 @@ module _ (p q : PassState) (types : HasStackTypes p.table.config) (history : IsH
   follow_advances holds called =
       let h = from_called p q (op.GetPtr 3 2 1) (answer.Word called.word) refl history called.called in
       let v = word_reply h.bases called.word _ h.image in
-      advance p q (op.GetPtr 3 2 1) (answer.Word called.word) Following Taking (reply.Val v.value) h v.is follow
-      (points_on 1 (value_of p 0) (value_of q 0) (load_keeps 0 3 (omega arith) (omega arith) 2 1 called) holds.0,
-      points_on 0 (value_of p 2) (value_of q 2) (load_keeps 2 3 (omega arith) (omega arith) 2 1 called) holds.1,
-      loaded_link holds.1 called)
+      advance p q (op.GetPtr 3 2 1) (answer.Word called.word) Following Taking (reply.Val v.value) h v.is follow (
+        points_on 1 (value_of p 0) (value_of q 0) (load_keeps 0 3 (omega arith) (omega arith) 2 1 called) holds.0,
+        points_on 0 (value_of p 2) (value_of q 2) (load_keeps 2 3 (omega arith) (omega arith) 2 1 called) holds.1,
+        loaded_link holds.1 called,
+      )
 
   exchange_keeps : (said : Bool) → Says p (op.CasPtr 0 0 2 3) said q → (r : ℕ) → r < 8 → value_of q r ≡ value_of p r
   exchange_keeps said called r lt =
@@ -475,11 +479,11 @@ module _ (p q : PassState) (types : HasStackTypes p.table.config) (history : IsH
 
   -- So it is refused where the gate is held alone.
   module _ (o : Op) (ty : ℕ) (faults : Called p o answer.Fault q → ⊥) (points : IsPointerTo ty (value_of p (q_of o)))
-      where
-    pub only_held : (e : Refusal) → IsRefused p o e q → e ≡ Held
-    only_held Fault refused = absurd (faults refused.0)
-    only_held IsNull refused = absurd (ptr_is_no_null points.number ty (sym points.is ∙ refused.1))
-    only_held Held refused = refl
+    where
+      pub only_held : (e : Refusal) → IsRefused p o e q → e ≡ Held
+      only_held Fault refused = absurd (faults refused.0)
+      only_held IsNull refused = absurd (ptr_is_no_null points.number ty (sym points.is ∙ refused.1))
+      only_held Held refused = refl
 
   node_kinds_of : (n : NeverState) → IsStackState p.table.config.globals n k → kinds_of n.types 0 ≡ node_kinds
   node_kinds_of n state = state.node

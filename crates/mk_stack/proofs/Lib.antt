@@ -18,3 +18,4 @@ pub mod Linearizable
 pub mod Replies
 pub mod NodeKinds
 pub mod Advances
+pub mod Going

@@ -1,12 +1,10 @@
 -- What the registers and words of a stack's heap point to, and what its callers may ask.
-use Rattle.std.proofs.Common.{◌≡◌, ℕ, ◌+◌, ◌*◌, ◌<◌, ◌≤◌, List, [], ◌∷◌, length, get_or, refl, sym, ◌∙◌, ap, subst, arith}
+use Rattle.std.proofs.Common.{◌≡◌, ℕ, ◌+◌, ◌*◌, ◌<◌, ◌≤◌, List, length, get_or, refl, sym, ◌∙◌, ap, subst, arith}
 use Rattle.std.proofs.Common.{zero-add, Some, Option}
 use Rattle.std.specs.Prelude.{slice_get, IfSome}
 use Rattle.mk_never.specs.declared.types.Kind.{Kind}
 use Rattle.mk_never.specs.declared.types.Kind.TheVariants.{Num as Number, To}
-use Rattle.mk_never.specs.declared.operations.Op.{Op}
 use Rattle.mk_never.specs.declared.operations.Op.TheVariants as op
-use Rattle.mk_never.specs.declared.values.Target.{Target}
 use Rattle.mk_never.specs.declared.values.Target.TheVariants.{WordOf}
 use Rattle.mk_never.specs.declared.values.Value.{Value}
 use Rattle.mk_never.specs.declared.values.Value.TheVariants.{Null, Num, Ptr}
@@ -60,10 +58,11 @@ module _ (globals : List ℕ) (n : NeverState) (k : ℕ) (state : IsStackState g
       → Meets n (register_at n k r) i P
   meets P ty r i ks kinds h lt holds =
       let o : IsObject n h.number ks = object ty r ks kinds h in
-      subst (λ (v : Value). Meets n v i P) (sym h.is)
-      (omega (arith, o.size, lt),
-      subst (λ (l : List Kind). P (get_or l (0 + i) Number)) (sym o.kinds)
-      (subst (λ (j : ℕ). P (get_or ks j Number)) (sym (zero-add i)) holds))
+      subst (λ (v : Value). Meets n v i P) (sym h.is) (
+        omega (arith, o.size, lt),
+        subst (λ (l : List Kind). P (get_or l (0 + i) Number)) (sym o.kinds)
+            (subst (λ (j : ℕ). P (get_or ks j Number)) (sym (zero-add i)) holds),
+      )
 
   pub gets_to : (ty r i : ℕ) (ks : List Kind) → kinds_of n.types ty ≡ ks → length ks ≤ 2
       → (h : IsPointerTo ty (register_at n k r))

@@ -1,7 +1,7 @@
 -- One call of a caller, as one more operation with its reply.
-use Rattle.std.proofs.Common.{◌≡◌, ℕ, ◌+◌, ◌*◌, ◌<◌, Bool, true, false, List, [], ◌∷◌, ◌++◌, length, length-append, map, refl, sym, ◌∙◌}
+use Rattle.std.proofs.Common.{◌≡◌, ℕ, ◌<◌, Bool, true, false, List, [], ◌∷◌, ◌++◌, length, length-append, refl, sym, ◌∙◌}
 use Rattle.std.proofs.Common.{ap, subst, append-nil, append_assoc, arith}
-use Rattle.std.specs.Prelude.{◌==◌, if◌then◌else◌, Some}
+use Rattle.std.specs.Prelude.{◌==◌, if◌then◌else◌}
 use Rattle.std.proofs.lemmas.Bool.{eq-eqb}
 use Rattle.std.proofs.lemmas.List.{map-append}
 use Rattle.mk_never.specs.declared.operations.Op.{Op}
@@ -9,12 +9,11 @@ use Rattle.mk_never.specs.Admitted.{AreAdmitted, IsCaller}
 use Rattle.mk_never.specs.Laws.{KeepsRegisters}
 use Rattle.mk_never.specs.NeverHeap.{NeverState, Call, register_at, reply_of, after_op, after_calls}
 use Rattle.mk_never.specs.Typed.{IsTyped}
-use Rattle.mk_never.proofs.Parts.{after_append}
 use Rattle.mk_core.specs.declared.config.Config.{Config}
 use Rattle.mk_core.specs.declared.events.Answer.{Answer}
 use Rattle.mk_core.specs.declared.events.Event.{Event}
 use Rattle.mk_core.specs.declared.events.Step.TheVariants as step
-use Rattle.mk_core.specs.Decided.{Decided, asked, entry_of, flagged}
+use Rattle.mk_core.specs.Decided.{Decided, asked, flagged}
 use Rattle.mk_core.specs.History.{IsHistory, bases_of, call_decided, calls, calls_from, first_world, left, never_behind}
 use Rattle.mk_core.specs.History.{never_first}
 use Rattle.mk_core.specs.Image.{answer_of}
@@ -22,7 +21,7 @@ use Rattle.mk_core.proofs.Histories.{calls_more}
 use Rattle.mk_core.proofs.HistoryParts.{calls_in_parts, earlier_part_is_history}
 use Rattle.mk_frames.proofs.LastEvents.{comes_last, stands}
 use Rattle.mk_words.specs.States.{PassState, event_of}
-use Rattle.mk_caller.specs.States.{never_of, never_then, number_of, value_of}
+use Rattle.mk_caller.specs.States.{never_of, number_of, value_of}
 use Rattle.mk_caller.specs.Called.{Called, IsDecidedIn, own_calls}
 use Rattle.mk_caller.specs.Causes.{FindsGateHeld}
 use Rattle.mk_caller.proofs.OwnSteps.{by_append, calls_by}

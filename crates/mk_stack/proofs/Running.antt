@@ -17,7 +17,8 @@ use Rattle.mk_stack.proofs.Roles.{Role, Private, Taken, is_gone, put, put_by, pu
 use Rattle.mk_stack.proofs.Invariant.{Core, Local, IsHeld, IsPushing, IsFreeing, Work, Inv}
 use Rattle.mk_stack.proofs.Assembly.{Stepped, Decides, nothing, settles, IsLeft, IsOfJob, job_at, moved}
 use Rattle.mk_stack.proofs.Stepping.{steps, single}
-use Rattle.mk_stack.proofs.JobGoals.{IsGoal, goal_pushes_nothing, goal_frees_nothing, no_founding, same_job}
+use Rattle.mk_stack.specs.Advancing.{IsGoal}
+use Rattle.mk_stack.proofs.JobGoals.{goal_pushes_nothing, goal_frees_nothing, no_founding, same_job}
 
 -- what a caller still has to do
 pub record IsWork (n : NeverState) (calls : List Call) (k : ℕ) (w : Work) : Type 0 where

@@ -18,19 +18,25 @@ use std::thread::Threads;
 
 /// The pointer registers of a caller, by what a job keeps in them.
 const TOP: u8 = 0;
+
 const NODE: u8 = 1;
+
 const UPPERMOST: u8 = 2;
+
 const BELOW: u8 = 3;
 
 /// The global that points to the top.
 const STACK: u8 = 0;
 
 const NODE_TYPE: u64 = 0;
+
 const TOP_TYPE: u64 = 1;
 
 /// The words of a node; that of a top is its first.
 const NUMBER: u64 = 0;
+
 const LINK: u64 = 1;
+
 const FIRST: u64 = 0;
 
 /// What a job ends with where there is no stack.

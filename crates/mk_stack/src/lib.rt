@@ -5,6 +5,8 @@ mod advancing;
 mod jobs;
 pub mod laws;
 mod points;
+mod stacks;
 
 pub use jobs::{Done, Job};
 pub use points::Point;
+pub use stacks::{Full, do_job, found_stack, pop, push};

@@ -1,11 +1,10 @@
-use Rattle.std.proofs.Common.{Bool, subst, arith}
+use Rattle.std.proofs.Common.{subst}
 use Rattle.mk_never.specs.declared.operations.Op.TheVariants as op
 use Rattle.mk_words.specs.States.{PassState}
-use Rattle.mk_caller.specs.States.{never_of, number_of, value_of}
+use Rattle.mk_caller.specs.States.{never_of, number_of}
 use Rattle.mk_caller.specs.declared.refusals.Refusal.{Refusal}
 use Rattle.mk_caller.specs.Causes.{IsRefused}
-use Rattle.mk_caller.specs.Called.{Says}
-use Rattle.mk_stack.proofs.NodeKinds.{may_link, may_point}
+use Rattle.mk_stack.proofs.NodeKinds.{may_link}
 use Rattle.mk_stack.proofs.Advances.{pass_state, link_held, link_advances}
 use Rattle.mk_stack.proofs.Replies.{stays_held}
 use Rattle.mk_stack.proofs.advancing.link.Goals as goal

@@ -1,8 +1,6 @@
-use Rattle.std.proofs.Common.{Bool, ◌≡◌, subst, sym, ◌∙◌, arith}
 use Rattle.mk_never.specs.declared.operations.Op.TheVariants as op
 use Rattle.mk_words.specs.States.{PassState}
-use Rattle.mk_caller.specs.States.{never_of, number_of, value_of}
-use Rattle.mk_caller.specs.Called.{Says}
+use Rattle.mk_caller.specs.States.{never_of, number_of}
 use Rattle.mk_stack.proofs.NodeKinds.{may_load_global}
 use Rattle.mk_stack.proofs.Advances.{pass_state, start_advances}
 use Rattle.mk_stack.proofs.Replies.{stays_held}
@@ -12,7 +10,7 @@ pub get_global-loaded-requires-clause-admitted : goal.get_global-loaded-requires
 get_global-loaded-requires-clause-admitted c =
     let p : PassState = c.args.caller.now.pass in
     may_load_global p.table.config.globals (never_of p) (number_of p)
-    (pass_state p c.requires.types c.requires.exists c.is_idle.ensures.history) 
+    (pass_state p c.requires.types c.requires.exists c.is_idle.ensures.history)
 
 pub returns-in-Ok-clause-advances : goal.returns-in-Ok-clause-advances
 returns-in-Ok-clause-advances c =

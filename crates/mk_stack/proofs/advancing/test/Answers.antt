@@ -1,7 +1,7 @@
-use Rattle.std.proofs.Common.{Bool, ◌≡◌, subst, sym, ◌∙◌, arith}
+use Rattle.std.proofs.Common.{Bool, subst, sym, ◌∙◌, arith}
 use Rattle.mk_never.specs.declared.operations.Op.TheVariants as op
 use Rattle.mk_words.specs.States.{PassState}
-use Rattle.mk_caller.specs.States.{never_of, number_of, value_of}
+use Rattle.mk_caller.specs.States.{never_of, number_of}
 use Rattle.mk_caller.specs.Called.{Says}
 use Rattle.mk_stack.proofs.NodeKinds.{may_look}
 use Rattle.mk_stack.proofs.Advances.{pass_state, meet_advances, miss_advances}
