@@ -19,3 +19,4 @@ pub mod Replies
 pub mod NodeKinds
 pub mod Advances
 pub mod Going
+pub mod StackHistories

@@ -4,3 +4,4 @@ pub mod Interleavings
 pub mod Laws
 pub mod Passes
 pub mod Advancing
+pub mod Histories
