@@ -1,5 +1,5 @@
 -- Each call of a job is its next operation, and what its caller's registers hold after it.
-use Rattle.std.proofs.Common.{◌≡◌, ◌≢◌, ℕ, ◌+◌, ◌*◌, ◌<◌, ◌≤◌, Bool, true, false, List, length, refl, sym, ◌∙◌}
+use Rattle.std.proofs.Common.{◌≡◌, ◌≢◌, ℕ, ◌+◌, ◌*◌, ◌<◌, Bool, true, false, List, length, refl, sym, ◌∙◌}
 use Rattle.std.proofs.Common.{ap, subst, arith, Some, None}
 use Rattle.std.proofs.lemmas.Bool.{false≢true}
 use Rattle.mk_never.specs.declared.types.Kind.{Kind}
@@ -11,21 +11,17 @@ use Rattle.mk_never.specs.declared.values.Target.{Target}
 use Rattle.mk_never.specs.declared.values.Value.{Value}
 use Rattle.mk_never.specs.declared.values.Value.TheVariants.{Null, Num, Ptr}
 use Rattle.mk_never.specs.Types.{kinds_of}
-use Rattle.mk_never.specs.NeverHeap.{NeverState, register_at, global_at, word_at, target_of, reply_at, left_at, reply_of}
-use Rattle.mk_never.specs.NeverHeap.{after_op, after_free, with_register, with_new, number_of as number_in, is_same, bit}
+use Rattle.mk_never.specs.NeverHeap.{NeverState, register_at, global_at, word_at, left_at}
+use Rattle.mk_never.specs.NeverHeap.{reply_of}
+use Rattle.mk_never.specs.NeverHeap.{after_op, after_free, with_register, with_new, is_same}
 use Rattle.mk_core.specs.declared.events.Answer.{Answer}
 use Rattle.mk_core.specs.declared.events.Answer.TheVariants as answer
-use Rattle.mk_core.specs.Calls.{one_if, q_of}
-use Rattle.mk_core.specs.Decided.{flagged}
+use Rattle.mk_core.specs.Calls.{one_if}
 use Rattle.mk_core.specs.History.{IsHistory}
-use Rattle.mk_core.specs.Image.{answer_of}
 use Rattle.mk_frames.proofs.LastEvents.{stands}
 use Rattle.mk_words.specs.States.{PassState}
 use Rattle.mk_caller.specs.States.{never_of, number_of, value_of}
 use Rattle.mk_caller.specs.Called.{Called, IsAnswered, Says}
-use Rattle.mk_caller.specs.Causes.{IsRefused}
-use Rattle.mk_caller.specs.declared.refusals.Refusal.{Refusal}
-use Rattle.mk_caller.specs.declared.refusals.Refusal.TheVariants.{Fault, Null as IsNull, Held}
 use Rattle.mk_caller.specs.Laws.{destination}
 use Rattle.mk_caller.proofs.After.{calls_leave_other_registers}
 use Rattle.mk_alloc.specs.TurnCalls.{CalledInTurn}
@@ -38,63 +34,14 @@ use Rattle.mk_stack.specs.declared.points.Point.TheVariants.{Filling, Looking, L
 use Rattle.mk_stack.specs.declared.points.Point.TheVariants.{Following, Taking, Freeing, Reading, Ended}
 use Rattle.mk_stack.specs.Jobs.{Asks, done_without, node_kinds, top_kinds}
 use Rattle.mk_stack.specs.Jobs.{found, find_no_room, place, start, lack, go_push, go_pop, make, fail, fill, look, link}
-use Rattle.mk_stack.specs.Jobs.{publish, push_again, peek, miss, meet, follow, unlink, pop_again, free, free_again, read}
+use Rattle.mk_stack.specs.Jobs.{publish, push_again, peek, miss, meet, follow, unlink, pop_again, free, free_again}
+use Rattle.mk_stack.specs.Jobs.{read}
 use Rattle.mk_stack.specs.Passes.{HasStackTypes}
 use Rattle.mk_stack.specs.Advancing.{Advances, Holds, IsPointerTo, MayPointTo}
 use Rattle.mk_stack.proofs.Heaps.{set_register, other_register}
 use Rattle.mk_stack.proofs.NodeKinds.{IsStackState, gets_to, top_word, node_link, global_kind, not_null_points}
 use Rattle.mk_stack.proofs.Replies.{Happens, from_called, from_turn}
-
--- the replies of which these are the images
-
-done_reply : (bases : List ℕ) (r : Reply) → answer.Done ≡ answer_of bases r → r ≡ reply.Done
-done_reply bases reply.Done e = refl
-done_reply bases (reply.Num m) e = absurd (cc)
-done_reply bases (reply.Val v) e = absurd (cc)
-done_reply bases reply.Full e = absurd (cc)
-done_reply bases reply.Fault e = absurd (cc)
-done_reply bases reply.Null e = absurd (cc)
-done_reply bases reply.Double e = absurd (cc)
-
-num_reply : (bases : List ℕ) (m : ℕ) (r : Reply) → answer.Num m ≡ answer_of bases r → r ≡ reply.Num m
-num_reply bases m reply.Done e = absurd (cc)
-num_reply bases m (reply.Num x) e = cc
-num_reply bases m (reply.Val v) e = absurd (cc)
-num_reply bases m reply.Full e = absurd (cc)
-num_reply bases m reply.Fault e = absurd (cc)
-num_reply bases m reply.Null e = absurd (cc)
-num_reply bases m reply.Double e = absurd (cc)
-
-double_reply : (bases : List ℕ) (r : Reply) → answer.Double ≡ answer_of bases r → r ≡ reply.Double
-double_reply bases reply.Done e = absurd (cc)
-double_reply bases (reply.Num x) e = absurd (cc)
-double_reply bases (reply.Val v) e = absurd (cc)
-double_reply bases reply.Full e = absurd (cc)
-double_reply bases reply.Fault e = absurd (cc)
-double_reply bases reply.Null e = absurd (cc)
-double_reply bases reply.Double e = refl
-
-fault_reply : (bases : List ℕ) (r : Reply) → answer.Fault ≡ answer_of bases r → r ≡ reply.Fault
-fault_reply bases reply.Done e = absurd (cc)
-fault_reply bases (reply.Num x) e = absurd (cc)
-fault_reply bases (reply.Val v) e = absurd (cc)
-fault_reply bases reply.Full e = absurd (cc)
-fault_reply bases reply.Fault e = refl
-fault_reply bases reply.Null e = absurd (cc)
-fault_reply bases reply.Double e = absurd (cc)
-
-pub record HasValue (r : Reply) : Type 0 where
-  pub value : Value
-  pub is : r ≡ reply.Val value
-
-word_reply : (bases : List ℕ) (w : ℕ) (r : Reply) → answer.Word w ≡ answer_of bases r → HasValue r
-word_reply bases w reply.Done e = absurd (cc)
-word_reply bases w (reply.Num x) e = absurd (cc)
-word_reply bases w (reply.Val v) e = record { value = v; is = refl }
-word_reply bases w reply.Full e = absurd (cc)
-word_reply bases w reply.Fault e = absurd (cc)
-word_reply bases w reply.Null e = absurd (cc)
-word_reply bases w reply.Double e = absurd (cc)
+use Rattle.mk_stack.proofs.ReplyForms.{done_reply, num_reply, double_reply, word_reply}
 
 points_on : (ty : ℕ) (v w : Value) → w ≡ v → IsPointerTo ty v → IsPointerTo ty w
 points_on ty v w e h = record { number = h.number; is = e ∙ h.is }
@@ -154,24 +101,12 @@ some_is x y e = cc
 none_is_not : (x : ℕ) → None ≡ Some x → ⊥
 none_is_not x e = cc
 
-done_is_no_fault : reply.Done ≡ reply.Fault → ⊥
-done_is_no_fault e = cc
-
-val_is_no_fault : (v : Value) → reply.Val v ≡ reply.Fault → ⊥
-val_is_no_fault v e = cc
-
-num_is_no_fault : (m : ℕ) → reply.Num m ≡ reply.Fault → ⊥
-num_is_no_fault m e = cc
-
-ptr_is_no_null : (a ty : ℕ) → Ptr a ty 0 ≡ Null → ⊥
-ptr_is_no_null a ty e = cc
-
 module _ (p q : PassState) (types : HasStackTypes p.table.config) (history : IsHistory q.table.config q.seen) where
   abbrev k : ℕ
   k = number_of p
 
   -- A register at the place where an operation is decided
-  pointer_then : (o : Op) (a : Answer) (h : Happens p o a q) (ty r : ℕ) → r < 8 → IsPointerTo ty (value_of p r)
+  pub pointer_then : (o : Op) (a : Answer) (h : Happens p o a q) (ty r : ℕ) → r < 8 → IsPointerTo ty (value_of p r)
       → IsPointerTo ty (register_at h.n k r)
   pointer_then o a h ty r lt points = points_on ty (value_of p r) (register_at h.n k r) (h.before r lt) points
 
@@ -460,77 +395,3 @@ module _ (p q : PassState) (types : HasStackTypes p.table.config) (history : IsH
       let h = from_called p q (op.GetNum 2 0) (answer.Num x) refl history called in
       advance p q (op.GetNum 2 0) (answer.Num x) Reading (Ended (Popped x)) (reply.Num x) h
       (num_reply h.bases x _ h.image) read tt
-
-  -- An access through a pointer to an object of the stack isn't answered Fault.
-  no_fault : (o : Op) (ty i : ℕ) (ks : List Kind) → flagged o answer.Fault ≡ o → length ks ≤ 2
-      → ((n : NeverState) → IsStackState p.table.config.globals n k → kinds_of n.types ty ≡ ks)
-      → (at : NeverState → ℕ → ℕ → Reply)
-      → ((n : NeverState) → reply_of n k o ≡ reply_at (target_of n (register_at n k (q_of o)) i) (at n))
-      → ((n : NeverState) (a w : ℕ) → at n a w ≡ reply.Fault → ⊥)
-      → q_of o < 8 → IsPointerTo ty (value_of p (q_of o)) → Called p o answer.Fault q → ⊥
-  no_fault o ty i ks once small kinds at replies differs lt points called =
-      let h = from_called p q o answer.Fault once history called in
-      let state = place_state p q o answer.Fault types h in
-      let there : IsPointerTo ty (register_at h.n k (q_of o)) = pointer_then o answer.Fault h ty (q_of o) lt points in
-      differs h.n there.number (0 + i)
-      (sym (ap (λ (t : Target). reply_at t (at h.n))
-      (gets_to p.table.config.globals h.n k state ty (q_of o) i ks (kinds h.n state) small there))
-      ∙ sym (replies h.n) ∙ fault_reply h.bases _ h.image)
-
-  -- So it is refused where the gate is held alone.
-  module _ (o : Op) (ty : ℕ) (faults : Called p o answer.Fault q → ⊥) (points : IsPointerTo ty (value_of p (q_of o)))
-    where
-      pub only_held : (e : Refusal) → IsRefused p o e q → e ≡ Held
-      only_held Fault refused = absurd (faults refused.0)
-      only_held IsNull refused = absurd (ptr_is_no_null points.number ty (sym points.is ∙ refused.1))
-      only_held Held refused = refl
-
-  node_kinds_of : (n : NeverState) → IsStackState p.table.config.globals n k → kinds_of n.types 0 ≡ node_kinds
-  node_kinds_of n state = state.node
-
-  top_kinds_of : (n : NeverState) → IsStackState p.table.config.globals n k → kinds_of n.types 1 ≡ top_kinds
-  top_kinds_of n state = state.top
-
-  pub fill_held : (x : ℕ) (e : Refusal) → IsPointerTo 0 (value_of p 1) → IsRefused p (op.SetNum 1 0 x) e q → e ≡ Held
-  fill_held x e points refused =
-      only_held (op.SetNum 1 0 x) 0
-      (no_fault (op.SetNum 1 0 x) 0 0 node_kinds refl (omega arith) node_kinds_of (λ n a w. reply.Done) (λ n. refl)
-      (λ n a w e. done_is_no_fault e) (omega arith) points)
-      points e refused
-
-  pub look_held : (e : Refusal) → IsPointerTo 1 (value_of p 0) → IsRefused p (op.GetPtr 2 0 0) e q → e ≡ Held
-  look_held e points refused =
-      only_held (op.GetPtr 2 0 0) 1
-      (no_fault (op.GetPtr 2 0 0) 1 0 top_kinds refl (omega arith) top_kinds_of (λ n a w. reply.Val (word_at n a w))
-      (λ n. refl) (λ n a w e. val_is_no_fault _ e) (omega arith) points)
-      points e refused
-
-  pub link_held : (e : Refusal) → IsPointerTo 0 (value_of p 1) → IsRefused p (op.SetPtr 1 1 2) e q → e ≡ Held
-  link_held e points refused =
-      only_held (op.SetPtr 1 1 2) 0
-      (no_fault (op.SetPtr 1 1 2) 0 1 node_kinds refl (omega arith) node_kinds_of (λ n a w. reply.Done) (λ n. refl)
-      (λ n a w e. done_is_no_fault e) (omega arith) points)
-      points e refused
-
-  pub exchange_held : (r : ℕ) (e : Refusal) → IsPointerTo 1 (value_of p 0) → IsRefused p (op.CasPtr 0 0 2 r) e q
-      → e ≡ Held
-  exchange_held r e points refused =
-      only_held (op.CasPtr 0 0 2 r) 1
-      (no_fault (op.CasPtr 0 0 2 r) 1 0 top_kinds refl (omega arith) top_kinds_of
-      (λ n a w. reply.Num (bit (is_same (word_at n a w) (register_at n k 2)))) (λ n. refl)
-      (λ n a w e. num_is_no_fault _ e) (omega arith) points)
-      points e refused
-
-  pub follow_held : (e : Refusal) → IsPointerTo 0 (value_of p 2) → IsRefused p (op.GetPtr 3 2 1) e q → e ≡ Held
-  follow_held e points refused =
-      only_held (op.GetPtr 3 2 1) 0
-      (no_fault (op.GetPtr 3 2 1) 0 1 node_kinds refl (omega arith) node_kinds_of (λ n a w. reply.Val (word_at n a w))
-      (λ n. refl) (λ n a w e. val_is_no_fault _ e) (omega arith) points)
-      points e refused
-
-  pub read_held : (e : Refusal) → IsPointerTo 0 (value_of p 2) → IsRefused p (op.GetNum 2 0) e q → e ≡ Held
-  read_held e points refused =
-      only_held (op.GetNum 2 0) 0
-      (no_fault (op.GetNum 2 0) 0 0 node_kinds refl (omega arith) node_kinds_of
-      (λ n a w. reply.Num (number_in (word_at n a w))) (λ n. refl) (λ n a w e. num_is_no_fault _ e) (omega arith) points)
-      points e refused

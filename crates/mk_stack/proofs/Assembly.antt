@@ -8,7 +8,8 @@ use Rattle.mk_stack.specs.declared.jobs.Job.TheVariants.{Push, Pop}
 use Rattle.mk_stack.specs.declared.jobs.Done.{Done}
 use Rattle.mk_stack.specs.Jobs.{Replied}
 use Rattle.mk_stack.specs.declared.points.Point.{Point}
-use Rattle.mk_stack.specs.declared.points.Point.TheVariants.{Founding, Placing, Founded, Starting, Checking, Making, Filling, Looking, Linking}
+use Rattle.mk_stack.specs.declared.points.Point.TheVariants.{Founding, Placing, Founded, Starting, Checking, Making}
+use Rattle.mk_stack.specs.declared.points.Point.TheVariants.{Filling, Looking, Linking}
 use Rattle.mk_stack.specs.declared.points.Point.TheVariants.{Publishing}
 use Rattle.mk_stack.specs.Orders.{Ordered, left_by}
 use Rattle.mk_stack.specs.Laws.{numbers_in, freed_by}

@@ -18,7 +18,8 @@ use Rattle.mk_stack.proofs.Roles.{size_of, is_gone, put, put_by}
 use Rattle.mk_stack.proofs.Invariant.{Core, HasChain, Local, IsHeld, Work, Inv}
 use Rattle.mk_stack.proofs.Frames.{Leaves}
 use Rattle.mk_stack.proofs.Assembly.{Decides, IsLeft, moved, Stepped, assemble, HeldBefore, none_freed_there}
-use Rattle.mk_stack.proofs.Writes.{base_private, base_stacked, base_taken, private_stacked, taken_stacked, unborn_private}
+use Rattle.mk_stack.proofs.Writes.{base_private, base_stacked, base_taken, private_stacked, taken_stacked}
+use Rattle.mk_stack.proofs.Writes.{unborn_private}
 use Rattle.mk_stack.proofs.Writes.{unborn_stacked, unborn_taken, private_taken, same_taken, granted}
 
 -- What another caller held before, where one role is now that of a node on the stack, or of this caller
@@ -39,7 +40,8 @@ roles_put role b r k Same here there a =
 
 -- The word of the top is exchanged, and node a gets another role: it goes on the stack, or leaves it.
 module _ (callers : ℕ) (n : NeverState) (top : Option ℕ) (role : ℕ → Role) (nodes : List ℕ) (W : ℕ → Work)
-    (inv : Inv callers n top role nodes W) (c t a : ℕ) (v : Value) (r : Role) (is : top ≡ Some t) (is_base : role t ≡ Base)
+    (inv : Inv callers n top role nodes W) (c t a : ℕ) (v : Value) (r : Role) (is : top ≡ Some t)
+    (is_base : role t ≡ Base)
     (nodelike : (role a ≡ Private c) × (r ≡ Stacked) ⊎ (role a ≡ Stacked) × (r ≡ Taken c)) where
   abbrev m : NeverState
   m = with_word n t 0 v

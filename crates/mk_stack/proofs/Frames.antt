@@ -9,8 +9,10 @@ use Rattle.mk_stack.specs.declared.jobs.Done.TheVariants.{Popped, Empty}
 use Rattle.mk_stack.specs.declared.jobs.Job.{Job}
 use Rattle.mk_stack.specs.Jobs.{done_without}
 use Rattle.mk_stack.specs.declared.points.Point.{Point}
-use Rattle.mk_stack.specs.declared.points.Point.TheVariants.{Founding, Placing, Founded, Starting, Checking, Making, Filling, Looking, Linking}
-use Rattle.mk_stack.specs.declared.points.Point.TheVariants.{Publishing, Peeking, Testing, Following, Taking, Freeing, Reading, Ended}
+use Rattle.mk_stack.specs.declared.points.Point.TheVariants.{Founding, Placing, Founded, Starting, Checking, Making}
+use Rattle.mk_stack.specs.declared.points.Point.TheVariants.{Filling, Looking, Linking}
+use Rattle.mk_stack.specs.declared.points.Point.TheVariants.{Publishing, Peeking, Testing, Following, Taking, Freeing}
+use Rattle.mk_stack.specs.declared.points.Point.TheVariants.{Reading, Ended}
 use Rattle.mk_stack.proofs.Roles.{Role, Base, RoleKeeps, private_keeps, taken_keeps, published_keeps}
 use Rattle.mk_stack.proofs.Invariant.{HasTop, HasOwn, HasFilled, HasLinked, HasSeen, HasFollowed, HasTaken, HasFreed}
 use Rattle.mk_stack.proofs.Invariant.{HasBase, Local}

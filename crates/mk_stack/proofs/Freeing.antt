@@ -4,7 +4,8 @@ use Rattle.std.proofs.Common.{get_or, refl, sym, ◌∙◌, ap, subst, arith, So
 use Rattle.mk_never.specs.declared.operations.Op.{Op}
 use Rattle.mk_never.specs.declared.values.Value.{Value}
 use Rattle.mk_never.specs.declared.values.Value.TheVariants.{Null, Ptr}
-use Rattle.mk_never.specs.NeverHeap.{NeverState, register_at, with_freed, word_at, words_of, allocation_at, number_of, bit}
+use Rattle.mk_never.specs.NeverHeap.{NeverState, register_at, with_freed, word_at, words_of, allocation_at, number_of}
+use Rattle.mk_never.specs.NeverHeap.{bit}
 use Rattle.mk_stack.specs.declared.jobs.Done.{Done}
 use Rattle.mk_stack.specs.declared.jobs.Done.TheVariants.{Popped}
 use Rattle.mk_stack.specs.Jobs.{Replied}

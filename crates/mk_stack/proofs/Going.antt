@@ -1,5 +1,6 @@
 -- Operations one after the other, from the point of a job where its caller was.
-use Rattle.std.proofs.Common.{◌≡◌, ℕ, ◌<◌, List, [], ◌∷◌, ◌++◌, refl, sym, ◌∙◌, ap, subst, append-nil, append_assoc, arith}
+use Rattle.std.proofs.Common.{◌≡◌, ℕ, ◌<◌, List, [], ◌∷◌, ◌++◌, refl, sym, ◌∙◌, ap, subst, append-nil, append_assoc}
+use Rattle.std.proofs.Common.{arith}
 use Rattle.mk_never.specs.declared.values.Value.{Value}
 use Rattle.mk_never.specs.NeverHeap.{register_at}
 use Rattle.mk_words.specs.States.{PassState}
@@ -15,7 +16,8 @@ use Rattle.mk_stack.specs.Advancing.{Advances, Holds, IsPointerTo, MayPointTo, S
 pub goes_nowhere : (p : PassState) (s : Point) → Goes p s p s
 goes_nowhere p s = record { is = refl; all = []; leads = refl; did = sym (append-nil (replied_to p)) }
 
-leads_more : (s : Point) (xs : List Replied) (t : Point) (y : Replied) (u : Point) → Leads s xs t → Asks t y.op y.reply u
+leads_more : (s : Point) (xs : List Replied) (t : Point) (y : Replied) (u : Point) → Leads s xs t
+    → Asks t y.op y.reply u
     → Leads s (xs ++ y ∷ []) u
 leads_more s [] t y u leads asks =
     (u, subst (λ (p : Point). Asks p y.op y.reply u) (sym leads) asks, refl)

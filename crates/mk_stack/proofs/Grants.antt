@@ -127,10 +127,12 @@ module _ (callers : ℕ) (n : NeverState) (top : Option ℕ) (role : ℕ → Rol
         nodes_now = nodes;
         decided = u;
         decision = None;
-        inv = assemble callers n top role nodes W inv c m top now nodes (moved (W c) next u rest) grant_core grant_leaves
+        inv = assemble callers n top role nodes W inv c m top now nodes (moved
+            (W c) next u rest) grant_core grant_leaves
             (λ k b ne. put_before role a r k b (fits.of_caller k ne) (fits.not_taken k))
             local held;
-        left = all_numbers_stay n m top role nodes (λ b e. word b 0 (not_new b Stacked e unborn_stacked)) inv.core.chain;
+        left = all_numbers_stay n m top role nodes (λ b e. word b 0
+            (not_new b Stacked e unborn_stacked)) inv.core.chain;
         decides = nothing;
         frees = λ b.
             none_freed_there role a r (fits.not_gone ∙ sym (ap is_gone was)) b

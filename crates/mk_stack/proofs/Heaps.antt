@@ -7,7 +7,8 @@ use Rattle.mk_never.specs.declared.values.Target.TheVariants.{Unmapped, WordOf}
 use Rattle.mk_never.specs.declared.values.Value.{Value}
 use Rattle.mk_never.specs.declared.values.Value.TheVariants.{Null, Ptr}
 use Rattle.mk_never.specs.Types.{is_large}
-use Rattle.mk_never.specs.NeverHeap.{NeverState, Allocation, no_allocation, register_at, allocation_at, words_of, word_at}
+use Rattle.mk_never.specs.NeverHeap.{NeverState, Allocation, no_allocation, register_at, allocation_at, words_of}
+use Rattle.mk_never.specs.NeverHeap.{word_at}
 use Rattle.mk_never.specs.NeverHeap.{with_register, with_word, with_freed, with_new, target_of, is_unmapped}
 use Rattle.mk_never.proofs.Edits.{set_by}
 

@@ -9,8 +9,10 @@ use Rattle.mk_stack.specs.declared.jobs.Done.{Done}
 use Rattle.mk_stack.specs.declared.jobs.Done.TheVariants.{Popped, Empty}
 use Rattle.mk_stack.specs.Jobs.{Replied, JobRun, done_without, node_kinds, top_kinds}
 use Rattle.mk_stack.specs.declared.points.Point.{Point}
-use Rattle.mk_stack.specs.declared.points.Point.TheVariants.{Founding, Placing, Founded, Starting, Checking, Making, Filling, Looking, Linking}
-use Rattle.mk_stack.specs.declared.points.Point.TheVariants.{Publishing, Peeking, Testing, Following, Taking, Freeing, Reading, Ended}
+use Rattle.mk_stack.specs.declared.points.Point.TheVariants.{Founding, Placing, Founded, Starting, Checking, Making}
+use Rattle.mk_stack.specs.declared.points.Point.TheVariants.{Filling, Looking, Linking}
+use Rattle.mk_stack.specs.declared.points.Point.TheVariants.{Publishing, Peeking, Testing, Following, Taking, Freeing}
+use Rattle.mk_stack.specs.declared.points.Point.TheVariants.{Reading, Ended}
 use Rattle.mk_stack.specs.Laws.{IsOneOf}
 use Rattle.mk_stack.proofs.Roles.{Role, Base, Private, Stacked, Taken, Unborn, size_of, is_gone, IsPublished}
 

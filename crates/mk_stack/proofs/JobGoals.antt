@@ -12,7 +12,8 @@ use Rattle.mk_stack.specs.declared.points.Point.{Point}
 use Rattle.mk_stack.specs.declared.points.Point.TheVariants.{Founding, Placing, Founded, Starting}
 use Rattle.mk_stack.specs.declared.points.Point.TheVariants.{Ended}
 use Rattle.mk_stack.specs.Jobs.{found, find_no_room, place, start, lack, go_push, go_pop, make, fail, fill, look, link}
-use Rattle.mk_stack.specs.Jobs.{publish, push_again, peek, miss, meet, follow, unlink, pop_again, free, free_again, read}
+use Rattle.mk_stack.specs.Jobs.{publish, push_again, peek, miss, meet, follow, unlink, pop_again, free, free_again}
+use Rattle.mk_stack.specs.Jobs.{read}
 use Rattle.mk_stack.specs.Advancing.{IsFit, IsGoal}
 use Rattle.mk_stack.proofs.Roles.{Role}
 use Rattle.mk_stack.proofs.Invariant.{Local, IsPushing, IsFreeing}

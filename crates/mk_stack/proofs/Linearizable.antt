@@ -15,7 +15,8 @@ use Rattle.mk_stack.proofs.Roles.{Role, Unborn, Base, Private, Stacked, Taken, F
 use Rattle.mk_stack.proofs.Invariant.{Core, Local, Work, Inv}
 use Rattle.mk_stack.proofs.Chains.{stack_is_linked, on_stack_role}
 use Rattle.mk_stack.proofs.Writes.{unborn_base, unborn_stacked, unborn_private, unborn_taken}
-use Rattle.mk_stack.proofs.Running.{IsWork, Ran, run_all}
+use Rattle.mk_stack.proofs.Owing.{IsWork, Ran}
+use Rattle.mk_stack.proofs.Running.{run_all}
 
 -- The first caller founds the stack; each other one begins with its first job.
 first_work : List Replied → (ℕ → List JobRun) → ℕ → Work
@@ -90,6 +91,7 @@ module _ (types : List (List Kind)) (callers : ℕ) (founding : List Replied) (r
   linearized ran =
       record {
         decisions = ran.decisions;
+        one_each = ran.one_each;
         explained = ran.explained;
         founds_only = founds_only ran;
         once = once ran;

@@ -86,7 +86,16 @@ module _ (globals : List ℕ) (n : NeverState) (k : ℕ) (state : IsStackState g
 
   pub may_load_global : IsAdmitted globals n k (op.GetGlobal 0 0)
   may_load_global =
-      record { of_a_caller = state.caller; in_range = (omega arith, omega (arith, state.count)); access = tt; store = tt }
+      record {
+        of_a_caller = state.caller;
+        in_range = (
+          omega arith,
+          omega
+              (arith, state.count),
+        );
+        access = tt;
+        store = tt;
+      }
 
   pub may_look : (r : ℕ) → r < 8 → IsAdmitted globals n k (op.IsNull r)
   may_look r lt = record { of_a_caller = state.caller; in_range = lt; access = tt; store = tt }

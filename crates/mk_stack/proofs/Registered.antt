@@ -148,7 +148,8 @@ module _ (callers : ℕ) (n : NeverState) (top : Option ℕ) (role : ℕ → Rol
           base = core.base;
           stacked = core.stacked;
           chain = (
-            get_or-set_same n.globals 0 (Ptr t 1 0) Null (let all : length n.globals ≡ 64 = core.globals in omega arith),
+            get_or-set_same n.globals 0 (Ptr t 1 0) Null
+                (let all : length n.globals ≡ 64 = core.globals in omega arith),
             is_base,
             subst (λ (l : List ℕ). IsChain g role (word_at g t 0) l) (sym nil) empty,
           );

@@ -8,7 +8,8 @@ use Rattle.mk_never.specs.declared.operations.Op.{Op}
 use Rattle.mk_never.specs.declared.operations.Op.TheVariants as op
 use Rattle.mk_never.specs.declared.operations.Reply.{Reply}
 use Rattle.mk_never.specs.declared.operations.Reply.TheVariants as reply
-use Rattle.mk_never.specs.NeverHeap.{NeverState, Call, start_of, register_at, global_at, word_at, allocation_at, number_of}
+use Rattle.mk_never.specs.NeverHeap.{NeverState, Call, start_of, register_at, global_at, word_at, allocation_at}
+use Rattle.mk_never.specs.NeverHeap.{number_of}
 use Rattle.mk_never.specs.NeverHeap.{reply_of, after_op, after_calls, replies_of}
 use Rattle.mk_stack.specs.Jobs.{Replied, JobRun}
 use Rattle.mk_stack.specs.Orders.{Ordered, Explains}
@@ -60,6 +61,7 @@ NoneIsDouble (r ∷ rs) = (r ≡ reply.Double → ⊥) × NoneIsDouble rs
 pub record IsLinearized (types : List (List Kind)) (callers : ℕ) (founding : List Replied) (runs : ℕ → List JobRun)
     (calls : List Call) (nodes : List ℕ) : Type 0 where
   pub decisions : List (Option Ordered)
+  pub one_each : length decisions ≡ length calls
   pub explained : Explains (order_of decisions) (numbers_in (after_calls (start_of types callers) calls) nodes)
   pub founds_only : order_of (take (length founding) (own_decisions 0 calls decisions)) ≡ []
   pub once : (k : ℕ) → AreDecidedOnce k (runs k)

@@ -23,14 +23,16 @@ returns-in-Ok-true-clause-advances c =
     let p : PassState = c.args.caller.now.pass in
     let q : PassState = c.is_null-null.new.self.pass in
     subst (λ (d : Done). Advances p (Checking c.args.job) q (Ended d)) (sym c.done_without.ensures)
-    (lack_advances p q c.requires.types c.is_idle-2.ensures.history c.args.job (subst (λ (b : Bool). Says p (op.IsNull 0) b q) c.in-Ok-true.field-0-test c.in-Ok-true.ensures.called))
+    (lack_advances p q c.requires.types c.is_idle-2.ensures.history c.args.job (subst (λ (b : Bool). Says p
+    (op.IsNull 0) b q) c.in-Ok-true.field-0-test c.in-Ok-true.ensures.called))
 
 pub returns-in-Push-clause-advances : goal.returns-in-Push-clause-advances
 returns-in-Push-clause-advances c =
     let p : PassState = c.args.caller.now.pass in
     let q : PassState = c.is_null-null.new.self.pass in
     subst (λ (j : Job). Advances p (Checking j) q (Making c.in-Push.n)) (sym c.in-Push.is)
-    (go_push_advances p q c.requires.types c.is_idle-2.ensures.history c.in-Push.n c.requires.holds (sym c.in-Ok-false.ensures.tells ∙ c.in-Ok-false.field-0-test)
+    (go_push_advances p q c.requires.types c.is_idle-2.ensures.history c.in-Push.n c.requires.holds
+    (sym c.in-Ok-false.ensures.tells ∙ c.in-Ok-false.field-0-test)
     (subst (λ (b : Bool). Says p (op.IsNull 0) b q) c.in-Ok-false.field-0-test c.in-Ok-false.ensures.called))
 
 pub returns-in-Pop-clause-advances : goal.returns-in-Pop-clause-advances
@@ -38,7 +40,8 @@ returns-in-Pop-clause-advances c =
     let p : PassState = c.args.caller.now.pass in
     let q : PassState = c.is_null-null.new.self.pass in
     subst (λ (j : Job). Advances p (Checking j) q Peeking) (sym c.in-Pop.is)
-    (go_pop_advances p q c.requires.types c.is_idle-2.ensures.history c.requires.holds (sym c.in-Ok-false.ensures.tells ∙ c.in-Ok-false.field-0-test)
+    (go_pop_advances p q c.requires.types c.is_idle-2.ensures.history c.requires.holds
+    (sym c.in-Ok-false.ensures.tells ∙ c.in-Ok-false.field-0-test)
     (subst (λ (b : Bool). Says p (op.IsNull 0) b q) c.in-Ok-false.field-0-test c.in-Ok-false.ensures.called))
 
 pub returns-in-Err-clause-held : goal.returns-in-Err-clause-held

@@ -5,7 +5,8 @@ use Rattle.mk_caller.specs.States.{never_of, number_of}
 use Rattle.mk_caller.specs.declared.refusals.Refusal.{Refusal}
 use Rattle.mk_caller.specs.Causes.{IsRefused}
 use Rattle.mk_stack.proofs.NodeKinds.{may_link}
-use Rattle.mk_stack.proofs.Advances.{pass_state, link_held, link_advances}
+use Rattle.mk_stack.proofs.Advances.{pass_state, link_advances}
+use Rattle.mk_stack.proofs.RefusedAccesses.{link_held}
 use Rattle.mk_stack.proofs.Replies.{stays_held}
 use Rattle.mk_stack.proofs.advancing.link.Goals as goal
 
@@ -19,7 +20,8 @@ pub held-requires : goal.held-requires
 held-requires c =
     let p : PassState = c.args.caller.now.pass in
     let q : PassState = c.set_ptr-linked.new.self.pass in
-    link_held p q c.requires.types c.is_idle-2.ensures.history c.in-Err.cause c.requires.holds.1 c.in-Err.ensures.refused
+    link_held p q c.requires.types c.is_idle-2.ensures.history c.in-Err.cause c.requires.holds.1
+    c.in-Err.ensures.refused
 
 pub returns-in-Ok-clause-advances : goal.returns-in-Ok-clause-advances
 returns-in-Ok-clause-advances c =
@@ -33,4 +35,5 @@ returns-in-Err-clause-held c =
     let q : PassState = c.set_ptr-linked.new.self.pass in
     stays_held p q (op.SetPtr 1 1 2)
     (subst (λ (e : Refusal). IsRefused p (op.SetPtr 1 1 2) e q)
-    (link_held p q c.requires.types c.is_idle-2.ensures.history c.in-Err.cause c.requires.holds.1 c.in-Err.ensures.refused) c.in-Err.ensures.refused)
+    (link_held p q c.requires.types c.is_idle-2.ensures.history c.in-Err.cause c.requires.holds.1
+    c.in-Err.ensures.refused) c.in-Err.ensures.refused)

@@ -5,7 +5,8 @@ use Rattle.mk_caller.specs.States.{never_of, number_of}
 use Rattle.mk_caller.specs.declared.refusals.Refusal.{Refusal}
 use Rattle.mk_caller.specs.Causes.{IsRefused}
 use Rattle.mk_stack.proofs.NodeKinds.{may_load_top}
-use Rattle.mk_stack.proofs.Advances.{pass_state, look_held, look_advances}
+use Rattle.mk_stack.proofs.Advances.{pass_state, look_advances}
+use Rattle.mk_stack.proofs.RefusedAccesses.{look_held}
 use Rattle.mk_stack.proofs.Replies.{stays_held}
 use Rattle.mk_stack.proofs.advancing.look.Goals as goal
 
@@ -19,7 +20,8 @@ pub held-requires : goal.held-requires
 held-requires c =
     let p : PassState = c.args.caller.now.pass in
     let q : PassState = c.get_ptr-loaded.new.self.pass in
-    look_held p q c.requires.types c.is_idle-2.ensures.history c.in-Err.cause c.requires.holds.0 c.in-Err.ensures.refused
+    look_held p q c.requires.types c.is_idle-2.ensures.history c.in-Err.cause c.requires.holds.0
+    c.in-Err.ensures.refused
 
 pub returns-in-Ok-clause-advances : goal.returns-in-Ok-clause-advances
 returns-in-Ok-clause-advances c =
@@ -33,4 +35,5 @@ returns-in-Err-clause-held c =
     let q : PassState = c.get_ptr-loaded.new.self.pass in
     stays_held p q (op.GetPtr 2 0 0)
     (subst (λ (e : Refusal). IsRefused p (op.GetPtr 2 0 0) e q)
-    (look_held p q c.requires.types c.is_idle-2.ensures.history c.in-Err.cause c.requires.holds.0 c.in-Err.ensures.refused) c.in-Err.ensures.refused)
+    (look_held p q c.requires.types c.is_idle-2.ensures.history c.in-Err.cause c.requires.holds.0
+    c.in-Err.ensures.refused) c.in-Err.ensures.refused)

@@ -6,7 +6,8 @@ pub returns-in-Ok-clause-advances : goal.returns-in-Ok-clause-advances
 returns-in-Ok-clause-advances g c =
     let p : PassState = c.args.caller.now.pass in
     let q : PassState = c.new_object-made.new.caller.pass in
-    make_advances p q c.requires.types c.is_idle.ensures.history c.args.n g.E.Engine.on c.requires.holds c.in-Ok.ensures.made
+    make_advances p q c.requires.types c.is_idle.ensures.history c.args.n g.E.Engine.on c.requires.holds
+    c.in-Ok.ensures.made
 
 pub returns-in-Err-clause-advances : goal.returns-in-Err-clause-advances
 returns-in-Err-clause-advances g c =

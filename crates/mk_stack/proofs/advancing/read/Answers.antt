@@ -5,7 +5,8 @@ use Rattle.mk_caller.specs.States.{never_of, number_of}
 use Rattle.mk_caller.specs.declared.refusals.Refusal.{Refusal}
 use Rattle.mk_caller.specs.Causes.{IsRefused}
 use Rattle.mk_stack.proofs.NodeKinds.{may_read}
-use Rattle.mk_stack.proofs.Advances.{pass_state, read_held, read_advances}
+use Rattle.mk_stack.proofs.Advances.{pass_state, read_advances}
+use Rattle.mk_stack.proofs.RefusedAccesses.{read_held}
 use Rattle.mk_stack.proofs.Replies.{stays_held}
 use Rattle.mk_stack.proofs.advancing.read.Goals as goal
 
@@ -33,4 +34,5 @@ returns-in-Err-clause-held c =
     let q : PassState = c.get_num-read.new.self.pass in
     stays_held p q (op.GetNum 2 0)
     (subst (λ (e : Refusal). IsRefused p (op.GetNum 2 0) e q)
-    (read_held p q c.requires.types c.is_idle-2.ensures.history c.in-Err.cause c.requires.holds c.in-Err.ensures.refused) c.in-Err.ensures.refused)
+    (read_held p q c.requires.types c.is_idle-2.ensures.history c.in-Err.cause c.requires.holds
+    c.in-Err.ensures.refused) c.in-Err.ensures.refused)

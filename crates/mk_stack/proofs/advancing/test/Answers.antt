@@ -18,13 +18,15 @@ pub returns-in-Ok-true-clause-advances : goal.returns-in-Ok-true-clause-advances
 returns-in-Ok-true-clause-advances c =
     let p : PassState = c.args.caller.now.pass in
     let q : PassState = c.is_null-null.new.self.pass in
-    miss_advances p q c.requires.types c.is_idle-2.ensures.history (subst (λ (b : Bool). Says p (op.IsNull 2) b q) c.in-Ok-true.field-0-test c.in-Ok-true.ensures.called)
+    miss_advances p q c.requires.types c.is_idle-2.ensures.history (subst (λ (b : Bool). Says p
+    (op.IsNull 2) b q) c.in-Ok-true.field-0-test c.in-Ok-true.ensures.called)
 
 pub returns-in-Ok-false-clause-advances : goal.returns-in-Ok-false-clause-advances
 returns-in-Ok-false-clause-advances c =
     let p : PassState = c.args.caller.now.pass in
     let q : PassState = c.is_null-null.new.self.pass in
-    meet_advances p q c.requires.types c.is_idle-2.ensures.history c.requires.holds (sym c.in-Ok-false.ensures.tells ∙ c.in-Ok-false.field-0-test)
+    meet_advances p q c.requires.types c.is_idle-2.ensures.history c.requires.holds (sym c.in-Ok-false.ensures.tells
+    ∙ c.in-Ok-false.field-0-test)
     (subst (λ (b : Bool). Says p (op.IsNull 2) b q) c.in-Ok-false.field-0-test c.in-Ok-false.ensures.called)
 
 pub returns-in-Err-clause-held : goal.returns-in-Err-clause-held
