@@ -1,0 +1,96 @@
+-- Chains of nodes: where their words stay, they stay, and have the same numbers.
+use Rattle.std.proofs.Common.{◌≡◌, ◌≢◌, ℕ, List, [], ◌∷◌, refl, sym, ◌∙◌, ap, ap₂, subst, inl, inr, Some, None, Option}
+use Rattle.mk_never.specs.declared.values.Value.{Value}
+use Rattle.mk_never.specs.declared.values.Value.TheVariants.{Null}
+use Rattle.mk_never.specs.NeverHeap.{NeverState, global_at, word_at, number_of}
+use Rattle.mk_stack.specs.Laws.{IsOneOf, numbers_in, AreLinked, uppermost}
+use Rattle.mk_stack.proofs.Roles.{Role, Base, Stacked}
+use Rattle.mk_stack.proofs.Invariant.{IsNotAmong, IsChain, HasChain}
+
+-- An allocation of another role isn't in the chain.
+pub other_role : (n : NeverState) (role : ℕ → Role) (v : Value) (nodes : List ℕ) (a : ℕ) → role a ≢ Stacked
+    → IsChain n role v nodes → IsNotAmong a nodes
+other_role n role v [] a other chain = tt
+other_role n role v (b ∷ nodes) a other chain =
+    ((λ e. other (ap role e ∙ chain.1)), other_role n role (word_at n b 1) nodes a other chain.3)
+
+-- What isn't among the nodes differs from each of them.
+pub not_one_of : (a b : ℕ) (nodes : List ℕ) → IsNotAmong a nodes → IsOneOf b nodes → b ≢ a
+not_one_of a b [] apart one = absurd one
+not_one_of a b (x ∷ nodes) apart (inl e) = λ same. apart.0 (sym same ∙ e)
+not_one_of a b (x ∷ nodes) apart (inr one) = not_one_of a b nodes apart.1 one
+
+-- what a chain needs of each node
+pub record NodeStays (n : NeverState) (m : NeverState) (role : ℕ → Role) (a : ℕ) : Type 0 where
+  pub role_now : role a ≡ Stacked
+  pub link : word_at m a 1 ≡ word_at n a 1
+
+pub chain_stays : (n m : NeverState) (role role' : ℕ → Role) (v : Value) (nodes : List ℕ)
+    → ((a : ℕ) → IsOneOf a nodes → role a ≡ Stacked → NodeStays n m role' a)
+    → IsChain n role v nodes → IsChain m role' v nodes
+chain_stays n m role role' v [] stays chain = chain
+chain_stays n m role role' v (a ∷ nodes) stays chain =
+    let here = stays a (inl refl) chain.1 in (
+      chain.0,
+      here.role_now,
+      chain.2,
+      subst (λ (x : Value). IsChain m role' x nodes) (sym here.link)
+          (chain_stays n m role role' (word_at n a 1) nodes (λ b one. stays b (inr one)) chain.3),
+    )
+
+pub numbers_stay : (n m : NeverState) (role : ℕ → Role) (v : Value) (nodes : List ℕ)
+    → ((a : ℕ) → role a ≡ Stacked → word_at m a 0 ≡ word_at n a 0)
+    → IsChain n role v nodes → numbers_in m nodes ≡ numbers_in n nodes
+numbers_stay n m role v [] stays chain = refl
+numbers_stay n m role v (a ∷ nodes) stays chain =
+    ap₂ (λ (x : ℕ) (xs : List ℕ). x ∷ xs) (ap number_of (stays a chain.1))
+    (numbers_stay n m role (word_at n a 1) nodes stays chain.3)
+
+-- the nodes' numbers, with or without a top
+pub all_numbers_stay : (n m : NeverState) (top : Option ℕ) (role : ℕ → Role) (nodes : List ℕ)
+    → ((a : ℕ) → role a ≡ Stacked → word_at m a 0 ≡ word_at n a 0)
+    → HasChain n top role nodes → numbers_in m nodes ≡ numbers_in n nodes
+all_numbers_stay n m None role nodes stays chain =
+    ap (λ (l : List ℕ). numbers_in m l) chain.1 ∙ sym (ap (λ (l : List ℕ). numbers_in n l) chain.1)
+all_numbers_stay n m (Some t) role nodes stays chain = numbers_stay n m role (word_at n t 0) nodes stays chain.2
+
+-- The chain stays where the global, the top's word and the nodes' links do.
+pub has_chain_stays : (n m : NeverState) (top : Option ℕ) (role role' : ℕ → Role) (nodes : List ℕ)
+    → global_at m 0 ≡ global_at n 0
+    → ((t : ℕ) → role t ≡ Base → (role' t ≡ Base) × (word_at m t 0 ≡ word_at n t 0))
+    → ((a : ℕ) → IsOneOf a nodes → role a ≡ Stacked → NodeStays n m role' a)
+    → HasChain n top role nodes → HasChain m top role' nodes
+has_chain_stays n m None role role' nodes global base stays chain = (global ∙ chain.0, chain.1)
+has_chain_stays n m (Some t) role role' nodes global base stays chain =
+    let tops = base t chain.1 in (
+      global ∙ chain.0,
+      tops.0,
+      subst (λ (x : Value). IsChain m role' x nodes) (sym tops.1)
+          (chain_stays n m role role' (word_at n t 0) nodes stays chain.2),
+    )
+
+-- A chain is linked.
+linked : (n : NeverState) (role : ℕ → Role) (v : Value) (nodes : List ℕ) → IsChain n role v nodes → AreLinked n v nodes
+linked n role v [] chain = chain
+linked n role v (a ∷ nodes) chain = (chain.0, linked n role (word_at n a 1) nodes chain.3)
+
+pub stack_is_linked : (n : NeverState) (top : Option ℕ) (role : ℕ → Role) (nodes : List ℕ) → HasChain n top role nodes
+    → AreLinked n (uppermost n (global_at n 0)) nodes
+stack_is_linked n None role nodes chain =
+    subst (λ (v : Value). AreLinked n (uppermost n v) nodes) (sym chain.0)
+    (subst (λ (l : List ℕ). AreLinked n Null l) (sym chain.1) refl)
+stack_is_linked n (Some t) role nodes chain =
+    subst (λ (v : Value). AreLinked n (uppermost n v) nodes) (sym chain.0) (linked n role (word_at n t 0) nodes chain.2)
+
+-- Each node of it has the role.
+pub stacked_role : (n : NeverState) (role : ℕ → Role) (v : Value) (nodes : List ℕ) (a : ℕ) → IsChain n role v nodes
+    → IsOneOf a nodes → role a ≡ Stacked
+stacked_role n role v [] a chain one = absurd one
+stacked_role n role v (b ∷ nodes) a chain (inl e) = ap role e ∙ chain.1
+stacked_role n role v (b ∷ nodes) a chain (inr one) = stacked_role n role (word_at n b 1) nodes a chain.3 one
+
+pub on_stack_role : (n : NeverState) (top : Option ℕ) (role : ℕ → Role) (nodes : List ℕ) (a : ℕ)
+    → HasChain n top role nodes → IsOneOf a nodes → role a ≡ Stacked
+on_stack_role n None role nodes a chain one =
+    absurd (let none : IsOneOf a [] = subst (λ (l : List ℕ). IsOneOf a l) chain.1 one in none)
+on_stack_role n (Some t) role nodes a chain one = stacked_role n role (word_at n t 0) nodes a chain.2 one

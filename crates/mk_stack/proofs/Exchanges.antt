@@ -1,0 +1,175 @@
+-- A caller exchanges the uppermost node, or frees the node that it took.
+use Rattle.std.proofs.Common.{◌≡◌, ◌≢◌, ℕ, ◌+◌, ◌<◌, ◌≤◌, List, length, length-set}
+use Rattle.std.proofs.Common.{refl, sym, ◌∙◌, ap, subst, arith, Some, None, Option, inl, inr}
+use Rattle.std.specs.Prelude.{◌⊎◌}
+use Rattle.std.proofs.lemmas.Bool.{cases_eq}
+use Rattle.mk_never.specs.declared.operations.Op.{Op}
+use Rattle.mk_never.specs.declared.values.Value.{Value}
+use Rattle.mk_never.specs.NeverHeap.{NeverState, with_word, words_of, allocation_at}
+use Rattle.mk_never.specs.NeverHeap.{bit}
+use Rattle.mk_stack.specs.declared.jobs.Done.{Done}
+use Rattle.mk_stack.specs.Jobs.{Replied}
+use Rattle.mk_stack.specs.declared.points.Point.{Point}
+use Rattle.mk_stack.specs.Orders.{Ordered}
+use Rattle.mk_stack.specs.Laws.{numbers_in, freed_by, IsOneOf}
+use Rattle.mk_stack.proofs.Heaps.{other_words, written_size, written_flag, written_type}
+use Rattle.mk_stack.proofs.Roles.{Role, Unborn, Base, Private, Stacked, Taken, RoleKeeps, IsPublished, same_role}
+use Rattle.mk_stack.proofs.Roles.{size_of, is_gone, put, put_by}
+use Rattle.mk_stack.proofs.Invariant.{Core, HasChain, Local, IsHeld, Work, Inv}
+use Rattle.mk_stack.proofs.Frames.{Leaves}
+use Rattle.mk_stack.proofs.Assembly.{Decides, IsLeft, moved, Stepped, assemble, HeldBefore, none_freed_there}
+use Rattle.mk_stack.proofs.Writes.{base_private, base_stacked, base_taken, private_stacked, taken_stacked}
+use Rattle.mk_stack.proofs.Writes.{unborn_private}
+use Rattle.mk_stack.proofs.Writes.{unborn_stacked, unborn_taken, private_taken, same_taken, granted}
+
+-- What another caller held before, where one role is now that of a node on the stack, or of this caller
+pub put_before : (role : ℕ → Role) (b : ℕ) (r : Role) (k a : ℕ) → (r ≡ Private k → ⊥) → (r ≡ Taken k → ⊥)
+    → HeldBefore k (role a) (put role b r a)
+put_before role b r k a private taken =
+    put_by (λ (x : ℕ) (y : Role). HeldBefore k (role x) y) role b r
+    (record { pushing = λ e. absurd (private e); freeing = λ e. absurd (taken e) })
+    (λ x other. record { pushing = λ e. e; freeing = λ e. e })
+    a
+
+-- Roles that others rely on, where one role changes
+pub roles_put : (role : ℕ → Role) (b : ℕ) (r : Role) (k : ℕ) (Same : ℕ → Type 0) → RoleKeeps k (role b) r (Same b)
+    → ((a : ℕ) → a ≢ b → RoleKeeps k (role a) (role a) (Same a))
+    → (a : ℕ) → RoleKeeps k (role a) (put role b r a) (Same a)
+roles_put role b r k Same here there a =
+    put_by (λ (x : ℕ) (y : Role). RoleKeeps k (role x) y (Same x)) role b r here there a
+
+-- The word of the top is exchanged, and node a gets another role: it goes on the stack, or leaves it.
+module _ (callers : ℕ) (n : NeverState) (top : Option ℕ) (role : ℕ → Role) (nodes : List ℕ) (W : ℕ → Work)
+    (inv : Inv callers n top role nodes W) (c t a : ℕ) (v : Value) (r : Role) (is : top ≡ Some t)
+    (is_base : role t ≡ Base)
+    (nodelike : (role a ≡ Private c) × (r ≡ Stacked) ⊎ (role a ≡ Stacked) × (r ≡ Taken c)) where
+  abbrev m : NeverState
+  m = with_word n t 0 v
+
+  abbrev now : ℕ → Role
+  now = put role a r
+
+  pub node_is_no_top : a ≢ t
+  node_is_no_top e = by nodelike
+    where
+      by : (role a ≡ Private c) × (r ≡ Stacked) ⊎ (role a ≡ Stacked) × (r ≡ Taken c) → ⊥
+      by (inl h) = base_private c (sym is_base ∙ sym (ap role e) ∙ h.0)
+      by (inr h) = base_stacked (sym is_base ∙ sym (ap role e) ∙ h.0)
+
+  pub words_stay : (b : ℕ) → b ≢ t → words_of m b ≡ words_of n b
+  words_stay b other = other_words n t 0 b v other
+
+  keeps_here : (k : ℕ) → k ≢ c → RoleKeeps k (role a) r (words_of m a ≡ words_of n a)
+  keeps_here k other = by nodelike
+    where
+      by : (role a ≡ Private c) × (r ≡ Stacked) ⊎ (role a ≡ Stacked) × (r ≡ Taken c)
+          → RoleKeeps k (role a) r (words_of m a ≡ words_of n a)
+      by (inl h) =
+          subst (λ (x : Role). RoleKeeps k x r (words_of m a ≡ words_of n a)) (sym h.0)
+          (λ same. absurd (other (sym same)))
+      by (inr h) =
+          subst (λ (x : Role). RoleKeeps k x r (words_of m a ≡ words_of n a)) (sym h.0)
+          (subst (λ (x : Role). IsPublished x) (sym h.1) tt, words_stay a node_is_no_top)
+
+  keeps_there : (k b : ℕ) → RoleKeeps k (role b) (role b) (words_of m b ≡ words_of n b)
+  keeps_there k b = by (cases_eq b t)
+    where
+      by : (b ≡ t) ⊎ (b ≡ t → ⊥) → RoleKeeps k (role b) (role b) (words_of m b ≡ words_of n b)
+      by (inl e) =
+          subst (λ (x : Role). RoleKeeps k x (role b) (words_of m b ≡ words_of n b)) (sym (ap role e ∙ is_base)) tt
+      by (inr other) = same_role k (role b) _ (words_stay b other)
+
+  exchange_leaves : (k : ℕ) → k ≢ c → Leaves n top role m top now k
+  exchange_leaves k other =
+      record {
+        registers = λ x lt. refl;
+        same_top = λ x e. e;
+        none = λ first e. e;
+        base = λ first e b h. absurd (none_some (sym e ∙ is));
+        roles = λ b. roles_put role a r k (λ x. words_of m x ≡ words_of n x) (keeps_here k other)
+            (λ x ne. keeps_there k x) b;
+      }
+    where
+      none_some : None ≡ Some t → ⊥
+      none_some e = cc
+
+  before : (k b : ℕ) → k ≢ c → HeldBefore k (role b) (now b)
+  before k b other = by nodelike
+    where
+      by : (role a ≡ Private c) × (r ≡ Stacked) ⊎ (role a ≡ Stacked) × (r ≡ Taken c) → HeldBefore k (role b) (now b)
+      by (inl h) = put_before role a r k b (λ e. private_stacked k (sym e ∙ h.1)) (λ e. taken_stacked k (sym e ∙ h.1))
+      by (inr h) =
+          put_before role a r k b (λ e. private_taken k c (sym e ∙ h.1)) (λ e. other (same_taken k c (sym e ∙ h.1)))
+
+  -- both roles are of nodes that aren't freed
+  alike : (size_of r ≡ size_of (role a)) × (is_gone r ≡ is_gone (role a)) × (Unborn ≡ r → ⊥) × (r ≡ Base → ⊥)
+      × (Unborn ≡ role a → ⊥)
+  alike = by nodelike
+    where
+      by : (role a ≡ Private c) × (r ≡ Stacked) ⊎ (role a ≡ Stacked) × (r ≡ Taken c)
+          → (size_of r ≡ size_of (role a)) × (is_gone r ≡ is_gone (role a)) × (Unborn ≡ r → ⊥) × (r ≡ Base → ⊥)
+          × (Unborn ≡ role a → ⊥)
+      by (inl h) = (
+        ap size_of h.1 ∙ sym (ap size_of h.0),
+        ap is_gone h.1 ∙ sym (ap is_gone h.0),
+        (λ e. unborn_stacked (e ∙ h.1)),
+        (λ e. base_stacked (sym e ∙ h.1)),
+        (λ e. unborn_private c (e ∙ h.0)),
+      )
+      by (inr h) = (
+        ap size_of h.1 ∙ sym (ap size_of h.0),
+        ap is_gone h.1 ∙ sym (ap is_gone h.0),
+        (λ e. unborn_taken c (e ∙ h.1)),
+        (λ e. base_taken c (sym e ∙ h.1)),
+        (λ e. unborn_stacked (e ∙ h.0)),
+      )
+
+  exchange_core : (nodes' : List ℕ) → ((b : ℕ) → now b ≡ Stacked → IsOneOf b nodes') → HasChain m top now nodes'
+      → Core callers m top now nodes'
+  exchange_core nodes' stacked chain =
+      let core : Core callers n top role nodes = inv.core in
+      let count : length m.allocations ≡ length n.allocations = length-set n.allocations t _ in
+      let there : a < length n.allocations = granted callers n top role nodes a core alike.4 in
+      record {
+        node_type = core.node_type;
+        top_type = core.top_type;
+        registers = core.registers;
+        globals = core.globals;
+        unborn = put_by (λ (b : ℕ) (x : Role). length m.allocations ≤ b → x ≡ Unborn) role a r
+            (λ ge. absurd (omega (arith, count, there, ge)))
+            (λ b ne ge. core.unborn b (subst (λ (l : ℕ). l ≤ b) count ge));
+        born = put_by (λ (b : ℕ) (x : Role). b < length m.allocations → x ≢ Unborn) role a r
+            (λ lt e. alike.2 (sym e))
+            (λ b ne lt. core.born b (subst (λ (l : ℕ). b < l) count lt));
+        size = put_by (λ (b : ℕ) (x : Role). length (words_of m b) ≡ size_of x) role a r
+            (written_size n t 0 a v ∙ core.size a ∙ sym alike.0)
+            (λ b ne. written_size n t 0 b v ∙ core.size b);
+        freed = put_by (λ (b : ℕ) (x : Role). (allocation_at m b).freed ≡ is_gone x) role a r
+            (written_flag n t 0 a v ∙ core.freed a ∙ sym alike.1)
+            (λ b ne. written_flag n t 0 b v ∙ core.freed b);
+        base = put_by (λ (b : ℕ) (x : Role). x ≡ Base → (allocation_at m b).ty ≡ 1) role a r
+            (λ e. absurd (alike.3 e))
+            (λ b ne e. written_type n t 0 b v ∙ core.base b e);
+        stacked = stacked;
+        chain = chain;
+      }
+
+  pub by_exchange : (nodes' : List ℕ) (s : Point) (o : Op) (next : Point) (rest : List Replied) (u u' : Option Done)
+      (d : Option Ordered)
+      → ((b : ℕ) → now b ≡ Stacked → IsOneOf b nodes') → HasChain m top now nodes'
+      → Local m top now c next u' → ((b : ℕ) → IsHeld m (now b) c b next)
+      → IsLeft d (numbers_in n nodes) (numbers_in m nodes') → Decides c s u d u' → ((b : ℕ) → freed_by b n c o ≡ 0)
+      → Stepped callers n role nodes W c s u o next rest m
+  by_exchange nodes' s o next rest u u' d stacked chain local held left decides frees =
+      record {
+        top_now = top;
+        role_now = now;
+        nodes_now = nodes';
+        decided = u';
+        decision = d;
+        inv = assemble callers n top role nodes W inv c m top now nodes' (moved (W c) next u' rest)
+            (exchange_core nodes' stacked chain) exchange_leaves (λ k b other. before k b other) local held;
+        left = left;
+        decides = decides;
+        frees = λ b. none_freed_there role a r alike.1 b ∙ ap (λ (x : ℕ). bit (is_gone (role b)) + x) (sym (frees b));
+      }

@@ -1,0 +1,143 @@
+-- What a step of one caller leaves of what holds of another.
+use Rattle.std.proofs.Common.{◌≡◌, ℕ, ◌<◌, List, sym, ◌∙◌, ap, inl, inr, Some, None, Option, arith, get_or}
+use Rattle.std.specs.Prelude.{◌⊎◌}
+use Rattle.mk_never.specs.declared.values.Value.{Value}
+use Rattle.mk_never.specs.declared.values.Value.TheVariants.{Null}
+use Rattle.mk_never.specs.NeverHeap.{NeverState, register_at, words_of, word_at, number_of}
+use Rattle.mk_stack.specs.declared.jobs.Done.{Done}
+use Rattle.mk_stack.specs.declared.jobs.Done.TheVariants.{Popped, Empty}
+use Rattle.mk_stack.specs.declared.jobs.Job.{Job}
+use Rattle.mk_stack.specs.Jobs.{done_without}
+use Rattle.mk_stack.specs.declared.points.Point.{Point}
+use Rattle.mk_stack.specs.declared.points.Point.TheVariants.{Founding, Placing, Founded, Starting, Checking, Making}
+use Rattle.mk_stack.specs.declared.points.Point.TheVariants.{Filling, Looking, Linking}
+use Rattle.mk_stack.specs.declared.points.Point.TheVariants.{Publishing, Peeking, Testing, Following, Taking, Freeing}
+use Rattle.mk_stack.specs.declared.points.Point.TheVariants.{Reading, Ended}
+use Rattle.mk_stack.proofs.Roles.{Role, Base, RoleKeeps, private_keeps, taken_keeps, published_keeps}
+use Rattle.mk_stack.proofs.Invariant.{HasTop, HasOwn, HasFilled, HasLinked, HasSeen, HasFollowed, HasTaken, HasFreed}
+use Rattle.mk_stack.proofs.Invariant.{HasBase, Local}
+
+-- What a step leaves as it was for caller k. The caller that founds the stack is the first, so no other relies on the
+-- stack having no top.
+pub record Leaves (n : NeverState) (top : Option ℕ) (role : ℕ → Role) (m : NeverState) (top' : Option ℕ)
+    (role' : ℕ → Role) (k : ℕ) : Type 0 where
+  pub registers : (r : ℕ) → r < 8 → register_at m k r ≡ register_at n k r
+  pub same_top : (t : ℕ) → top ≡ Some t → top' ≡ Some t
+  pub none : k ≡ 0 → top ≡ None → top' ≡ None
+  pub base : k ≡ 0 → top ≡ None → (a : ℕ) → role a ≡ Base → (role' a ≡ Base) × (words_of m a ≡ words_of n a)
+  pub roles : (a : ℕ) → RoleKeeps k (role a) (role' a) (words_of m a ≡ words_of n a)
+
+module _ (n : NeverState) (top : Option ℕ) (role : ℕ → Role) (m : NeverState) (top' : Option ℕ) (role' : ℕ → Role)
+    (k : ℕ) (leaves : Leaves n top role m top' role' k) where
+  word_same : (a i : ℕ) → words_of m a ≡ words_of n a → word_at m a i ≡ word_at n a i
+  word_same a i e = ap (λ (ws : List Value). get_or ws i Null) e
+
+  top_stays : HasTop n top k → HasTop m top' k
+  top_stays h =
+      record {
+        t = h.t;
+        is = leaves.same_top h.t h.is;
+        register = leaves.registers 0 (omega arith) ∙ h.register;
+      }
+
+  own_stays : HasOwn n role k → HasOwn m role' k
+  own_stays h =
+      let keeps = private_keeps k (role h.a) (role' h.a) _ h.has (leaves.roles h.a) in
+      record { a = h.a; register = leaves.registers 1 (omega arith) ∙ h.register; has = keeps.0 }
+
+  filled_stays : (x : ℕ) → HasFilled n role k x → HasFilled m role' k x
+  filled_stays x h =
+      let keeps = private_keeps k (role h.a) (role' h.a) _ h.has (leaves.roles h.a) in
+      record {
+        a = h.a;
+        register = leaves.registers 1 (omega arith) ∙ h.register;
+        has = keeps.0;
+        number = ap number_of (word_same h.a 0 keeps.1) ∙ h.number;
+      }
+
+  linked_stays : (x : ℕ) → HasLinked n role k x → HasLinked m role' k x
+  linked_stays x h =
+      let keeps = private_keeps k (role h.a) (role' h.a) _ h.has (leaves.roles h.a) in
+      record {
+        a = h.a;
+        register = leaves.registers 1 (omega arith) ∙ h.register;
+        has = keeps.0;
+        number = ap number_of (word_same h.a 0 keeps.1) ∙ h.number;
+        link = word_same h.a 1 keeps.1 ∙ h.link ∙ sym (leaves.registers 2 (omega arith));
+      }
+
+  seen_stays : HasSeen n role k → HasSeen m role' k
+  seen_stays h =
+      let keeps = published_keeps k (role h.a) (role' h.a) _ h.has (leaves.roles h.a) in
+      record { a = h.a; register = leaves.registers 2 (omega arith) ∙ h.register; has = keeps.0 }
+
+  followed_stays : HasFollowed n role k → HasFollowed m role' k
+  followed_stays h =
+      let keeps = published_keeps k (role h.a) (role' h.a) _ h.has (leaves.roles h.a) in
+      record {
+        a = h.a;
+        register = leaves.registers 2 (omega arith) ∙ h.register;
+        has = keeps.0;
+        next = leaves.registers 3 (omega arith) ∙ h.next ∙ sym (word_same h.a 1 keeps.1);
+      }
+
+  taken_stays : (u : Option Done) → HasTaken n role k u → HasTaken m role' k u
+  taken_stays u h =
+      let keeps = taken_keeps k (role h.a) (role' h.a) _ h.has (leaves.roles h.a) in
+      record {
+        a = h.a;
+        register = leaves.registers 2 (omega arith) ∙ h.register;
+        has = keeps.has;
+        owes = h.owes ∙ ap (λ (v : Value). Some (Popped (number_of v))) (sym (word_same h.a 0 keeps.words));
+      }
+
+  freed_stays : (u : Option Done) → HasFreed n role k u → HasFreed m role' k u
+  freed_stays u h =
+      let keeps = published_keeps k (role h.a) (role' h.a) _ h.has (leaves.roles h.a) in
+      record {
+        a = h.a;
+        register = leaves.registers 2 (omega arith) ∙ h.register;
+        has = keeps.0;
+        owes = h.owes ∙ ap (λ (v : Value). Some (Popped (number_of v))) (sym (word_same h.a 0 keeps.1));
+      }
+
+  base_stays : k ≡ 0 → top ≡ None → HasBase n role k → HasBase m role' k
+  base_stays first none h =
+      let keeps = leaves.base first none h.t h.has in
+      record {
+        t = h.t;
+        register = leaves.registers 0 (omega arith) ∙ h.register;
+        has = keeps.0;
+        word = word_same h.t 0 keeps.1 ∙ h.word;
+      }
+
+  checked_stays : (j : Job) (u : Option Done)
+      → ((register_at n k 0 ≡ Null) × (u ≡ Some (done_without j))) ⊎ ((u ≡ None) × HasTop n top k)
+      → ((register_at m k 0 ≡ Null) × (u ≡ Some (done_without j))) ⊎ ((u ≡ None) × HasTop m top' k)
+  checked_stays j u (inl h) = inl (leaves.registers 0 (omega arith) ∙ h.0, h.1)
+  checked_stays j u (inr h) = inr (h.0, top_stays h.1)
+
+  tested_stays : (u : Option Done)
+      → ((register_at n k 2 ≡ Null) × (u ≡ Some Empty)) ⊎ ((u ≡ None) × HasSeen n role k)
+      → ((register_at m k 2 ≡ Null) × (u ≡ Some Empty)) ⊎ ((u ≡ None) × HasSeen m role' k)
+  tested_stays u (inl h) = inl (leaves.registers 2 (omega arith) ∙ h.0, h.1)
+  tested_stays u (inr h) = inr (h.0, seen_stays h.1)
+
+  pub local_stays : (s : Point) (u : Option Done) → Local n top role k s u → Local m top' role' k s u
+  local_stays Founding u h = (h.0, leaves.none h.0 h.1)
+  local_stays Placing u h = (h.0, leaves.none h.0 h.1, base_stays h.0 h.1 h.2)
+  local_stays Founded u h = tt
+  local_stays (Starting j) u h = h
+  local_stays (Checking j) u h = checked_stays j u h
+  local_stays (Making x) u h = (h.0, top_stays h.1)
+  local_stays (Filling x) u h = (h.0, top_stays h.1, own_stays h.2)
+  local_stays (Looking x) u h = (h.0, top_stays h.1, filled_stays x h.2)
+  local_stays (Linking x) u h = (h.0, top_stays h.1, filled_stays x h.2)
+  local_stays (Publishing x) u h = (h.0, top_stays h.1, linked_stays x h.2)
+  local_stays Peeking u h = (h.0, top_stays h.1)
+  local_stays Testing u h = (top_stays h.0, tested_stays u h.1)
+  local_stays Following u h = (h.0, top_stays h.1, seen_stays h.2)
+  local_stays Taking u h = (h.0, top_stays h.1, followed_stays h.2)
+  local_stays Freeing u h = taken_stays u h
+  local_stays Reading u h = freed_stays u h
+  local_stays (Ended d) u h = h

@@ -1,0 +1,164 @@
+-- A pop frees the node that it took.
+use Rattle.std.proofs.Common.{◌≡◌, ◌≢◌, ℕ, ◌+◌, ◌<◌, ◌≤◌, List, length, length-set}
+use Rattle.std.proofs.Common.{get_or, refl, sym, ◌∙◌, ap, subst, arith, Some, None, Option}
+use Rattle.mk_never.specs.declared.operations.Op.{Op}
+use Rattle.mk_never.specs.declared.values.Value.{Value}
+use Rattle.mk_never.specs.declared.values.Value.TheVariants.{Null, Ptr}
+use Rattle.mk_never.specs.NeverHeap.{NeverState, register_at, with_freed, word_at, words_of, allocation_at, number_of}
+use Rattle.mk_never.specs.NeverHeap.{bit}
+use Rattle.mk_stack.specs.declared.jobs.Done.{Done}
+use Rattle.mk_stack.specs.declared.jobs.Done.TheVariants.{Popped}
+use Rattle.mk_stack.specs.Jobs.{Replied}
+use Rattle.mk_stack.specs.declared.points.Point.TheVariants.{Freeing, Reading}
+use Rattle.mk_stack.specs.Laws.{freed_by, IsOneOf}
+use Rattle.mk_stack.proofs.Heaps.{freed_words, freed_type, freed_flag, other_flag}
+use Rattle.mk_stack.proofs.Roles.{Role, Unborn, Base, Private, Stacked, Taken, Freed, RoleKeeps, IsPublished, same_role}
+use Rattle.mk_stack.proofs.Roles.{size_of, is_gone, put, put_by, put_same, put_other}
+use Rattle.mk_stack.proofs.Invariant.{Core, HasChain, IsHeld, HasTaken, HasFreed, Work, Inv}
+use Rattle.mk_stack.proofs.Frames.{Leaves}
+use Rattle.mk_stack.proofs.Chains.{has_chain_stays, all_numbers_stay}
+use Rattle.mk_stack.proofs.Assembly.{moved, Stepped, assemble, nothing}
+use Rattle.mk_stack.proofs.Writes.{base_taken, taken_stacked, unborn_taken, granted}
+use Rattle.mk_stack.proofs.Exchanges.{put_before, roles_put}
+
+freed_private : (k : ℕ) → Freed ≡ Private k → ⊥
+freed_private k e = cc
+
+freed_taken : (k : ℕ) → Freed ≡ Taken k → ⊥
+freed_taken k e = cc
+
+freed_stacked : Freed ≡ Stacked → ⊥
+freed_stacked e = cc
+
+freed_base : Freed ≡ Base → ⊥
+freed_base e = cc
+
+freed_unborn : Freed ≡ Unborn → ⊥
+freed_unborn e = cc
+
+module _ (callers : ℕ) (n : NeverState) (top : Option ℕ) (role : ℕ → Role) (nodes : List ℕ) (W : ℕ → Work)
+    (inv : Inv callers n top role nodes W) (c : ℕ) (u : Option Done) (own : HasTaken n role c u)
+    (held : (b : ℕ) → IsHeld n (role b) c b Freeing) where
+  abbrev a : ℕ
+  a = own.a
+
+  abbrev m : NeverState
+  m = with_freed n a
+
+  abbrev now : ℕ → Role
+  now = put role a Freed
+
+  word : (b i : ℕ) → word_at m b i ≡ word_at n b i
+  word b i = ap (λ (ws : List Value). get_or ws i Null) (freed_words n a b)
+
+  there : a < length n.allocations
+  there = granted callers n top role nodes a inv.core (λ e. unborn_taken c (e ∙ own.has))
+
+  free_leaves : (k : ℕ) → k ≢ c → Leaves n top role m top now k
+  free_leaves k other =
+      record {
+        registers = λ x lt. refl;
+        same_top = λ x e. e;
+        none = λ first e. e;
+        base = λ first e b is. (
+          put_other role a Freed b (λ same. base_taken c (sym is ∙ ap role same ∙ own.has)) ∙ is,
+          freed_words n a b,
+        );
+        roles = λ b. roles_put role a Freed k (λ x. words_of m x ≡ words_of n x)
+            (subst (λ (r : Role). RoleKeeps k r Freed (words_of m a ≡ words_of n a)) (sym own.has)
+            ((λ same. absurd (other (sym same))), tt, freed_words n a a))
+            (λ x ne. same_role k (role x) _ (freed_words n a x)) b;
+      }
+
+  still_other : (b : ℕ) (r : Role) → role b ≡ r → (r ≡ Taken c → ⊥) → now b ≡ r
+  still_other b r is differs =
+      put_other role a Freed b (λ same. differs (sym is ∙ ap role same ∙ own.has)) ∙ is
+
+  free_chain : HasChain m top now nodes
+  free_chain =
+      has_chain_stays n m top role now nodes refl
+      (λ t e. (still_other t Base e (base_taken c), word t 0))
+      (λ b one e. record { role_now = still_other b Stacked e (λ same. taken_stacked c (sym same)); link = word b 1 })
+      inv.core.chain
+
+  free_core : Core callers m top now nodes
+  free_core =
+      let core : Core callers n top role nodes = inv.core in
+      let count : length m.allocations ≡ length n.allocations = length-set n.allocations a _ in
+      record {
+        node_type = core.node_type;
+        top_type = core.top_type;
+        registers = core.registers;
+        globals = core.globals;
+        unborn = put_by (λ (b : ℕ) (x : Role). length m.allocations ≤ b → x ≡ Unborn) role a Freed
+            (λ ge. absurd (omega (arith, count, there, ge)))
+            (λ b ne ge. core.unborn b (subst (λ (l : ℕ). l ≤ b) count ge));
+        born = put_by (λ (b : ℕ) (x : Role). b < length m.allocations → x ≢ Unborn) role a Freed
+            (λ lt e. freed_unborn e)
+            (λ b ne lt. core.born b (subst (λ (l : ℕ). b < l) count lt));
+        size = put_by (λ (b : ℕ) (x : Role). length (words_of m b) ≡ size_of x) role a Freed
+            (ap (λ (ws : List Value). length ws) (freed_words n a a) ∙ core.size a ∙ ap size_of own.has)
+            (λ b ne. ap (λ (ws : List Value). length ws) (freed_words n a b) ∙ core.size b);
+        freed = put_by (λ (b : ℕ) (x : Role). (allocation_at m b).freed ≡ is_gone x) role a Freed
+            (freed_flag n a there) (λ b ne. other_flag n a b ne ∙ core.freed b);
+        base = put_by (λ (b : ℕ) (x : Role). x ≡ Base → (allocation_at m b).ty ≡ 1) role a Freed
+            (λ e. absurd (freed_base e)) (λ b ne e. freed_type n a b ∙ core.base b e);
+        stacked = put_by (λ (b : ℕ) (x : Role). x ≡ Stacked → IsOneOf b nodes) role a Freed
+            (λ e. absurd (freed_stacked e)) (λ b ne e. core.stacked b e);
+        chain = free_chain;
+      }
+
+  freed : HasFreed m now c u
+  freed =
+      record {
+        a = a;
+        register = own.register;
+        has = subst (λ (r : Role). IsPublished r) (sym (put_same role a Freed)) tt;
+        owes = own.owes ∙ ap (λ (z : Value). Some (Popped (number_of z))) (sym (word a 0));
+      }
+
+  no_longer : (b : ℕ) → IsHeld m (now b) c b Reading
+  no_longer b =
+      record {
+        pushing = put_by (λ (z : ℕ) (r : Role). r ≡ Private c → ⊥ × (register_at m c 1 ≡ Ptr z 0 0)) role a Freed
+            (λ e. absurd (freed_private c e))
+            (λ z ne e. absurd ((held z).pushing e).0)
+            b;
+        freeing = put_by (λ (z : ℕ) (r : Role). r ≡ Taken c → ⊥ × (register_at m c 2 ≡ Ptr z 0 0)) role a Freed
+            (λ e. absurd (freed_taken c e))
+            (λ z ne e. absurd (ne (same_node z ((held z).freeing e).1)))
+            b;
+      }
+    where
+      same : (z b : ℕ) → Ptr z 0 0 ≡ Ptr b 0 0 → z ≡ b
+      same z b h = cc
+
+      same_node : (z : ℕ) → register_at n c 2 ≡ Ptr z 0 0 → z ≡ a
+      same_node z e = same z a (sym e ∙ own.register)
+
+  -- It is freed by this.
+  pub by_free : (o : Op) (rest : List Replied) → freed_by a n c o ≡ 1 → ((b : ℕ) → b ≢ a → freed_by b n c o ≡ 0)
+      → Stepped callers n role nodes W c Freeing u o Reading rest m
+  by_free o rest once others =
+      record {
+        top_now = top;
+        role_now = now;
+        nodes_now = nodes;
+        decided = u;
+        decision = None;
+        inv = assemble callers n top role nodes W inv c m top now nodes (moved (W c) Reading u rest) free_core
+            free_leaves
+            (λ k b other. put_before role a Freed k b (λ e. freed_private k e) (λ e. freed_taken k e))
+            freed no_longer;
+        left = all_numbers_stay n m top role nodes (λ b e. word b 0) inv.core.chain;
+        decides = nothing;
+        frees = put_by (λ (b : ℕ) (x : Role). bit (is_gone x) ≡ bit (is_gone (role b)) + freed_by b n c o) role a Freed
+            (sym (ap (λ (r : Role). bit (is_gone r) + freed_by a n c o) own.has ∙ one_more))
+            (λ b ne. none_more b ne);
+      }
+    where
+      one_more : 0 + freed_by a n c o ≡ 1
+      one_more = omega (arith, once)
+
+      none_more : (b : ℕ) → b ≢ a → bit (is_gone (role b)) ≡ bit (is_gone (role b)) + freed_by b n c o
+      none_more b ne = omega (arith, others b ne)

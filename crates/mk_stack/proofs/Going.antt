@@ -1,0 +1,80 @@
+-- Operations one after the other, from the point of a job where its caller was.
+use Rattle.std.proofs.Common.{◌≡◌, ℕ, ◌<◌, List, [], ◌∷◌, ◌++◌, refl, sym, ◌∙◌, ap, subst, append-nil, append_assoc}
+use Rattle.std.proofs.Common.{arith}
+use Rattle.mk_never.specs.declared.values.Value.{Value}
+use Rattle.mk_never.specs.NeverHeap.{register_at}
+use Rattle.mk_words.specs.States.{PassState}
+use Rattle.mk_caller.specs.States.{never_of, number_of, value_of}
+use Rattle.mk_stack.specs.declared.points.Point.{Point}
+use Rattle.mk_stack.specs.declared.points.Point.TheVariants.{Founding, Placing, Founded, Starting, Checking, Making}
+use Rattle.mk_stack.specs.declared.points.Point.TheVariants.{Filling, Looking, Linking, Publishing, Peeking, Testing}
+use Rattle.mk_stack.specs.declared.points.Point.TheVariants.{Following, Taking, Freeing, Reading, Ended}
+use Rattle.mk_stack.specs.Jobs.{Replied, Asks, Leads}
+use Rattle.mk_stack.specs.Passes.{Goes, replied_to}
+use Rattle.mk_stack.specs.Advancing.{Advances, Holds, IsPointerTo, MayPointTo, Stays}
+
+pub goes_nowhere : (p : PassState) (s : Point) → Goes p s p s
+goes_nowhere p s = record { is = refl; all = []; leads = refl; did = sym (append-nil (replied_to p)) }
+
+leads_more : (s : Point) (xs : List Replied) (t : Point) (y : Replied) (u : Point) → Leads s xs t
+    → Asks t y.op y.reply u
+    → Leads s (xs ++ y ∷ []) u
+leads_more s [] t y u leads asks =
+    (u, subst (λ (p : Point). Asks p y.op y.reply u) (sym leads) asks, refl)
+leads_more s (x ∷ xs) t y u leads asks = (leads.0, leads.1, leads_more leads.0 xs t y u leads.2 asks)
+
+seen_then : (p q r : PassState) → q ≡ record p { seen = q.seen } → r ≡ record q { seen = r.seen }
+    → r ≡ record p { seen = r.seen }
+seen_then p q r is next = next ∙ ap (λ (s : PassState). record s { seen = r.seen }) is
+
+pub goes_more : (p q r : PassState) (s t u : Point) → Goes p s q t → Advances q t r u → Goes p s r u
+goes_more p q r s t u goes on =
+    record {
+      is = seen_then p q r goes.is on.is;
+      all = goes.all ++ record { op = on.op; reply = on.reply } ∷ [];
+      leads = leads_more s goes.all t (record { op = on.op; reply = on.reply }) u goes.leads on.asks;
+      did =
+          on.did
+          ∙ ap (λ (l : List Replied). l ++ record { op = on.op; reply = on.reply } ∷ []) goes.did
+          ∙ append_assoc (replied_to p) goes.all (record { op = on.op; reply = on.reply } ∷ []);
+    }
+
+pub goes_held : (p q r : PassState) (s t : Point) → Goes p s q t → Stays q r → Goes p s r t
+goes_held p q r s t goes on =
+    record {
+      is = seen_then p q r goes.is on.is;
+      all = goes.all;
+      leads = goes.leads;
+      did = on.did ∙ goes.did;
+    }
+
+module _ (q r : PassState) (on : Stays q r) where
+  same : (x : ℕ) → x < 8 → value_of r x ≡ value_of q x
+  same x lt =
+      ap (λ (s : PassState). register_at (never_of r) (number_of s) x) on.is ∙ on.registers x lt
+
+  points : (ty x : ℕ) → x < 8 → IsPointerTo ty (value_of q x) → IsPointerTo ty (value_of r x)
+  points ty x lt h = record { number = h.number; is = same x lt ∙ h.is }
+
+  may : (ty x : ℕ) → x < 8 → MayPointTo ty (value_of q x) → MayPointTo ty (value_of r x)
+  may ty x lt h = subst (λ (v : Value). MayPointTo ty v) (sym (same x lt)) h
+
+  pub holds_held : (t : Point) → Holds q t → Holds r t
+  holds_held Founding h = tt
+  holds_held Placing h = points 1 0 (omega arith) h
+  holds_held Founded h = tt
+  holds_held (Starting j) h = tt
+  holds_held (Checking j) h = may 1 0 (omega arith) h
+  holds_held (Making n) h = points 1 0 (omega arith) h
+  holds_held (Filling n) h = (points 1 0 (omega arith) h.0, points 0 1 (omega arith) h.1)
+  holds_held (Looking n) h = (points 1 0 (omega arith) h.0, points 0 1 (omega arith) h.1)
+  holds_held (Linking n) h = (points 1 0 (omega arith) h.0, points 0 1 (omega arith) h.1, may 0 2 (omega arith) h.2)
+  holds_held (Publishing n) h =
+      (points 1 0 (omega arith) h.0, points 0 1 (omega arith) h.1, may 0 2 (omega arith) h.2)
+  holds_held Peeking h = points 1 0 (omega arith) h
+  holds_held Testing h = (points 1 0 (omega arith) h.0, may 0 2 (omega arith) h.1)
+  holds_held Following h = (points 1 0 (omega arith) h.0, points 0 2 (omega arith) h.1)
+  holds_held Taking h = (points 1 0 (omega arith) h.0, points 0 2 (omega arith) h.1, may 0 3 (omega arith) h.2)
+  holds_held Freeing h = points 0 2 (omega arith) h
+  holds_held Reading h = points 0 2 (omega arith) h
+  holds_held (Ended d) h = tt

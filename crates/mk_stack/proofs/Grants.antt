@@ -1,0 +1,140 @@
+-- A New adds an allocation that no one else has: the top, or a node of the caller's own.
+use Rattle.std.proofs.Common.{◌≡◌, ◌≢◌, ℕ, ◌+◌, ◌*◌, ◌<◌, ◌≤◌, false, List, [], length, length-set}
+use Rattle.std.proofs.Common.{get_or, refl, sym, ◌∙◌, ap, subst, arith, None, Option}
+use Rattle.std.proofs.lemmas.List.{get_or_at, length_push}
+use Rattle.mk_never.specs.declared.operations.Op.{Op}
+use Rattle.mk_never.specs.declared.values.Value.{Value}
+use Rattle.mk_never.specs.declared.values.Value.TheVariants.{Null, Ptr}
+use Rattle.mk_never.specs.Types.{kinds_of, zero_words}
+use Rattle.mk_never.specs.NeverHeap.{NeverState, Allocation, no_allocation, with_register, with_new, word_at}
+use Rattle.mk_never.specs.NeverHeap.{words_of, allocation_at, bit}
+use Rattle.mk_stack.specs.declared.jobs.Done.{Done}
+use Rattle.mk_stack.specs.Jobs.{Replied}
+use Rattle.mk_stack.specs.declared.points.Point.{Point}
+use Rattle.mk_stack.specs.Laws.{freed_by, IsOneOf}
+use Rattle.mk_stack.proofs.Heaps.{register_of_other, other_allocation}
+use Rattle.mk_stack.proofs.Roles.{Role, Unborn, Base, Private, Stacked, Taken, RoleKeeps, same_role}
+use Rattle.mk_stack.proofs.Roles.{size_of, is_gone, put, put_by, put_other}
+use Rattle.mk_stack.proofs.Invariant.{Core, HasChain, Local, IsHeld, Work, Inv}
+use Rattle.mk_stack.proofs.Frames.{Leaves}
+use Rattle.mk_stack.proofs.Chains.{has_chain_stays, all_numbers_stay}
+use Rattle.mk_stack.proofs.Assembly.{moved, Stepped, assemble, nothing, none_freed_there}
+use Rattle.mk_stack.proofs.Writes.{unborn_base, unborn_stacked}
+use Rattle.mk_stack.proofs.Exchanges.{put_before, roles_put}
+
+-- what the new role is like
+pub record IsNewRole (n : NeverState) (c ty : ℕ) (r : Role) : Type 0 where
+  pub size : length (zero_words (kinds_of n.types ty)) ≡ size_of r
+  pub not_gone : is_gone r ≡ false
+  pub born : r ≢ Unborn
+  pub not_stacked : r ≢ Stacked
+  pub base : r ≡ Base → ty ≡ 1
+  pub of_caller : (k : ℕ) → k ≢ c → r ≢ Private k
+  pub not_taken : (k : ℕ) → r ≢ Taken k
+
+module _ (callers : ℕ) (n : NeverState) (top : Option ℕ) (role : ℕ → Role) (nodes : List ℕ) (W : ℕ → Work)
+    (inv : Inv callers n top role nodes W) (c d ty : ℕ) (r : Role) (below : d < 8) (fits : IsNewRole n c ty r) where
+  abbrev a : ℕ
+  a = length n.allocations
+
+  abbrev m : NeverState
+  m = with_register (with_new n ty) c d (Ptr a ty 0)
+
+  abbrev now : ℕ → Role
+  now = put role a r
+
+  was : role a ≡ Unborn
+  was = inv.core.unborn a (omega arith)
+
+  other : (b : ℕ) → b ≢ a → allocation_at m b ≡ allocation_at n b
+  other b ne = other_allocation n ty b ne
+
+  words : (b : ℕ) → b ≢ a → words_of m b ≡ words_of n b
+  words b ne = ap (λ (x : Allocation). x.words) (other b ne)
+
+  pub made : allocation_at m a ≡ record { ty = ty; words = zero_words (kinds_of n.types ty); freed = false }
+  made = get_or_at n.allocations _ [] no_allocation a refl
+
+  not_new : (b : ℕ) (x : Role) → role b ≡ x → (Unborn ≡ x → ⊥) → b ≢ a
+  not_new b x is differs same = differs (sym was ∙ sym (ap role same) ∙ is)
+
+  still : (b : ℕ) (x : Role) → role b ≡ x → (Unborn ≡ x → ⊥) → now b ≡ x
+  still b x is differs = put_other role a r b (not_new b x is differs) ∙ is
+
+  word : (b i : ℕ) → b ≢ a → word_at m b i ≡ word_at n b i
+  word b i ne = ap (λ (ws : List Value). get_or ws i Null) (words b ne)
+
+  grant_leaves : (k : ℕ) → k ≢ c → Leaves n top role m top now k
+  grant_leaves k ne =
+      record {
+        registers = λ x lt. register_of_other (with_new n ty) c d k x (Ptr a ty 0) ne below lt;
+        same_top = λ x e. e;
+        none = λ first e. e;
+        base = λ first e b is. (still b Base is unborn_base, words b (not_new b Base is unborn_base));
+        roles = λ b. roles_put role a r k (λ x. words_of m x ≡ words_of n x)
+            (subst (λ (x : Role). RoleKeeps k x r (words_of m a ≡ words_of n a)) (sym was) tt)
+            (λ x apart. same_role k (role x) _ (words x apart)) b;
+      }
+
+  grant_chain : HasChain m top now nodes
+  grant_chain =
+      has_chain_stays n m top role now nodes refl
+      (λ t e. (still t Base e unborn_base, word t 0 (not_new t Base e unborn_base)))
+      (λ b one e. record {
+        role_now = still b Stacked e unborn_stacked;
+        link = word b 1 (not_new b Stacked e unborn_stacked);
+      })
+      inv.core.chain
+
+  count : length m.allocations ≡ a + 1
+  count = length_push n.allocations _
+
+  grant_core : Core callers m top now nodes
+  grant_core =
+      let core : Core callers n top role nodes = inv.core in
+      record {
+        node_type = core.node_type;
+        top_type = core.top_type;
+        registers = length-set n.registers (8 * c + d) (Ptr a ty 0) ∙ core.registers;
+        globals = core.globals;
+        unborn = put_by (λ (b : ℕ) (x : Role). length m.allocations ≤ b → x ≡ Unborn) role a r
+            (λ ge. absurd (omega (arith, count, ge)))
+            (λ b ne ge. core.unborn b (omega (arith, count, ge)));
+        born = put_by (λ (b : ℕ) (x : Role). b < length m.allocations → x ≢ Unborn) role a r
+            (λ lt e. fits.born e)
+            (λ b ne lt. core.born b (omega (arith, count, lt, ne)));
+        size = put_by (λ (b : ℕ) (x : Role). length (words_of m b) ≡ size_of x) role a r
+            (ap (λ (x : Allocation). length x.words) made ∙ fits.size)
+            (λ b ne. ap (λ (x : Allocation). length x.words) (other b ne) ∙ core.size b);
+        freed = put_by (λ (b : ℕ) (x : Role). (allocation_at m b).freed ≡ is_gone x) role a r
+            (ap (λ (x : Allocation). x.freed) made ∙ sym fits.not_gone)
+            (λ b ne. ap (λ (x : Allocation). x.freed) (other b ne) ∙ core.freed b);
+        base = put_by (λ (b : ℕ) (x : Role). x ≡ Base → (allocation_at m b).ty ≡ 1) role a r
+            (λ e. ap (λ (x : Allocation). x.ty) made ∙ fits.base e)
+            (λ b ne e. ap (λ (x : Allocation). x.ty) (other b ne) ∙ core.base b e);
+        stacked = put_by (λ (b : ℕ) (x : Role). x ≡ Stacked → IsOneOf b nodes) role a r
+            (λ e. absurd (fits.not_stacked e)) (λ b ne e. core.stacked b e);
+        chain = grant_chain;
+      }
+
+  pub by_grant : (s : Point) (u : Option Done) (o : Op) (next : Point) (rest : List Replied)
+      → Local m top now c next u → ((b : ℕ) → IsHeld m (now b) c b next) → ((b : ℕ) → freed_by b n c o ≡ 0)
+      → Stepped callers n role nodes W c s u o next rest m
+  by_grant s u o next rest local held frees =
+      record {
+        top_now = top;
+        role_now = now;
+        nodes_now = nodes;
+        decided = u;
+        decision = None;
+        inv = assemble callers n top role nodes W inv c m top now nodes (moved
+            (W c) next u rest) grant_core grant_leaves
+            (λ k b ne. put_before role a r k b (fits.of_caller k ne) (fits.not_taken k))
+            local held;
+        left = all_numbers_stay n m top role nodes (λ b e. word b 0
+            (not_new b Stacked e unborn_stacked)) inv.core.chain;
+        decides = nothing;
+        frees = λ b.
+            none_freed_there role a r (fits.not_gone ∙ sym (ap is_gone was)) b
+            ∙ ap (λ (x : ℕ). bit (is_gone (role b)) + x) (sym (frees b));
+      }

@@ -1,0 +1,162 @@
+-- What holds of a stack at every place of an interleaving.
+use Rattle.std.proofs.Common.{◌≡◌, ◌≢◌, ℕ, ◌*◌, ◌<◌, ◌≤◌, List, [], ◌∷◌, length, Some, None, Option}
+use Rattle.std.specs.Prelude.{◌⊎◌}
+use Rattle.mk_never.specs.declared.values.Value.{Value}
+use Rattle.mk_never.specs.declared.values.Value.TheVariants.{Null, Ptr}
+use Rattle.mk_never.specs.Types.{kinds_of}
+use Rattle.mk_never.specs.NeverHeap.{NeverState, register_at, global_at, allocation_at, words_of, word_at, number_of}
+use Rattle.mk_stack.specs.declared.jobs.Done.{Done}
+use Rattle.mk_stack.specs.declared.jobs.Done.TheVariants.{Popped, Empty}
+use Rattle.mk_stack.specs.Jobs.{Replied, JobRun, done_without, node_kinds, top_kinds}
+use Rattle.mk_stack.specs.declared.points.Point.{Point}
+use Rattle.mk_stack.specs.declared.points.Point.TheVariants.{Founding, Placing, Founded, Starting, Checking, Making}
+use Rattle.mk_stack.specs.declared.points.Point.TheVariants.{Filling, Looking, Linking}
+use Rattle.mk_stack.specs.declared.points.Point.TheVariants.{Publishing, Peeking, Testing, Following, Taking, Freeing}
+use Rattle.mk_stack.specs.declared.points.Point.TheVariants.{Reading, Ended}
+use Rattle.mk_stack.specs.Laws.{IsOneOf}
+use Rattle.mk_stack.proofs.Roles.{Role, Base, Private, Stacked, Taken, Unborn, size_of, is_gone, IsPublished}
+
+abbrev pub IsNotAmong : ℕ → List ℕ → Type 0
+IsNotAmong a [] = Unit {0}
+IsNotAmong a (b ∷ bs) = (a ≢ b) × IsNotAmong a bs
+
+-- The nodes are linked from this pointer on, each stands once, and all have the role of nodes on the stack.
+abbrev pub IsChain : NeverState → (ℕ → Role) → Value → List ℕ → Type 0
+IsChain n role v [] = v ≡ Null
+IsChain n role v (a ∷ nodes) =
+    (v ≡ Ptr a 0 0) × (role a ≡ Stacked) × IsNotAmong a nodes × IsChain n role (word_at n a 1) nodes
+
+-- There is no top yet, or global 0 points to it and it has the chain.
+abbrev pub HasChain : NeverState → Option ℕ → (ℕ → Role) → List ℕ → Type 0
+HasChain n None role nodes = (global_at n 0 ≡ Null) × (nodes ≡ [])
+HasChain n (Some t) role nodes =
+    (global_at n 0 ≡ Ptr t 1 0) × (role t ≡ Base) × IsChain n role (word_at n t 0) nodes
+
+-- what no caller's point says
+pub record Core (callers : ℕ) (n : NeverState) (top : Option ℕ) (role : ℕ → Role) (nodes : List ℕ) : Type 0 where
+  pub node_type : kinds_of n.types 0 ≡ node_kinds
+  pub top_type : kinds_of n.types 1 ≡ top_kinds
+  pub registers : length n.registers ≡ 8 * callers
+  pub globals : length n.globals ≡ 64
+  pub unborn : (a : ℕ) → length n.allocations ≤ a → role a ≡ Unborn
+  pub born : (a : ℕ) → a < length n.allocations → role a ≢ Unborn
+  pub size : (a : ℕ) → length (words_of n a) ≡ size_of (role a)
+  pub freed : (a : ℕ) → (allocation_at n a).freed ≡ is_gone (role a)
+  pub base : (a : ℕ) → role a ≡ Base → (allocation_at n a).ty ≡ 1
+  pub stacked : (a : ℕ) → role a ≡ Stacked → IsOneOf a nodes
+  pub chain : HasChain n top role nodes
+
+-- what a caller has in its registers
+
+pub record HasTop (n : NeverState) (top : Option ℕ) (k : ℕ) : Type 0 where
+  pub t : ℕ
+  pub is : top ≡ Some t
+  pub register : register_at n k 0 ≡ Ptr t 1 0
+
+-- a node of its own,
+pub record HasOwn (n : NeverState) (role : ℕ → Role) (k : ℕ) : Type 0 where
+  pub a : ℕ
+  pub register : register_at n k 1 ≡ Ptr a 0 0
+  pub has : role a ≡ Private k
+
+-- with the number,
+pub record HasFilled (n : NeverState) (role : ℕ → Role) (k m : ℕ) : Type 0 where
+  pub a : ℕ
+  pub register : register_at n k 1 ≡ Ptr a 0 0
+  pub has : role a ≡ Private k
+  pub number : number_of (word_at n a 0) ≡ m
+
+-- and linked to what register 2 has
+pub record HasLinked (n : NeverState) (role : ℕ → Role) (k m : ℕ) : Type 0 where
+  pub a : ℕ
+  pub register : register_at n k 1 ≡ Ptr a 0 0
+  pub has : role a ≡ Private k
+  pub number : number_of (word_at n a 0) ≡ m
+  pub link : word_at n a 1 ≡ register_at n k 2
+
+-- a node that was on the stack when it was loaded,
+pub record HasSeen (n : NeverState) (role : ℕ → Role) (k : ℕ) : Type 0 where
+  pub a : ℕ
+  pub register : register_at n k 2 ≡ Ptr a 0 0
+  pub has : IsPublished (role a)
+
+-- with what is below it
+pub record HasFollowed (n : NeverState) (role : ℕ → Role) (k : ℕ) : Type 0 where
+  pub a : ℕ
+  pub register : register_at n k 2 ≡ Ptr a 0 0
+  pub has : IsPublished (role a)
+  pub next : register_at n k 3 ≡ word_at n a 1
+
+-- a node that it popped, and still has to free,
+pub record HasTaken (n : NeverState) (role : ℕ → Role) (k : ℕ) (u : Option Done) : Type 0 where
+  pub a : ℕ
+  pub register : register_at n k 2 ≡ Ptr a 0 0
+  pub has : role a ≡ Taken k
+  pub owes : u ≡ Some (Popped (number_of (word_at n a 0)))
+
+-- or has freed
+pub record HasFreed (n : NeverState) (role : ℕ → Role) (k : ℕ) (u : Option Done) : Type 0 where
+  pub a : ℕ
+  pub register : register_at n k 2 ≡ Ptr a 0 0
+  pub has : IsPublished (role a)
+  pub owes : u ≡ Some (Popped (number_of (word_at n a 0)))
+
+-- a top that isn't placed yet
+pub record HasBase (n : NeverState) (role : ℕ → Role) (k : ℕ) : Type 0 where
+  pub t : ℕ
+  pub register : register_at n k 0 ≡ Ptr t 1 0
+  pub has : role t ≡ Base
+  pub word : word_at n t 0 ≡ Null
+
+-- What holds of a caller at a point, whose job was decided so, or not yet.
+abbrev pub Local : NeverState → Option ℕ → (ℕ → Role) → ℕ → Point → Option Done → Type 0
+Local n top role k Founding u = (k ≡ 0) × (top ≡ None)
+Local n top role k Placing u = (k ≡ 0) × (top ≡ None) × HasBase n role k
+Local n top role k Founded u = Unit {0}
+Local n top role k (Starting j) u = u ≡ None
+Local n top role k (Checking j) u =
+    ((register_at n k 0 ≡ Null) × (u ≡ Some (done_without j))) ⊎ ((u ≡ None) × HasTop n top k)
+Local n top role k (Making m) u = (u ≡ None) × HasTop n top k
+Local n top role k (Filling m) u = (u ≡ None) × HasTop n top k × HasOwn n role k
+Local n top role k (Looking m) u = (u ≡ None) × HasTop n top k × HasFilled n role k m
+Local n top role k (Linking m) u = (u ≡ None) × HasTop n top k × HasFilled n role k m
+Local n top role k (Publishing m) u = (u ≡ None) × HasTop n top k × HasLinked n role k m
+Local n top role k Peeking u = (u ≡ None) × HasTop n top k
+Local n top role k Testing u =
+    HasTop n top k × (((register_at n k 2 ≡ Null) × (u ≡ Some Empty)) ⊎ ((u ≡ None) × HasSeen n role k))
+Local n top role k Following u = (u ≡ None) × HasTop n top k × HasSeen n role k
+Local n top role k Taking u = (u ≡ None) × HasTop n top k × HasFollowed n role k
+Local n top role k Freeing u = HasTaken n role k u
+Local n top role k Reading u = HasFreed n role k u
+Local n top role k (Ended d) u = u ≡ Some d
+
+-- where a caller has a node of its own
+abbrev pub IsPushing : Point → Type 0
+IsPushing (Filling m) = Unit {0}
+IsPushing (Looking m) = Unit {0}
+IsPushing (Linking m) = Unit {0}
+IsPushing (Publishing m) = Unit {0}
+IsPushing _ = ⊥
+
+abbrev pub IsFreeing : Point → Type 0
+IsFreeing Freeing = Unit {0}
+IsFreeing _ = ⊥
+
+-- A node with such a role is known by its caller.
+pub record IsHeld (n : NeverState) (r : Role) (k a : ℕ) (s : Point) : Type 0 where
+  pub pushing : r ≡ Private k → IsPushing s × (register_at n k 1 ≡ Ptr a 0 0)
+  pub freeing : r ≡ Taken k → IsFreeing s × (register_at n k 2 ≡ Ptr a 0 0)
+
+-- where a caller is: its point, what its job was decided as, what it still does until its goal, and the jobs after that
+pub record Work : Type 0 where
+  pub point : Point
+  pub decided : Option Done
+  pub rest : List Replied
+  pub goal : Point
+  pub later : List JobRun
+
+pub record Inv (callers : ℕ) (n : NeverState) (top : Option ℕ) (role : ℕ → Role) (nodes : List ℕ) (W : ℕ → Work)
+    : Type 0 where
+  pub core : Core callers n top role nodes
+  pub local : (k : ℕ) → Local n top role k (W k).point (W k).decided
+  pub held : (k a : ℕ) → IsHeld n (role a) k a (W k).point

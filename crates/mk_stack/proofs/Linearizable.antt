@@ -1,0 +1,146 @@
+-- From the first operation on: the order of all jobs, and what becomes of their nodes.
+use Rattle.std.proofs.Common.{◌≡◌, ℕ, zero, suc, ◌+◌, ◌*◌, ◌<◌, ◌≤◌, List, [], length}
+use Rattle.std.proofs.Common.{take, drop, refl, sym, ◌∙◌, ap, arith, None, inl, inr}
+use Rattle.std.specs.Prelude.{◌⊎◌}
+use Rattle.std.proofs.lemmas.Bool.{cases_lt}
+use Rattle.std.proofs.lemmas.List.{length-replicate}
+use Rattle.mk_never.specs.declared.types.Kind.{Kind}
+use Rattle.mk_never.specs.declared.values.Value.TheVariants.{Null}
+use Rattle.mk_never.specs.NeverHeap.{NeverState, Call, start_of, allocation_at, after_calls, bit}
+use Rattle.mk_stack.specs.Jobs.{Replied, JobRun}
+use Rattle.mk_stack.specs.declared.points.Point.TheVariants.{Founding, Founded}
+use Rattle.mk_stack.specs.Interleavings.{IsInterleaved, first_of, order_of, own_decisions, AreDecidedOnce}
+use Rattle.mk_stack.specs.Laws.{IsLinearized, LeaksNothing, IsExplained, StacksAreLinearizable, IsOneOf, times_freed}
+use Rattle.mk_stack.proofs.Roles.{Role, Unborn, Base, Private, Stacked, Taken, Freed, is_gone}
+use Rattle.mk_stack.proofs.Invariant.{Core, Local, Work, Inv}
+use Rattle.mk_stack.proofs.Chains.{stack_is_linked, on_stack_role}
+use Rattle.mk_stack.proofs.Writes.{unborn_base, unborn_stacked, unborn_private, unborn_taken}
+use Rattle.mk_stack.proofs.Owing.{IsWork, Ran}
+use Rattle.mk_stack.proofs.Running.{run_all}
+
+-- The first caller founds the stack; each other one begins with its first job.
+first_work : List Replied → (ℕ → List JobRun) → ℕ → Work
+first_work founding runs zero =
+    record { point = Founding; decided = None; rest = founding; goal = Founded; later = runs zero }
+first_work founding runs (suc k) =
+    record { point = Founded; decided = None; rest = []; goal = Founded; later = runs (suc k) }
+
+module _ (types : List (List Kind)) (callers : ℕ) (founding : List Replied) (runs : ℕ → List JobRun) (calls : List Call)
+    (h : IsInterleaved types callers founding runs calls) where
+  abbrev n : NeverState
+  n = start_of types callers
+
+  abbrev m : NeverState
+  m = after_calls n calls
+
+  unborn : ℕ → Role
+  unborn a = Unborn
+
+  first_core : Core callers n None unborn []
+  unfolding unborn
+  first_core =
+      record {
+        node_type = h.nodes;
+        top_type = h.tops;
+        registers = length-replicate (8 * callers) Null;
+        globals = length-replicate 64 Null;
+        unborn = λ a ge. refl;
+        born = λ a lt. absurd (omega arith);
+        size = λ a. refl;
+        freed = λ a. refl;
+        base = λ a e. absurd (unborn_base e);
+        stacked = λ a e. absurd (unborn_stacked e);
+        chain = (refl, refl);
+      }
+
+  first_local : (k : ℕ) → Local n None unborn k (first_work founding runs k).point (first_work founding runs k).decided
+  unfolding first_work
+  first_local zero = (refl, refl)
+  first_local (suc k) = tt
+
+  first_inv : Inv callers n None unborn [] (first_work founding runs)
+  unfolding unborn
+  first_inv =
+      record {
+        core = first_core;
+        local = first_local;
+        held = λ k a. record { pushing = λ e. absurd (unborn_private k e); freeing = λ e. absurd (unborn_taken k e) };
+      }
+
+  first_works : (k : ℕ) → IsWork n calls k (first_work founding runs k)
+  unfolding first_work
+  first_works zero = record { own = h.own zero; leads = h.founds; goal = tt; later = h.jobs zero }
+  first_works (suc k) = record { own = h.own (suc k); leads = refl; goal = tt; later = h.jobs (suc k) }
+
+  abbrev all : Ran callers n unborn [] (first_work founding runs) calls
+  all = run_all callers n calls h.exist None unborn [] (first_work founding runs) first_inv first_works
+
+  once : (ran : Ran callers n unborn [] (first_work founding runs) calls) (k : ℕ)
+      → AreDecidedOnce k (runs k) (drop (length (first_of k founding)) (own_decisions k calls ran.decisions))
+  unfolding first_work
+  once ran zero = (ran.once zero).later
+  once ran (suc k) = (ran.once (suc k)).later
+
+  founds_only : (ran : Ran callers n unborn [] (first_work founding runs) calls)
+      → order_of (take (length founding) (own_decisions 0 calls ran.decisions)) ≡ []
+  unfolding first_work
+  founds_only ran = (ran.once zero).first
+
+  linearized : (ran : Ran callers n unborn [] (first_work founding runs) calls)
+      → IsLinearized types callers founding runs calls ran.nodes_end
+  linearized ran =
+      record {
+        decisions = ran.decisions;
+        one_each = ran.one_each;
+        explained = ran.explained;
+        founds_only = founds_only ran;
+        once = once ran;
+      }
+
+  module _ (ran : Ran callers n unborn [] (first_work founding runs) calls) where
+    times : (a : ℕ) (r : Role) → ran.role_end a ≡ r → times_freed a n calls ≡ bit (is_gone r)
+    unfolding unborn
+    times a r is =
+        let sum : bit (is_gone (ran.role_end a)) ≡ 0 + times_freed a n calls = ran.frees a in
+        let here : bit (is_gone (ran.role_end a)) ≡ bit (is_gone r) = ap (λ (x : Role). bit (is_gone x)) is in
+        omega (arith, sum, here)
+
+    on_stack : (a : ℕ) → IsOneOf a ran.nodes_end → ran.role_end a ≡ Stacked
+    on_stack a one = on_stack_role m ran.top_end ran.role_end ran.nodes_end a ran.core.chain one
+
+    there : (a : ℕ) → (Unborn ≡ ran.role_end a → ⊥) → a < length m.allocations
+    there a born = by (cases_lt a (length m.allocations))
+      where
+        by : (a < length m.allocations) ⊎ (length m.allocations ≤ a) → a < length m.allocations
+        by (inl lt) = lt
+        by (inr ge) = absurd (born (sym (ran.core.unborn a ge)))
+
+    freed : (a : ℕ) → a < length m.allocations → (allocation_at m a).ty ≡ 0 → (IsOneOf a ran.nodes_end → ⊥)
+        → (r : Role) → ran.role_end a ≡ r → times_freed a n calls ≡ 1
+    freed a lt node off Unborn is = absurd (ran.core.born a lt is)
+    freed a lt node off Base is = let top : (allocation_at m a).ty ≡ 1 = ran.core.base a is in absurd (omega arith)
+    freed a lt node off (Private k) is = absurd (ran.pushed k a is)
+    freed a lt node off Stacked is = absurd (off (ran.core.stacked a is))
+    freed a lt node off (Taken k) is = absurd (ran.taken k a is)
+    freed a lt node off Freed is = times a Freed is
+
+    no_leak : LeaksNothing n m calls ran.nodes_end
+    no_leak =
+        record {
+          kept = λ a one. (there a (λ e. unborn_stacked (e ∙ on_stack a one)), times a Stacked (on_stack a one));
+          gone = λ a lt node off. freed a lt node off (ran.role_end a) refl;
+          single = ran.single;
+        }
+
+  explained : Ran callers n unborn [] (first_work founding runs) calls → IsExplained types callers founding runs calls
+  explained ran =
+      record {
+        nodes = ran.nodes_end;
+        linked = stack_is_linked m ran.top_end ran.role_end ran.nodes_end ran.core.chain;
+        linearized = linearized ran;
+        no_leak = no_leak ran;
+      }
+
+pub stacks_are_linearizable : StacksAreLinearizable
+stacks_are_linearizable types callers founding runs calls h =
+    explained types callers founding runs calls h (all types callers founding runs calls h)

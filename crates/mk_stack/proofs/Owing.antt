@@ -1,0 +1,218 @@
+-- What callers still have to do, what is still to be decided of it, and what one operation more makes of that.
+use Rattle.std.proofs.Common.{◌≡◌, ◌≢◌, ℕ, ◌+◌, Bool, List, [], ◌∷◌, ◌++◌}
+use Rattle.std.proofs.Common.{length, take, drop, refl, sym, ◌∙◌, ap, subst, arith, Some, None, Option}
+use Rattle.std.specs.Prelude.{if◌then◌else◌, option_and_then}
+use Rattle.std.proofs.lemmas.Bool.{eq-eqb, ne_eqb}
+use Rattle.mk_never.specs.declared.operations.Op.{Op}
+use Rattle.mk_never.specs.NeverHeap.{NeverState, Call, reply_of, after_op, after_calls, replies_of, bit}
+use Rattle.mk_stack.specs.declared.jobs.Job.{Job}
+use Rattle.mk_stack.specs.declared.jobs.Done.{Done}
+use Rattle.mk_stack.specs.Jobs.{Replied, JobRun, Leads, IsJobRun, all_of}
+use Rattle.mk_stack.specs.declared.points.Point.{Point}
+use Rattle.mk_stack.specs.declared.points.Point.TheVariants.{Founded, Starting, Ended}
+use Rattle.mk_stack.specs.Orders.{Ordered, left_by_all}
+use Rattle.mk_stack.specs.Interleavings.{own_replied, AreJobRuns, order_of, own_decisions, AreDecidedOnce}
+use Rattle.mk_stack.specs.Laws.{numbers_in, times_freed, NoneIsDouble}
+use Rattle.mk_stack.proofs.Roles.{Role, Private, Taken, is_gone}
+use Rattle.mk_stack.proofs.Invariant.{Core, Local, IsPushing, IsFreeing, Work, Inv}
+use Rattle.mk_stack.proofs.Assembly.{Decides, nothing, settles, IsLeft, IsOfJob, job_at}
+use Rattle.mk_stack.specs.Advancing.{IsGoal}
+use Rattle.mk_stack.proofs.JobGoals.{goal_pushes_nothing, goal_frees_nothing}
+
+-- what a caller still has to do
+pub record IsWork (n : NeverState) (calls : List Call) (k : ℕ) (w : Work) : Type 0 where
+  pub own : own_replied k n calls ≡ w.rest ++ all_of w.later
+  pub leads : Leads w.point w.rest w.goal
+  pub goal : IsGoal w.goal
+  pub later : AreJobRuns w.later
+
+-- what its present job is still to be decided as
+
+abbrev pub entry : ℕ → Point → Done → Ordered
+entry k s d = record { caller = k; job = job_at s; done = d }
+
+abbrev pub owed_by : ℕ → Point → Option Done → Done → List Ordered
+owed_by k s None d = entry k s d ∷ []
+owed_by k s (Some y) d = []
+
+abbrev pub owed : ℕ → Point → Option Done → Point → List Ordered
+owed k s u (Ended d) = owed_by k s u d
+owed k s u _ = []
+
+-- What was decided is what the job ends with.
+abbrev pub Agrees : Option Done → Point → Type 0
+Agrees (Some y) (Ended d) = y ≡ d
+Agrees u g = Unit {0}
+
+pub record IsOnce (k : ℕ) (w : Work) (ds : List (Option Ordered)) : Type 0 where
+  pub agrees : Agrees w.decided w.goal
+  pub first : order_of (take (length w.rest) ds) ≡ owed k w.point w.decided w.goal
+  pub later : AreDecidedOnce k w.later (drop (length w.rest) ds)
+
+-- what all operations leave
+pub record Ran (callers : ℕ) (n : NeverState) (role : ℕ → Role) (nodes : List ℕ) (W : ℕ → Work) (calls : List Call)
+    : Type 0 where
+  pub top_end : Option ℕ
+  pub role_end : ℕ → Role
+  pub nodes_end : List ℕ
+  pub core : Core callers (after_calls n calls) top_end role_end nodes_end
+  pub pushed : (k a : ℕ) → role_end a ≢ Private k
+  pub taken : (k a : ℕ) → role_end a ≢ Taken k
+  pub decisions : List (Option Ordered)
+  pub one_each : length decisions ≡ length calls
+  pub explained : left_by_all (numbers_in n nodes) (order_of decisions)
+      ≡ Some (numbers_in (after_calls n calls) nodes_end)
+  pub once : (k : ℕ) → IsOnce k (W k) (own_decisions k calls decisions)
+  pub frees : (a : ℕ) → bit (is_gone (role_end a)) ≡ bit (is_gone (role a)) + times_freed a n calls
+  pub single : NoneIsDouble (replies_of n calls)
+
+-- At its goal nothing is owed.
+pub record IsSettled (k : ℕ) (s : Point) (u : Option Done) (g : Point) : Type 0 where
+  pub agrees : Agrees u g
+  pub nothing : owed k s u g ≡ []
+
+pub settled : (n : NeverState) (top : Option ℕ) (role : ℕ → Role) (k : ℕ) (s : Point) (u : Option Done) (g : Point)
+    → IsGoal g → s ≡ g → Local n top role k s u → IsSettled k s u g
+settled n top role k s u Founded goal is local = by u
+  where
+    by : (x : Option Done) → IsSettled k s x Founded
+    by None = record { agrees = tt; nothing = refl }
+    by (Some y) = record { agrees = tt; nothing = refl }
+settled n top role k s u (Ended d) goal is local =
+    let done : u ≡ Some d = subst (λ (p : Point). Local n top role k p u) is local in
+    subst (λ (x : Option Done). IsSettled k s x (Ended d)) (sym done) (record { agrees = refl; nothing = refl })
+settled n top role k s u _ goal is local = absurd goal
+
+-- A job has an operation.
+pub begins : (r : JobRun) → IsJobRun r → r.all ≡ [] → ⊥
+begins r run none =
+    let same : Starting r.job ≡ Ended r.done = subst (λ (xs : List Replied). Leads (Starting r.job) xs
+    (Ended r.done)) none
+    run in starts same
+  where
+    starts : Starting r.job ≡ Ended r.done → ⊥
+    starts e = cc
+
+pub nothing_left : (xs ys : List Replied) → [] ≡ xs ++ ys → (xs ≡ []) × (ys ≡ [])
+nothing_left [] [] e = (refl, refl)
+nothing_left [] (y ∷ ys) e = absurd (cons_is_not_nil y ys e)
+  where
+    cons_is_not_nil : (y : Replied) (ys : List Replied) → [] ≡ y ∷ ys → ⊥
+    cons_is_not_nil y ys e = cc
+nothing_left (x ∷ xs) ys e = absurd (cons_is_not_nil x (xs ++ ys) e)
+  where
+    cons_is_not_nil : (y : Replied) (ys : List Replied) → [] ≡ y ∷ ys → ⊥
+    cons_is_not_nil y ys e = cc
+
+pub no_jobs_left : (rs : List JobRun) → AreJobRuns rs → all_of rs ≡ [] → rs ≡ []
+no_jobs_left [] runs e = refl
+no_jobs_left (r ∷ rs) runs e = absurd (begins r runs.0 (nothing_left r.all (all_of rs) (sym e)).0)
+
+-- Where all is done
+module _ (callers : ℕ) (n : NeverState) (top : Option ℕ) (role : ℕ → Role) (nodes : List ℕ) (W : ℕ → Work)
+    (inv : Inv callers n top role nodes W) (work : (k : ℕ) → IsWork n [] k (W k)) where
+  at_goal : (k : ℕ) → (W k).point ≡ (W k).goal
+  at_goal k =
+      let none = nothing_left (W k).rest (all_of (W k).later) (work k).own in
+      subst (λ (xs : List Replied). Leads (W k).point xs (W k).goal) none.0 (work k).leads
+
+  done_once : (k : ℕ) → IsOnce k (W k) []
+  done_once k =
+      let none = nothing_left (W k).rest (all_of (W k).later) (work k).own in
+      let settles = settled n top role k (W k).point (W k).decided (W k).goal (work k).goal (at_goal k) (inv.local k) in
+      record {
+        agrees = settles.agrees;
+        first =
+            ap (λ (xs : List Replied). order_of (take (length xs) [])) none.0 ∙ sym settles.nothing;
+        later =
+            subst (λ (xs : List Replied). AreDecidedOnce k (W k).later (drop (length xs) [])) (sym none.0)
+            (subst (λ (rs : List JobRun). AreDecidedOnce k rs []) (sym (no_jobs_left (W k).later (work k).later none.1))
+            refl);
+      }
+
+  pub all_done : Ran callers n role nodes W []
+  all_done =
+      record {
+        top_end = top;
+        role_end = role;
+        nodes_end = nodes;
+        core = inv.core;
+        pushed = λ k a e. goal_pushes_nothing (W k).goal (work k).goal
+            (subst (λ (p : Point). IsPushing p) (at_goal k) ((inv.held k a).pushing e).0);
+        taken = λ k a e. goal_frees_nothing (W k).goal (work k).goal
+            (subst (λ (p : Point). IsFreeing p) (at_goal k) ((inv.held k a).freeing e).0);
+        decisions = [];
+        one_each = refl;
+        explained = refl;
+        once = done_once;
+        frees = λ a. omega arith;
+        single = tt;
+      }
+
+-- A caller's own operations, and those of others
+
+pub mine : (c : ℕ) (o : Op) (n : NeverState) (xs : List Call)
+    → own_replied c n (record { caller = c; op = o } ∷ xs)
+    ≡ record { op = o; reply = reply_of n c o } ∷ own_replied c (after_op n c o) xs
+mine c o n xs =
+    ap (λ (b : Bool). if b then record { op = o; reply = reply_of n c o } ∷ own_replied c (after_op n c o) xs
+    else own_replied c (after_op n c o) xs)
+    (eq-eqb c c refl)
+
+pub of_other : (k c : ℕ) (o : Op) (n : NeverState) (xs : List Call) → k ≢ c
+    → own_replied k n (record { caller = c; op = o } ∷ xs) ≡ own_replied k (after_op n c o) xs
+of_other k c o n xs other =
+    ap (λ (b : Bool). if b then record { op = o; reply = reply_of n c o } ∷ own_replied k (after_op n c o) xs
+    else own_replied k (after_op n c o) xs)
+    (ne_eqb c k (λ e. other (sym e)))
+
+pub my_decision : (c : ℕ) (o : Op) (xs : List Call) (d : Option Ordered) (ds : List (Option Ordered))
+    → own_decisions c (record { caller = c; op = o } ∷ xs) (d ∷ ds) ≡ d ∷ own_decisions c xs ds
+my_decision c o xs d ds =
+    ap (λ (b : Bool). if b then d ∷ own_decisions c xs ds else own_decisions c xs ds) (eq-eqb c c refl)
+
+pub decision_of_other : (k c : ℕ) (o : Op) (xs : List Call) (d : Option Ordered) (ds : List (Option Ordered)) → k ≢ c
+    → own_decisions k (record { caller = c; op = o } ∷ xs) (d ∷ ds) ≡ own_decisions k xs ds
+decision_of_other k c o xs d ds other =
+    ap (λ (b : Bool). if b then d ∷ own_decisions k xs ds else own_decisions k xs ds) (ne_eqb c k (λ e. other (sym e)))
+
+-- One decision before others
+pub explained_more : (d : Option Ordered) (xs ys : List ℕ) (zs : List ℕ) (ds : List (Option Ordered)) → IsLeft d xs ys
+    → left_by_all ys (order_of ds) ≡ Some zs → left_by_all xs (order_of (d ∷ ds)) ≡ Some zs
+explained_more None xs ys zs ds left rest = ap (λ (l : List ℕ). left_by_all l (order_of ds)) (sym left) ∙ rest
+explained_more (Some e) xs ys zs ds left rest =
+    ap (λ (o : Option (List ℕ)). option_and_then (λ (l : List ℕ). left_by_all l (order_of ds)) o) left ∙ rest
+
+-- The same is owed after a step that decides nothing,
+pub owed_same : (c : ℕ) (s next : Point) (u : Option Done) (g : Point) → (u ≡ None → job_at next ≡ job_at s)
+    → owed c next u g ≡ owed c s u g
+owed_same c s next None (Ended d) same =
+    ap (λ (j : Job). record { caller = c; job = j; done = d } ∷ []) (same refl)
+owed_same c s next (Some y) (Ended d) same = refl
+owed_same c s next None _ same = refl
+owed_same c s next (Some y) _ same = refl
+
+-- and nothing after one that decides the job.
+pub record IsOnceMore (c : ℕ) (s : Point) (u : Option Done) (d : Option Ordered) (g : Point) (ds : List
+    (Option Ordered))
+    : Type 0 where
+  pub agrees : Agrees u g
+  pub first : order_of (d ∷ ds) ≡ owed c s u g
+
+pub agrees_none : (g : Point) → Agrees None g
+agrees_none (Ended d) = tt
+agrees_none _ = tt
+
+pub once_more : (c : ℕ) (s next : Point) (u : Option Done) (d : Option Ordered) (u' : Option Done) (g : Point)
+    (ds : List (Option Ordered)) → Decides c s u d u' → (u' ≡ None → job_at next ≡ job_at s)
+    → IsGoal g → (IsOfJob s → g ≢ Founded) → Agrees u' g → order_of ds ≡ owed c next u' g → IsOnceMore c s u d g ds
+once_more c s next u d u' g ds (nothing {u = x}) same goal of_job agrees first =
+    record { agrees = agrees; first = first ∙ owed_same c s next u' g same }
+once_more c s next u d u' (Ended e) ds (settles {d = y} h) same goal of_job agrees first =
+    record {
+      agrees = tt;
+      first = ap (λ (l : List Ordered). entry c s y ∷ l) first
+          ∙ ap (λ (z : Done). entry c s z ∷ []) agrees;
+    }
+once_more c s next u d u' Founded ds (settles {d = y} h) same goal of_job agrees first = absurd (of_job h refl)
+once_more c s next u d u' _ ds (settles {d = y} h) same goal of_job agrees first = absurd goal

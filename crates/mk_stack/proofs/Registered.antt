@@ -1,0 +1,174 @@
+-- Steps that leave all allocations: a register that is set, a global, or nothing.
+use Rattle.std.proofs.Common.{◌≡◌, ◌≢◌, ℕ, ◌+◌, ◌*◌, ◌<◌, List, [], length, length-set, refl, sym, ◌∙◌, subst, arith}
+use Rattle.std.proofs.Common.{Some, None, Option}
+use Rattle.mk_never.specs.declared.operations.Op.{Op}
+use Rattle.mk_never.specs.declared.values.Value.{Value}
+use Rattle.mk_never.specs.declared.values.Value.TheVariants.{Null, Ptr}
+use Rattle.mk_never.specs.NeverHeap.{NeverState, with_register, with_global, word_at}
+use Rattle.std.proofs.lemmas.List.{get_or-set_same}
+use Rattle.mk_stack.specs.declared.jobs.Done.{Done}
+use Rattle.mk_stack.specs.Jobs.{Replied}
+use Rattle.mk_stack.specs.declared.points.Point.{Point}
+use Rattle.mk_stack.specs.Orders.{Ordered}
+use Rattle.mk_stack.specs.Laws.{numbers_in, freed_by}
+use Rattle.mk_stack.proofs.Heaps.{register_of_other}
+use Rattle.mk_stack.proofs.Roles.{Role, Base, same_role}
+use Rattle.mk_stack.proofs.Invariant.{Core, HasChain, IsChain, Local, IsHeld, Work, Inv}
+use Rattle.mk_stack.proofs.Frames.{Leaves}
+use Rattle.mk_stack.proofs.Chains.{has_chain_stays, all_numbers_stay}
+use Rattle.mk_stack.proofs.Assembly.{Decides, nothing, IsLeft, moved, Stepped, assemble, same_before}
+
+none_some : (x : ℕ) → None ≡ Some x → ⊥
+none_some x same = cc
+
+module _ (callers : ℕ) (n : NeverState) (top : Option ℕ) (role : ℕ → Role) (nodes : List ℕ) (W : ℕ → Work)
+    (inv : Inv callers n top role nodes W) (c : ℕ) where
+  nothing_leaves : (k : ℕ) → Leaves n top role n top role k
+  nothing_leaves k =
+      record {
+        registers = λ r lt. refl;
+        same_top = λ t e. e;
+        none = λ first e. e;
+        base = λ first e a is. (is, refl);
+        roles = λ a. same_role k (role a) _ refl;
+      }
+
+  -- A step that leaves the heap as it was
+  pub by_nothing : (s : Point) (u : Option Done) (o : Op) (next : Point) (rest : List Replied) (u' : Option Done)
+      (d : Option Ordered)
+      → Local n top role c next u' → ((a : ℕ) → IsHeld n (role a) c a next)
+      → IsLeft d (numbers_in n nodes) (numbers_in n nodes) → Decides c s u d u' → ((a : ℕ) → freed_by a n c o ≡ 0)
+      → Stepped callers n role nodes W c s u o next rest n
+  by_nothing s u o next rest u' d local held left decides frees =
+      record {
+        top_now = top;
+        role_now = role;
+        nodes_now = nodes;
+        decided = u';
+        decision = d;
+        inv = assemble callers n top role nodes W inv c n top role nodes (moved (W c) next u' rest) inv.core
+            (λ k other. nothing_leaves k) (λ k a other. same_before k (role a)) local held;
+        left = left;
+        decides = decides;
+        frees = λ a. omega (arith, frees a);
+      }
+
+  -- A register that is set
+  module _ (d : ℕ) (v : Value) (below : d < 8) where
+    abbrev m : NeverState
+    m = with_register n c d v
+
+    register_leaves : (k : ℕ) → k ≢ c → Leaves n top role m top role k
+    register_leaves k other =
+        record {
+          registers = λ r lt. register_of_other n c d k r v other below lt;
+          same_top = λ t e. e;
+          none = λ first e. e;
+          base = λ first e a is. (is, refl);
+          roles = λ a. same_role k (role a) _ refl;
+        }
+
+    register_chain : HasChain m top role nodes
+    register_chain =
+        has_chain_stays n m top role role nodes refl (λ t e. (e, refl))
+        (λ a one e. record { role_now = e; link = refl })
+        inv.core.chain
+
+    register_core : Core callers m top role nodes
+    register_core =
+        let core : Core callers n top role nodes = inv.core in
+        record {
+          node_type = core.node_type;
+          top_type = core.top_type;
+          registers = length-set n.registers (8 * c + d) v ∙ core.registers;
+          globals = core.globals;
+          unborn = core.unborn;
+          born = core.born;
+          size = core.size;
+          freed = core.freed;
+          base = core.base;
+          stacked = core.stacked;
+          chain = register_chain;
+        }
+
+    register_numbers : numbers_in m nodes ≡ numbers_in n nodes
+    register_numbers = all_numbers_stay n m top role nodes (λ a e. refl) inv.core.chain
+
+    pub by_register : (s : Point) (u : Option Done) (o : Op) (next : Point) (rest : List Replied) (u' : Option Done)
+        (e : Option Ordered)
+        → Local m top role c next u' → ((a : ℕ) → IsHeld m (role a) c a next)
+        → IsLeft e (numbers_in n nodes) (numbers_in n nodes) → Decides c s u e u' → ((a : ℕ) → freed_by a n c o ≡ 0)
+        → Stepped callers n role nodes W c s u o next rest m
+    by_register s u o next rest u' e local held left decides frees =
+        record {
+          top_now = top;
+          role_now = role;
+          nodes_now = nodes;
+          decided = u';
+          decision = e;
+          inv = assemble callers n top role nodes W inv c m top role nodes (moved (W c) next u' rest) register_core
+              register_leaves (λ k a other. same_before k (role a)) local held;
+          left = subst (λ (l : List ℕ). IsLeft e (numbers_in n nodes) l) (sym register_numbers) left;
+          decides = decides;
+          frees = λ a. omega (arith, frees a);
+        }
+
+  -- The first caller stores the top in global 0.
+  module _ (first : c ≡ 0) (t : ℕ) (none : top ≡ None) (is_base : role t ≡ Base) (empty : word_at n t 0 ≡ Null) where
+    abbrev g : NeverState
+    g = with_global n 0 (Ptr t 1 0)
+
+    no_nodes : (x : Option ℕ) → x ≡ None → HasChain n x role nodes → nodes ≡ []
+    no_nodes None e chain = chain.1
+    no_nodes (Some x) e chain = absurd (none_some x (sym e))
+
+    global_leaves : (k : ℕ) → k ≢ c → Leaves n top role g (Some t) role k
+    global_leaves k other =
+        record {
+          registers = λ r lt. refl;
+          same_top = λ x e. absurd (none_some x (sym none ∙ e));
+          none = λ zeroth e. absurd (other (zeroth ∙ sym first));
+          base = λ zeroth e a is. (is, refl);
+          roles = λ a. same_role k (role a) _ refl;
+        }
+
+    global_core : Core callers g (Some t) role nodes
+    global_core =
+        let core : Core callers n top role nodes = inv.core in
+        let nil : nodes ≡ [] = no_nodes top none core.chain in
+        record {
+          node_type = core.node_type;
+          top_type = core.top_type;
+          registers = core.registers;
+          globals = length-set n.globals 0 (Ptr t 1 0) ∙ core.globals;
+          unborn = core.unborn;
+          born = core.born;
+          size = core.size;
+          freed = core.freed;
+          base = core.base;
+          stacked = core.stacked;
+          chain = (
+            get_or-set_same n.globals 0 (Ptr t 1 0) Null
+                (let all : length n.globals ≡ 64 = core.globals in omega arith),
+            is_base,
+            subst (λ (l : List ℕ). IsChain g role (word_at g t 0) l) (sym nil) empty,
+          );
+        }
+
+    pub by_global : (s : Point) (u : Option Done) (o : Op) (next : Point) (rest : List Replied)
+        → Local g (Some t) role c next u → ((a : ℕ) → IsHeld g (role a) c a next)
+        → ((a : ℕ) → freed_by a n c o ≡ 0)
+        → Stepped callers n role nodes W c s u o next rest g
+    by_global s u o next rest local held frees =
+        record {
+          top_now = Some t;
+          role_now = role;
+          nodes_now = nodes;
+          decided = u;
+          decision = None;
+          inv = assemble callers n top role nodes W inv c g (Some t) role nodes (moved (W c) next u rest) global_core
+              global_leaves (λ k a other. same_before k (role a)) local held;
+          left = all_numbers_stay n g top role nodes (λ a e. refl) inv.core.chain;
+          decides = nothing;
+          frees = λ a. omega (arith, frees a);
+        }

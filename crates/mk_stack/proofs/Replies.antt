@@ -1,0 +1,259 @@
+-- One call of a caller, as one more operation with its reply.
+use Rattle.std.proofs.Common.{◌≡◌, ℕ, ◌<◌, Bool, true, false, List, [], ◌∷◌, ◌++◌, length, length-append, refl, sym}
+use Rattle.std.proofs.Common.{◌∙◌}
+use Rattle.std.proofs.Common.{ap, subst, append-nil, append_assoc, arith}
+use Rattle.std.specs.Prelude.{◌==◌, if◌then◌else◌}
+use Rattle.std.proofs.lemmas.Bool.{eq-eqb}
+use Rattle.std.proofs.lemmas.List.{map-append}
+use Rattle.mk_never.specs.declared.operations.Op.{Op}
+use Rattle.mk_never.specs.Admitted.{AreAdmitted, IsCaller}
+use Rattle.mk_never.specs.Laws.{KeepsRegisters}
+use Rattle.mk_never.specs.NeverHeap.{NeverState, Call, register_at, reply_of, after_op, after_calls}
+use Rattle.mk_never.specs.Typed.{IsTyped}
+use Rattle.mk_core.specs.declared.config.Config.{Config}
+use Rattle.mk_core.specs.declared.events.Answer.{Answer}
+use Rattle.mk_core.specs.declared.events.Event.{Event}
+use Rattle.mk_core.specs.declared.events.Step.TheVariants as step
+use Rattle.mk_core.specs.Decided.{Decided, asked, flagged}
+use Rattle.mk_core.specs.History.{IsHistory, bases_of, call_decided, calls, calls_from, first_world, left, never_behind}
+use Rattle.mk_core.specs.History.{never_first}
+use Rattle.mk_core.specs.Image.{answer_of}
+use Rattle.mk_core.proofs.Histories.{calls_more}
+use Rattle.mk_core.proofs.HistoryParts.{calls_in_parts, earlier_part_is_history}
+use Rattle.mk_frames.proofs.LastEvents.{comes_last, stands}
+use Rattle.mk_words.specs.States.{PassState, event_of}
+use Rattle.mk_caller.specs.States.{never_of, number_of, value_of}
+use Rattle.mk_caller.specs.Called.{Called, IsDecidedIn, own_calls}
+use Rattle.mk_caller.specs.Causes.{FindsGateHeld}
+use Rattle.mk_caller.proofs.OwnSteps.{by_append, calls_by}
+use Rattle.mk_alloc.specs.TurnCalls.{CalledInTurn}
+use Rattle.mk_alloc.proofs.Decisions.{same_last}
+use Rattle.mk_stack.specs.Jobs.{Replied}
+use Rattle.mk_stack.specs.Interleavings.{own_replied}
+use Rattle.mk_stack.specs.Passes.{replied_in, replied_to}
+use Rattle.mk_stack.specs.Advancing.{Stays}
+
+-- A caller's operations in two parts
+
+pub own_in_parts : (k : ℕ) (n : NeverState) (xs ys : List Call)
+    → own_replied k n (xs ++ ys) ≡ own_replied k n xs ++ own_replied k (after_calls n xs) ys
+own_in_parts k n [] ys = refl
+own_in_parts k n (x ∷ xs) ys =
+    by (x.caller == k) (record { op = x.op; reply = reply_of n x.caller x.op }) _ _ _
+    (own_in_parts k (after_op n x.caller x.op) xs ys)
+  where
+    by : (b : Bool) (r : Replied) (all these those : List Replied) → all ≡ these ++ those
+        → (if b then r ∷ all else all) ≡ (if b then r ∷ these else these) ++ those
+    by true r all these those is = ap (λ (l : List Replied). r ∷ l) is
+    by false r all these those is = is
+
+-- Calls among which the caller has none
+pub none_replied : (k : ℕ) (n : NeverState) (xs : List Decided) → calls_by k xs ≡ [] → own_replied k n (asked xs) ≡ []
+none_replied k n [] h = refl
+none_replied k n (x ∷ xs) h =
+    by (x.caller == k) (calls_by k xs) (own_replied k (after_op n x.caller x.op) (asked xs)) h
+    (none_replied k (after_op n x.caller x.op) xs)
+  where
+    by : (b : Bool) (own : List Decided) (rest : List Replied) → (if b then x ∷ own else own) ≡ []
+        → (own ≡ [] → rest ≡ [])
+        → (if b then record { op = x.op; reply = reply_of n x.caller x.op } ∷ rest else rest) ≡ []
+    by true own rest is next = absurd (cons_nil x own is)
+      where
+        cons_nil : (y : Decided) (ys : List Decided) → y ∷ ys ≡ [] → ⊥
+        cons_nil y ys e = cc
+    by false own rest is next = next is
+
+pub asked_in_two : (xs ys : List Decided) → asked (xs ++ ys) ≡ asked xs ++ asked ys
+asked_in_two xs ys = map-append (λ (x : Decided). record { caller = x.caller; op = x.op }) xs ys
+
+-- What is known of the place at which an operation was decided: the heap that never reuses storage there, in which the
+-- caller's registers are those before the call, and leave those after it.
+pub record Happens (p : PassState) (o : Op) (a : Answer) (q : PassState) : Type 0 where
+  pub is : q ≡ record p { seen = q.seen }
+  pub n : NeverState
+  pub types : n.types ≡ p.table.config.types
+  pub typed : IsTyped p.table.config.globals n
+  pub count : length n.globals ≡ 64
+  pub caller : IsCaller n (number_of p)
+  pub before : KeepsRegisters (number_of p) (never_of p) n
+  pub after : (r : ℕ) → r < 8 → value_of q r ≡ register_at (after_op n (number_of p) o) (number_of p) r
+  pub bases : List ℕ
+  pub image : a ≡ answer_of bases (reply_of n (number_of p) o)
+  pub did : replied_to q ≡ replied_to p ++ record { op = o; reply = reply_of n (number_of p) o } ∷ []
+
+-- nothing is beside one element more
+only_one : (a z y : List Decided) (e : Decided) → ((a ++ z) ++ e ∷ []) ++ y ≡ a ++ e ∷ [] → (z ≡ []) × (y ≡ [])
+only_one a [] [] e h = (refl, refl)
+only_one a [] (b ∷ y) e h = let lengths = ap length h in absurd (grind (arith, length-append, lengths))
+only_one a (b ∷ z) y e h = let lengths = ap length h in absurd (grind (arith, length-append, lengths))
+
+module _ (p : PassState) (o : Op) (a : Answer) (more : List Event) (once : flagged o a ≡ o)
+    (history : IsHistory p.table.config (p.seen ++ more))
+    (entry : own_calls p (p.seen ++ more)
+    ≡ own_calls p p.seen ++ record { caller = number_of p; op = o; answer = a } ∷ [])
+    (decided : IsDecidedIn p o a more) where
+  abbrev c : Config
+  c = p.table.config
+
+  abbrev k : ℕ
+  k = number_of p
+
+  abbrev x : Decided
+  x = record { caller = number_of p; op = o; answer = a }
+
+  abbrev before : List Event
+  before = p.seen ++ decided.before
+
+  abbrev through : List Event
+  through = before ++ decided.event ∷ []
+
+  abbrev earlier : List Decided
+  earlier = calls_from c (left c p.seen) decided.before
+
+  abbrev later : List Decided
+  later = calls_from c (left c through) decided.behind
+
+  abbrev n0 : NeverState
+  n0 = never_first c
+
+  cut : p.seen ++ more ≡ through ++ decided.behind
+  cut =
+      ap (λ (l : List Event). p.seen ++ l) decided.is
+      ∙ sym (append_assoc p.seen decided.before (decided.event ∷ decided.behind))
+      ∙ sym (append_assoc before (decided.event ∷ []) decided.behind)
+
+  through_history : IsHistory c through
+  through_history =
+      earlier_part_is_history c through decided.behind (subst (λ (l : List Event). IsHistory c l) cut history)
+
+  before_history : IsHistory c before
+  before_history = earlier_part_is_history c before (decided.event ∷ []) through_history
+
+  decides : call_decided c (left c before).now decided.event ≡ x ∷ []
+  decides = decided.decides ∙ ap (λ (y : Op). record { caller = k; op = y; answer = a } ∷ []) once
+
+  admitted : AreAdmitted c.globals (never_behind c before) (asked (x ∷ []))
+  admitted =
+      subst (λ (l : List Decided). AreAdmitted c.globals (never_behind c before) (asked l)) decides
+      (comes_last c before decided.event through_history).admitted
+
+  calls_before : calls c before ≡ calls c p.seen ++ earlier
+  calls_before = calls_in_parts c p.seen decided.before
+
+  calls_through : calls c through ≡ (calls c p.seen ++ earlier) ++ x ∷ []
+  calls_through =
+      calls_more c (first_world c) before decided.event
+      ∙ ap (λ (l : List Decided). calls c before ++ l) decides
+      ∙ ap (λ (l : List Decided). l ++ x ∷ []) calls_before
+
+  calls_all : calls c (p.seen ++ more) ≡ ((calls c p.seen ++ earlier) ++ x ∷ []) ++ later
+  calls_all =
+      ap (λ (l : List Event). calls c l) cut ∙ calls_in_parts c through decided.behind
+      ∙ ap (λ (l : List Decided). l ++ later) calls_through
+
+  one_is : calls_by k (x ∷ []) ≡ x ∷ []
+  one_is = ap (λ (b : Bool). if b then x ∷ [] else []) (eq-eqb k k refl)
+
+  -- The caller has no other call in it.
+  none : (calls_by k earlier ≡ []) × (calls_by k later ≡ [])
+  none =
+      only_one (own_calls p p.seen) (calls_by k earlier) (calls_by k later) x
+      (ap (λ (l : List Decided). l ++ calls_by k later)
+      (ap (λ (l : List Decided). (own_calls p p.seen ++ calls_by k earlier) ++ l) (sym one_is)
+      ∙ ap (λ (l : List Decided). l ++ calls_by k (x ∷ [])) (sym (by_append k (calls c p.seen) earlier))
+      ∙ sym (by_append k (calls c p.seen ++ earlier) (x ∷ [])))
+      ∙ sym (by_append k ((calls c p.seen ++ earlier) ++ x ∷ []) later)
+      ∙ ap (λ (l : List Decided). calls_by k l) (sym calls_all) ∙ entry)
+
+  own_before : replied_in c k before ≡ replied_in c k p.seen
+  own_before =
+      ap (λ (l : List Decided). own_replied k n0 (asked l)) calls_before
+      ∙ ap (λ (l : List Call). own_replied k n0 l) (asked_in_two (calls c p.seen) earlier)
+      ∙ own_in_parts k n0 (asked (calls c p.seen)) (asked earlier)
+      ∙ ap (λ (l : List Replied). replied_in c k p.seen ++ l)
+      (none_replied k (never_behind c p.seen) earlier none.0)
+      ∙ append-nil (replied_in c k p.seen)
+
+  abbrev here : Replied
+  here = record { op = o; reply = reply_of (never_behind c before) k o }
+
+  own_one : own_replied k (never_behind c before) (asked (x ∷ [])) ≡ here ∷ []
+  own_one = ap (λ (b : Bool). if b then here ∷ [] else []) (eq-eqb k k refl)
+
+  own_all : replied_in c k (p.seen ++ more) ≡ replied_in c k p.seen ++ here ∷ []
+  own_all =
+      ap (λ (l : List Decided). own_replied k n0 (asked l)) calls_all
+      ∙ ap (λ (l : List Decided). own_replied k n0 (asked ((l ++ x ∷ []) ++ later))) (sym calls_before)
+      ∙ ap (λ (l : List Call). own_replied k n0 l) (asked_in_two (calls c before ++ x ∷ []) later)
+      ∙ own_in_parts k n0 (asked (calls c before ++ x ∷ [])) (asked later)
+      ∙ ap (λ (l : List Replied). own_replied k n0 (asked (calls c before ++ x ∷ [])) ++ l)
+      (none_replied k (after_calls n0 (asked (calls c before ++ x ∷ []))) later none.1)
+      ∙ append-nil (own_replied k n0 (asked (calls c before ++ x ∷ [])))
+      ∙ ap (λ (l : List Call). own_replied k n0 l) (asked_in_two (calls c before) (x ∷ []))
+      ∙ own_in_parts k n0 (asked (calls c before)) (asked (x ∷ []))
+      ∙ ap (λ (l : List Replied). replied_in c k before ++ l) own_one
+      ∙ ap (λ (l : List Replied). l ++ here ∷ []) own_before
+
+  pub happens : Happens p o a (record p { seen = p.seen ++ more })
+  happens =
+      let mirrors = (stands c before before_history).all.mirrors in
+      record {
+        is = refl;
+        n = never_behind c before;
+        types = mirrors.types;
+        typed = mirrors.typed;
+        count = mirrors.global_count;
+        caller = admitted.0.of_a_caller;
+        before = decided.known;
+        after = decided.left_so;
+        bases = bases_of (left c (p.seen ++ decided.before ++ decided.event ∷ [])).allocations;
+        image = decided.reply;
+        did = own_all;
+      }
+
+pub from_called : (p q : PassState) (o : Op) (a : Answer) → flagged o a ≡ o → IsHistory q.table.config q.seen
+    → Called p o a q → Happens p o a q
+from_called p q o a once history h =
+    subst (λ (r : PassState). Happens p o a r) (sym h.is)
+    (happens p o a h.more once (subst (λ (r : PassState). IsHistory r.table.config r.seen) h.is history)
+    (h.entry ∙ ap (λ (y : Op). own_calls p p.seen ++ record { caller = number_of p; op = y; answer = a } ∷ []) once)
+    h.decided)
+
+pub from_turn : (on : Bool) (p q : PassState) (o : Op) (a : Answer) → flagged (flagged o a) a ≡ flagged o a
+    → IsHistory q.table.config q.seen → CalledInTurn on p o a q → Happens p (flagged o a) a q
+from_turn on p q o a once history h =
+    subst (λ (r : PassState). Happens p (flagged o a) a r) (sym h.is)
+    (happens p (flagged o a) a h.more once (subst (λ (r : PassState). IsHistory r.table.config r.seen) h.is history)
+    h.entry h.decided)
+
+-- A caller that found its gate held asked nothing.
+pub stays_held : (p q : PassState) (o : Op) → FindsGateHeld p o q → Stays p q
+stays_held p q o f =
+    let more : List Event = f.finds.makes.others ++ event_of p (step.Enter o) ∷ [] in
+    let is : q ≡ record p { seen = p.seen ++ more } =
+    f.finds.makes.is
+    ∙ ap (λ (l : List Event). record p { seen = l })
+    (append_assoc p.seen f.finds.makes.others (event_of p (step.Enter o) ∷ [])) in
+    record {
+      is = is ∙ ap (λ (r : PassState). record p { seen = r.seen }) (sym is);
+      did = subst (λ (r : PassState). replied_to r ≡ replied_to p) (sym is) (held_did more
+          (ap (λ (r : PassState). own_calls p r.seen) (sym is) ∙ f.entries));
+      registers = f.registers;
+    }
+  where
+    held_did : (more : List Event) → own_calls p (p.seen ++ more) ≡ own_calls p p.seen
+        → replied_in p.table.config (number_of p) (p.seen ++ more) ≡ replied_to p
+    held_did more same =
+        let c : Config = p.table.config in
+        let k : ℕ = number_of p in
+        let later : List Decided = calls_from c (left c p.seen) more in
+        let nothing : calls_by k later ≡ [] =
+        same_last (own_calls p p.seen) (calls_by k later) []
+        (sym (by_append k (calls c p.seen) later)
+        ∙ ap (λ (l : List Decided). calls_by k l) (sym (calls_in_parts c p.seen more))
+        ∙ same ∙ sym (append-nil (own_calls p p.seen))) in
+        ap (λ (l : List Decided). own_replied k (never_first c) (asked l)) (calls_in_parts c p.seen more)
+        ∙ ap (λ (l : List Call). own_replied k (never_first c) l) (asked_in_two (calls c p.seen) later)
+        ∙ own_in_parts k (never_first c) (asked (calls c p.seen)) (asked later)
+        ∙ ap (λ (l : List Replied). replied_to p ++ l) (none_replied k (never_behind c p.seen) later nothing)
+        ∙ append-nil (replied_to p)

@@ -1,0 +1,60 @@
+-- The jobs of a history, from the law over the heap that never reuses storage.
+use Rattle.std.proofs.Common.{◌≡◌, ℕ, ◌+◌, ◌*◌, ◌<◌, List, [], ◌∷◌, ◌++◌, length, refl, sym, ◌∙◌, ap, append_assoc}
+use Rattle.std.proofs.Common.{append-nil}
+use Rattle.std.proofs.Common.{arith}
+use Rattle.std.proofs.lemmas.List.{length-replicate}
+use Rattle.mk_never.specs.Admitted.{AreAdmitted}
+use Rattle.mk_never.specs.NeverHeap.{NeverState, Call, after_op}
+use Rattle.mk_never.specs.declared.values.Value.TheVariants.{Null}
+use Rattle.mk_never.proofs.Later.{op_stays}
+use Rattle.mk_core.specs.Decided.{asked}
+use Rattle.mk_core.specs.History.{calls, never_first}
+use Rattle.mk_stack.specs.Histories.{JobsAddUp, JobsInHistoriesAreLinearizable}
+use Rattle.mk_stack.specs.Interleavings.{AreBelow}
+use Rattle.mk_stack.specs.Jobs.{JobRun, Replied, all_of}
+use Rattle.mk_stack.proofs.Linearizable.{stacks_are_linearizable}
+
+-- Admitted calls are of callers that exist.
+are_below : (globals : List ℕ) (n : NeverState) (callers : ℕ) (xs : List Call) → length n.registers ≡ 8 * callers
+    → AreAdmitted globals n xs → AreBelow callers xs
+are_below globals n callers [] count admitted = tt
+are_below globals n callers (x ∷ xs) count admitted =
+    let there : 8 * x.caller + 7 < length n.registers = admitted.0.of_a_caller in (
+      omega (arith, count, there),
+      are_below globals (after_op n x.caller x.op) callers xs ((op_stays n x.caller x.op).registers ∙ count) admitted.1,
+    )
+
+pub jobs_in_histories_are_linearizable : JobsInHistoriesAreLinearizable
+jobs_in_histories_are_linearizable c es founding runs h jobs =
+    stacks_are_linearizable c.types c.callers founding runs (asked (calls c es))
+    (record {
+      nodes = jobs.types.node;
+      tops = jobs.types.top;
+      founds = jobs.founds;
+      jobs = jobs.jobs;
+      own = jobs.own;
+      exist = are_below c.globals (never_first c) c.callers (asked (calls c es))
+          (length-replicate (8 * c.callers) Null) h.admitted;
+    })
+
+all_in_parts : (rs ss : List JobRun) → all_of (rs ++ ss) ≡ all_of rs ++ all_of ss
+all_in_parts [] ss = refl
+all_in_parts (r ∷ rs) ss =
+    ap (λ (l : List Replied). r.all ++ l) (all_in_parts rs ss) ∙ sym (append_assoc r.all (all_of rs) (all_of ss))
+
+pub jobs_add_up : JobsAddUp
+jobs_add_up p q job done first rs before does =
+    let run : JobRun = record { job = job; done = done; all = does.all } in
+    record {
+      run = record { job = job; done = done; all = does.all };
+      is_run = does.leads;
+      same_job = refl;
+      same_done = refl;
+      did =
+          does.did
+          ∙ ap (λ (l : List Replied). l ++ does.all) before
+          ∙ append_assoc first (all_of rs) does.all
+          ∙ ap (λ (l : List Replied). first ++ l)
+          (ap (λ (l : List Replied). all_of rs ++ l) (sym (append-nil does.all))
+          ∙ sym (all_in_parts rs (record { job = job; done = done; all = does.all } ∷ [])));
+    }

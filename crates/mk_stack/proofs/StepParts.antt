@@ -1,0 +1,146 @@
+-- What the steps of all points share.
+use Rattle.std.proofs.Common.{◌≡◌, ◌≢◌, ℕ, ◌+◌, ◌*◌, ◌<◌, ◌≤◌, Bool, true, false, cond, List, [], length}
+use Rattle.std.proofs.Common.{refl, sym, ◌∙◌, ap, subst, arith, Some, None, Option}
+use Rattle.std.specs.Prelude.{if◌then◌else◌}
+use Rattle.std.proofs.lemmas.Bool.{false≢true}
+use Rattle.mk_never.specs.declared.operations.Op.{Op}
+use Rattle.mk_never.specs.declared.operations.Op.TheVariants as op
+use Rattle.mk_never.specs.declared.operations.Reply.TheVariants as reply
+use Rattle.mk_never.specs.declared.values.Target.{Target}
+use Rattle.mk_never.specs.declared.values.Target.TheVariants.{WordOf}
+use Rattle.mk_never.specs.declared.values.Value.{Value}
+use Rattle.mk_never.specs.declared.values.Value.TheVariants.{Null, Ptr}
+use Rattle.mk_never.specs.NeverHeap.{NeverState, register_at, words_of, word_at}
+use Rattle.mk_never.specs.NeverHeap.{with_register, with_word, is_same, bit}
+use Rattle.mk_never.specs.NeverHeap.{target_of, reply_at, left_at, reply_of, after_op}
+use Rattle.mk_never.proofs.Sameness.{equal_from_same, same_from_equal}
+use Rattle.mk_stack.specs.declared.jobs.Job.{Job}
+use Rattle.mk_stack.specs.declared.jobs.Job.TheVariants.{Push, Pop}
+use Rattle.mk_stack.specs.declared.jobs.Done.{Done}
+use Rattle.mk_stack.specs.declared.jobs.Done.TheVariants.{Empty}
+use Rattle.mk_stack.specs.Jobs.{Replied, done_without}
+use Rattle.mk_stack.specs.declared.points.Point.{Point}
+use Rattle.mk_stack.specs.Orders.{Ordered, left_by}
+use Rattle.mk_stack.proofs.Heaps.{reaches, set_register}
+use Rattle.mk_stack.proofs.Roles.{Role, Unborn, Base, Private, Stacked, Taken, Freed, size_of}
+use Rattle.mk_stack.proofs.Roles.{put, put_by}
+use Rattle.mk_stack.proofs.Invariant.{HasChain, IsHeld, IsPushing, IsFreeing, Work, Inv, HasTop}
+use Rattle.mk_stack.proofs.Assembly.{Stepped, Decides, held_on}
+
+pub ptr_is_not_null : (a ty : ℕ) → Ptr a ty 0 ≡ Null → ⊥
+ptr_is_not_null a ty e = cc
+
+pub bit_is_one : (b : Bool) → bit b ≡ 1 → b ≡ true
+bit_is_one true e = refl
+bit_is_one false e = absurd (omega arith)
+
+pub bit_is_zero : (b : Bool) → bit b ≡ 0 → b ≡ false
+bit_is_zero true e = absurd (omega arith)
+bit_is_zero false e = refl
+
+pub num_is : (a b : ℕ) → reply.Num a ≡ reply.Num b → a ≡ b
+num_is a b e = cc
+
+pub val_is : (v w : Value) → reply.Val v ≡ reply.Val w → v ≡ w
+val_is v w e = cc
+
+pub done_is_not_double : reply.Done ≡ reply.Double → ⊥
+done_is_not_double e = cc
+
+pub ptr_is : (a b ty offset : ℕ) → Ptr a ty offset ≡ Ptr b ty offset → a ≡ b
+ptr_is a b ty offset e = cc
+
+-- A size of at most two words
+pub small : (r : Role) → size_of r ≤ 2
+small Unborn = omega arith
+small Base = omega arith
+small (Private k) = omega arith
+small Stacked = omega arith
+small (Taken k) = omega arith
+small Freed = omega arith
+
+module _ (callers : ℕ) (n : NeverState) (top : Option ℕ) (role : ℕ → Role) (nodes : List ℕ) (W : ℕ → Work)
+    (inv : Inv callers n top role nodes W) (c : ℕ) (exists : c < callers) where
+  abbrev Goal : Point → Option Done → Op → Point → List Replied → NeverState → Type 0
+  Goal s u o next rest m = Stepped callers n role nodes W c s u o next rest m
+
+  abbrev Held : Point → Type 0
+  Held s = (a : ℕ) → IsHeld n (role a) c a s
+
+  pub all_small : (a : ℕ) → length (words_of n a) ≤ 2
+  all_small a = let bound = small (role a) in omega (arith, inv.core.size a, bound)
+
+  pub there : (r : ℕ) → r < 8 → 8 * c + r < length n.registers
+  there r lt = omega (arith, inv.core.registers, exists, lt)
+
+  -- where an access through a register gets to
+  pub gets : (q a ty i : ℕ) → register_at n c q ≡ Ptr a ty 0 → target_of n (register_at n c q) i ≡ WordOf a (0 + i)
+  gets q a ty i is = reaches n c q a ty 0 i is (all_small a)
+
+  pub register_set : (d : ℕ) (v : Value) → d < 8 → register_at (with_register n c d v) c d ≡ v
+  register_set d v lt = set_register n c d v (there d lt)
+
+  -- Where a caller has no node of its own, before and after
+  pub idle : (m : NeverState) (s next : Point) → (IsPushing s → ⊥) → (IsFreeing s → ⊥) → Held s
+      → (a : ℕ) → IsHeld m (role a) c a next
+  idle m s next pushes frees held a =
+      held_on n m (role a) c a s next (held a) (λ p. absurd (pushes p)) (λ f. absurd (frees f))
+
+  pub top_role : (t : ℕ) → top ≡ Some t → HasChain n (Some t) role nodes
+  top_role t is = subst (λ (x : Option ℕ). HasChain n x role nodes) is inv.core.chain
+
+  pub put_held : (m : NeverState) (a : ℕ) (r : Role) (next : Point) → IsHeld m r c a next
+      → ((b : ℕ) → IsHeld m (role b) c b next) → (b : ℕ) → IsHeld m (put role a r b) c b next
+  put_held m a r next here others b =
+      put_by (λ (x : ℕ) (y : Role). IsHeld m y c x next) role a r here (λ x ne. others x) b
+
+  pub undecided : (s : Point) (u : Option Done) (d : Option Ordered) (y : Done) → u ≡ None → Decides c s None d (Some y)
+      → Decides c s u d (Some y)
+  undecided s u d y is h = subst (λ (x : Option Done). Decides c s x d (Some y)) (sym is) h
+
+  pub without_left : (j : Job) (xs : List ℕ) → xs ≡ [] → left_by xs j (done_without j) ≡ Some xs
+  without_left (Push x) xs e = refl
+  without_left Pop xs e = subst (λ (l : List ℕ). left_by l Pop Empty ≡ Some l) (sym e) refl
+
+  -- What IsNull says
+  pub is_null_says : (r m : ℕ) → reply_of n c (op.IsNull r) ≡ reply.Num m → bit (is_same (register_at n c r) Null) ≡ m
+  is_null_says r m said = num_is _ m said
+
+  pub null_is_null : (r : ℕ) → reply_of n c (op.IsNull r) ≡ reply.Num 1 → register_at n c r ≡ Null
+  null_is_null r said = equal_from_same _ Null (bit_is_one _ (is_null_says r 1 said))
+
+  pub other_is_not : (r : ℕ) → reply_of n c (op.IsNull r) ≡ reply.Num 0 → register_at n c r ≢ Null
+  other_is_not r said e =
+      false≢true (sym (bit_is_zero _ (is_null_says r 0 said)) ∙ same_from_equal (register_at n c r) Null e)
+
+  -- an operation that stores nothing in register 0 leaves the top in it
+  pub keeps_top : (m : NeverState) → register_at m c 0 ≡ register_at n c 0 → HasTop n top c → HasTop m top c
+  keeps_top m same h = record { t = h.t; is = h.is; register = same ∙ h.register }
+
+  -- A compare and exchange on the top
+  module _ (h : HasTop n top c) (r : ℕ) where
+    pub same_is : (m : ℕ) → reply_of n c (op.CasPtr 0 0 2 r) ≡ reply.Num m
+        → bit (is_same (word_at n h.t 0) (register_at n c 2)) ≡ m
+    same_is m said =
+        num_is _ m
+        (sym (ap (λ (t : Target). reply_at t (λ a w. reply.Num (bit (is_same (word_at n a w) (register_at n c 2)))))
+        (gets 0 h.t 1 0 h.register))
+        ∙ said)
+
+    pub exchanged_from : reply_of n c (op.CasPtr 0 0 2 r) ≡ reply.Num 1 → word_at n h.t 0 ≡ register_at n c 2
+    exchanged_from said = equal_from_same _ _ (bit_is_one _ (same_is 1 said))
+
+    pub after_exchange : (b : Bool) → is_same (word_at n h.t 0) (register_at n c 2) ≡ b
+        → after_op n c (op.CasPtr 0 0 2 r) ≡ cond b (with_word n h.t 0 (register_at n c r)) n
+    after_exchange b is =
+        ap (λ (t : Target). left_at t n
+        (λ a w. if is_same (word_at n a w) (register_at n c 2) then with_word n a w (register_at n c r) else n))
+        (gets 0 h.t 1 0 h.register)
+        ∙ ap (λ (x : Bool). cond x (with_word n h.t 0 (register_at n c r)) n) is
+
+    pub exchanges : reply_of n c (op.CasPtr 0 0 2 r) ≡ reply.Num 1
+        → after_op n c (op.CasPtr 0 0 2 r) ≡ with_word n h.t 0 (register_at n c r)
+    exchanges said = after_exchange true (bit_is_one _ (same_is 1 said))
+
+    pub leaves_all : reply_of n c (op.CasPtr 0 0 2 r) ≡ reply.Num 0 → after_op n c (op.CasPtr 0 0 2 r) ≡ n
+    leaves_all said = after_exchange false (bit_is_zero _ (same_is 0 said))

@@ -1,0 +1,142 @@
+-- A caller writes to a node of its own.
+use Rattle.std.proofs.Common.{◌≡◌, ◌≢◌, ℕ, ◌<◌, ◌≤◌, List, length, length-set, get_or, refl, sym, ◌∙◌, ap, subst, arith}
+use Rattle.std.proofs.Common.{None, Option, inl, inr}
+use Rattle.std.specs.Prelude.{◌⊎◌}
+use Rattle.std.proofs.lemmas.Bool.{cases_eq, cases_lt}
+use Rattle.mk_never.specs.declared.operations.Op.{Op}
+use Rattle.mk_never.specs.declared.values.Value.{Value}
+use Rattle.mk_never.specs.declared.values.Value.TheVariants.{Null}
+use Rattle.mk_never.specs.NeverHeap.{NeverState, with_word, word_at, words_of}
+use Rattle.mk_stack.specs.declared.jobs.Done.{Done}
+use Rattle.mk_stack.specs.Jobs.{Replied}
+use Rattle.mk_stack.specs.declared.points.Point.{Point}
+use Rattle.mk_stack.specs.Laws.{freed_by}
+use Rattle.mk_stack.proofs.Heaps.{other_words, written_size, written_flag, written_type}
+use Rattle.mk_stack.proofs.Roles.{Role, Unborn, Base, Private, Stacked, Taken, RoleKeeps, same_role}
+use Rattle.mk_stack.proofs.Invariant.{Core, HasChain, Local, IsHeld, Work, Inv}
+use Rattle.mk_stack.proofs.Frames.{Leaves}
+use Rattle.mk_stack.proofs.Chains.{has_chain_stays, all_numbers_stay}
+use Rattle.mk_stack.proofs.Assembly.{nothing, moved, Stepped, assemble, same_before}
+
+-- Roles are apart.
+
+pub base_private : (k : ℕ) → Base ≡ Private k → ⊥
+base_private k e = cc
+
+pub base_stacked : Base ≡ Stacked → ⊥
+base_stacked e = cc
+
+pub base_taken : (k : ℕ) → Base ≡ Taken k → ⊥
+base_taken k e = cc
+
+pub private_stacked : (k : ℕ) → Private k ≡ Stacked → ⊥
+private_stacked k e = cc
+
+pub taken_stacked : (k : ℕ) → Taken k ≡ Stacked → ⊥
+taken_stacked k e = cc
+
+pub unborn_private : (k : ℕ) → Unborn ≡ Private k → ⊥
+unborn_private k e = cc
+
+pub unborn_stacked : Unborn ≡ Stacked → ⊥
+unborn_stacked e = cc
+
+pub unborn_base : Unborn ≡ Base → ⊥
+unborn_base e = cc
+
+pub unborn_taken : (k : ℕ) → Unborn ≡ Taken k → ⊥
+unborn_taken k e = cc
+
+pub private_taken : (k j : ℕ) → Private k ≡ Taken j → ⊥
+private_taken k j e = cc
+
+pub same_private : (k j : ℕ) → Private k ≡ Private j → k ≡ j
+same_private k j e = cc
+
+pub same_taken : (k j : ℕ) → Taken k ≡ Taken j → k ≡ j
+same_taken k j e = cc
+
+-- What has a role of a granted allocation was granted.
+pub granted : (callers : ℕ) (n : NeverState) (top : Option ℕ) (role : ℕ → Role) (nodes : List ℕ) (a : ℕ)
+    → Core callers n top role nodes → (Unborn ≡ role a → ⊥) → a < length n.allocations
+granted callers n top role nodes a core is = by (cases_lt a (length n.allocations))
+  where
+    by : (a < length n.allocations) ⊎ (length n.allocations ≤ a) → a < length n.allocations
+    by (inl lt) = lt
+    by (inr ge) = absurd (is (sym (core.unborn a ge)))
+
+module _ (callers : ℕ) (n : NeverState) (top : Option ℕ) (role : ℕ → Role) (nodes : List ℕ) (W : ℕ → Work)
+    (inv : Inv callers n top role nodes W) (c a i : ℕ) (v : Value) (own : role a ≡ Private c) where
+  abbrev m : NeverState
+  m = with_word n a i v
+
+  -- Another allocation has its words.
+  apart : (b : ℕ) (r : Role) → role b ≡ r → (r ≡ Private c → ⊥) → words_of m b ≡ words_of n b
+  apart b r is differs = other_words n a i b v (λ e. differs (sym is ∙ ap role e ∙ own))
+
+  word_stays : (b j : ℕ) (r : Role) → role b ≡ r → (r ≡ Private c → ⊥) → word_at m b j ≡ word_at n b j
+  word_stays b j r is differs = ap (λ (ws : List Value). get_or ws j Null) (apart b r is differs)
+
+  write_role : (k : ℕ) → k ≢ c → (b : ℕ) → RoleKeeps k (role b) (role b) (words_of m b ≡ words_of n b)
+  write_role k other b = by (cases_eq b a)
+    where
+      by : (b ≡ a) ⊎ (b ≡ a → ⊥) → RoleKeeps k (role b) (role b) (words_of m b ≡ words_of n b)
+      by (inl e) =
+          subst (λ (r : Role). RoleKeeps k r (role b) (words_of m b ≡ words_of n b)) (sym (ap role e ∙ own))
+          (λ same. absurd (other (sym same)))
+      by (inr ne) = same_role k (role b) _ (other_words n a i b v ne)
+
+  write_leaves : (k : ℕ) → k ≢ c → Leaves n top role m top role k
+  write_leaves k other =
+      record {
+        registers = λ r lt. refl;
+        same_top = λ t e. e;
+        none = λ first e. e;
+        base = λ first e b is. (is, apart b Base is (base_private c));
+        roles = write_role k other;
+      }
+
+  write_chain : HasChain m top role nodes
+  write_chain =
+      has_chain_stays n m top role role nodes refl
+      (λ t e. (e, word_stays t 0 Base e (base_private c)))
+      (λ b one e. record { role_now = e; link = word_stays b 1 Stacked e (λ same. private_stacked c (sym same)) })
+      inv.core.chain
+
+  same_count : length m.allocations ≡ length n.allocations
+  same_count = length-set n.allocations a _
+
+  write_core : Core callers m top role nodes
+  write_core =
+      let core : Core callers n top role nodes = inv.core in
+      record {
+        node_type = core.node_type;
+        top_type = core.top_type;
+        registers = core.registers;
+        globals = core.globals;
+        unborn = λ b ge. core.unborn b (subst (λ (l : ℕ). l ≤ b) same_count ge);
+        born = λ b lt. core.born b (subst (λ (l : ℕ). b < l) same_count lt);
+        size = λ b. written_size n a i b v ∙ core.size b;
+        freed = λ b. written_flag n a i b v ∙ core.freed b;
+        base = λ b is. written_type n a i b v ∙ core.base b is;
+        stacked = core.stacked;
+        chain = write_chain;
+      }
+
+  pub by_write : (s : Point) (u : Option Done) (o : Op) (next : Point) (rest : List Replied)
+      → Local m top role c next u → ((b : ℕ) → IsHeld m (role b) c b next) → ((b : ℕ) → freed_by b n c o ≡ 0)
+      → Stepped callers n role nodes W c s u o next rest m
+  by_write s u o next rest local held frees =
+      record {
+        top_now = top;
+        role_now = role;
+        nodes_now = nodes;
+        decided = u;
+        decision = None;
+        inv = assemble callers n top role nodes W inv c m top role nodes (moved (W c) next u rest) write_core
+            write_leaves (λ k b other. same_before k (role b)) local held;
+        left = all_numbers_stay n m top role nodes
+            (λ b e. word_stays b 0 Stacked e (λ same. private_stacked c (sym same))) inv.core.chain;
+        decides = nothing;
+        frees = λ b. omega (arith, frees b);
+      }

@@ -1,0 +1,45 @@
+-- Jobs in the history of a running heap: what a caller's operations were replied there.
+use Rattle.std.specs.Prelude.{◌≡◌, ℕ, List, ◌++◌, slice_get, Option, Some, None}
+use Rattle.mk_never.specs.Types.{kinds_of}
+use Rattle.mk_core.specs.declared.config.Config.{Config}
+use Rattle.mk_core.specs.declared.events.Event.{Event}
+use Rattle.mk_core.specs.Decided.{asked}
+use Rattle.mk_core.specs.History.{calls, never_first}
+use Rattle.mk_words.specs.States.{PassState}
+use Rattle.mk_caller.specs.States.{number_of}
+use Rattle.mk_stack.specs.declared.jobs.Job.{Job}
+use Rattle.mk_stack.specs.declared.jobs.Done.{Done}
+use Rattle.mk_stack.specs.declared.jobs.Done.TheVariants.{Popped, Empty}
+use Rattle.mk_stack.specs.declared.points.Point.{Point}
+use Rattle.mk_stack.specs.declared.points.Point.TheVariants.{Starting, Ended}
+use Rattle.mk_stack.specs.Jobs.{Replied, Leads, node_kinds, top_kinds}
+use Rattle.mk_stack.specs.Interleavings.{own_replied}
+
+-- The first two types are a node and a top, and global 0 is a top's.
+pub record HasStackTypes (c : Config) : Type 0 where
+  pub node : kinds_of c.types 0 ≡ node_kinds
+  pub top : kinds_of c.types 1 ≡ top_kinds
+  pub global : slice_get c.globals 0 ≡ Some 1
+
+-- the operations of caller k in a history, with the replies of the heap that never reuses storage
+abbrev pub replied_in : Config → ℕ → List Event → List Replied
+replied_in c k es = own_replied k (never_first c) (asked (calls c es))
+
+abbrev pub replied_to : PassState → List Replied
+replied_to p = replied_in p.table.config (number_of p) p.seen
+
+-- The pass has seen more, in which its caller's operations led from one point to another.
+pub record Goes (p : PassState) (s : Point) (q : PassState) (t : Point) : Type 0 where
+  pub is : q ≡ record p { seen = q.seen }
+  pub all : List Replied
+  pub leads : Leads s all t
+  pub did : replied_to q ≡ replied_to p ++ all
+
+-- Its caller did the job, and this became of it.
+abbrev pub DoesJob : PassState → Job → Done → PassState → Type 0
+DoesJob p job done q = Goes p (Starting job) q (Ended done)
+
+-- what became of a pop
+abbrev pub popped : Option ℕ → Done
+popped (Some n) = Popped n
+popped None = Empty

@@ -1,0 +1,415 @@
+//! One operation of a job at a time, as the points of a job have it.
+ghost use Rattle.std.specs.Prelude.{◌≡◌, ◌<◌, ◌∷◌, [], length, IfOk, OnErr, true};
+ghost use Rattle.mk_caller.specs.States.{number_of};
+ghost use Rattle.mk_caller.specs.declared.refusals.Refusal.TheVariants as refusal;
+ghost use Rattle.mk_stack.specs.declared.points.Point.TheVariants as point;
+ghost use Rattle.mk_stack.specs.Advancing.{Advances, Holds, IsGoal, Stays};
+ghost use Rattle.mk_stack.specs.Jobs.{done_without};
+ghost use Rattle.mk_stack.specs.Passes.{HasStackTypes};
+
+use crate::jobs::{Done, Job};
+use crate::points::Point;
+use mk_alloc::{free_object, new_object};
+use mk_caller::{Caller, Refusal};
+use mk_cycle::{Bench, Engine};
+use mk_words::Held;
+use std::sync::Wait;
+use std::thread::Threads;
+
+/// The pointer registers of a caller, by what a job keeps in them.
+const TOP: u8 = 0;
+
+const NODE: u8 = 1;
+
+const UPPERMOST: u8 = 2;
+
+const BELOW: u8 = 3;
+
+/// The global that points to the top.
+const STACK: u8 = 0;
+
+const NODE_TYPE: u64 = 0;
+
+const TOP_TYPE: u64 = 1;
+
+/// The words of a node; that of a top is its first.
+const NUMBER: u64 = 0;
+
+const LINK: u64 = 1;
+
+const FIRST: u64 = 0;
+
+/// What a job ends with where there is no stack.
+fn done_without(job: Job) -> Done
+    ensures { result ≡ done_without job }
+{
+    match job {
+        Job::Push(_) => Done::Full,
+        Job::Pop => Done::Empty,
+    }
+}
+
+/// The one refusal of an access to a node or a top.
+fn held(cause: Refusal) -> Held
+    requires { cause ≡ refusal.Held }
+{
+    match cause {
+        Refusal::Held => Held,
+        Refusal::Fault | Refusal::Null => unreachable!(),
+    }
+}
+
+/// Stores the top in its global.
+fn place_top(caller: &mut Caller) -> Result<Point, Held>
+    requires home { caller.old.home ≡ true }
+    requires exists { number_of caller.old.pass < caller.old.pass.table.config.callers }
+    requires types { HasStackTypes caller.old.pass.table.config }
+    requires holds { Holds caller.old.pass point.Placing }
+    ensures home { caller.new.home ≡ true }
+    ensures advances { IfOk result (Advances caller.old.pass point.Placing caller.new.pass) }
+    ensures held { OnErr result (Stays caller.old.pass caller.new.pass) }
+{
+    caller.is_idle();
+    let placed = caller.set_global(STACK, TOP);
+    caller.is_idle();
+    match placed {
+        Ok(()) => Ok(Point::Founded),
+        Err(Held) => Err(Held),
+    }
+}
+
+/// Loads the top from its global.
+fn load_top(caller: &mut Caller, job: Job) -> Result<Point, Held>
+    requires home { caller.old.home ≡ true }
+    requires exists { number_of caller.old.pass < caller.old.pass.table.config.callers }
+    requires types { HasStackTypes caller.old.pass.table.config }
+    requires holds { Holds caller.old.pass (point.Starting job) }
+    ensures home { caller.new.home ≡ true }
+    ensures advances { IfOk result (Advances caller.old.pass (point.Starting job) caller.new.pass) }
+    ensures held { OnErr result (Stays caller.old.pass caller.new.pass) }
+{
+    caller.is_idle();
+    let loaded = caller.get_global(TOP, STACK);
+    caller.is_idle();
+    match loaded {
+        Ok(()) => Ok(Point::Checking(job)),
+        Err(Held) => Err(Held),
+    }
+}
+
+/// Looks whether there is a top.
+fn check_top(caller: &mut Caller, job: Job) -> Result<Point, Held>
+    requires home { caller.old.home ≡ true }
+    requires exists { number_of caller.old.pass < caller.old.pass.table.config.callers }
+    requires types { HasStackTypes caller.old.pass.table.config }
+    requires holds { Holds caller.old.pass (point.Checking job) }
+    ensures home { caller.new.home ≡ true }
+    ensures advances { IfOk result (Advances caller.old.pass (point.Checking job) caller.new.pass) }
+    ensures held { OnErr result (Stays caller.old.pass caller.new.pass) }
+{
+    caller.is_idle();
+    let null = caller.is_null(TOP);
+    caller.is_idle();
+    match null {
+        Ok(true) => Ok(Point::Ended(done_without(job))),
+        Ok(false) => match job {
+            Job::Push(n) => Ok(Point::Making(n)),
+            Job::Pop => Ok(Point::Peeking),
+        },
+        Err(Held) => Err(Held),
+    }
+}
+
+/// Stores its number in the node that is pushed.
+fn fill(caller: &mut Caller, n: u64) -> Result<Point, Held>
+    requires home { caller.old.home ≡ true }
+    requires exists { number_of caller.old.pass < caller.old.pass.table.config.callers }
+    requires types { HasStackTypes caller.old.pass.table.config }
+    requires holds { Holds caller.old.pass (point.Filling n) }
+    ensures home { caller.new.home ≡ true }
+    ensures advances { IfOk result (Advances caller.old.pass (point.Filling n) caller.new.pass) }
+    ensures held { OnErr result (Stays caller.old.pass caller.new.pass) }
+{
+    caller.is_idle();
+    let filled = caller.set_num(NODE, NUMBER, n);
+    caller.is_idle();
+    match filled {
+        Ok(()) => Ok(Point::Looking(n)),
+        Err(cause) => Err(held(cause)),
+    }
+}
+
+/// Loads the uppermost node, or null.
+fn look(caller: &mut Caller, n: u64) -> Result<Point, Held>
+    requires home { caller.old.home ≡ true }
+    requires exists { number_of caller.old.pass < caller.old.pass.table.config.callers }
+    requires types { HasStackTypes caller.old.pass.table.config }
+    requires holds { Holds caller.old.pass (point.Looking n) }
+    ensures home { caller.new.home ≡ true }
+    ensures advances { IfOk result (Advances caller.old.pass (point.Looking n) caller.new.pass) }
+    ensures held { OnErr result (Stays caller.old.pass caller.new.pass) }
+{
+    caller.is_idle();
+    let loaded = caller.get_ptr(UPPERMOST, TOP, FIRST);
+    caller.is_idle();
+    match loaded {
+        Ok(()) => Ok(Point::Linking(n)),
+        Err(cause) => Err(held(cause)),
+    }
+}
+
+/// Links the node to the uppermost one.
+fn link(caller: &mut Caller, n: u64) -> Result<Point, Held>
+    requires home { caller.old.home ≡ true }
+    requires exists { number_of caller.old.pass < caller.old.pass.table.config.callers }
+    requires types { HasStackTypes caller.old.pass.table.config }
+    requires holds { Holds caller.old.pass (point.Linking n) }
+    ensures home { caller.new.home ≡ true }
+    ensures advances { IfOk result (Advances caller.old.pass (point.Linking n) caller.new.pass) }
+    ensures held { OnErr result (Stays caller.old.pass caller.new.pass) }
+{
+    caller.is_idle();
+    let linked = caller.set_ptr(NODE, LINK, UPPERMOST);
+    caller.is_idle();
+    match linked {
+        Ok(()) => Ok(Point::Publishing(n)),
+        Err(cause) => Err(held(cause)),
+    }
+}
+
+/// Exchanges the uppermost node for the new one, where it is still that which was loaded.
+fn publish(caller: &mut Caller, n: u64) -> Result<Point, Held>
+    requires home { caller.old.home ≡ true }
+    requires exists { number_of caller.old.pass < caller.old.pass.table.config.callers }
+    requires types { HasStackTypes caller.old.pass.table.config }
+    requires holds { Holds caller.old.pass (point.Publishing n) }
+    ensures home { caller.new.home ≡ true }
+    ensures advances { IfOk result (Advances caller.old.pass (point.Publishing n) caller.new.pass) }
+    ensures held { OnErr result (Stays caller.old.pass caller.new.pass) }
+{
+    caller.is_idle();
+    let exchanged = caller.cas_ptr(TOP, FIRST, UPPERMOST, NODE);
+    caller.is_idle();
+    match exchanged {
+        Ok(true) => Ok(Point::Ended(Done::Pushed)),
+        Ok(false) => Ok(Point::Looking(n)),
+        Err(cause) => Err(held(cause)),
+    }
+}
+
+/// Loads the uppermost node, or null.
+fn peek(caller: &mut Caller) -> Result<Point, Held>
+    requires home { caller.old.home ≡ true }
+    requires exists { number_of caller.old.pass < caller.old.pass.table.config.callers }
+    requires types { HasStackTypes caller.old.pass.table.config }
+    requires holds { Holds caller.old.pass point.Peeking }
+    ensures home { caller.new.home ≡ true }
+    ensures advances { IfOk result (Advances caller.old.pass point.Peeking caller.new.pass) }
+    ensures held { OnErr result (Stays caller.old.pass caller.new.pass) }
+{
+    caller.is_idle();
+    let loaded = caller.get_ptr(UPPERMOST, TOP, FIRST);
+    caller.is_idle();
+    match loaded {
+        Ok(()) => Ok(Point::Testing),
+        Err(cause) => Err(held(cause)),
+    }
+}
+
+/// Looks whether there is an uppermost node.
+fn test(caller: &mut Caller) -> Result<Point, Held>
+    requires home { caller.old.home ≡ true }
+    requires exists { number_of caller.old.pass < caller.old.pass.table.config.callers }
+    requires types { HasStackTypes caller.old.pass.table.config }
+    requires holds { Holds caller.old.pass point.Testing }
+    ensures home { caller.new.home ≡ true }
+    ensures advances { IfOk result (Advances caller.old.pass point.Testing caller.new.pass) }
+    ensures held { OnErr result (Stays caller.old.pass caller.new.pass) }
+{
+    caller.is_idle();
+    let null = caller.is_null(UPPERMOST);
+    caller.is_idle();
+    match null {
+        Ok(true) => Ok(Point::Ended(Done::Empty)),
+        Ok(false) => Ok(Point::Following),
+        Err(Held) => Err(Held),
+    }
+}
+
+/// Loads the node below.
+fn follow(caller: &mut Caller) -> Result<Point, Held>
+    requires home { caller.old.home ≡ true }
+    requires exists { number_of caller.old.pass < caller.old.pass.table.config.callers }
+    requires types { HasStackTypes caller.old.pass.table.config }
+    requires holds { Holds caller.old.pass point.Following }
+    ensures home { caller.new.home ≡ true }
+    ensures advances { IfOk result (Advances caller.old.pass point.Following caller.new.pass) }
+    ensures held { OnErr result (Stays caller.old.pass caller.new.pass) }
+{
+    caller.is_idle();
+    let loaded = caller.get_ptr(BELOW, UPPERMOST, LINK);
+    caller.is_idle();
+    match loaded {
+        Ok(()) => Ok(Point::Taking),
+        Err(cause) => Err(held(cause)),
+    }
+}
+
+/// Exchanges the uppermost node for the one below, where it is still that which was loaded.
+fn unlink(caller: &mut Caller) -> Result<Point, Held>
+    requires home { caller.old.home ≡ true }
+    requires exists { number_of caller.old.pass < caller.old.pass.table.config.callers }
+    requires types { HasStackTypes caller.old.pass.table.config }
+    requires holds { Holds caller.old.pass point.Taking }
+    ensures home { caller.new.home ≡ true }
+    ensures advances { IfOk result (Advances caller.old.pass point.Taking caller.new.pass) }
+    ensures held { OnErr result (Stays caller.old.pass caller.new.pass) }
+{
+    caller.is_idle();
+    let exchanged = caller.cas_ptr(TOP, FIRST, UPPERMOST, BELOW);
+    caller.is_idle();
+    match exchanged {
+        Ok(true) => Ok(Point::Freeing),
+        Ok(false) => Ok(Point::Peeking),
+        Err(cause) => Err(held(cause)),
+    }
+}
+
+/// Loads the number of the node that was taken, and is freed by now.
+fn read(caller: &mut Caller) -> Result<Point, Held>
+    requires home { caller.old.home ≡ true }
+    requires exists { number_of caller.old.pass < caller.old.pass.table.config.callers }
+    requires types { HasStackTypes caller.old.pass.table.config }
+    requires holds { Holds caller.old.pass point.Reading }
+    ensures home { caller.new.home ≡ true }
+    ensures advances { IfOk result (Advances caller.old.pass point.Reading caller.new.pass) }
+    ensures held { OnErr result (Stays caller.old.pass caller.new.pass) }
+{
+    caller.is_idle();
+    let read = caller.get_num(UPPERMOST, NUMBER);
+    caller.is_idle();
+    match read {
+        Ok(n) => Ok(Point::Ended(Done::Popped(n))),
+        Err(cause) => Err(held(cause)),
+    }
+}
+
+/// Makes the top.
+fn found<E: Engine, R: Threads + Wait + Sync>(
+    rt: &R,
+    caller: &mut Caller,
+    bench: &mut Bench<E>,
+) -> Point
+    requires home { caller.old.home ≡ true }
+    requires exists { number_of caller.old.pass < caller.old.pass.table.config.callers }
+    requires alone { caller.old.pass.seats ≡ caller.old.pass.seat ∷ [] }
+    requires types { HasStackTypes caller.old.pass.table.config }
+    requires made_for { E.made_for bench.old.engine ≡ caller.old.pass.table.config.pages }
+    requires book { length bench.old.book ≡ caller.old.pass.table.config.pages }
+    requires holds { Holds caller.old.pass point.Founding }
+    ensures home { caller.new.home ≡ true }
+    ensures made_for { E.made_for bench.new.engine ≡ E.made_for bench.old.engine }
+    ensures book { length bench.new.book ≡ length bench.old.book }
+    ensures advances { Advances caller.old.pass point.Founding caller.new.pass result }
+{
+    let made = new_object(rt, caller, bench, TOP, TOP_TYPE);
+    caller.is_idle();
+    match made {
+        Ok(_) => Point::Placing,
+        Err(_) => Point::Founded,
+    }
+}
+
+/// Makes a node.
+fn make<E: Engine, R: Threads + Wait + Sync>(
+    rt: &R,
+    caller: &mut Caller,
+    bench: &mut Bench<E>,
+    n: u64,
+) -> Point
+    requires home { caller.old.home ≡ true }
+    requires exists { number_of caller.old.pass < caller.old.pass.table.config.callers }
+    requires alone { caller.old.pass.seats ≡ caller.old.pass.seat ∷ [] }
+    requires types { HasStackTypes caller.old.pass.table.config }
+    requires made_for { E.made_for bench.old.engine ≡ caller.old.pass.table.config.pages }
+    requires book { length bench.old.book ≡ caller.old.pass.table.config.pages }
+    requires holds { Holds caller.old.pass (point.Making n) }
+    ensures home { caller.new.home ≡ true }
+    ensures made_for { E.made_for bench.new.engine ≡ E.made_for bench.old.engine }
+    ensures book { length bench.new.book ≡ length bench.old.book }
+    ensures advances { Advances caller.old.pass (point.Making n) caller.new.pass result }
+{
+    let made = new_object(rt, caller, bench, NODE, NODE_TYPE);
+    caller.is_idle();
+    match made {
+        Ok(_) => Point::Filling(n),
+        Err(_) => Point::Ended(Done::Full),
+    }
+}
+
+/// Frees the node that was taken.
+fn free<E: Engine, R: Threads + Wait + Sync>(
+    rt: &R,
+    caller: &mut Caller,
+    bench: &mut Bench<E>,
+) -> Point
+    requires home { caller.old.home ≡ true }
+    requires exists { number_of caller.old.pass < caller.old.pass.table.config.callers }
+    requires alone { caller.old.pass.seats ≡ caller.old.pass.seat ∷ [] }
+    requires types { HasStackTypes caller.old.pass.table.config }
+    requires made_for { E.made_for bench.old.engine ≡ caller.old.pass.table.config.pages }
+    requires book { length bench.old.book ≡ caller.old.pass.table.config.pages }
+    requires holds { Holds caller.old.pass point.Freeing }
+    ensures home { caller.new.home ≡ true }
+    ensures made_for { E.made_for bench.new.engine ≡ E.made_for bench.old.engine }
+    ensures book { length bench.new.book ≡ length bench.old.book }
+    ensures advances { Advances caller.old.pass point.Freeing caller.new.pass result }
+{
+    let freed = free_object(rt, caller, bench, UPPERMOST);
+    caller.is_idle();
+    match freed {
+        Ok(_) => Point::Reading,
+        Err(_) => Point::Reading,
+    }
+}
+
+/// The operation of a point, and the next point; or the gate was held, and nothing was asked.
+pub(crate) fn advance<E: Engine, R: Threads + Wait + Sync>(
+    rt: &R,
+    caller: &mut Caller,
+    bench: &mut Bench<E>,
+    point: Point,
+) -> Result<Point, Held>
+    requires home { caller.old.home ≡ true }
+    requires exists { number_of caller.old.pass < caller.old.pass.table.config.callers }
+    requires alone { caller.old.pass.seats ≡ caller.old.pass.seat ∷ [] }
+    requires types { HasStackTypes caller.old.pass.table.config }
+    requires made_for { E.made_for bench.old.engine ≡ caller.old.pass.table.config.pages }
+    requires book { length bench.old.book ≡ caller.old.pass.table.config.pages }
+    requires holds { Holds caller.old.pass point }
+    requires goes_on { IsGoal point → ⊥ }
+    ensures home { caller.new.home ≡ true }
+    ensures made_for { E.made_for bench.new.engine ≡ E.made_for bench.old.engine }
+    ensures book { length bench.new.book ≡ length bench.old.book }
+    ensures advances { IfOk result (Advances caller.old.pass point caller.new.pass) }
+    ensures held { OnErr result (Stays caller.old.pass caller.new.pass) }
+{
+    match point {
+        Point::Founding => Ok(found(rt, caller, bench)),
+        Point::Placing => place_top(caller),
+        Point::Starting(job) => load_top(caller, job),
+        Point::Checking(job) => check_top(caller, job),
+        Point::Making(n) => Ok(make(rt, caller, bench, n)),
+        Point::Filling(n) => fill(caller, n),
+        Point::Looking(n) => look(caller, n),
+        Point::Linking(n) => link(caller, n),
+        Point::Publishing(n) => publish(caller, n),
+        Point::Peeking => peek(caller),
+        Point::Testing => test(caller),
+        Point::Following => follow(caller),
+        Point::Taking => unlink(caller),
+        Point::Freeing => Ok(free(rt, caller, bench)),
+        Point::Reading => read(caller),
+        Point::Founded | Point::Ended(_) => unreachable!(),
+    }
+}
