@@ -1,5 +1,5 @@
 -- The page map of a turn is kept in step with what its holder stores.
-use Rattle.std.proofs.Common.{◌≡◌, ℕ, ◌<◌, Bool, true, false, Option, List, length, refl, sym, ◌∙◌, ap, subst, arith}
+use Rattle.std.proofs.Common.{◌≡◌, ℕ, ◌<◌, Bool, false, Option, List, length, refl, sym, ◌∙◌, ap, subst, arith}
 use Rattle.std.specs.Prelude.{◌/◌, ◌%◌, ◌^◌, slice_set}
 use Rattle.std.proofs.lemmas.Bool.{ltb-true}
 use Rattle.mk_geom.specs.declared.pages.Page.{Page}
