@@ -58,7 +58,21 @@ module _ (p q r : PassState) (n pages : ℕ) (page : FreesPage n q r) where
   same_on : ((s : ℕ) → n ≤ s → SamePage p q s) → (s : ℕ) → n + 1 ≤ s → SamePage p r s
   same_on before s le = page.others s (λ e. absurd (omega (arith, e, le))) ∙ before s (omega (arith, le))
 
-use Rattle.mk_cycle.specs.Freeing.{Frees, FreesPage, HasFreeCells, IsSettledPage, PageState, SamePage}
+  pub settled_more : (all here : Released) (held holds : ℕ) → AreSettledBelow p q pages n all held
+      → IsSettledPage r n → here ≡ released_on (now_of q).words n → holds ≡ held_at r n
+      → AreSettledBelow p r pages (n + 1)
+      (record { count = all.count + here.count; words = all.words + here.words; kept = all.kept + here.kept })
+      (held + holds)
+  settled_more all here held holds before settled counted is_held =
+      record {
+        frees = frees_then p q r before.frees page.frees;
+        settled = settled_on before.settled settled;
+        cells = cells_on before.cells;
+        same = same_on before.same;
+        counted = counted_more (now_of p).words n all here before.counted
+            (counted ∙ told_same p q n before.frees.marks (before.same n (omega arith)));
+        holds = held_more q r n held holds page before.holds is_held;
+      }
 
 -- A page that isn't in use has no header,
 

@@ -5,7 +5,7 @@ ghost use Rattle.mk_tracing.specs.Grays.{BlacksFewer, HasDirtyPart, IsCleaner, D
 ghost use Rattle.mk_tracing.specs.Grays.{without_blacks};
 ghost use Rattle.mk_tracing.specs.Stops.{IsWanted, still_words};
 
-use crate::stepping::{clear_black, look_among, look_at, undirty_page};
+use crate::stepping::{clear_black, look_among, look_at, next_in_use, undirty_page};
 use mk_core::Word;
 use mk_geom::head_page_under;
 use mk_words::{Stopped, Words};
@@ -64,7 +64,8 @@ fn clean_if_dirty(words: &Words, stop: &mut Stopped, pages: u64, page: u64)
     }
 }
 
-/// Clears all dirty words. The cells of dirty pages, and the runs with such a page, are scanned again.
+/// Clears all dirty words. The cells of dirty pages, and the runs with such a page, are scanned again. It goes from page
+/// in use to page in use: no free page is dirty.
 pub(crate) fn clean_dirty(words: &Words, stop: &mut Stopped)
     requires one_table { stop.old.pass.table ≡ words.now }
     requires wanted { IsWanted stop.old.pass }
@@ -72,7 +73,9 @@ pub(crate) fn clean_dirty(words: &Words, stop: &mut Stopped)
     ensures clean { (p : ℕ) → p < words.now.config.pages → slice_index (still_words stop.new.pass).dirty p ≡ 0 }
 {
     let pages = words.pages();
-    for page in 0..pages {
+    let mut from = 0;
+    while let Some(page) = next_in_use(stop, from) {
         clean_if_dirty(words, stop, pages, page);
+        from = page + 1;
     }
 }
