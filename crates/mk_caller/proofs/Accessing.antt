@@ -31,7 +31,7 @@ pub stores_and_leaves : {p q r : PassState} (v : ℕ) → stores_register (call_
     (progress_reg (call_of p) (call_of p).stage v).flight q
     → IsAtFlight q (call_of q).op (step.Leave ∷ []) None at_rest r
     → IsAtFlight p (call_of p).op (step.Reg ∷ step.Leave ∷ []) (progress_reg (call_of p) (call_of p).stage v).answer
-        at_rest r
+    at_rest r
 stores_and_leaves {p} v is a b =
     either_to (progress_reg (call_of p) (call_of p).stage v).answer a
     (of_same (ap (λ (f : Flight). f.op) a.call ∙ (store_goes_on p.table.config (call_of p) v is).op) b)
@@ -48,7 +48,7 @@ refuses {p} {q} {r} d at is a b =
     let here : (call_of p).stage ≡ stage.Put = at ∙ put in
     subst (λ (s : Stage). IsAtFlight p (call_of p).op (map step_at (refused_from s)) None at_rest r) (sym put)
     (subst (λ (s : Stage). IsAtFlight p (call_of p).op (step.Reg ∷ step.Leave ∷ []) (progress_reg (call_of p) s
-        0).answer
+    0).answer
     at_rest r) here
     (stores_and_leaves 0 (ap (λ (s : Stage). stores_register s) here) a b))
 

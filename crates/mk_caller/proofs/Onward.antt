@@ -37,7 +37,7 @@ pub record Next (c : Config) (f : Flight) (x : Progress) : Type 0 where
 pub moves : (p : PassState) (s : Step) (x : Progress) (q : PassState) → IsUnderway p → Has p.seats p.seat
     → IsHistory p.table.config p.seen
     → IsHistory q.table.config q.seen → Goes p s x q → Next p.table.config (call_of p) x
-        → CallMoves p (call_of p).op s x q
+    → CallMoves p (call_of p).op s x q
 moves p s x q u own before history g next =
     record {
       makes = one_step p (call_of p).op s x q u.caller u.seat own history g u.entered refl;
