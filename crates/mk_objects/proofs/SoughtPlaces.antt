@@ -23,7 +23,7 @@ use Rattle.mk_page_map.specs.Members.{has_free_cell, page_at}
 
 -- The cells of a page under the header word of the blocks that are sought,
 
-cells_under_wanted : (h u class : ℕ) (leaf : Bool) → class < 8 → h ≡ word_of (block_header class leaf)
+pub cells_under_wanted : (h u class : ℕ) (leaf : Bool) → class < 8 → h ≡ word_of (block_header class leaf)
     → cells_taken class leaf (use_under (header_of h) u) ≡ bits_of (cells_of class) u
 cells_under_wanted h u class false known is =
     cells_taken_alike (use_under (header_of h) u) class class false false u
@@ -50,7 +50,7 @@ other_cells class k leaf sort cells differ = elim (cases_eq class k) [
     by true false ne = none (nat_eq class k)
     by false true ne = none (nat_eq class k)
 
-cells_under_other : (h u class : ℕ) (leaf : Bool) → h ≢ word_of (block_header class leaf)
+pub cells_under_other : (h u class : ℕ) (leaf : Bool) → h ≢ word_of (block_header class leaf)
     → cells_taken class leaf (use_under (header_of h) u) ≡ []
 cells_under_other h u class leaf other = by (header_of h) refl
   where
@@ -66,6 +66,19 @@ cells_under_other h u class leaf other = by (header_of h) refl
     by (Some (LeafBlock k)) is = other_cells class k leaf true (bits_of (cells_of k) u)
         (λ e sort. other (sym (word_of-header_of h (LeafBlock k) is).1
         ∙ (λ i. word_of (block_header (sym e i) (sym sort i)))))
+
+-- A page with a header word isn't free.
+pub taken_under_other : (h u : ℕ) → h ≢ 0 → is_free_page (use_under (header_of h) u) ≡ false
+taken_under_other h u some = by (header_of h) refl
+  where
+    by : (x : Option Header) → header_of h ≡ x → is_free_page (use_under x u) ≡ false
+    by (Some Free) is = absurd (some (sym (word_of-header_of h Free is).1))
+    by None is = refl
+    by (Some (Block class)) is = refl
+    by (Some (LeafBlock class)) is = refl
+    by (Some (Run n m)) is = refl
+    by (Some (LeafRun n)) is = refl
+    by (Some (Later d m)) is = refl
 
 -- So a page with a free cell of a class and sort has the cells of its used word.
 pub cells_of_block : (page : Page) (class : ℕ) (leaf : Bool) → class < 8

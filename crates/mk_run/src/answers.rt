@@ -119,6 +119,7 @@ fn call_until_open<R: Wait>(rt: &R, caller: &mut Caller, op: Op) -> Answer
 #[inline(always)]
 fn call_at_once<R: Wait>(rt: &R, caller: &mut Caller, op: Op) -> Answer
     requires home { caller.old.home ≡ true }
+    requires exists { number_of caller.old.pass < caller.old.pass.table.config.callers }
     requires entered { is_under_turn op ≡ false }
     requires admitted { StaysAdmitted caller.old.pass op }
     ensures home { caller.new.home ≡ true }

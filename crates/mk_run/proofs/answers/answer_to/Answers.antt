@@ -34,5 +34,5 @@ returns-in-Err-free_object-clause-answers g c =
 pub returns-in_default-clause-begun : goal.returns-in_default-clause-begun
 returns-in_default-clause-begun g c =
     let entered : is_under_turn c.args.op ≡ false = search rules in
-    beside_begun g.E.Engine.begins c.args.caller.now.pass c.call_until_open.new.caller.pass
-    ((c.call_until_open.ensures.answers g.E.Engine.on).beside entered)
+    beside_begun g.E.Engine.begins c.args.caller.now.pass c.call_at_once.new.caller.pass
+    ((c.call_at_once.ensures.answers g.E.Engine.on).beside entered)

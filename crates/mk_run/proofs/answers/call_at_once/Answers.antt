@@ -1,4 +1,6 @@
-use Rattle.std.proofs.Common.{true, refl}
+use Rattle.std.proofs.Common.{◌<◌, true, refl, sym, subst}
+use Rattle.mk_words.specs.States.{PassState}
+use Rattle.mk_caller.specs.States.{number_of}
 use Rattle.mk_run.proofs.ScriptCalls.{answered_by_call, makes_none, none_then_answers, stays_admitted_after}
 use Rattle.mk_turns.proofs.Sweeping.{sweeps_then}
 use Rattle.mk_alloc.proofs.UnsweptTurns.{calls_sweep_nothing, sweep_nothing_where_held}
@@ -12,6 +14,12 @@ call_until_open-requires-clause-admitted g c =
     let p = c.args.caller.now.pass in
     stays_admitted_after true p c.args.op c.call.new.caller.pass c.requires.admitted
     (makes_none true p c.args.op c.call.new.caller.pass c.is_idle.ensures.own c.in-Err.ensures.held)
+
+pub call_until_open-requires-clause-exists : goal.call_until_open-requires-clause-exists
+call_until_open-requires-clause-exists g c =
+    let p = c.args.caller.now.pass in
+    let none = makes_none true p c.args.op c.call.new.caller.pass c.is_idle.ensures.own c.in-Err.ensures.held in
+    subst (λ (q : PassState). number_of q < q.table.config.callers) (sym none.is) c.requires.exists
 
 pub returns-in-Ok-clause-answers : goal.returns-in-Ok-clause-answers
 returns-in-Ok-clause-answers g c = λ on.
