@@ -9,6 +9,7 @@ use Rattle.mk_check.specs.declared.text.Text.{Text}
 use Rattle.mk_check.specs.Declarations.{config_of}
 use Rattle.mk_check.specs.Output.{text_behind, output}
 use Rattle.mk_replay.specs.Replays.{AreTextsOf}
+use Rattle.mk_engines.specs.Roots.{CyclesMarkRootsFirst}
 use Rattle.mk_heap.specs.Reports as report
 use Rattle.mk_run.specs.declared.outcomes.Outcome.{Outcome}
 use Rattle.mk_run.specs.Running.{IsRunOf}
@@ -41,29 +42,33 @@ texts_are_printed program es texts are =
 -- The texts of a run are what its scripts print of one history.
 pub run_is_printed : (program : List Item) (markers : ℕ) (sweep : Bool) (outcome : Outcome) (bytes : List ℕ)
     → IsRunOf (cycles_go_on markers) false program markers outcome
+    → (cycles_go_on markers ≡ true
+    → CyclesMarkRootsFirst (config_of program markers) (report.history_of outcome.report))
     → (sweep ≡ false → IsUnswept (config_of program markers) (report.history_of outcome.report))
     → bytes ≡ flat_map (λ (text : Text). text.bytes.items) outcome.texts.items
     → StandsInOneHistory program markers sweep false (output program) bytes
-run_is_printed program markers sweep outcome bytes runs unswept are =
-    runs_stand_in_one_history program markers sweep false outcome (output program) bytes runs unswept
+run_is_printed program markers sweep outcome bytes runs begun unswept are =
+    runs_stand_in_one_history program markers sweep false outcome (output program) bytes runs begun unswept
     (are ∙ runs_print_their_texts (cycles_go_on markers) false program markers outcome runs)
 
 -- With the lines of the entries after them they report what was kept in that history's last cycle.
 pub run_is_explained : (program : List Item) (markers : ℕ) (sweep : Bool) (outcome : Outcome) (texts bytes : List ℕ)
     (entries : List Kept) → IsRunOf (cycles_go_on markers) true program markers outcome
+    → (cycles_go_on markers ≡ true
+    → CyclesMarkRootsFirst (config_of program markers) (report.history_of outcome.report))
     → (sweep ≡ false → IsUnswept (config_of program markers) (report.history_of outcome.report))
     → EndsWithCycle (λ c w. AreKept c w entries) (config_of program markers) (report.history_of outcome.report)
     → texts ≡ flat_map (λ (text : Text). text.bytes.items) outcome.texts.items
     → bytes ≡ texts ++ kept_text program entries
     → TellsWhatIsKept program markers sweep bytes
 unfolding runs_stand_in_one_history
-run_is_explained program markers sweep outcome texts bytes entries runs unswept ends are is =
+run_is_explained program markers sweep outcome texts bytes entries runs begun unswept ends are is =
     let lines = kept_text program entries in
     let front = are ∙ runs_print_their_texts (cycles_go_on markers) true program markers outcome runs in
     record {
       entries = entries;
       stands =
           runs_stand_in_one_history program markers sweep true outcome (λ c es. output program c es ++ lines) bytes
-          runs unswept (is ∙ ap (λ (text : List ℕ). text ++ lines) front);
+          runs begun unswept (is ∙ ap (λ (text : List ℕ). text ++ lines) front);
       ends_with_cycle = ends;
     }

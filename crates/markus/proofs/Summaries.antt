@@ -1,6 +1,6 @@
 -- The summary of a run of a generated program is that of its history.
 use Rattle.std.proofs.Common.{◌≡◌, ℕ, zero, suc, ◌+◌, ◌<◌, ◌≤◌, List, [], ◌∷◌, ◌++◌, length, get_or, drop, append_assoc}
-use Rattle.std.proofs.Common.{append-nil, refl, ap, sym, ◌∙◌, arith, false}
+use Rattle.std.proofs.Common.{append-nil, refl, ap, sym, ◌∙◌, arith, true, false}
 use Rattle.std.specs.Prelude.{slice_index_or, slice_get, Some, sum_by}
 use Rattle.std.specs.List.{flat_map, range_with_len}
 use Rattle.std.specs.Fmt.{decimal}
@@ -21,6 +21,7 @@ use Rattle.mk_gen.specs.Generated.{all_names, generated_program}
 use Rattle.mk_gen.proofs.GeneratedLaws.{generated_declares_nodes, generated_makes_turns}
 use Rattle.mk_heap.specs.Reports as report
 use Rattle.mk_run.specs.declared.outcomes.Outcome.{Outcome}
+use Rattle.mk_engines.specs.Roots.{CyclesMarkRootsFirst}
 use Rattle.mk_run.specs.Running.{answers_in, IsRunOf}
 use Rattle.mk_run.specs.Headline.{StandsInOneHistory, cycles_go_on}
 use Rattle.mk_run.specs.Unswept.{IsUnswept}
@@ -146,8 +147,9 @@ module _ (start count markers : ℕ) (outcome : Outcome)
       ∙ ap (λ (n : ℕ). flat_map (line_of_script program c es) (range_with_len 0 n)
       ++ total_line (sum_by (calls_made c es) (range_with_len 0 n))) counted
 
-  pub run_is_summed : IsUnswept c es → (bytes : List ℕ) → bytes ≡ summary_of_texts outcome.texts.items
+  pub run_is_summed : (cycles_go_on markers ≡ true → CyclesMarkRootsFirst c es) → IsUnswept c es
+      → (bytes : List ℕ) → bytes ≡ summary_of_texts outcome.texts.items
       → StandsInOneHistory program markers false false (summary program) bytes
-  run_is_summed unswept bytes is =
-      runs_stand_in_one_history program markers false false outcome (summary program) bytes runs (λ none. unswept)
+  run_is_summed begun unswept bytes is =
+      runs_stand_in_one_history program markers false false outcome (summary program) bytes runs begun (λ none. unswept)
       (is ∙ summary_is)

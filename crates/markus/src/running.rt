@@ -2,6 +2,7 @@
 ghost use Rattle.std.specs.Prelude.{◌≡◌, ◌≤◌, IfOk, true, false};
 ghost use Rattle.mk_check.specs.Declarations.{config_of};
 ghost use Rattle.mk_check.specs.Output.{output};
+ghost use Rattle.mk_engines.specs.Roots.{CyclesMarkRootsFirst};
 ghost use Rattle.mk_heap.specs.Reports.{history_of};
 ghost use Rattle.mk_run.specs.Headline.{StandsInOneHistory, cycles_go_on};
 ghost use Rattle.mk_run.specs.LastCycle.{EndsWithCycle};
@@ -36,6 +37,8 @@ pub fn outcome_of<P: Pace + Sync, R: Threads + Wait + Sync>(
 ) -> Result<Outcome, NoMemory>
     requires { markers ≤ 8 }
     ensures runs { IfOk result (IsRunOf (cycles_go_on markers) false program.now markers) }
+    ensures begun { IfOk result (λ outcome. cycles_go_on markers ≡ true
+        → CyclesMarkRootsFirst (config_of program.now markers) (history_of outcome.report)) }
     ensures reached { IfOk result (λ outcome. sweep ≡ false
         → IsUnswept (config_of program.now markers) (history_of outcome.report)) }
 {
@@ -76,6 +79,8 @@ fn why_of<P: Pace + Sync, R: Threads + Wait + Sync>(
 ) -> Result<(Outcome, Vec<Kept>), NoMemory>
     requires { markers ≤ 8 }
     ensures runs { IfOk result (λ ran. IsRunOf (cycles_go_on markers) true program.now markers ran.0) }
+    ensures begun { IfOk result (λ ran. cycles_go_on markers ≡ true
+        → CyclesMarkRootsFirst (config_of program.now markers) (history_of ran.0.report)) }
     ensures reached { IfOk result (λ ran. sweep ≡ false
         → IsUnswept (config_of program.now markers) (history_of ran.0.report)) }
     ensures kept { IfOk result (λ ran. EndsWithCycle (λ c w. AreKept c w ran.1.items)

@@ -14,22 +14,24 @@ use Rattle.mk_core.specs.Calls.{at_rest, begun, onward, refused, stage_refused, 
 use Rattle.mk_words.specs.States.{PassState, call_of}
 use Rattle.mk_caller.specs.States.{never_of, value_of}
 use Rattle.mk_caller.specs.Called.{Called, step_at, refused_from}
-use Rattle.mk_caller.specs.Moves.{IsReady, At, is_access, is_store, refused_steps, refused_register, behind_q}
+use Rattle.mk_caller.specs.Moves.{MayBeginCall, IsAtFlight, is_access, stores_register, refused_steps, refused_register}
+use Rattle.mk_caller.specs.Moves.{behind_q}
 use Rattle.mk_caller.proofs.Chains.{go, to, on_to, either_to, of_same, called, value_kept, access_finds_null}
 use Rattle.mk_caller.proofs.Chains.{access_finds_some, access_is_small, null_steps, refused_puts}
 use Rattle.mk_caller.proofs.Onward.{store_goes_on}
 
-pub marks_and_leaves : {p q r : PassState} → At p (call_of p).op (step.Dirty ∷ []) None
+pub marks_and_leaves : {p q r : PassState} → IsAtFlight p (call_of p).op (step.Dirty ∷ []) None
     (onward (call_of p) None).flight q
-    → At q (call_of q).op (step.Leave ∷ []) None at_rest r
-    → At p (call_of p).op (step.Dirty ∷ step.Leave ∷ []) None at_rest r
+    → IsAtFlight q (call_of q).op (step.Leave ∷ []) None at_rest r
+    → IsAtFlight p (call_of p).op (step.Dirty ∷ step.Leave ∷ []) None at_rest r
 marks_and_leaves a b = to a (of_same (ap (λ (f : Flight). f.op) a.call) b)
 
-pub stores_and_leaves : {p q r : PassState} (v : ℕ) → is_store (call_of p).stage ≡ true
-    → At p (call_of p).op (step.Reg ∷ []) (progress_reg (call_of p) (call_of p).stage v).answer
+pub stores_and_leaves : {p q r : PassState} (v : ℕ) → stores_register (call_of p).stage ≡ true
+    → IsAtFlight p (call_of p).op (step.Reg ∷ []) (progress_reg (call_of p) (call_of p).stage v).answer
     (progress_reg (call_of p) (call_of p).stage v).flight q
-    → At q (call_of q).op (step.Leave ∷ []) None at_rest r
-    → At p (call_of p).op (step.Reg ∷ step.Leave ∷ []) (progress_reg (call_of p) (call_of p).stage v).answer at_rest r
+    → IsAtFlight q (call_of q).op (step.Leave ∷ []) None at_rest r
+    → IsAtFlight p (call_of p).op (step.Reg ∷ step.Leave ∷ []) (progress_reg (call_of p) (call_of p).stage v).answer
+    at_rest r
 stores_and_leaves {p} v is a b =
     either_to (progress_reg (call_of p) (call_of p).stage v).answer a
     (of_same (ap (λ (f : Flight). f.op) a.call ∙ (store_goes_on p.table.config (call_of p) v is).op) b)
@@ -37,57 +39,59 @@ stores_and_leaves {p} v is a b =
 -- a refusal that makes a register null
 pub refuses : {p q r : PassState} (d : ℕ) → (call_of p).stage ≡ stage_refused (call_of p).op
     → Some d ≡ refused_register (call_of p).op
-    → At p (call_of p).op (step.Reg ∷ []) (progress_reg (call_of p) (call_of p).stage 0).answer
+    → IsAtFlight p (call_of p).op (step.Reg ∷ []) (progress_reg (call_of p) (call_of p).stage 0).answer
     (progress_reg (call_of p) (call_of p).stage 0).flight q
-    → At q (call_of q).op (step.Leave ∷ []) None at_rest r
-    → At p (call_of p).op (refused_steps (call_of p).op) None at_rest r
+    → IsAtFlight q (call_of q).op (step.Leave ∷ []) None at_rest r
+    → IsAtFlight p (call_of p).op (refused_steps (call_of p).op) None at_rest r
 refuses {p} {q} {r} d at is a b =
     let put : stage_refused (call_of p).op ≡ stage.Put = (refused_puts (call_of p).op d is).0 in
     let here : (call_of p).stage ≡ stage.Put = at ∙ put in
-    subst (λ (s : Stage). At p (call_of p).op (map step_at (refused_from s)) None at_rest r) (sym put)
-    (subst (λ (s : Stage). At p (call_of p).op (step.Reg ∷ step.Leave ∷ []) (progress_reg (call_of p) s 0).answer
+    subst (λ (s : Stage). IsAtFlight p (call_of p).op (map step_at (refused_from s)) None at_rest r) (sym put)
+    (subst (λ (s : Stage). IsAtFlight p (call_of p).op (step.Reg ∷ step.Leave ∷ []) (progress_reg (call_of p) s
+    0).answer
     at_rest r) here
-    (stores_and_leaves 0 (ap (λ (s : Stage). is_store s) here) a b))
+    (stores_and_leaves 0 (ap (λ (s : Stage). stores_register s) here) a b))
 
 loaded : {p q r : PassState} {o : Op} (u : ℕ) (x : Progress) → progress_reg (begun o) (begun o).stage u ≡ x
-    → At p o (step.Enter o ∷ []) None (begun o) q
-    → At q (call_of q).op (step.Reg ∷ []) (progress_reg (call_of q) (call_of q).stage u).answer
+    → IsAtFlight p o (step.Enter o ∷ []) None (begun o) q
+    → IsAtFlight q (call_of q).op (step.Reg ∷ []) (progress_reg (call_of q) (call_of q).stage u).answer
     (progress_reg (call_of q) (call_of q).stage u).flight r
-    → At p o (step.Enter o ∷ step.Reg ∷ []) x.answer x.flight r
+    → IsAtFlight p o (step.Enter o ∷ step.Reg ∷ []) x.answer x.flight r
 loaded {p} {q} {r} {o} u x is a b =
-    subst (λ (y : Progress). At p o (step.Enter o ∷ step.Reg ∷ []) y.answer y.flight r) is
+    subst (λ (y : Progress). IsAtFlight p o (step.Enter o ∷ step.Reg ∷ []) y.answer y.flight r) is
     (go a (λ (f : Flight). progress_reg f f.stage u) refl b)
 
 pub begins : {p q r : PassState} {o : Op} (u : ℕ) → is_access o ≡ true → u ≢ 0
-    → At p o (step.Enter o ∷ []) None (begun o) q
-    → At q (call_of q).op (step.Reg ∷ []) (progress_reg (call_of q) (call_of q).stage u).answer
+    → IsAtFlight p o (step.Enter o ∷ []) None (begun o) q
+    → IsAtFlight q (call_of q).op (step.Reg ∷ []) (progress_reg (call_of q) (call_of q).stage u).answer
     (progress_reg (call_of q) (call_of q).stage u).flight r
-    → At p o (step.Enter o ∷ step.Reg ∷ []) None (behind_q o u) r
+    → IsAtFlight p o (step.Enter o ∷ step.Reg ∷ []) None (behind_q o u) r
 begins {p} {q} {r} {o} u access ne a b = loaded u (onward (record (begun o) { q = u }) None)
     (access_finds_some o u access ne) a b
 
 pub null_ends : {p q r s : PassState} {o : Op} (u : ℕ) → is_access o ≡ true → u ≡ 0
-    → At p o (step.Enter o ∷ []) None (begun o) q
-    → At q (call_of q).op (step.Reg ∷ []) (progress_reg (call_of q) (call_of q).stage u).answer
+    → IsAtFlight p o (step.Enter o ∷ []) None (begun o) q
+    → IsAtFlight q (call_of q).op (step.Reg ∷ []) (progress_reg (call_of q) (call_of q).stage u).answer
     (progress_reg (call_of q) (call_of q).stage u).flight r
-    → At r (call_of r).op (refused_steps (call_of r).op) None at_rest s → Called p o answer.Null s
+    → IsAtFlight r (call_of r).op (refused_steps (call_of r).op) None at_rest s → Called p o answer.Null s
 null_ends {p} {q} {r} {s} {o} u access zero a b e =
     let x = loaded u (refused (record (begun o) { q = 0 }) answer.Null)
     (ap (λ n. progress_reg (begun o) (begun o).stage n) zero ∙ access_finds_null o access) a b in
     let same : (call_of r).op ≡ o = ap (λ (f : Flight). f.op) x.call in
-    called (on_to x (subst (λ (y : Op). At r y (refused_steps y) None at_rest s) same e)) (null_steps o access)
+    called (on_to x (subst (λ (y : Op). IsAtFlight r y (refused_steps y) None at_rest s) same e)) (null_steps o access)
 
-pub null_value : {p q : PassState} {o : Op} {ss : List Step} {f : Flight} (r : ℕ) → IsReady p o → is_access o ≡ true
-    → r ≡ q_of o → At p o ss None f q
+pub null_value : {p q : PassState} {o : Op} {ss : List Step} {f : Flight} (r : ℕ) → MayBeginCall p o
+    → is_access o ≡ true
+    → r ≡ q_of o → IsAtFlight p o ss None f q
     → value_of q r ≡ NullValue → value_of p (q_of o) ≡ NullValue
 null_value {p} {q} {o} r ready access is a null =
     sym (value_kept a.makes (q_of o) (access_is_small (never_of p) o access ready.admits.in_range))
     ∙ ap (λ x. value_of q x) (sym is) ∙ null
 
-pub fault_ends : {p q r : PassState} → At p (call_of p).op (step.Probe ∷ []) (Some answer.Fault)
+pub fault_ends : {p q r : PassState} → IsAtFlight p (call_of p).op (step.Probe ∷ []) (Some answer.Fault)
     (refused (call_of p) answer.Fault).flight q
-    → At q (call_of q).op (refused_steps (call_of q).op) None at_rest r
-    → At p (call_of p).op (step.Probe ∷ refused_steps (call_of p).op) (Some answer.Fault) at_rest r
+    → IsAtFlight q (call_of q).op (refused_steps (call_of q).op) None at_rest r
+    → IsAtFlight p (call_of p).op (step.Probe ∷ refused_steps (call_of p).op) (Some answer.Fault) at_rest r
 fault_ends {p} {q} {r} a e =
     let same : (call_of q).op ≡ (call_of p).op = ap (λ (f : Flight). f.op) a.call in
-    on_to a (subst (λ (y : Op). At q y (refused_steps y) None at_rest r) same e)
+    on_to a (subst (λ (y : Op). IsAtFlight q y (refused_steps y) None at_rest r) same e)

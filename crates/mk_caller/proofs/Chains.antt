@@ -25,18 +25,20 @@ use Rattle.mk_words.specs.States.{PassState, call_of, event_of}
 use Rattle.mk_caller.specs.States.{number_of, never_of, value_of}
 use Rattle.mk_caller.specs.Called.{Called, steps_made}
 use Rattle.mk_caller.specs.Causes.{Probes, ProbesAWord}
-use Rattle.mk_caller.specs.Moves.{loads, IsReady, Makes, At, is_access, refused_register, refused_steps}
+use Rattle.mk_caller.specs.Moves.{loads, MayBeginCall, MakesSteps, IsAtFlight, is_access, refused_register}
+use Rattle.mk_caller.specs.Moves.{refused_steps}
 use Rattle.mk_caller.proofs.Joined.{joined, joined_on}
 
 -- Further steps of a call that isn't decided; how they go on is said by the call before them.
-pub go : {p q r : PassState} {o : Op} {ss ts : List Step} {f : Flight} → At p o ss None f q → (X : Flight → Progress)
+pub go : {p q r : PassState} {o : Op} {ss ts : List Step} {f : Flight} → IsAtFlight p o ss None f q → (X : Flight
+    → Progress)
     → f.op ≡ o
-    → At q (call_of q).op ts (X (call_of q)).answer (X (call_of q)).flight r
-    → At p o (ss ++ ts) (X f).answer (X f).flight r
+    → IsAtFlight q (call_of q).op ts (X (call_of q)).answer (X (call_of q)).flight r
+    → IsAtFlight p o (ss ++ ts) (X f).answer (X f).flight r
 go {p} {q} {r} {o} {ss} {ts} {f} a X same b =
-    let makes : Makes q o ts (X f).answer r =
-    subst (λ (y : Op). Makes q y ts (X f).answer r) same
-    (subst (λ (g : Flight). Makes q g.op ts (X g).answer r) a.call b.makes) in
+    let makes : MakesSteps q o ts (X f).answer r =
+    subst (λ (y : Op). MakesSteps q y ts (X f).answer r) same
+    (subst (λ (g : Flight). MakesSteps q g.op ts (X g).answer r) a.call b.makes) in
     record {
       makes = joined p o ss ts (X f).answer q r a.makes makes;
       call = b.call ∙ ap (λ (g : Flight). (X g).flight) a.call;
@@ -44,15 +46,15 @@ go {p} {q} {r} {o} {ss} {ts} {f} a X same b =
     }
 
 -- and of one that is
-pub go_on : {p q r : PassState} {o : Op} {ss ts : List Step} {a : Answer} {f : Flight} → At p o ss (Some a) f q
+pub go_on : {p q r : PassState} {o : Op} {ss ts : List Step} {a : Answer} {f : Flight} → IsAtFlight p o ss (Some a) f q
     → (X : Flight → Progress) → f.op ≡ o
-    → (X f).answer ≡ None → At q (call_of q).op ts (X (call_of q)).answer (X (call_of q)).flight r
-    → At p o (ss ++ ts) (Some a) (X f).flight r
+    → (X f).answer ≡ None → IsAtFlight q (call_of q).op ts (X (call_of q)).answer (X (call_of q)).flight r
+    → IsAtFlight p o (ss ++ ts) (Some a) (X f).flight r
 go_on {p} {q} {r} {o} {ss} {ts} {a} {f} before X same none b =
-    let makes : Makes q o ts None r =
-    subst (λ (y : Option Answer). Makes q o ts y r) none
-    (subst (λ (y : Op). Makes q y ts (X f).answer r) same
-    (subst (λ (g : Flight). Makes q g.op ts (X g).answer r) before.call b.makes)) in
+    let makes : MakesSteps q o ts None r =
+    subst (λ (y : Option Answer). MakesSteps q o ts y r) none
+    (subst (λ (y : Op). MakesSteps q y ts (X f).answer r) same
+    (subst (λ (g : Flight). MakesSteps q g.op ts (X g).answer r) before.call b.makes)) in
     record {
       makes = joined_on p o ss ts a q r before.makes makes;
       call = b.call ∙ ap (λ (g : Flight). (X g).flight) before.call;
@@ -60,17 +62,19 @@ go_on {p} {q} {r} {o} {ss} {ts} {a} {f} before X same none b =
     }
 
 -- parts of one call
-pub to : {p q r : PassState} {o : Op} {ss ts : List Step} {a : Option Answer} {f g : Flight} → At p o ss None f q
-    → At q o ts a g r → At p o (ss ++ ts) a g r
+pub to : {p q r : PassState} {o : Op} {ss ts : List Step} {a : Option Answer} {f g : Flight}
+    → IsAtFlight p o ss None f q
+    → IsAtFlight q o ts a g r → IsAtFlight p o (ss ++ ts) a g r
 to {p} {q} {r} {o} {ss} {ts} {a} x y = record {
   makes = joined p o ss ts a q r x.makes y.makes;
   call = y.call;
   underway = y.underway;
 }
 
-pub on_to : {p q r : PassState} {o : Op} {ss ts : List Step} {a : Answer} {f g : Flight} → At p o ss (Some a) f q
-    → At q o ts None g r
-    → At p o (ss ++ ts) (Some a) g r
+pub on_to : {p q r : PassState} {o : Op} {ss ts : List Step} {a : Answer} {f g : Flight}
+    → IsAtFlight p o ss (Some a) f q
+    → IsAtFlight q o ts None g r
+    → IsAtFlight p o (ss ++ ts) (Some a) g r
 on_to {p} {q} {r} {o} {ss} {ts} {a} x y = record {
   makes = joined_on p o ss ts a q r x.makes y.makes;
   call = y.call;
@@ -79,21 +83,21 @@ on_to {p} {q} {r} {o} {ss} {ts} {a} x y = record {
 
 -- whether it is decided or not
 pub either_to : {p q r : PassState} {o : Op} {ss ts : List Step} {f g : Flight} → (a : Option Answer)
-    → At p o ss a f q → At q o ts None g r
-    → At p o (ss ++ ts) a g r
+    → IsAtFlight p o ss a f q → IsAtFlight q o ts None g r
+    → IsAtFlight p o (ss ++ ts) a g r
 either_to None x y = to x y
 either_to (Some a) x y = on_to x y
 
 -- the operation of the later part is that of the call in flight there
 pub of_same : {q r : PassState} {o : Op} {ts : List Step} {a : Option Answer} {g : Flight} → (call_of q).op ≡ o
-    → At q (call_of q).op ts a g r → At q o ts a g r
-of_same {q} {r} {o} {ts} {a} {g} is x = subst (λ (y : Op). At q y ts a g r) is x
+    → IsAtFlight q (call_of q).op ts a g r → IsAtFlight q o ts a g r
+of_same {q} {r} {o} {ts} {a} {g} is x = subst (λ (y : Op). IsAtFlight q y ts a g r) is x
 
 -- by a store and the last step
 abbrev pub stores : ℕ → Flight → Progress
 stores v f = record { flight = at_rest; answer = (loads v f).answer }
 
-pub called : {p r : PassState} {o : Op} {ss : List Step} {a : Answer} → At p o ss (Some a) at_rest r
+pub called : {p r : PassState} {o : Op} {ss : List Step} {a : Answer} → IsAtFlight p o ss (Some a) at_rest r
     → ss ≡ steps_made o a → Called p o a r
 called {p} {r} {o} {ss} {a} at steps =
     record {
@@ -106,17 +110,17 @@ called {p} {r} {o} {ss} {a} at steps =
     }
 
 -- While nothing is decided the caller's registers keep their values.
-pub keeps : {p q : PassState} {o : Op} {ss : List Step} → Makes p o ss None q
+pub keeps : {p q : PassState} {o : Op} {ss : List Step} → MakesSteps p o ss None q
     → KeepsRegisters (number_of p) (never_of p) (never_of q)
 keeps {p} {q} m = subst (λ (x : PassState). KeepsRegisters (number_of p) (never_of p) (never_of x)) (sym m.is) m.decided
 
-pub value_kept : {p q : PassState} {o : Op} {ss : List Step} → Makes p o ss None q → (r : ℕ) → r < 8
+pub value_kept : {p q : PassState} {o : Op} {ss : List Step} → MakesSteps p o ss None q → (r : ℕ) → r < 8
     → value_of q r ≡ value_of p r
 value_kept {p} {q} m r lt =
     ap (λ (x : PassState). Rattle.mk_never.specs.NeverHeap.register_at (never_of q) (number_of x) r) m.is ∙ keeps m r lt
 
 -- a probe of the later steps
-pub probes_from : {p q r : PassState} {o : Op} {ss : List Step} {t : Target} → Makes p o ss None q → q_of o < 8
+pub probes_from : {p q r : PassState} {o : Op} {ss : List Step} {t : Target} → MakesSteps p o ss None q → q_of o < 8
     → Probes q o r t → Probes p o r t
 probes_from {p} {q} {r} {o} {ss} {t} m lt probes =
     by m.more m.decided (subst (λ (x : PassState). Probes x o r t) m.is probes)
@@ -208,12 +212,12 @@ pub record SeesMore (q r : PassState) : Type 0 where
   pub more : List Event
   pub is : r.seen ≡ q.seen ++ more
 
-pub sees_more : {q r : PassState} {o : Op} {ts : List Step} {a : Option Answer} {f : Flight} → At q o ts a f r
+pub sees_more : {q r : PassState} {o : Op} {ts : List Step} {a : Option Answer} {f : Flight} → IsAtFlight q o ts a f r
     → SeesMore q r
 sees_more x = record { more = x.makes.more; is = ap (λ (s : PassState). s.seen) x.makes.is }
 
 pub sees_further : {q r s : PassState} {o : Op} {ts : List Step} {a : Option Answer} {f : Flight} → SeesMore q r
-    → At r o ts a f s → SeesMore q s
+    → IsAtFlight r o ts a f s → SeesMore q s
 sees_further {q} g x =
     record {
       more = g.more ++ x.makes.more;
@@ -233,8 +237,8 @@ probes_on {p} {q} {r} {o} {t} x g =
     }
 
 -- The call's access got to a word at its probe.
-pub reached : {p q s r : PassState} {o : Op} {ss : List Step} {f : Flight} → IsReady p o → is_access o ≡ true
-    → At p o ss None f q → f.op ≡ o
+pub reached : {p q s r : PassState} {o : Op} {ss : List Step} {f : Flight} → MayBeginCall p o → is_access o ≡ true
+    → IsAtFlight p o ss None f q → f.op ≡ o
     → ProbesAWord q (call_of q).op s → SeesMore s r → ProbesAWord p o r
 reached {p} {q} {s} {r} {o} ready access a same x g =
     let y : ProbesAWord q o s = subst (λ (y : Op). ProbesAWord q y s) (ap (λ (f : Flight). f.op) a.call ∙ same) x in
@@ -245,15 +249,16 @@ reached {p} {q} {s} {r} {o} ready access a same x g =
     }
 
 -- It found the allocation's pages unmapped.
-pub faults : {p q r : PassState} {o : Op} {ss : List Step} {f : Flight} → IsReady p o → is_access o ≡ true
-    → At p o ss None f q → f.op ≡ o
+pub faults : {p q r : PassState} {o : Op} {ss : List Step} {f : Flight} → MayBeginCall p o → is_access o ≡ true
+    → IsAtFlight p o ss None f q → f.op ≡ o
     → ss ++ (step.Probe ∷ refused_steps o) ≡ steps_made o answer.Fault
-    → At q (call_of q).op (step.Probe ∷ refused_steps (call_of q).op) (Some answer.Fault) at_rest r
+    → IsAtFlight q (call_of q).op (step.Probe ∷ refused_steps (call_of q).op) (Some answer.Fault) at_rest r
     → Probes q (call_of q).op r Unmapped
     → Called p o answer.Fault r × Probes p o r Unmapped
 faults {p} {q} {r} {o} ready access a same steps b x =
     let is : (call_of q).op ≡ o = ap (λ (f : Flight). f.op) a.call ∙ same in (
-      called (to a (subst (λ (y : Op). At q y (step.Probe ∷ refused_steps y) (Some answer.Fault) at_rest r) is b))
+      called (to a (subst (λ (y : Op). IsAtFlight q y (step.Probe ∷ refused_steps y) (Some answer.Fault) at_rest r) is
+          b))
           steps,
       probes_from a.makes (access_is_small (never_of p) o access ready.admits.in_range)
           (subst (λ (y : Op). Probes q y r Unmapped) is x),

@@ -33,7 +33,7 @@ use Rattle.mk_frames.proofs.LastEvents.{stands, goes_on_by}
 use Rattle.mk_words.specs.States.{PassState, call_of, event_of, now_of}
 use Rattle.mk_words.specs.Steps.{IsEnabledTo, IsAdmittedTo}
 use Rattle.mk_caller.specs.States.{number_of, never_of, Admits}
-use Rattle.mk_caller.specs.Moves.{IsReady}
+use Rattle.mk_caller.specs.Moves.{MayBeginCall}
 use Rattle.mk_caller.proofs.OneStep.{flagged_same}
 
 -- Callers' kinds have no conditions 5 to 7.
@@ -167,7 +167,7 @@ caller_exists p o k h is ad =
     let count = (stands p.table.config p.seen h).all.mirrors.register_count in
     omega arith
 
-pub enter_enabled : (p : PassState) (o : Op) → IsHistory p.table.config p.seen → IsReady p o
+pub enter_enabled : (p : PassState) (o : Op) → IsHistory p.table.config p.seen → MayBeginCall p o
     → IsEnabledTo p (step.Enter o)
 enter_enabled p o h ready =
     let st = stands p.table.config p.seen h in

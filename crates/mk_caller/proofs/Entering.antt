@@ -13,18 +13,19 @@ use Rattle.mk_words.specs.declared.call_steps.Held.{Held}
 use Rattle.mk_caller.specs.States.{number_of, never_of}
 use Rattle.mk_caller.specs.Called.{own_calls}
 use Rattle.mk_caller.specs.Causes.{FindsGateHeld}
-use Rattle.mk_caller.specs.Moves.{IsReady, Moves}
+use Rattle.mk_caller.specs.Moves.{MayBeginCall, CallMoves}
 use Rattle.mk_caller.proofs.OneStep.{one_step}
 use Rattle.mk_caller.proofs.Onward.{enters}
 
-pub entered : (p : PassState) (o : Op) (q : PassState) (r : Result (Unit {0}) Held) → IsReady p o → Has p.seats p.seat
+pub entered : (p : PassState) (o : Op) (q : PassState) (r : Result (Unit {0}) Held) → MayBeginCall p o
+    → Has p.seats p.seat
     → IsHistory p.table.config p.seen
     → IsHistory q.table.config q.seen → OnOk r (Goes p (step.Enter o) (record { flight = begun o; answer = None }) q)
-    → OnOk r (Moves p o (step.Enter o) (record { flight = begun o; answer = None }) q)
+    → OnOk r (CallMoves p o (step.Enter o) (record { flight = begun o; answer = None }) q)
 entered p o q (Ok u) ready own before history g = enters p o q ready own before history g
 entered p o q (Err e) ready own before history g = tt
 
-pub held : (p : PassState) (o : Op) (q : PassState) (r : Result (Unit {0}) Held) → IsReady p o → Has p.seats p.seat
+pub held : (p : PassState) (o : Op) (q : PassState) (r : Result (Unit {0}) Held) → MayBeginCall p o → Has p.seats p.seat
     → IsHistory p.table.config p.seen
     → IsHistory q.table.config q.seen → OnErr r (FindsHeld p o q)
     → OnErr r (Goes p (step.Enter o) (still (call_of p)) q)

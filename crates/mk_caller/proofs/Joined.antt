@@ -15,7 +15,7 @@ use Rattle.mk_core.proofs.HistoryParts.{left_in_parts}
 use Rattle.mk_words.specs.States.{PassState}
 use Rattle.mk_caller.specs.States.{number_of, never_of}
 use Rattle.mk_caller.specs.Called.{own_steps, own_calls, IsDecidedIn}
-use Rattle.mk_caller.specs.Moves.{IsDecidedAs, Makes}
+use Rattle.mk_caller.specs.Moves.{IsDecidedAs, MakesSteps}
 use Rattle.mk_caller.proofs.OwnSteps.{steps_from, steps_append}
 use Rattle.mk_caller.proofs.OneStep.{keeps_both}
 
@@ -99,14 +99,15 @@ is_joined : (p r : PassState) (m1 m2 : List Event) → r ≡ record p { seen = (
 is_joined p r m1 m2 is = is ∙ ap (λ (l : List Event). record p { seen = l }) (append_assoc p.seen m1 m2)
 
 -- steps that decide nothing, and then others
-pub joined : (p : PassState) (o : Op) (ss ts : List Step) (a : Option Answer) (q r : PassState) → Makes p o ss None q
-    → Makes q o ts a r → Makes p o (ss ++ ts) a r
+pub joined : (p : PassState) (o : Op) (ss ts : List Step) (a : Option Answer) (q r : PassState)
+    → MakesSteps p o ss None q
+    → MakesSteps q o ts a r → MakesSteps p o (ss ++ ts) a r
 joined p o ss ts a q r first second = by first.more first.steps first.entry first.decided
-    (subst (λ (x : PassState). Makes x o ts a r) first.is second)
+    (subst (λ (x : PassState). MakesSteps x o ts a r) first.is second)
   where
     by : (m1 : List Event) → own_steps p m1 ≡ ss → own_calls p (p.seen ++ m1) ≡ own_calls p p.seen ++ []
         → KeepsRegisters (number_of p) (never_of p) (never_behind p.table.config (p.seen ++ m1))
-        → Makes (seen_more p m1) o ts a r → Makes p o (ss ++ ts) a r
+        → MakesSteps (seen_more p m1) o ts a r → MakesSteps p o (ss ++ ts) a r
     by m1 steps entry keeps second =
         record {
           more = m1 ++ second.more;
@@ -119,14 +120,15 @@ joined p o ss ts a q r first second = by first.more first.steps first.entry firs
         }
 
 -- steps that decide the call, and then others
-pub joined_on : (p : PassState) (o : Op) (ss ts : List Step) (a : Answer) (q r : PassState) → Makes p o ss (Some a) q
-    → Makes q o ts None r → Makes p o (ss ++ ts) (Some a) r
+pub joined_on : (p : PassState) (o : Op) (ss ts : List Step) (a : Answer) (q r : PassState)
+    → MakesSteps p o ss (Some a) q
+    → MakesSteps q o ts None r → MakesSteps p o (ss ++ ts) (Some a) r
 joined_on p o ss ts a q r first second = by first.more first.steps first.entry first.decided
-    (subst (λ (x : PassState). Makes x o ts None r) first.is second)
+    (subst (λ (x : PassState). MakesSteps x o ts None r) first.is second)
   where
     by : (m1 : List Event) → own_steps p m1 ≡ ss → own_calls p (p.seen ++ m1) ≡ own_calls p p.seen ++ entry_of
         (number_of p) o (Some a)
-        → IsDecidedIn p o a m1 → Makes (seen_more p m1) o ts None r → Makes p o (ss ++ ts) (Some a) r
+        → IsDecidedIn p o a m1 → MakesSteps (seen_more p m1) o ts None r → MakesSteps p o (ss ++ ts) (Some a) r
     by m1 steps entry decided second =
         record {
           more = m1 ++ second.more;

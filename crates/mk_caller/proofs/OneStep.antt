@@ -37,7 +37,7 @@ use Rattle.mk_words.specs.Steps.{Goes}
 use Rattle.mk_words.proofs.Made.{Made, made}
 use Rattle.mk_caller.specs.States.{number_of, never_of, Admits}
 use Rattle.mk_caller.specs.Called.{own_calls}
-use Rattle.mk_caller.specs.Moves.{IsDecidedAs, Makes, IsUnderway, is_decided}
+use Rattle.mk_caller.specs.Moves.{IsDecidedAs, MakesSteps, IsUnderway, is_past_decision}
 use Rattle.mk_caller.proofs.OwnSteps.{own_step, by_append, own_entry, others_add_none, calls_by}
 
 -- An operation that isn't a New has no flag.
@@ -141,7 +141,7 @@ module _ (p : PassState) (o : Op) (s : Step) (x : Progress) (q : PassState) (k :
   is_more : q ≡ record p { seen = p.seen ++ (others ++ e ∷ []) }
   is_more = g.makes.is ∙ ap (λ (l : List Event). record p { seen = l }) (sym joint)
 
-  pub one_step : Makes p o (s ∷ []) x.answer q
+  pub one_step : MakesSteps p o (s ∷ []) x.answer q
   one_step =
       record {
         more = others ++ e ∷ [];
@@ -160,7 +160,7 @@ module _ (p : PassState) (o : Op) (s : Step) (x : Progress) (q : PassState) (k :
 
   -- and that the call may go on
   pub goes_underway : k < p.table.config.callers → IsHistory p.table.config p.seen → is_under_turn x.flight.op ≡ false
-      → (is_decided x.flight.stage ≡ false → (x.answer ≡ None) × Admits p x.flight.op)
+      → (is_past_decision x.flight.stage ≡ false → (x.answer ≡ None) × Admits p x.flight.op)
       → (x.flight.stage ≡ stage.Dirty → is_word_met p.table.config x.flight ≡ true) → IsUnderway q
   goes_underway exists known goes_on next page =
       let back : (P : PassState → Type 0) → P (record p { seen = p.seen ++ (others ++ e ∷ []) }) → P q =
@@ -186,7 +186,7 @@ module _ (p : PassState) (o : Op) (s : Step) (x : Progress) (q : PassState) (k :
         admits = λ undecided.
             subst (λ (f : Flight). Admits q f.op) (sym g.call)
             (back (λ r. Admits r x.flight.op) (at_last
-            (next (ap (λ (f : Flight). is_decided f.stage) (sym g.call) ∙ undecided))));
+            (next (ap (λ (f : Flight). is_past_decision f.stage) (sym g.call) ∙ undecided))));
         page = λ dirty.
             subst (λ (f : Flight). is_word_met q.table.config f ≡ true) (sym g.call)
             (back (λ r. is_word_met r.table.config x.flight ≡ true)

@@ -23,19 +23,21 @@ use Rattle.mk_words.specs.Seats.{Has}
 use Rattle.mk_words.specs.States.{PassState, call_of}
 use Rattle.mk_words.specs.Steps.{Goes}
 use Rattle.mk_caller.specs.States.{Admits}
-use Rattle.mk_caller.specs.Moves.{IsReady, IsUnderway, Moves, is_decided, is_load, is_store, is_written}
+use Rattle.mk_caller.specs.Moves.{MayBeginCall, IsUnderway, CallMoves, is_past_decision, loads_register}
+use Rattle.mk_caller.specs.Moves.{stores_register, is_written}
 use Rattle.mk_caller.proofs.OneStep.{one_step, goes_underway}
 use Rattle.mk_caller.proofs.Enabling.{caller_exists}
 
 pub record Next (c : Config) (f : Flight) (x : Progress) : Type 0 where
   pub op : x.flight.op ≡ f.op
-  pub undecided : is_decided x.flight.stage ≡ false → (x.answer ≡ None) × (is_decided f.stage ≡ false)
+  pub undecided : is_past_decision x.flight.stage ≡ false → (x.answer ≡ None) × (is_past_decision f.stage ≡ false)
   pub page : x.flight.stage ≡ stage.Dirty → is_word_met c x.flight ≡ true
 
 -- A step of a call that may go on leaves one that may.
 pub moves : (p : PassState) (s : Step) (x : Progress) (q : PassState) → IsUnderway p → Has p.seats p.seat
     → IsHistory p.table.config p.seen
-    → IsHistory q.table.config q.seen → Goes p s x q → Next p.table.config (call_of p) x → Moves p (call_of p).op s x q
+    → IsHistory q.table.config q.seen → Goes p s x q → Next p.table.config (call_of p) x
+    → CallMoves p (call_of p).op s x q
 moves p s x q u own before history g next =
     record {
       makes = one_step p (call_of p).op s x q u.caller u.seat own history g u.entered refl;
@@ -50,12 +52,12 @@ abbrev flight : Stage → Op → ℕ → ℕ → ℕ → ℕ → Flight
 flight s o q p r l = record { stage = s; op = o; q = q; p = p; r = r; loaded = l }
 
 -- to a stage that isn't after the deciding step
-on : (c : Config) (f : Flight) (x : Progress) → x.flight.op ≡ f.op → x.answer ≡ None → is_decided f.stage ≡ false
+on : (c : Config) (f : Flight) (x : Progress) → x.flight.op ≡ f.op → x.answer ≡ None → is_past_decision f.stage ≡ false
     → (x.flight.stage ≡ stage.Dirty → ⊥) → Next c f x
 on c f x o a d n = record { op = o; undecided = λ h. (a, d); page = λ h. absurd (n h) }
 
 -- or to one after it
-off : (c : Config) (f : Flight) (x : Progress) → x.flight.op ≡ f.op → is_decided x.flight.stage ≡ true
+off : (c : Config) (f : Flight) (x : Progress) → x.flight.op ≡ f.op → is_past_decision x.flight.stage ≡ true
     → (x.flight.stage ≡ stage.Dirty → ⊥) → Next c f x
 off c f x o d n = record { op = o; undecided = λ h. (let e : true ≡ false = sym d ∙ h in cc); page = λ h. absurd (n h) }
 
@@ -126,14 +128,14 @@ r_next : (c : Config) (o : Op) (q p r l found : ℕ)
 r_next c (op.CasPtr x i y z) q p r l found = on c _ _ refl refl refl (λ h. cc)
 r_next c _ q p r l found = off c _ _ refl refl (λ h. cc)
 
-at_load : (c : Config) (s : Stage) (o : Op) (q p r l found : ℕ) → is_load s ≡ true → is_under_turn o ≡ false
+at_load : (c : Config) (s : Stage) (o : Op) (q p r l found : ℕ) → loads_register s ≡ true → is_under_turn o ≡ false
     → Next c (flight s o q p r l) (progress_reg (flight s o q p r l) s found)
 at_load c stage.LoadQ o q p r l found h u = q_next c o q p r l found
 at_load c stage.LoadP o q p r l found h u = p_next c o q p r l found u
 at_load c stage.LoadR o q p r l found h u = r_next c o q p r l found
 at_load c _ o q p r l found h u = cc
 
-pub load_next : (c : Config) (f : Flight) (found : ℕ) → is_load f.stage ≡ true → is_under_turn f.op ≡ false
+pub load_next : (c : Config) (f : Flight) (found : ℕ) → loads_register f.stage ≡ true → is_under_turn f.op ≡ false
     → Next c f (progress_reg f f.stage found)
 load_next c f found h u = at_load c f.stage f.op f.q f.p f.r f.loaded found h u
 
@@ -147,10 +149,11 @@ put_next : (c : Config) (o : Op) (q p r l : ℕ) → Next c (flight stage.Put o 
 put_next c o q p r l = off c _ _ refl refl (λ h. cc)
 
 -- a stage at which a register is stored
-pub store_goes_on : (c : Config) (f : Flight) (v : ℕ) → is_store f.stage ≡ true → Next c f (progress_reg f f.stage v)
+pub store_goes_on : (c : Config) (f : Flight) (v : ℕ) → stores_register f.stage ≡ true
+    → Next c f (progress_reg f f.stage v)
 store_goes_on c f v h = by f.stage f.op f.q f.p f.r f.loaded h
   where
-    by : (s : Stage) (o : Op) (q p r l : ℕ) → is_store s ≡ true
+    by : (s : Stage) (o : Op) (q p r l : ℕ) → stores_register s ≡ true
         → Next c (flight s o q p r l) (progress_reg (flight s o q p r l) s v)
     by stage.Store o q p r l h = store_next c o q p r l
     by stage.Put o q p r l h = put_next c o q p r l
@@ -176,7 +179,7 @@ written : (c : Config) (s : Stage) (o : Op) (q p r l : ℕ) (a : Answer) → is_
     → Next c (flight s o q p r l) (onward (flight s o q p r l) (Some a))
 written c s o q p r l a h met = record { op = refl; undecided = λ u. absurd (by s o h u); page = λ e. met }
   where
-    by : (s : Stage) (o : Op) → is_written s ≡ true → is_decided (stage_behind s (steps_of o)) ≡ false → ⊥
+    by : (s : Stage) (o : Op) → is_written s ≡ true → is_past_decision (stage_behind s (steps_of o)) ≡ false → ⊥
     by stage.Write (op.Clear d) h u = cc
     by stage.Write _ h u = cc
     by stage.Cas (op.Clear d) h u = cc
@@ -236,7 +239,7 @@ dirty_next c f e =
 -- the last step
 pub leaves : (p : PassState) (q : PassState) → IsUnderway p → Has p.seats p.seat → IsHistory p.table.config p.seen
     → IsHistory q.table.config q.seen → Goes p step.Leave (record { flight = at_rest; answer = None }) q
-    → Moves p (call_of p).op step.Leave (record { flight = at_rest; answer = None }) q
+    → CallMoves p (call_of p).op step.Leave (record { flight = at_rest; answer = None }) q
 leaves p q u own before history g =
     record {
       makes = one_step p (call_of p).op step.Leave (record { flight = at_rest; answer = None }) q u.caller u.seat own
@@ -252,10 +255,10 @@ begins (op.Clear d) h = cc
 begins _ h = cc
 
 -- and the first
-pub enters : (p : PassState) (o : Op) (q : PassState) → IsReady p o → Has p.seats p.seat
+pub enters : (p : PassState) (o : Op) (q : PassState) → MayBeginCall p o → Has p.seats p.seat
     → IsHistory p.table.config p.seen
     → IsHistory q.table.config q.seen → Goes p (step.Enter o) (record { flight = begun o; answer = None }) q
-    → Moves p o (step.Enter o) (record { flight = begun o; answer = None }) q
+    → CallMoves p o (step.Enter o) (record { flight = begun o; answer = None }) q
 enters p o q ready own before history g =
     record {
       makes = one_step p o (step.Enter o) (record { flight = begun o; answer = None }) q ready.caller ready.seat own

@@ -164,7 +164,7 @@ module _ (p : PassState) (q : PassState) (n : ℕ) (u : IsUnderway p) (own : Has
       (never_continues p.table.config p.seen finds.makes.others) keeps
       (stands p.table.config p.seen h).all.mirrors.typed (q_of o) (i_of o) (λ kind. Unit {0}) small
       (access_meets (never_of p) (number_of p) o through
-      (u.admits (ap (λ (s : Stage). Rattle.mk_caller.specs.Moves.is_decided s) at)).access)
+      (u.admits (ap (λ (s : Stage). Rattle.mk_caller.specs.Moves.is_past_decision s) at)).access)
 
   finds_header : is_unmapped_header (header_of n) ≡ is_unmapped_header
       (header_in (left p.table.config es).now.words (page_met (flight_of (left p.table.config es).now p.seat)))

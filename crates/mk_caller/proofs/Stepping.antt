@@ -25,17 +25,17 @@ use Rattle.mk_words.specs.States.{PassState, call_of}
 use Rattle.mk_words.specs.Steps.{IsEnabledTo, IsAdmittedTo}
 use Rattle.mk_words.specs.CallSteps.{register_of}
 use Rattle.mk_caller.specs.States.{value_of}
-use Rattle.mk_caller.specs.Moves.{IsUnderway, Moves, is_access, is_decided, is_load, is_store}
+use Rattle.mk_caller.specs.Moves.{IsUnderway, CallMoves, is_access, is_past_decision, loads_register, stores_register}
 use Rattle.mk_caller.proofs.Enabling.{enabled, admitted, idly_admitted, put_decides_nothing, met_is_small}
 use Rattle.mk_caller.proofs.WordsMet.{null_tells, word_is_met}
 
-load_comes : (s : Stage) (o : Op) → is_load s ≡ true → comes_next s o step.Reg ≡ true
+load_comes : (s : Stage) (o : Op) → loads_register s ≡ true → comes_next s o step.Reg ≡ true
 load_comes stage.LoadQ o h = refl
 load_comes stage.LoadP o h = refl
 load_comes stage.LoadR o h = refl
 load_comes _ o h = cc
 
-load_undecided : (s : Stage) → is_load s ≡ true → (is_decided s ≡ false) × (is_put s ≡ false)
+load_undecided : (s : Stage) → loads_register s ≡ true → (is_past_decision s ≡ false) × (is_put s ≡ false)
 load_undecided stage.LoadQ h = (refl, refl)
 load_undecided stage.LoadP h = (refl, refl)
 load_undecided stage.LoadR h = (refl, refl)
@@ -46,20 +46,20 @@ module _ (p : PassState) (u : IsUnderway p) (h : IsHistory p.table.config p.seen
       → is_in_range p.table.config p.seat (call_of p) s ≡ true → IsEnabledTo p s
   enabled_step s kind next range = enabled p s u.caller u.seat u.exists kind next range
 
-  admitted_step : (s : Step) → is_decided (call_of p).stage ≡ false → IsEnabledTo p s → IsAdmittedTo p s
+  admitted_step : (s : Step) → is_past_decision (call_of p).stage ≡ false → IsEnabledTo p s → IsAdmittedTo p s
   admitted_step s undecided on = admitted p s h on u.entered (u.admits undecided)
 
-  pub may_load : is_load (call_of p).stage ≡ true → IsAdmittedTo p step.Reg
+  pub may_load : loads_register (call_of p).stage ≡ true → IsAdmittedTo p step.Reg
   may_load is =
       admitted_step step.Reg (load_undecided (call_of p).stage is).0
       (enabled_step step.Reg refl (load_comes (call_of p).stage (call_of p).op is) refl)
 
-  pub may_store : is_store (call_of p).stage ≡ true → IsAdmittedTo p step.Reg
+  pub may_store : stores_register (call_of p).stage ≡ true → IsAdmittedTo p step.Reg
   may_store is = by (call_of p).stage refl is
     where
-      by : (s : Stage) → (call_of p).stage ≡ s → is_store s ≡ true → IsAdmittedTo p step.Reg
+      by : (s : Stage) → (call_of p).stage ≡ s → stores_register s ≡ true → IsAdmittedTo p step.Reg
       by stage.Store e is =
-          admitted_step step.Reg (ap (λ (s : Stage). is_decided s) e)
+          admitted_step step.Reg (ap (λ (s : Stage). is_past_decision s) e)
           (enabled_step step.Reg refl (ap (λ (s : Stage). comes_next s (call_of p).op step.Reg) e) refl)
       by stage.Put e is =
           idly_admitted p step.Reg h
@@ -67,7 +67,7 @@ module _ (p : PassState) (u : IsUnderway p) (h : IsHistory p.table.config p.seen
           (put_decides_nothing p u.caller u.seat e)
       by _ e is = cc
 
-  pub null_is : (r : ℕ) → is_load (call_of p).stage ≡ true → r ≡ register_met (call_of p) (call_of p).stage
+  pub null_is : (r : ℕ) → loads_register (call_of p).stage ≡ true → r ≡ register_met (call_of p) (call_of p).stage
       → (register_of p r ≡ 0) ↔ (value_of p r ≡ Null)
   null_is r is met =
       null_tells p u.caller r u.seat h (subst (λ x. x < 8) (sym met) (met_is_small p (call_of p).stage h))
@@ -75,30 +75,30 @@ module _ (p : PassState) (u : IsUnderway p) (h : IsHistory p.table.config p.seen
 
   -- a step that reaches the accessed word, or its page
   module _ (s : Stage) (at : (call_of p).stage ≡ s) (through : is_access (call_of p).op ≡ true)
-      (undecided : is_decided s ≡ false)
+      (undecided : is_past_decision s ≡ false)
       (has : has_q s (call_of p).op ≡ true) (some : has_some_q s (call_of p).op ≡ true) where
     pub met : is_word_met p.table.config (call_of p) ≡ true
     met =
         word_is_met p u.caller u.seat h (ap (λ (x : Stage). has_q x (call_of p).op) at ∙ has)
         (ap (λ (x : Stage). has_some_q x (call_of p).op) at ∙ some) through
-        (u.admits (ap (λ (x : Stage). is_decided x) at ∙ undecided))
+        (u.admits (ap (λ (x : Stage). is_past_decision x) at ∙ undecided))
 
     pub may_reach : (x : Step) → group_of x ≡ group.Callers → comes_next s (call_of p).op x ≡ true
         → is_in_range p.table.config p.seat (call_of p) x ≡ is_word_met p.table.config (call_of p)
         → IsEnabledTo p x × IsAdmittedTo p x
     may_reach x kind next range =
         let on = enabled_step x kind (ap (λ (y : Stage). comes_next y (call_of p).op x) at ∙ next) (range ∙ met) in
-        (on, admitted_step x (ap (λ (y : Stage). is_decided y) at ∙ undecided) on)
+        (on, admitted_step x (ap (λ (y : Stage). is_past_decision y) at ∙ undecided) on)
 
   -- a step that reaches a global
   pub may_getg : (call_of p).stage ≡ stage.Getg → IsAdmittedTo p step.Getg
   may_getg at =
-      admitted_step step.Getg (ap (λ (x : Stage). is_decided x) at)
+      admitted_step step.Getg (ap (λ (x : Stage). is_past_decision x) at)
       (enabled_step step.Getg refl (ap (λ (x : Stage). comes_next x (call_of p).op step.Getg) at) refl)
 
   pub may_setg : (call_of p).stage ≡ stage.Setg → IsAdmittedTo p step.Setg
   may_setg at =
-      admitted_step step.Setg (ap (λ (x : Stage). is_decided x) at)
+      admitted_step step.Setg (ap (λ (x : Stage). is_past_decision x) at)
       (enabled_step step.Setg refl (ap (λ (x : Stage). comes_next x (call_of p).op step.Setg) at) refl)
 
   -- what the word is
@@ -116,20 +116,20 @@ module _ (p : PassState) (u : IsUnderway p) (h : IsHistory p.table.config p.seen
       )
 
 probe_by : (p q : PassState) (n : ℕ) (b : Bool) → is_unmapped_header (header_of n) ≡ b
-    → Moves p (call_of p).op step.Probe (progress_probe (call_of p) n) q
-    → Moves p (call_of p).op step.Probe (if b then refused (call_of p) answer.Fault else onward (call_of p) None) q
+    → CallMoves p (call_of p).op step.Probe (progress_probe (call_of p) n) q
+    → CallMoves p (call_of p).op step.Probe (if b then refused (call_of p) answer.Fault else onward (call_of p) None) q
 probe_by p q n b is m =
-    subst (λ (x : Bool). Moves p (call_of p).op step.Probe
+    subst (λ (x : Bool). CallMoves p (call_of p).op step.Probe
     (if x then refused (call_of p) answer.Fault else onward (call_of p) None) q) is m
 
 pub probe_refused : (p q : PassState) (n : ℕ) → is_unmapped_header (header_of n) ≡ true
-    → Moves p (call_of p).op step.Probe (progress_probe (call_of p) n) q
-    → Moves p (call_of p).op step.Probe (refused (call_of p) answer.Fault) q
+    → CallMoves p (call_of p).op step.Probe (progress_probe (call_of p) n) q
+    → CallMoves p (call_of p).op step.Probe (refused (call_of p) answer.Fault) q
 probe_refused p q n is m = probe_by p q n true is m
 
 pub probe_passed : (p q : PassState) (n : ℕ) → is_unmapped_header (header_of n) ≡ false
-    → Moves p (call_of p).op step.Probe (progress_probe (call_of p) n) q
-    → Moves p (call_of p).op step.Probe (onward (call_of p) None) q
+    → CallMoves p (call_of p).op step.Probe (progress_probe (call_of p) n) q
+    → CallMoves p (call_of p).op step.Probe (onward (call_of p) None) q
 probe_passed p q n is m = probe_by p q n false is m
 
 -- A pointer that is moved on stays within its allocation.

@@ -23,25 +23,25 @@ use Rattle.mk_caller.specs.States.{number_of, never_of, Admits}
 use Rattle.mk_caller.specs.Called.{step_at, refused_from, own_steps, own_calls, IsDecidedIn}
 
 -- what is after the deciding step
-abbrev pub is_decided : Stage → Bool
-is_decided stage.Put = true
-is_decided stage.Dirty = true
-is_decided stage.Leave = true
-is_decided stage.Idle = true
-is_decided _ = false
+abbrev pub is_past_decision : Stage → Bool
+is_past_decision stage.Put = true
+is_past_decision stage.Dirty = true
+is_past_decision stage.Leave = true
+is_past_decision stage.Idle = true
+is_past_decision _ = false
 
 -- a stage at which a register is loaded
-abbrev pub is_load : Stage → Bool
-is_load stage.LoadQ = true
-is_load stage.LoadP = true
-is_load stage.LoadR = true
-is_load _ = false
+abbrev pub loads_register : Stage → Bool
+loads_register stage.LoadQ = true
+loads_register stage.LoadP = true
+loads_register stage.LoadR = true
+loads_register _ = false
 
 -- or stored
-abbrev pub is_store : Stage → Bool
-is_store stage.Store = true
-is_store stage.Put = true
-is_store _ = false
+abbrev pub stores_register : Stage → Bool
+stores_register stage.Store = true
+stores_register stage.Put = true
+stores_register _ = false
 
 -- a stage at which a heap word is written
 abbrev pub is_written : Stage → Bool
@@ -66,7 +66,7 @@ refused_register (op.Lea d q i) = Some d
 refused_register _ = None
 
 -- A caller whose pass may begin a call of the operation.
-pub record IsReady (p : PassState) (o : Op) : Type 0 where
+pub record MayBeginCall (p : PassState) (o : Op) : Type 0 where
   pub caller : ℕ
   pub seat : p.seat ≡ Caller caller
   pub rest : call_of p ≡ at_rest
@@ -79,7 +79,7 @@ pub record IsUnderway (p : PassState) : Type 0 where
   pub seat : p.seat ≡ Caller caller
   pub exists : caller < p.table.config.callers
   pub entered : is_under_turn (call_of p).op ≡ false
-  pub admits : is_decided (call_of p).stage ≡ false → Admits p (call_of p).op
+  pub admits : is_past_decision (call_of p).stage ≡ false → Admits p (call_of p).op
   pub page : (call_of p).stage ≡ stage.Dirty → is_word_met p.table.config (call_of p) ≡ true
 
 abbrev pub IsDecidedAs : PassState → Op → Option Answer → List Event → Type 0
@@ -87,7 +87,7 @@ IsDecidedAs p o None more = KeepsRegisters (number_of p) (never_of p) (never_beh
 IsDecidedAs p o (Some a) more = IsDecidedIn p o a more
 
 -- The pass made these steps of a call of the operation, which decided this answer or none.
-pub record Makes (p : PassState) (o : Op) (ss : List Step) (a : Option Answer) (q : PassState) : Type 0 where
+pub record MakesSteps (p : PassState) (o : Op) (ss : List Step) (a : Option Answer) (q : PassState) : Type 0 where
   pub more : List Event
   pub is : q ≡ record p { seen = p.seen ++ more }
   pub steps : own_steps p more ≡ ss
@@ -95,14 +95,15 @@ pub record Makes (p : PassState) (o : Op) (ss : List Step) (a : Option Answer) (
   pub decided : IsDecidedAs p o a more
 
 -- It made these steps of a call, which decided this answer or none, and its call is this one then.
-pub record At (p : PassState) (o : Op) (ss : List Step) (a : Option Answer) (f : Flight) (q : PassState) : Type 0 where
-  pub makes : Makes p o ss a q
+pub record IsAtFlight (p : PassState) (o : Op) (ss : List Step) (a : Option Answer) (f : Flight) (q : PassState) :
+    Type 0 where
+  pub makes : MakesSteps p o ss a q
   pub call : call_of q ≡ f
   pub underway : IsUnderway q
 
 -- It made one step, and its call went on so.
-abbrev pub Moves : PassState → Op → Step → Progress → PassState → Type 0
-Moves p o s x q = At p o (s ∷ []) x.answer x.flight q
+abbrev pub CallMoves : PassState → Op → Step → Progress → PassState → Type 0
+CallMoves p o s x q = IsAtFlight p o (s ∷ []) x.answer x.flight q
 
 -- how a call begins, and goes on by its steps
 
@@ -130,16 +131,16 @@ writes f = onward f (Some answer.Done)
 abbrev pub exchanges : Bool → Flight → Progress
 exchanges did f = onward f (Some (answer.Num (one_if did)))
 
-abbrev pub ends : Flight → Progress
-ends f = record { flight = at_rest; answer = None }
+abbrev pub call_ends : Flight → Progress
+call_ends f = record { flight = at_rest; answer = None }
 
 -- The pass made a step of the call in flight, which went on so.
-abbrev pub GoesOn : PassState → Step → (Flight → Progress) → PassState → Type 0
-GoesOn p s on q = Moves p (call_of p).op s (on (call_of p)) q
+abbrev pub CallGoesOn : PassState → Step → (Flight → Progress) → PassState → Type 0
+CallGoesOn p s on q = CallMoves p (call_of p).op s (on (call_of p)) q
 
 -- It made the last steps of the call in flight, which decided this answer or none.
 abbrev pub Ends : PassState → List Step → Option Answer → PassState → Type 0
-Ends p ss a q = At p (call_of p).op ss a at_rest q
+Ends p ss a q = IsAtFlight p (call_of p).op ss a at_rest q
 
 -- The steps of a call that are left behind a refusal: up to its end.
 abbrev pub refused_steps : Op → List Step

@@ -12,7 +12,8 @@ ghost use Rattle.mk_core.specs.Calls.{word_met, progress_reg};
 ghost use Rattle.mk_words.specs.States.{call_of};
 ghost use Rattle.mk_caller.specs.States.{value_of};
 ghost use Rattle.mk_caller.specs.Causes.{Probes, ProbesAWord, IsRefused};
-ghost use Rattle.mk_caller.specs.Moves.{IsReady, IsUnderway, At, Ends, GoesOn, is_access, is_store, refused_register};
+ghost use Rattle.mk_caller.specs.Moves.{MayBeginCall, IsUnderway, IsAtFlight, Ends, CallGoesOn, is_access};
+ghost use Rattle.mk_caller.specs.Moves.{stores_register, refused_register};
 ghost use Rattle.mk_caller.specs.Moves.{refused_steps, fault_steps, behind_q, loads, passes};
 
 use crate::refusals::Refusal;
@@ -43,7 +44,7 @@ pub(crate) fn refuse(words: &Words, pass: &mut Pass, d: Option<u8>)
 pub(crate) fn store_and_leave(words: &Words, pass: &mut Pass, d: u8, v: u64)
     requires one_table { pass.old.table ≡ words.now }
     requires underway { IsUnderway pass.old }
-    requires stage { is_store (call_of pass.old).stage ≡ true }
+    requires stage { stores_register (call_of pass.old).stage ≡ true }
     requires register { d ≡ d_of (call_of pass.old).op }
     requires stores { reg_access (call_of pass.old) (call_of pass.old).stage ≡ Store v }
     requires last { (loads v (call_of pass.old)).flight.stage ≡ stage.Leave }
@@ -77,11 +78,12 @@ pub(crate) fn begin_access(
     q: u8,
 ) -> Result<u64, Refusal>
     requires one_table { pass.old.table ≡ words.now }
-    requires ready { IsReady pass.old op }
+    requires ready { MayBeginCall pass.old op }
     requires access { is_access op ≡ true }
     requires from { q ≡ q_of op }
     requires register { d ≡ refused_register op }
-    ensures begun { IfOk result (λ u. At pass.old op (step.Enter op ∷ step.Reg ∷ []) None (behind_q op u) pass.new) }
+    ensures begun { IfOk result (λ u. IsAtFlight pass.old op (step.Enter op ∷ step.Reg ∷ []) None (behind_q op u)
+        pass.new) }
     ensures some { IfOk result (λ u. value_of pass.old q ≢ Null) }
     ensures refused { IfErr result (λ e. IsRefused pass.old op e pass.new) }
 {
@@ -116,7 +118,7 @@ pub(crate) fn probe_access(
     requires value { u ≡ (call_of pass.old).q }
     requires offset { i ≡ i_of (call_of pass.old).op }
     requires register { d ≡ refused_register (call_of pass.old).op }
-    ensures moves { IfSome result (λ word. GoesOn pass.old step.Probe passes pass.new) }
+    ensures moves { IfSome result (λ word. CallGoesOn pass.old step.Probe passes pass.new) }
     ensures word { IfSome result (λ word. word ≡ word_met (call_of pass.old)) }
     ensures reached { IfSome result (λ word. ProbesAWord pass.old (call_of pass.old).op pass.new) }
     ensures refused { IfNone result (Ends pass.old (fault_steps (call_of pass.old).op) (Some answer.Fault) pass.new) }

@@ -9,7 +9,7 @@ ghost use Rattle.mk_caller.specs.Called.{Called, Says, IsAnswered};
 ghost use Rattle.mk_caller.specs.Causes.{FindsGateHeld, IsRefused, ProbesAWord};
 ghost use Rattle.mk_caller.specs.Comparing.{ComparesValues};
 ghost use Rattle.mk_caller.specs.declared.refusals.Refusal.TheVariants as refusal;
-ghost use Rattle.mk_caller.specs.Moves.{IsReady};
+ghost use Rattle.mk_caller.specs.Moves.{MayBeginCall};
 
 use crate::accesses::{begin_access, mark_and_leave, probe_access, store_and_leave};
 use crate::refusals::Refusal;
@@ -20,7 +20,7 @@ use mk_words::{Held, Pass, Words};
 #[inline(always)]
 pub(crate) fn is_null(words: &Words, pass: &mut Pass, p: u8) -> Result<bool, Held>
     requires one_table { pass.old.table ≡ words.now }
-    requires ready { IsReady pass.old (op.IsNull p) }
+    requires ready { MayBeginCall pass.old (op.IsNull p) }
     ensures called { IfOk result (λ null. Says pass.old (op.IsNull p) null pass.new) }
     ensures tells { IfOk result (λ null. null ≡ is_same (value_of pass.old p) Null) }
     ensures held { OnErr result (FindsGateHeld pass.old (op.IsNull p) pass.new) }
@@ -34,7 +34,7 @@ pub(crate) fn is_null(words: &Words, pass: &mut Pass, p: u8) -> Result<bool, Hel
 #[inline(always)]
 pub(crate) fn same(words: &Words, pass: &mut Pass, p: u8, q: u8) -> Result<bool, Held>
     requires one_table { pass.old.table ≡ words.now }
-    requires ready { IsReady pass.old (op.Same p q) }
+    requires ready { MayBeginCall pass.old (op.Same p q) }
     ensures called { IfOk result (λ same. Says pass.old (op.Same p q) same pass.new) }
     ensures tells { IfOk result (λ same. same ≡ is_same (value_of pass.old p) (value_of pass.old q)) }
     ensures held { OnErr result (FindsGateHeld pass.old (op.Same p q) pass.new) }
@@ -49,7 +49,7 @@ pub(crate) fn same(words: &Words, pass: &mut Pass, p: u8, q: u8) -> Result<bool,
 #[inline(always)]
 pub(crate) fn clear(words: &Words, pass: &mut Pass, d: u8) -> Result<(), Held>
     requires one_table { pass.old.table ≡ words.now }
-    requires ready { IsReady pass.old (op.Clear d) }
+    requires ready { MayBeginCall pass.old (op.Clear d) }
     ensures called { OnOk result (Called pass.old (op.Clear d) answer.Done pass.new) }
     ensures held { OnErr result (FindsGateHeld pass.old (op.Clear d) pass.new) }
 {
@@ -61,7 +61,7 @@ pub(crate) fn clear(words: &Words, pass: &mut Pass, d: u8) -> Result<(), Held>
 #[inline(always)]
 pub(crate) fn move_ptr(words: &Words, pass: &mut Pass, d: u8, q: u8) -> Result<(), Held>
     requires one_table { pass.old.table ≡ words.now }
-    requires ready { IsReady pass.old (op.Move d q) }
+    requires ready { MayBeginCall pass.old (op.Move d q) }
     ensures called { OnOk result (Called pass.old (op.Move d q) answer.Done pass.new) }
     ensures held { OnErr result (FindsGateHeld pass.old (op.Move d q) pass.new) }
 {
@@ -74,7 +74,7 @@ pub(crate) fn move_ptr(words: &Words, pass: &mut Pass, d: u8, q: u8) -> Result<(
 #[inline(always)]
 pub(crate) fn get_global(words: &Words, pass: &mut Pass, d: u8, g: u8) -> Result<(), Held>
     requires one_table { pass.old.table ≡ words.now }
-    requires ready { IsReady pass.old (op.GetGlobal d g) }
+    requires ready { MayBeginCall pass.old (op.GetGlobal d g) }
     ensures called { OnOk result (IsAnswered pass.old (op.GetGlobal d g) pass.new) }
     ensures held { OnErr result (FindsGateHeld pass.old (op.GetGlobal d g) pass.new) }
 {
@@ -87,7 +87,7 @@ pub(crate) fn get_global(words: &Words, pass: &mut Pass, d: u8, g: u8) -> Result
 #[inline(always)]
 pub(crate) fn set_global(words: &Words, pass: &mut Pass, g: u8, p: u8) -> Result<(), Held>
     requires one_table { pass.old.table ≡ words.now }
-    requires ready { IsReady pass.old (op.SetGlobal g p) }
+    requires ready { MayBeginCall pass.old (op.SetGlobal g p) }
     ensures called { OnOk result (Called pass.old (op.SetGlobal g p) answer.Done pass.new) }
     ensures held { OnErr result (FindsGateHeld pass.old (op.SetGlobal g p) pass.new) }
 {
@@ -101,7 +101,7 @@ pub(crate) fn set_global(words: &Words, pass: &mut Pass, g: u8, p: u8) -> Result
 #[inline(always)]
 pub(crate) fn lea(words: &Words, pass: &mut Pass, d: u8, q: u8, i: u64) -> Result<(), Refusal>
     requires one_table { pass.old.table ≡ words.now }
-    requires ready { IsReady pass.old (op.Lea d q i) }
+    requires ready { MayBeginCall pass.old (op.Lea d q i) }
     ensures called { OnOk result (Called pass.old (op.Lea d q i) answer.Done pass.new) }
     ensures some { OnOk result (value_of pass.old q ≢ Null) }
     ensures refused { IfErr result (λ e. IsRefused pass.old (op.Lea d q i) e pass.new) }
@@ -116,7 +116,7 @@ pub(crate) fn lea(words: &Words, pass: &mut Pass, d: u8, q: u8, i: u64) -> Resul
 #[inline(always)]
 pub(crate) fn get_num(words: &Words, pass: &mut Pass, q: u8, i: u64) -> Result<u64, Refusal>
     requires one_table { pass.old.table ≡ words.now }
-    requires ready { IsReady pass.old (op.GetNum q i) }
+    requires ready { MayBeginCall pass.old (op.GetNum q i) }
     ensures called { IfOk result (λ n. Called pass.old (op.GetNum q i) (answer.Num n) pass.new) }
     ensures reached { OnOk result (ProbesAWord pass.old (op.GetNum q i) pass.new) }
     ensures refused { IfErr result (λ e. IsRefused pass.old (op.GetNum q i) e pass.new) }
@@ -133,7 +133,7 @@ pub(crate) fn get_num(words: &Words, pass: &mut Pass, q: u8, i: u64) -> Result<u
 #[inline(always)]
 pub(crate) fn set_num(words: &Words, pass: &mut Pass, q: u8, i: u64, n: u64) -> Result<(), Refusal>
     requires one_table { pass.old.table ≡ words.now }
-    requires ready { IsReady pass.old (op.SetNum q i n) }
+    requires ready { MayBeginCall pass.old (op.SetNum q i n) }
     ensures called { OnOk result (Called pass.old (op.SetNum q i n) answer.Done pass.new) }
     ensures reached { OnOk result (ProbesAWord pass.old (op.SetNum q i n) pass.new) }
     ensures refused { IfErr result (λ e. IsRefused pass.old (op.SetNum q i n) e pass.new) }
@@ -150,7 +150,7 @@ pub(crate) fn set_num(words: &Words, pass: &mut Pass, q: u8, i: u64, n: u64) -> 
 #[inline(always)]
 pub(crate) fn get_ptr(words: &Words, pass: &mut Pass, d: u8, q: u8, i: u64) -> Result<(), Refusal>
     requires one_table { pass.old.table ≡ words.now }
-    requires ready { IsReady pass.old (op.GetPtr d q i) }
+    requires ready { MayBeginCall pass.old (op.GetPtr d q i) }
     ensures called { OnOk result (IsAnswered pass.old (op.GetPtr d q i) pass.new) }
     ensures reached { OnOk result (ProbesAWord pass.old (op.GetPtr d q i) pass.new) }
     ensures refused { IfErr result (λ e. IsRefused pass.old (op.GetPtr d q i) e pass.new) }
@@ -167,7 +167,7 @@ pub(crate) fn get_ptr(words: &Words, pass: &mut Pass, d: u8, q: u8, i: u64) -> R
 #[inline(always)]
 pub(crate) fn set_ptr(words: &Words, pass: &mut Pass, q: u8, i: u64, p: u8) -> Result<(), Refusal>
     requires one_table { pass.old.table ≡ words.now }
-    requires ready { IsReady pass.old (op.SetPtr q i p) }
+    requires ready { MayBeginCall pass.old (op.SetPtr q i p) }
     ensures called { OnOk result (Called pass.old (op.SetPtr q i p) answer.Done pass.new) }
     ensures reached { OnOk result (ProbesAWord pass.old (op.SetPtr q i p) pass.new) }
     ensures refused { IfErr result (λ e. IsRefused pass.old (op.SetPtr q i p) e pass.new) }
@@ -192,7 +192,7 @@ pub(crate) fn cas_ptr(
     r: u8,
 ) -> Result<bool, Refusal>
     requires one_table { pass.old.table ≡ words.now }
-    requires ready { IsReady pass.old (op.CasPtr q i p r) }
+    requires ready { MayBeginCall pass.old (op.CasPtr q i p r) }
     ensures called { IfOk result (λ exchanged. Says pass.old (op.CasPtr q i p r) exchanged pass.new) }
     ensures compares { IfOk result (λ exchanged. ComparesValues pass.old q i p r exchanged pass.new) }
     ensures reached { OnOk result (ProbesAWord pass.old (op.CasPtr q i p r) pass.new) }

@@ -12,14 +12,14 @@ ghost use Rattle.mk_core.specs.Calls.{word_met, progress_reg, progress_read, pro
 ghost use Rattle.mk_words.specs.States.{call_of};
 ghost use Rattle.mk_images.specs.Images.{has_q, has_some_q};
 ghost use Rattle.mk_caller.specs.States.{value_of};
-ghost use Rattle.mk_geom.specs.Headers.{header_of};
 ghost use Rattle.mk_never.specs.declared.values.Target.TheVariants.{Unmapped};
-ghost use Rattle.mk_core.specs.Cells.{is_unmapped_header};
 ghost use Rattle.mk_caller.specs.Causes.{FindsGateHeld, Probes, ProbesAWord};
-ghost use Rattle.mk_caller.specs.Moves.{IsReady, IsUnderway, Moves, GoesOn, begins, is_access, is_load, is_store};
-ghost use Rattle.mk_caller.specs.Moves.{loads, loads_global, passes, faults, reads, writes, exchanges, ends};
+ghost use Rattle.mk_caller.specs.Moves.{MayBeginCall, IsUnderway, CallMoves, CallGoesOn, begins, is_access};
+ghost use Rattle.mk_caller.specs.Moves.{loads_register, stores_register};
+ghost use Rattle.mk_caller.specs.Moves.{loads, loads_global, passes, faults, reads, writes, exchanges, call_ends};
 
-use mk_geom::{Header, decode};
+use mk_core::is_unmapped;
+use mk_geom::{HEAP_START, PAGE_WORDS, WORD_BYTES};
 use mk_never::Op;
 use mk_words::{Held, Pass, Words};
 
@@ -27,8 +27,8 @@ use mk_words::{Held, Pass, Words};
 #[inline(always)]
 pub(crate) fn enter(words: &Words, pass: &mut Pass, op: Op) -> Result<(), Held>
     requires one_table { pass.old.table ≡ words.now }
-    requires ready { IsReady pass.old op }
-    ensures moves { OnOk result (Moves pass.old op (step.Enter op) (begins op) pass.new) }
+    requires ready { MayBeginCall pass.old op }
+    ensures moves { OnOk result (CallMoves pass.old op (step.Enter op) (begins op) pass.new) }
     ensures held { OnErr result (FindsGateHeld pass.old op pass.new) }
 {
     pass.is_in_order();
@@ -43,7 +43,7 @@ pub(crate) fn leave(words: &Words, pass: &mut Pass)
     requires one_table { pass.old.table ≡ words.now }
     requires underway { IsUnderway pass.old }
     requires stage { (call_of pass.old).stage ≡ stage.Leave }
-    ensures moves { GoesOn pass.old step.Leave ends pass.new }
+    ensures moves { CallGoesOn pass.old step.Leave call_ends pass.new }
 {
     pass.is_in_order();
     pass.leave(words);
@@ -55,9 +55,9 @@ pub(crate) fn leave(words: &Words, pass: &mut Pass)
 pub(crate) fn load(words: &Words, pass: &mut Pass, r: u8) -> u64
     requires one_table { pass.old.table ≡ words.now }
     requires underway { IsUnderway pass.old }
-    requires stage { is_load (call_of pass.old).stage ≡ true }
+    requires stage { loads_register (call_of pass.old).stage ≡ true }
     requires register { r ≡ register_met (call_of pass.old) (call_of pass.old).stage }
-    ensures moves { GoesOn pass.old step.Reg (loads result) pass.new }
+    ensures moves { CallGoesOn pass.old step.Reg (loads result) pass.new }
     ensures null { (result ≡ 0) ↔ (value_of pass.old r ≡ Null) }
 {
     pass.is_in_order();
@@ -71,10 +71,10 @@ pub(crate) fn load(words: &Words, pass: &mut Pass, r: u8) -> u64
 pub(crate) fn store(words: &Words, pass: &mut Pass, r: u8, v: u64)
     requires one_table { pass.old.table ≡ words.now }
     requires underway { IsUnderway pass.old }
-    requires stage { is_store (call_of pass.old).stage ≡ true }
+    requires stage { stores_register (call_of pass.old).stage ≡ true }
     requires register { r ≡ register_met (call_of pass.old) (call_of pass.old).stage }
     requires stores { reg_access (call_of pass.old) (call_of pass.old).stage ≡ Store v }
-    ensures moves { GoesOn pass.old step.Reg (loads v) pass.new }
+    ensures moves { CallGoesOn pass.old step.Reg (loads v) pass.new }
 {
     pass.is_in_order();
     pass.reg_store(words, r, v);
@@ -89,7 +89,7 @@ pub(crate) fn read(words: &Words, pass: &mut Pass, word: u64) -> u64
     requires stage { (call_of pass.old).stage ≡ stage.Read }
     requires access { is_access (call_of pass.old).op ≡ true }
     requires word { word ≡ word_met (call_of pass.old) }
-    ensures moves { GoesOn pass.old step.Read (reads result) pass.new }
+    ensures moves { CallGoesOn pass.old step.Read (reads result) pass.new }
 {
     pass.is_in_order();
     let value = pass.read(words, word);
@@ -106,7 +106,7 @@ pub(crate) fn write(words: &Words, pass: &mut Pass, word: u64, v: u64)
     requires access { is_access (call_of pass.old).op ≡ true }
     requires word { word ≡ word_met (call_of pass.old) }
     requires value { v ≡ value_written (call_of pass.old) (call_of pass.old).op }
-    ensures moves { GoesOn pass.old step.Write writes pass.new }
+    ensures moves { CallGoesOn pass.old step.Write writes pass.new }
 {
     pass.is_in_order();
     pass.write(words, word, v);
@@ -123,7 +123,7 @@ pub(crate) fn cas(words: &Words, pass: &mut Pass, word: u64, expected: u64, new:
     requires word { word ≡ word_met (call_of pass.old) }
     requires expected { expected ≡ (call_of pass.old).p }
     requires new { new ≡ (call_of pass.old).r }
-    ensures moves { GoesOn pass.old step.Cas (exchanges result) pass.new }
+    ensures moves { CallGoesOn pass.old step.Cas (exchanges result) pass.new }
 {
     pass.is_in_order();
     let exchanged = pass.cas(words, word, expected, new);
@@ -138,7 +138,7 @@ pub(crate) fn dirty(words: &Words, pass: &mut Pass, page: u64)
     requires underway { IsUnderway pass.old }
     requires stage { (call_of pass.old).stage ≡ stage.Dirty }
     requires page { page ≡ page_met (call_of pass.old) }
-    ensures moves { GoesOn pass.old step.Dirty passes pass.new }
+    ensures moves { CallGoesOn pass.old step.Dirty passes pass.new }
 {
     pass.is_in_order();
     pass.dirty(words, page);
@@ -152,7 +152,7 @@ pub(crate) fn global_load(words: &Words, pass: &mut Pass, g: u8) -> u64
     requires underway { IsUnderway pass.old }
     requires stage { (call_of pass.old).stage ≡ stage.Getg }
     requires global { g ≡ g_of (call_of pass.old).op }
-    ensures moves { GoesOn pass.old step.Getg (loads_global result) pass.new }
+    ensures moves { CallGoesOn pass.old step.Getg (loads_global result) pass.new }
 {
     pass.is_in_order();
     let value = pass.global_load(words, g);
@@ -168,28 +168,11 @@ pub(crate) fn global_store(words: &Words, pass: &mut Pass, g: u8, v: u64)
     requires stage { (call_of pass.old).stage ≡ stage.Setg }
     requires global { g ≡ g_of (call_of pass.old).op }
     requires value { v ≡ (call_of pass.old).p }
-    ensures moves { GoesOn pass.old step.Setg writes pass.new }
+    ensures moves { CallGoesOn pass.old step.Setg writes pass.new }
 {
     pass.is_in_order();
     pass.global_store(words, g, v);
     pass.is_in_order();
-}
-
-/// Whether a header is that of a page of an unmapped run.
-#[inline(always)]
-fn is_unmapped(header: u64) -> bool
-    ensures { result ≡ is_unmapped_header (header_of header) }
-{
-    match decode(header) {
-        Some(Header::Run { pages: _, mapped }) => !mapped,
-        Some(
-            Header::Later {
-                distance: _,
-                mapped,
-            },
-        ) => !mapped,
-        _ => false,
-    }
 }
 
 /// Loads the header of the page of the word that the call accesses, through the value `u` and `i` words on. Answers the
@@ -202,16 +185,16 @@ pub(crate) fn probe(words: &Words, pass: &mut Pass, u: u64, i: u64) -> Option<u6
     requires access { is_access (call_of pass.old).op ≡ true }
     requires value { u ≡ (call_of pass.old).q }
     requires offset { i ≡ i_of (call_of pass.old).op }
-    ensures moves { IfSome result (λ word. GoesOn pass.old step.Probe passes pass.new) }
+    ensures moves { IfSome result (λ word. CallGoesOn pass.old step.Probe passes pass.new) }
     ensures word { IfSome result (λ word. word ≡ word_met (call_of pass.old)) }
     ensures reached { IfSome result (λ word. ProbesAWord pass.old (call_of pass.old).op pass.new) }
-    ensures refused { IfNone result (GoesOn pass.old step.Probe faults pass.new) }
+    ensures refused { IfNone result (CallGoesOn pass.old step.Probe faults pass.new) }
     ensures unmapped { IfNone result (Probes pass.old (call_of pass.old).op pass.new Unmapped) }
 {
     pass.is_in_order();
     words.is_within_limits();
-    let word = (u - 65536) / 8 + i;
-    let header = pass.probe(words, word / 64);
+    let word = (u - HEAP_START) / WORD_BYTES + i;
+    let header = pass.probe(words, word / PAGE_WORDS);
     pass.is_in_order();
     if is_unmapped(header) {
         None

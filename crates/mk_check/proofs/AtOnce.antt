@@ -1,5 +1,5 @@
 -- An answer at which nothing is printed, where the next line asks: the script stops there.
-use Rattle.std.proofs.Common.{◌≡◌, ℕ, ◌<◌, true, List, ◌++◌, length, refl, ap, sym, ◌∙◌, subst, arith}
+use Rattle.std.proofs.Common.{◌≡◌, ℕ, ◌<◌, true, List, ◌++◌, length, refl, ap, sym, ◌∙◌}
 use Rattle.std.specs.Prelude.{[], ◌∷◌, not, is_some}
 use Rattle.std.proofs.lemmas.Bool.{and_parts}
 use Rattle.std.proofs.lemmas.List.{append-nil}
@@ -12,7 +12,7 @@ use Rattle.mk_check.specs.Feed.{is_refusal, refusal_line, refusal_text}
 use Rattle.mk_check.specs.Feeding.{FeedState, IsFeed, IsWaiting, TakesAnswer, op_of_node, work_left}
 use Rattle.mk_check.specs.Steps.{Kept, Steps, after_answer, is_show, is_silent, op_asked, stop_of, stop_on_answer}
 use Rattle.mk_check.specs.Steps.{with_text}
-use Rattle.mk_check.specs.Trees.{HasStopped, IsBelow, IsTree, IsWithin, Place, StopsAt, kept_in, left_in, node_at}
+use Rattle.mk_check.specs.Trees.{HasStopped, IsTree, IsWithin, Place, StopsAt, kept_in, left_in, node_at}
 use Rattle.mk_check.specs.Trees.{stopped_in, with_kept}
 use Rattle.mk_check.proofs.Moves.{asks_at, unfolded_line}
 use Rattle.mk_check.proofs.Stands.{answer_stands, waits_for_answer}
@@ -34,7 +34,7 @@ silent_kept line instruction a k h =
     (no_text a (and_parts (not (is_refusal a)) (not (is_show instruction)) h).0)
     ∙ ap (λ (t : List ℕ). let kept : Kept = record k { text = t } in kept) (append-nil k.text)
 
-stopped_here : (nodes : List Node) (p : Place) (n : Node) → IsTree nodes → IsWithin (length nodes) p
+pub stopped_here : (nodes : List Node) (p : Place) (n : Node) → IsTree nodes → IsWithin (length nodes) p
     → node_at nodes p.at ≡ n → is_some (op_of_node p.numbers n) ≡ true → HasStopped nodes p p
 stopped_here nodes p node.Done tree w e h = cc
 stopped_here nodes p (node.Line line instruction next) tree w e h = asks_at nodes p line instruction next tree w e h
@@ -49,24 +49,20 @@ pub record StopsBehind (nodes : List Node) (p : Place) (a : Answer) (t : Place) 
 
 pub stops_at_once : (nodes : List Node) (p t : Place) (line : ℕ) (instruction : Instruction) (next : ℕ) (a : Answer)
     → IsTree nodes → IsWithin (length nodes) p → node_at nodes p.at ≡ node.Line line instruction next
-    → is_silent instruction a ≡ true → ((numbers : List ℕ) → is_some (op_of_node numbers (node_at nodes next)) ≡ true)
-    → t ≡ with_kept (record p { at = next }) (after_answer instruction a (kept_in p)) → StopsBehind nodes p a t
-stops_at_once nodes p t line instruction next a tree w e silent asks is =
-    let start : Place = with_kept (record p { at = next }) (after_answer instruction a (kept_in p)) in
-    let below : next < p.at = subst (λ (n : Node). IsBelow p.at n) e (tree p.at w.at) in
-    let at = w.at in
-    let within : IsWithin (length nodes) start = record { at = omega arith; frames = w.frames } in
-    let stopped = stopped_here nodes start (node_at nodes next) tree within refl (asks start.numbers) in
+    → is_silent instruction a ≡ true
+    → HasStopped nodes (with_kept (record p { at = next }) (after_answer instruction a (kept_in p))) t
+    → StopsBehind nodes p a t
+stops_at_once nodes p t line instruction next a tree w e silent stopped =
     let rest = left_in nodes (record p { at = next }) in
-    subst (λ (x : Place). StopsBehind nodes p a x) (sym is) (record {
-      within = within;
+    record {
+      within = stopped.within;
       at = stopped.at;
       run = stopped.run
           ∙ sym (ap (λ (s : Steps). stop_on_answer s a (kept_in p))
           (unfolded_line nodes p line instruction next tree w e)
           ∙ ap (λ (k : Kept). stop_of rest (after_answer instruction a k))
           (silent_kept line instruction a (kept_in p) silent));
-    })
+    }
 
 -- A script that waits, answered so.
 module _ (s : FeedState) (t : Place) (a : Answer) (line : ℕ) (instruction : Instruction) (next : ℕ)

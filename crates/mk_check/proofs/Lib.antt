@@ -17,6 +17,7 @@ pub mod OtherLines
 pub mod Stands
 pub mod StepLaws
 pub mod WorkLaws
+pub mod AsksFirst
 pub mod AtOnce
 pub mod DeclaredPlaces
 pub mod TypedLines

@@ -2,7 +2,7 @@
 -- look up.
 -- Private functions cite these words, and public clauses only by what a `Feed` stands for.
 use Rattle.std.specs.Prelude.{ℕ, zero, suc, ◌+◌, ◌-◌, ◌%◌, ◌^◌, Bool, true, false, List, ◌++◌, slice_index, slice_set}
-use Rattle.std.specs.Prelude.{◌==◌, ◌&&◌, if◌then◌else◌, not, Option, Some, None, is_some, unwrap_or}
+use Rattle.std.specs.Prelude.{◌==◌, ◌&&◌, ◌||◌, if◌then◌else◌, not, Option, Some, None, is_some, unwrap_or}
 use Rattle.std.specs.Option.{option_or}
 use Rattle.std.specs.Fmt.{decimal}
 use Rattle.mk_never.specs.declared.operations.Op.{Op}
@@ -189,6 +189,26 @@ stop_of (Rounds rounds body rest) kept =
 stop_of (Choice number first second rest) kept =
     stop_behind (if slice_index kept.numbers number == 0 then stop_of second kept else stop_of first kept)
     (stop_of rest) rest
+
+-- whether an instruction asks for an operation, which doesn't depend on the number registers
+abbrev pub is_asking : Instruction → Bool
+is_asking (Ask o) = true
+is_asking (Store q i number) = true
+is_asking (Load number o) = true
+is_asking (Show p) = true
+is_asking instruction = false
+
+-- whether it prints when it runs
+abbrev pub is_print : Instruction → Bool
+is_print (Print number) = true
+is_print instruction = false
+
+-- Whether the steps come to an operation before one of them prints, and before a block begins or ends.
+abbrev pub asks_first : Steps → Bool
+asks_first Done = false
+asks_first (Line line instruction rest) = is_asking instruction || (not (is_print instruction) && asks_first rest)
+asks_first (Rounds rounds body rest) = false
+asks_first (Choice number first second rest) = false
 
 -- the instruction takes its answer
 abbrev pub after_answer : Instruction → Answer → Kept → Kept

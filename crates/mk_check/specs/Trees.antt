@@ -1,12 +1,13 @@
 -- What the nodes of a tree stand for, and where a script is in it.
 -- Private functions cite these words, and public clauses only by what a `Feed` stands for.
 use Rattle.std.specs.Prelude.{◌≡◌, ℕ, zero, suc, ◌+◌, ◌*◌, ◌<◌, ◌++◌, ◌==◌, max, true, List, [], ◌∷◌, length, fold}
-use Rattle.std.specs.Prelude.{slice_index, slice_index_or, if◌then◌else◌, is_some}
+use Rattle.std.specs.Prelude.{slice_index, slice_index_or, slice_get, ◌-◌, if◌then◌else◌, Option, Some, None, is_some}
 use Rattle.mk_check.specs.declared.feeding.tree.Node.{Node}
 use Rattle.mk_check.specs.declared.feeding.tree.Node.TheVariants as node
 use Rattle.mk_check.specs.declared.feeding.tree.Frame.{Frame}
 use Rattle.mk_check.specs.declared.feeding.tree.Frame.TheVariants as frame
-use Rattle.mk_check.specs.Steps.{Steps, Done, Line, Rounds, Choice, then_steps, Kept, Stopped, op_asked, stop_of}
+use Rattle.mk_check.specs.Steps.{Steps, Done, Line, Rounds, Choice, then_steps, Kept, Stopped, op_asked, asks_first}
+use Rattle.mk_check.specs.Steps.{stop_of}
 
 -- the steps from a node; from one that isn't there, none
 abbrev pub steps_at : List Steps → ℕ → Steps
@@ -115,6 +116,27 @@ pub record LeavesBlock (old new : Place) : Type 0 where
   pub was : old.frames ≡ frames ++ frame ∷ []
   pub is : new ≡ place_behind_block (record old { frames = frames }) frame
 
+-- the node where a script goes on once the end of an open block is reached
+abbrev pub node_after : Frame → ℕ
+node_after (frame.Rounds zero body next) = next
+node_after (frame.Rounds (suc more) body next) = body
+node_after (frame.Branch next) = next
+
+-- the innermost open block
+abbrev pub innermost : List Frame → Option Frame
+innermost frames = slice_get frames (length frames - 1)
+
+-- the node where a script goes on that is at this one: after the end of a block it has left that
+abbrev pub node_to_go_on : Node → ℕ → Option Frame → ℕ
+node_to_go_on node.Done at None = at
+node_to_go_on node.Done at (Some f) = node_after f
+node_to_go_on (node.Line line instruction next) at block = at
+node_to_go_on (node.Rounds rounds body next) at block = at
+node_to_go_on (node.Choice number first second next) at block = at
+
+abbrev pub resumed_node : List Node → Place → ℕ
+resumed_node nodes p = node_to_go_on (node_at nodes p.at) p.at (innermost p.frames)
+
 -- no fewer than the moves that are left
 abbrev pub work_of : Steps → ℕ
 work_of Done = 0
@@ -130,6 +152,12 @@ pub record MovesOn (nodes : List Node) (old new : Place) : Type 0 where
   pub within : IsWithin (length nodes) new
   pub run : stop_of (left_in nodes new) (kept_in new) ≡ stop_of (left_in nodes old) (kept_in old)
   pub nearer : work_in nodes new < work_in nodes old
+
+-- The place is the same or moves on, and its node's steps come to an operation first.
+pub record MovesToOp (nodes : List Node) (old new : Place) : Type 0 where
+  pub within : IsWithin (length nodes) new
+  pub run : stop_of (left_in nodes new) (kept_in new) ≡ stop_of (left_in nodes old) (kept_in old)
+  pub first : asks_first (steps_at (trees nodes) new.at) ≡ true
 
 -- The place is where the steps stop.
 pub record HasStopped (nodes : List Node) (old new : Place) : Type 0 where

@@ -42,7 +42,7 @@ impl Model for Feed {
 }
 
 impl Feed {
-    ghost use Rattle.std.specs.Prelude.{ℕ, List};
+    ghost use Rattle.std.specs.Prelude.{ℕ, List, false};
     ghost use Rattle.mk_core.specs.declared.events.Answer.{Answer};
     ghost use Rattle.mk_script.specs.declared.items.Item.{Item};
     ghost use Rattle.mk_check.specs.Feed.{feed, has_ended};
@@ -75,6 +75,7 @@ impl Feed {
     }
 
     /// The operation that waits for its answer, with `full` false in a `New`; none at the end.
+    #[inline(always)]
     pub fn op(&self) -> Option<Op>
         ensures next { (program : List Item) (k : ℕ) (answers : List Answer)
             → FeedStandsFor program k self.now answers → result ≡ next_op program k answers }
@@ -88,9 +89,47 @@ impl Feed {
         }
     }
 
-    /// Answers the operation that waits, and runs on to the next, or to the end. Mostly that is the next line, and then
-    /// no memory is taken.
+    /// Answers the operation that waits, and runs on to the next, or to the end. Mostly nothing is printed, and no
+    /// memory is taken.
+    #[inline(always)]
     pub fn answer(&mut self, alloc: Global, answer: Answer) -> Result<(), NoMemory>
+        requires { IsWaiting self.old }
+        ensures ok { OnOk result (TakesAnswer self.old answer self.new) }
+        ensures nearer { OnOk result (work_left self.new < work_left self.old) }
+        ensures err { OnErr result (self.new ≡ self.old) }
+    {
+        if self.answer_quietly(answer) {
+            return Ok(());
+        }
+        self.answer_ahead(alloc, answer)
+    }
+
+    /// The same where the next operation comes before anything is printed, with at most one block left and none begun.
+    /// Says whether it comes so.
+    #[inline(always)]
+    fn answer_quietly(&mut self, answer: Answer) -> bool
+        requires { IsWaiting self.old }
+        ensures taken { IsTrue result → TakesAnswer self.old answer self.new }
+        ensures nearer { IsTrue result → work_left self.new < work_left self.old }
+        ensures refused { result ≡ false → self.new ≡ self.old }
+    {
+        let Node::Line {
+            instruction,
+            next,
+            ..
+        } = self.tree.node(self.running.at())
+        else {
+            unreachable!()
+        };
+        instruction.is_silent(answer)
+            && self
+                .running
+                .take_quietly(&self.tree, next, instruction, answer)
+    }
+
+    /// The same, run on a copy first, so that no memory leaves the script as it was.
+    #[inline(never)]
+    fn answer_ahead(&mut self, alloc: Global, answer: Answer) -> Result<(), NoMemory>
         requires { IsWaiting self.old }
         ensures ok { OnOk result (TakesAnswer self.old answer self.new) }
         ensures nearer { OnOk result (work_left self.new < work_left self.old) }
@@ -104,10 +143,6 @@ impl Feed {
         else {
             unreachable!()
         };
-        if self.tree.asks(next) && instruction.is_silent(answer) {
-            self.running.take_at(next, instruction, answer);
-            return Ok(());
-        }
         self.ahead.copy_at(&self.running, next)?;
         self.ahead.print_refusal(alloc, line, answer)?;
         self.ahead.take(instruction, answer)?;

@@ -1,8 +1,9 @@
 -- What an engine does after each `begin`, in parts, by kinds of step, and at the `begin` itself.
 use Rattle.std.proofs.Common.{◌≡◌, ⊎_elim, Bool, true, false, List, [], ◌∷◌, ◌++◌, refl, sym, ap, subst, ◌∙◌}
 use Rattle.std.proofs.Common.{append-nil, append_assoc}
-use Rattle.std.specs.Prelude.{not, if◌then◌else◌}
-use Rattle.std.proofs.lemmas.Bool.{and_parts, not-true, true≢false}
+use Rattle.std.specs.Prelude.{◌&&◌, not, if◌then◌else◌}
+use Rattle.std.specs.List.{list_any}
+use Rattle.std.proofs.lemmas.Bool.{and_parts, not-true, or_from, true≢false}
 use Rattle.std.proofs.lemmas.List.{append_cancel_left}
 use Rattle.std.proofs.lemmas.List.Folds.{list_all-append}
 use Rattle.mk_core.specs.declared.config.Config.{Config}
@@ -11,7 +12,7 @@ use Rattle.mk_core.specs.declared.events.Seat.{Seat}
 use Rattle.mk_core.specs.declared.events.Step.{Step}
 use Rattle.mk_core.specs.declared.events.Step.TheVariants as step
 use Rattle.mk_core.specs.Accesses.{found}
-use Rattle.mk_core.specs.Cycles.{At, is_begin, through}
+use Rattle.mk_core.specs.Cycles.{At, is_begin, is_give, through}
 use Rattle.mk_core.specs.Growing.{AreOfOthers, Finding, is_same_seat, own_from}
 use Rattle.mk_core.specs.History.{World, left, left_from, world_behind}
 use Rattle.mk_words.specs.Seats.{Has}
@@ -21,7 +22,7 @@ use Rattle.mk_words.proofs.Seats.{same_self}
 use Rattle.mk_turns.specs.Doing.{Does, are_of}
 use Rattle.mk_turns.proofs.Doing.{does_step, not_own, own_in_parts}
 use Rattle.mk_turns.proofs.Sweeping.{only_seen, only_seen_by}
-use Rattle.mk_cycle.specs.Begun.{AreBegunFirst, EachIsBegun, IsBegun, IsBegunFirst, SaysNothing}
+use Rattle.mk_cycle.specs.Begun.{AreBegunFirst, DoesNothing, EachIsBegun, IsBegun, IsBegunFirst}
 use Rattle.mk_cycle.specs.FinishCycle.{FinishesCycle}
 use Rattle.mk_cycle.specs.Kinds.{begins_marking, clears, closes_marks, gives_back, holds_gates, sets_tallies}
 use Rattle.mk_cycle.proofs.InParts.{InFirst, InSecond, in_parts}
@@ -85,8 +86,33 @@ kinds_begin_none kinds c s w es none all b own =
     ∙ none b.event.step (own_kind kinds c s w b.before b.event b.behind
     (subst (λ (l : List Event). are_of kinds (own_from c s w l) ≡ true) b.is all) (its_own s b.event own)))
 
+-- The seat gives no turn back in a list whose own events are of kinds without a `give`.
+
+marking_gives_none : (x : Step) → begins_marking x ≡ true → is_give x ≡ false
+marking_gives_none step.Give h = cc
+marking_gives_none _ h = refl
+
+give_first : (kinds : Step → Bool) (b : Bool) (x : Finding) (rest : List Finding)
+    → ((y : Step) → kinds y ≡ true → is_give y ≡ false) → are_of kinds (if b then x ∷ rest else rest) ≡ true
+    → ((b && is_give x.event.step) ≡ false) × (are_of kinds rest ≡ true)
+give_first kinds true x rest none all =
+    let parts = and_parts (kinds x.event.step) (are_of kinds rest) all in (none x.event.step parts.0, parts.1)
+give_first kinds false x rest none all = (refl, all)
+
+kinds_give_none : (kinds : Step → Bool) (c : Config) (s : Seat) (w : World) (es : List Event)
+    → ((y : Step) → kinds y ≡ true → is_give y ≡ false) → are_of kinds (own_from c s w es) ≡ true
+    → list_any (λ (e : Event). is_same_seat s e.seat && is_give e.step) es ≡ false
+unfolding own_from
+kinds_give_none kinds c s w [] none all = refl
+kinds_give_none kinds c s w (e ∷ es) none all =
+    let parts = give_first kinds (is_same_seat s e.seat) (record { event = e; found = found c w.now e })
+    (own_from c s (world_behind c w e) es) none all in
+    or_from (is_same_seat s e.seat && is_give e.step)
+    (list_any (λ (x : Event). is_same_seat s x.seat && is_give x.step) es) parts.0
+    (kinds_give_none kinds c s (world_behind c w e) es none parts.1)
+
 -- No event of others is an own `begin`.
-others_begin_none : (seats : List Seat) (s : Seat) (es : List Event) → Has seats s → AreOfOthers seats es
+pub others_begin_none : (seats : List Seat) (s : Seat) (es : List Event) → Has seats s → AreOfOthers seats es
     → (before : List Event) (e : Event) (behind : List Event) → es ≡ before ++ e ∷ behind → e.seat ≡ s → ⊥
 unfolding AreOfOthers
 others_begin_none seats s [] has others [] e behind is own = cc
@@ -99,8 +125,8 @@ others_begin_none seats s (x ∷ xs) has others (b ∷ bs) e behind is own =
     others_begin_none seats s xs has others.1 bs e behind tail own
 
 -- An engine that does nothing as a cycle begins.
-pub does_no_part : (p : PassState) → IsBegun SaysNothing p p
-does_no_part p = record { more = []; is = sym (append-nil p.seen); part = tt }
+pub does_no_part : (p : PassState) → IsBegun DoesNothing p p
+does_no_part p = record { more = []; is = sym (append-nil p.seen); part = refl }
 
 pub has_on : (p q : PassState) → q ≡ record p { seen = q.seen } → Has p.seats p.seat → Has q.seats q.seat
 has_on p q same has = subst (λ (x : PassState). Has x.seats x.seat) (sym same) has
@@ -115,6 +141,7 @@ module _ (begins : Config → Seat → List Event → List Event → Type 0) whe
         rest = b.rest ++ ys;
         is = ap (λ (l : List Event). l ++ ys) b.is ∙ append_assoc b.first b.rest ys;
         part = b.part;
+        in_turn = b.in_turn;
       }
 
   -- two parts
@@ -178,21 +205,36 @@ module _ (begins : Config → Seat → List Event → List Event → Type 0) whe
     abbrev e : Event
     e = event_of p step.Begin
 
-    -- The engine begins no other cycle.
+    same_more : does.more ≡ part.more
+    same_more =
+        append_cancel_left d.seen does.more part.more (sym (ap (λ (x : PassState). x.seen) does.is) ∙ part.is)
+
+    seat_is : d.seat ≡ p.seat
+    seat_is = ap (λ (x : PassState). x.seat) m.is
+
+    -- The engine begins no other cycle,
     no_more : (b : At is_begin part.more) → b.event.seat ≡ p.seat → ⊥
     no_more b is =
-        let same : does.more ≡ part.more =
-        append_cancel_left d.seen does.more part.more (sym (ap (λ (x : PassState). x.seen) does.is) ∙ part.is) in
         kinds_begin_none begins_marking d.table.config d.seat (left d.table.config d.seen) does.more marking_begins_none
         does.of_kinds
         (record {
           before = b.before;
           event = b.event;
           behind = b.behind;
-          is = same ∙ b.is;
+          is = same_more ∙ b.is;
           of_kind = b.of_kind;
         })
-        (is ∙ sym (ap (λ (x : PassState). x.seat) m.is))
+        (is ∙ sym seat_is)
+
+    -- and the turn isn't given back.
+    no_give : list_any (λ (x : Event). is_same_seat p.seat x.seat && is_give x.step) part.more ≡ false
+    no_give =
+        subst (λ (l : List Event). list_any (λ (x : Event). is_same_seat p.seat x.seat && is_give x.step) l ≡ false)
+        same_more
+        (subst (λ (s : Seat). list_any (λ (x : Event). is_same_seat s x.seat && is_give x.step) does.more ≡ false)
+        seat_is
+        (kinds_give_none begins_marking d.table.config d.seat (left d.table.config d.seen) does.more marking_gives_none
+        does.of_kinds))
 
     done : begins c p.seat (p.seen ++ (m.others ++ e ∷ [])) part.more
     done =
@@ -209,7 +251,7 @@ module _ (begins : Config → Seat → List Event → List Event → Type 0) whe
         (subst (λ (y : Event). IsBegunFirst begins c p.seat (p.seen ++ (before ++ y ∷ [])) part.more) same
         (subst (λ (l : List Event). IsBegunFirst begins c p.seat (p.seen ++ (l ++ e ∷ [])) part.more)
         (sym (first ∙ append-nil m.others))
-        (record { first = part.more; rest = []; is = sym (append-nil part.more); part = done })))
+        (record { first = part.more; rest = []; is = sym (append-nil part.more); part = done; in_turn = no_give })))
     here x before (y ∷ ys) behind of_kind is first second =
         let tail : part.more ≡ ys ++ x ∷ behind = cc in
         absurd (no_more (record { before = ys; event = x; behind = behind; is = tail; of_kind = of_kind }) is)

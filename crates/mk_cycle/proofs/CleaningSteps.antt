@@ -24,7 +24,7 @@ use Rattle.mk_geom.specs.declared.addresses.Cell.{Cell}
 use Rattle.mk_words.specs.States.{WordsState, PassState, now_of, event_of}
 use Rattle.mk_words.specs.TurnSteps.{world_at, Acts}
 use Rattle.mk_turns.proofs.Doing.{does_nothing, does_then, does_step}
-use Rattle.mk_cycle.specs.Cleaning.{HasSnapshot, IsClean, Cleans}
+use Rattle.mk_cycle.specs.Cleaning.{HasTakenSnapshot, IsClean, Cleans}
 use Rattle.mk_cycle.specs.EngineLaw.{IsFreeForCycle, IsAtPhase, is_pending_free}
 use Rattle.mk_cycle.specs.Kinds.{clears}
 use Rattle.mk_cycle.specs.TurnKeeps.{KeepsTurn, InTurn, but_cleaned}
@@ -284,7 +284,7 @@ module _ (p q : PassState) (t : InTurn p) (free : IsFreeForCycle p) (none : IsAt
           (quar_cleans c w p.seat page v (ap is_pending_free a.own.flight ∙ free.decided) long small
           (is ∙ ap (λ (n : ℕ). quarantine_word n n) (sym same_freed)))
 
-      pub has_snapshot : HasSnapshot q page
+      pub has_snapshot : HasTakenSnapshot q page
       unfolding w
       has_snapshot =
           let c : Config = p.table.config in

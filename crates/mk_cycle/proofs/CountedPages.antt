@@ -9,7 +9,7 @@ use Rattle.mk_core.specs.Cells.{header_in, words_under}
 use Rattle.mk_core.specs.Words.{Words, header_at, quarantine_word}
 use Rattle.mk_words.specs.States.{PassState, now_of}
 use Rattle.mk_cycle.specs.declared.finishing.Released.{Released}
-use Rattle.mk_cycle.specs.Freeing.{FreesNone, PageState, SamePage}
+use Rattle.mk_cycle.specs.Freeing.{GivesNothingBack, PageState, SamePage}
 use Rattle.mk_cycle.specs.ReleasedPages.{released_below, released_on}
 use Rattle.mk_cycle.specs.TurnKeeps.{InTurn}
 use Rattle.mk_cycle.proofs.CleaningSteps.{halves}
@@ -44,7 +44,8 @@ told_by snapshot marks header s m h r is_snapshot is_marks is_header count words
     (kept ∙ marked)
 
 -- what looks at the marks and the header say of a page
-pub counted_on : (p a b : PassState) (page snapshot marks header : ℕ) (r : Released) → FreesNone p a → FreesNone a b
+pub counted_on : (p a b : PassState) (page snapshot marks header : ℕ) (r : Released) → GivesNothingBack p a
+    → GivesNothingBack a b
     → snapshot ≡ slice_index (now_of p).words.snapshot page
     → marks ≡ slice_index (now_of a).words.marks page → header ≡ header_at (now_of b).words page
     → r.count ≡ count_ones (without snapshot marks)
@@ -59,7 +60,7 @@ counted_on p a b page snapshot marks header r first second is mark head count wo
     count words kept
 
 -- what a look at the quarantine word says of it
-pub snapshot_told : (p a : PassState) (page quarantine : ℕ) → InTurn a → FreesNone p a
+pub snapshot_told : (p a : PassState) (page quarantine : ℕ) → InTurn a → GivesNothingBack p a
     → quarantine
     ≡ quarantine_word (slice_index (now_of a).words.freed page) (slice_index (now_of a).words.snapshot page)
     → quarantine / 2 ^ 32 ≡ slice_index (now_of p).words.snapshot page
@@ -93,7 +94,7 @@ told_same p q page marks same =
     (ap (λ (x : PageState). x.snapshot) same)
     (ap (λ (ms : List ℕ). slice_index ms page) marks) (same_header p q page same) refl refl refl
 
-pub told_alike : (p q : PassState) (page : ℕ) → FreesNone p q
+pub told_alike : (p q : PassState) (page : ℕ) → GivesNothingBack p q
     → released_on (now_of q).words page ≡ released_on (now_of p).words page
 told_alike p q page k = told_same p q page k.frees.marks (k.same page)
 
@@ -112,7 +113,7 @@ counted_more w page all here before now =
     ∙ ap (λ (n : ℕ). released_below w n) next
 
 -- the first pages
-pub told_alike_below : (p q : PassState) → FreesNone p q → (n : ℕ)
+pub told_alike_below : (p q : PassState) → GivesNothingBack p q → (n : ℕ)
     → released_below (now_of q).words n ≡ released_below (now_of p).words n
 unfolding sum_of
 told_alike_below p q k zero = refl

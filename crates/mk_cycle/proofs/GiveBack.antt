@@ -14,7 +14,8 @@ use Rattle.mk_core.specs.Words.{header_at, used_at, quarantine_word}
 use Rattle.mk_words.specs.States.{PassState, now_of}
 use Rattle.mk_words.specs.TurnSteps.{Acts}
 use Rattle.mk_cycle.specs.EngineLaw.{IsFreeForCycle, IsAtPhase}
-use Rattle.mk_cycle.specs.Freeing.{FreesNone, FreesPage, GivesBack, HasFreeCells, IsQuarantineWord, IsUnmappedWord}
+use Rattle.mk_cycle.specs.Freeing.{GivesNothingBack, FreesPage, GivesBack, HasFreeCells, IsQuarantineWord}
+use Rattle.mk_cycle.specs.Freeing.{IsUnmappedWord}
 use Rattle.mk_cycle.specs.Freeing.{IsZero, PageState, page_state}
 use Rattle.mk_cycle.specs.TurnKeeps.{InTurn}
 use Rattle.mk_cycle.proofs.CellBits.{has_bit_and, high_part, low_part, none_in_both}
@@ -47,7 +48,8 @@ module _ (p : PassState) (page header cells : ℕ) (is : header ≡ header_at (n
 pub gone_too : (used gone k : ℕ) → has_bit (bit_and used gone) k ≡ true → has_bit gone k ≡ true
 gone_too used gone k has = (and_parts (has_bit used k) (has_bit gone k) (sym (has_bit_and used gone k) ∙ has)).1
 
-pub gives_here : (p b : PassState) (page used gone size : ℕ) → FreesNone p b → used ≡ used_at (now_of p).words page
+pub gives_here : (p b : PassState) (page used gone size : ℕ) → GivesNothingBack p b
+    → used ≡ used_at (now_of p).words page
     → gone ≡ left_unmarked (now_of p).words page → size ≡ words_under (header_in (now_of p).words page)
     → ((k : ℕ) → k < 32 → (i : ℕ) → has_bit (bit_and used gone) k ≡ true → i < size
     → IsZero b (64 * page + k * size + i))
@@ -59,7 +61,7 @@ gives_here p b page used gone size k is_used is_gone is_size zeros =
     (ap (λ (n : ℕ). words_under (header_of n)) (same_header p b page (k.same page)) ∙ sym is_size)
     zeros
 
-module _ (p b d q : PassState) (t : InTurn p) (k : FreesNone p b) (tb : InTurn b) (free : IsFreeForCycle p)
+module _ (p b d q : PassState) (t : InTurn p) (k : GivesNothingBack p b) (tb : InTurn b) (free : IsFreeForCycle p)
     (at : IsAtPhase p 4)
     (page used gone quarantine : ℕ) (lt : page < p.table.config.pages)
     (is_used : used ≡ used_at (now_of p).words page) (is_gone : gone ≡ left_unmarked (now_of p).words page)

@@ -10,7 +10,7 @@ use Rattle.mk_words.specs.States.{WordsState, PassState, now_of}
 use Rattle.mk_cycle.specs.declared.finishing.Released.{Released}
 use Rattle.mk_cycle.specs.EngineLaw.{IsFreeForCycle, IsAtPhase}
 use Rattle.mk_cycle.specs.FinishCycle.{HasReleased}
-use Rattle.mk_cycle.specs.Freeing.{Frees, FreesNone, IsSettledPage}
+use Rattle.mk_cycle.specs.Freeing.{Frees, GivesNothingBack, IsSettledPage}
 use Rattle.mk_cycle.specs.GivingAll.{GivesAllBack}
 use Rattle.mk_cycle.specs.Holding.{HoldsGates}
 use Rattle.mk_cycle.specs.ReleasedPages.{released_below}
@@ -40,7 +40,7 @@ none_held_then callers p q k h =
     (λ j lt. ap not (k.gates j
     (not-true (is_held (now_of p).words j) (all_below-at callers j (λ i. not (is_held (now_of p).words i)) h lt))))
 
-pub gives_all_back : (p h r o q : PassState) → HoldsGates p h → ReleasesUnmarked h r → FreesNone r o → Frees o q
+pub gives_all_back : (p h r o q : PassState) → HoldsGates p h → ReleasesUnmarked h r → GivesNothingBack r o → Frees o q
     → none_is_held r.table.config.callers (now_of o).words ≡ true
     → ((page : ℕ) → page < p.table.config.pages → IsSettledPage q page) → GivesAllBack p q
 gives_all_back p h r o q holds releases opens frees none settled =
@@ -61,7 +61,7 @@ gives_all_back p h r o q holds releases opens frees none settled =
     }
 
 -- What is counted after the gates' opening is what was released up to there, and still is after the giving back.
-pub all_told : (p h r o q : PassState) (n : ℕ) (counted : Released) → HoldsGates p h → FreesNone r o → Frees o q
+pub all_told : (p h r o q : PassState) (n : ℕ) (counted : Released) → HoldsGates p h → GivesNothingBack r o → Frees o q
     → HasReleased h r (released_below (now_of r).words n) → counted ≡ released_below (now_of o).words n
     → HasReleased p q counted
 all_told p h r o q n counted holds opens frees told is =

@@ -33,7 +33,7 @@ use Rattle.mk_words.specs.Steps.{IsEnabledTo}
 use Rattle.mk_words.specs.TurnSteps.{world_at, Acts}
 use Rattle.mk_words.proofs.Made.{made}
 use Rattle.mk_cycle.specs.EngineLaw.{IsFreeForCycle, IsAtPhase, is_pending_free}
-use Rattle.mk_cycle.specs.Freeing.{IsUnmapped, IsUnmappedWord, IsZero, Frees, FreesNone, FreesPage, PageState}
+use Rattle.mk_cycle.specs.Freeing.{IsUnmapped, IsUnmappedWord, IsZero, Frees, GivesNothingBack, FreesPage, PageState}
 use Rattle.mk_cycle.specs.Freeing.{page_state}
 use Rattle.mk_cycle.specs.TurnKeeps.{InTurn}
 use Rattle.mk_cycle.proofs.Allowed.{protocol, or_true}
@@ -70,7 +70,7 @@ state_there p q w s t e r =
     }) e
 
 module _ (p q : PassState) (t : InTurn p) (u : InTurn q) (free : IsFreeForCycle p) (at : IsAtPhase p 4) where
-  pub look_frees : (x : Word) → Acts p (step.Look x) q → FreesNone p q
+  pub look_frees : (x : Word) → Acts p (step.Look x) q → GivesNothingBack p q
   look_frees x a =
       record {
         frees = frees_step p (step.Look x) q a t u refl refl free at
@@ -83,7 +83,7 @@ module _ (p q : PassState) (t : InTurn p) (u : InTurn q) (free : IsFreeForCycle 
             ∙ state_there p q (world_of p) _ _ a.turn.steady r;
       }
 
-  pub wipe_frees : (n : ℕ) → Acts p (step.Wipe n) q → FreesNone p q
+  pub wipe_frees : (n : ℕ) → Acts p (step.Wipe n) q → GivesNothingBack p q
   wipe_frees n a =
       record {
         frees = frees_step p (step.Wipe n) q a t u refl refl free at
@@ -171,10 +171,10 @@ module _ (p : PassState) (t : InTurn p) (free : IsFreeForCycle p) (at : IsAtPhas
               ∙ eqb-true _ 0 (all_below-at (64 * run.count) (n - 64 * run.page)
               (λ i. slice_index w.heap (64 * run.page + i) == 0) zero (omega arith))
 
-pub none_then : (p q r : PassState) → FreesNone p q → FreesNone q r → FreesNone p r
+pub none_then : (p q r : PassState) → GivesNothingBack p q → GivesNothingBack q r → GivesNothingBack p r
 none_then p q r a b = record { frees = frees_then p q r a.frees b.frees; same = λ i. b.same i ∙ a.same i }
 
-pub none_at_once : (p : PassState) → FreesNone p p
+pub none_at_once : (p : PassState) → GivesNothingBack p p
 none_at_once p = record { frees = frees_nothing p; same = λ i. refl }
 
 pub still_unmapped_word : (p q : PassState) (n : ℕ) → Frees p q → IsUnmappedWord p n → IsUnmappedWord q n

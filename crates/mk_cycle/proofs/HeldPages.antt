@@ -17,7 +17,7 @@ use Rattle.mk_geom.specs.PageWords.{bits_of, use_of_page, use_under, uses_of_pag
 use Rattle.mk_geom.specs.Storages.{free_page}
 use Rattle.mk_books.proofs.UsedBitLemmas.{length-bits_of}
 use Rattle.mk_words.specs.States.{PassState, now_of}
-use Rattle.mk_cycle.specs.Freeing.{FreesNone, FreesPage, PageState}
+use Rattle.mk_cycle.specs.Freeing.{GivesNothingBack, FreesPage, PageState}
 use Rattle.mk_cycle.specs.HeldPages.{held_at}
 use Rattle.mk_cycle.specs.ReleasedPages.{sum_below}
 use Rattle.mk_cycle.proofs.PageSteps.{same_header}
@@ -59,7 +59,8 @@ held_next pages n within =
     ∙ sum_by-cons held_by_use (use_of_page (slice_index_or pages n free_page)) (uses_of_pages (drop (n + 1) pages))
 
 -- What two looks say of a page.
-pub page_seen : (a b : PassState) (page header used : ℕ) → FreesNone a b → header ≡ header_at (now_of a).words page
+pub page_seen : (a b : PassState) (page header used : ℕ) → GivesNothingBack a b
+    → header ≡ header_at (now_of a).words page
     → used ≡ used_at (now_of b).words page
     → ◌≡◌ {A = Page} (record { header = header; used = used }) (page_of (now_of b).words page)
 page_seen a b page header used k head use_word =

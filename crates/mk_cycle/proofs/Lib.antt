@@ -27,6 +27,7 @@ pub mod HeldPages
 pub mod FinishedCycles
 pub mod Sweepless
 pub mod Told
+pub mod ClosedBy
 pub mod PageByPage
 pub mod InParts
 pub mod Begun

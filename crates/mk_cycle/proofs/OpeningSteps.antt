@@ -35,7 +35,7 @@ use Rattle.mk_cycle.specs.EngineLaw.{IsFreeForCycle, IsAtPhase}
 use Rattle.mk_core.specs.History.{World}
 use Rattle.mk_core.specs.Words.{page_of}
 use Rattle.std.specs.Prelude.{slice_index}
-use Rattle.mk_cycle.specs.Freeing.{FreesNone}
+use Rattle.mk_cycle.specs.Freeing.{GivesNothingBack}
 use Rattle.mk_cycle.proofs.GivingSteps.{none_at_once, none_then, state_there}
 use Rattle.mk_cycle.specs.TurnKeeps.{InTurn}
 use Rattle.mk_cycle.proofs.FreeingSteps.{freed_free, freed_phase, frees_step, open_gives, others_free}
@@ -58,7 +58,7 @@ opens_itself p e t h is =
 
 -- one event further
 record Further (p q : PassState) : Type 0 where
-  none : FreesNone p q
+  none : GivesNothingBack p q
   turn : InTurn q
 
 behind : PassState → List Event → PassState
@@ -127,10 +127,10 @@ opens_one p e t free at h is = by e.step refl is (opens_itself p e t h is)
     by _ at_step kind same = cc
 
 opens_all : (more : List Event) (p : PassState) → InTurn p → IsFreeForCycle p → IsAtPhase p 4 → OnlyOpen p.seats more
-    → IsHistory p.table.config (p.seen ++ more) → FreesNone p (behind p more)
+    → IsHistory p.table.config (p.seen ++ more) → GivesNothingBack p (behind p more)
 unfolding behind OnlyOpen
 opens_all [] p t free at only h =
-    subst (λ (es : List Event). FreesNone p (record p { seen = es })) (sym (append-nil p.seen)) (none_at_once p)
+    subst (λ (es : List Event). GivesNothingBack p (record p { seen = es })) (sym (append-nil p.seen)) (none_at_once p)
 opens_all (e ∷ es) p t free at only h =
     let c : Config = p.table.config in
     let split : (p.seen ++ e ∷ []) ++ es ≡ p.seen ++ e ∷ es = append_assoc p.seen (e ∷ []) es in
@@ -142,13 +142,13 @@ opens_all (e ∷ es) p t free at only h =
     ] in
     let rest = opens_all es (record p { seen = p.seen ++ e ∷ [] }) one.turn (freed_free p _ one.none.frees free)
     (freed_phase p _ one.none.frees at) only.1 whole in
-    subst (λ (xs : List Event). FreesNone p (record p { seen = xs })) split (none_then p _ _ one.none rest)
+    subst (λ (xs : List Event). GivesNothingBack p (record p { seen = xs })) split (none_then p _ _ one.none rest)
 
 pub opens_frees : (p q : PassState) → InTurn p → IsFreeForCycle p → IsAtPhase p 4 → Opens p q
-    → IsHistory q.table.config q.seen → FreesNone p q
+    → IsHistory q.table.config q.seen → GivesNothingBack p q
 unfolding behind
 opens_frees p q t free at o h =
-    subst (λ (x : PassState). FreesNone p x) (sym o.is)
+    subst (λ (x : PassState). GivesNothingBack p x) (sym o.is)
     (opens_all o.more p t free at o.only (subst (λ (x : PassState). IsHistory x.table.config x.seen) o.is h))
 
 -- While all is stopped and the run that the call freed is gone, each gate may be opened.

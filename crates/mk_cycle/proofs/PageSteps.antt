@@ -7,12 +7,12 @@ use Rattle.mk_core.specs.Cells.{are_left_unmarked, cell_words, header_in, left_u
 use Rattle.mk_core.specs.TurnConditions.{are_wiped, drops, gives_back}
 use Rattle.mk_core.specs.Words.{Words, header_at, used_at}
 use Rattle.mk_words.specs.States.{PassState, now_of}
-use Rattle.mk_cycle.specs.Freeing.{FreesNone, FreesPage, PageState, SamePage}
+use Rattle.mk_cycle.specs.Freeing.{GivesNothingBack, FreesPage, PageState, SamePage}
 use Rattle.mk_cycle.proofs.BeginSteps.{all_from}
 use Rattle.mk_cycle.proofs.CellBits.{left_within, none_beyond, none_of_itself, part_within, rest_away, taken_away}
 use Rattle.mk_cycle.proofs.FreeingSteps.{frees_then}
 
-pub page_at_once : (page : ℕ) (p q : PassState) → FreesNone p q → FreesPage page p q
+pub page_at_once : (page : ℕ) (p q : PassState) → GivesNothingBack p q → FreesPage page p q
 page_at_once page p q a = record { frees = a.frees; others = λ r ne. a.same r }
 
 pub page_then : (page : ℕ) (p q r : PassState) → FreesPage page p q → FreesPage page q r → FreesPage page p r

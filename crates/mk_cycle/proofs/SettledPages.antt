@@ -23,7 +23,8 @@ use Rattle.mk_invariant.proofs.Theorems.{allocations_stand}
 use Rattle.mk_frames.proofs.LastEvents.{stands}
 use Rattle.mk_words.specs.States.{PassState, world_of, now_of}
 use Rattle.mk_cycle.specs.EngineLaw.{IsAtPhase}
-use Rattle.mk_cycle.specs.Freeing.{Frees, FreesNone, FreesPage, GivesBack, HasFreeCells, IsSettledPage, IsUnmappedWord}
+use Rattle.mk_cycle.specs.Freeing.{Frees, GivesNothingBack, FreesPage, GivesBack, HasFreeCells, IsSettledPage}
+use Rattle.mk_cycle.specs.Freeing.{IsUnmappedWord}
 use Rattle.mk_cycle.specs.Freeing.{IsZero, PageState, SamePage, page_state}
 use Rattle.mk_cycle.specs.TurnKeeps.{InTurn}
 use Rattle.mk_cycle.proofs.CleaningSteps.{halves}
@@ -49,7 +50,7 @@ free_cells_stay p q page k same cells =
           (cells.wiped (sym (ap (λ (n : ℕ). is_unmapped_header (header_of n)) header) ∙ gone) x i there small));
     }
 
-pub gives_then : (page : ℕ) (p b q : PassState) → FreesNone p b → GivesBack page b q → GivesBack page p q
+pub gives_then : (page : ℕ) (p b q : PassState) → GivesNothingBack p b → GivesBack page b q → GivesBack page p q
 gives_then page p b q k g =
     record {
       frees = page_then page p b q (page_at_once page p b k) g.frees;
@@ -57,7 +58,7 @@ gives_then page p b q k g =
       none_left = g.none_left;
     }
 
-pub gives_none : (page : ℕ) (p b : PassState) → FreesNone p b → left_unmarked (now_of b).words page ≡ 0
+pub gives_none : (page : ℕ) (p b : PassState) → GivesNothingBack p b → left_unmarked (now_of b).words page ≡ 0
     → GivesBack page p b
 gives_none page p b k none =
     record { frees = page_at_once page p b k; header = same_header p b page (k.same page); none_left = none }
@@ -177,11 +178,11 @@ still_settled p q page r k lt h =
     ∙ h
 
 -- and while nothing is given back
-pub settled_alike : (p q : PassState) (page : ℕ) → FreesNone p q → IsSettledPage p page → IsSettledPage q page
+pub settled_alike : (p q : PassState) (page : ℕ) → GivesNothingBack p q → IsSettledPage p page → IsSettledPage q page
 settled_alike p q page k h = still_settled p q (page + 1) page (page_at_once (page + 1) p q k) (omega arith) h
 
 -- what two looks say of the released cells
-pub marked_gone : (a b : PassState) (page quarantine marks : ℕ) → InTurn a → FreesNone a b
+pub marked_gone : (a b : PassState) (page quarantine marks : ℕ) → InTurn a → GivesNothingBack a b
     → quarantine ≡ quarantine_word (slice_index (now_of a).words.freed page)
     (slice_index (now_of a).words.snapshot page)
     → marks ≡ slice_index (now_of b).words.marks page
@@ -196,7 +197,7 @@ pub head_stays : (p q : PassState) (page : ℕ) → SamePage p q page
 head_stays p q page same = ap (λ (n : ℕ). head_page_under (header_of n) page) (same_header p q page same)
 
 -- No cell is released at the head of the page's run: it is the page itself, or one that is settled.
-pub none_at : (p a b : PassState) (page h : ℕ) → FreesNone p a → GivesBack page a b → h ≤ page
+pub none_at : (p a b : PassState) (page h : ℕ) → GivesNothingBack p a → GivesBack page a b → h ≤ page
     → ((r : ℕ) → r < page → IsSettledPage p r) → left_unmarked (now_of b).words h ≡ 0
 none_at p a b page h k g le settled = elim (cases_eq h page) [
   | inl e ↦ ap (λ (n : ℕ). left_unmarked (now_of b).words n) e ∙ g.none_left

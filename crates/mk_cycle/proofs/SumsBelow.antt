@@ -1,5 +1,5 @@
 -- Counts that are counted in parts: the elements of a list by a key, and the bits of a word one by one.
-use Rattle.std.proofs.Common.{◌≡◌, ℕ, zero, suc, ◌+◌, ◌<◌, Bool, true, false, cond, ◌*◌, ◌&&◌, ◌==◌, List, [], ◌∷◌}
+use Rattle.std.proofs.Common.{◌≡◌, ℕ, zero, suc, ◌+◌, ◌<◌, ◌≤◌, Bool, true, false, cond, ◌*◌, ◌&&◌, ◌==◌, List, [], ◌∷◌}
 use Rattle.std.proofs.Common.{length, get_or, sum_by, count_by, refl, sym, ◌∙◌, ap, inl, inr, arith}
 use Rattle.std.proofs.lemmas.Bool.{cases_eq, eq-eqb, ne_eqb, true≢false}
 use Rattle.std.proofs.lemmas.List.Sums.{sum_by-cons}
@@ -11,6 +11,19 @@ sum_same (suc n) f g same =
     let a = sum_same n f g (λ i lt. same i (omega arith)) in
     let b = same n (omega arith) in
     omega arith
+
+-- Values that are 0 add nothing.
+pub sum_past : (m n : ℕ) (f : ℕ → ℕ) → m ≤ n → ((i : ℕ) → m ≤ i → i < n → f i ≡ 0) → sum_below n f ≡ sum_below m f
+sum_past m zero f le none =
+    let first : zero ≡ m = omega arith in
+    ap (λ (k : ℕ). sum_below k f) first
+sum_past m (suc n) f le none = elim (cases_eq m (suc n)) [
+  | inl same ↦ ap (λ (k : ℕ). sum_below k f) (sym same)
+  | inr other ↦
+      let a = sum_past m n f (omega arith) (λ i after lt. none i after (omega arith)) in
+      let b = none n (omega arith) (omega arith) in
+      omega arith
+]
 
 sum_of_none : (n : ℕ) (f : ℕ → ℕ) → ((i : ℕ) → i < n → f i ≡ 0) → sum_below n f ≡ 0
 sum_of_none zero f none = refl

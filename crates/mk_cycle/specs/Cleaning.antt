@@ -14,8 +14,8 @@ abbrev pub IsUnscanned : PassState → ℕ → Type 0
 IsUnscanned p page = slice_index (now_of p).words.blacks page ≡ 0
 
 -- The page's freed cells are its snapshot.
-abbrev pub HasSnapshot : PassState → ℕ → Type 0
-HasSnapshot p page = slice_index (now_of p).words.snapshot page ≡ slice_index (now_of p).words.freed page
+abbrev pub HasTakenSnapshot : PassState → ℕ → Type 0
+HasTakenSnapshot p page = slice_index (now_of p).words.snapshot page ≡ slice_index (now_of p).words.freed page
 
 -- The page's dirty word was 0 at a moment from what the one pass had seen to what the other has seen. A caller may set
 -- it again at once.
@@ -28,7 +28,7 @@ pub record WasUndirty (page : ℕ) (p q : PassState) : Type 0 where
 pub record IsClean (p : PassState) (page : ℕ) : Type 0 where
   pub unmarked : IsUnmarked p page
   pub unscanned : IsUnscanned p page
-  pub snapshot : HasSnapshot p page
+  pub snapshot : HasTakenSnapshot p page
 
 -- From one to the other pages were cleaned: what is clean stays so.
 pub record Cleans (p q : PassState) : Type 0 where
@@ -37,4 +37,4 @@ pub record Cleans (p q : PassState) : Type 0 where
   pub gates : KeepsGates p q
   pub unmarked : (page : ℕ) → IsUnmarked p page → IsUnmarked q page
   pub unscanned : (page : ℕ) → IsUnscanned p page → IsUnscanned q page
-  pub snapshot : (page : ℕ) → HasSnapshot p page → HasSnapshot q page
+  pub snapshot : (page : ℕ) → HasTakenSnapshot p page → HasTakenSnapshot q page

@@ -55,7 +55,7 @@ abbrev pub SamePage : PassState → PassState → ℕ → Type 0
 SamePage p q r = page_state q r ≡ page_state p r
 
 -- Nothing of the words of pages was changed.
-pub record FreesNone (p q : PassState) : Type 0 where
+pub record GivesNothingBack (p q : PassState) : Type 0 where
   pub frees : Frees p q
   pub same : (r : ℕ) → SamePage p q r
 

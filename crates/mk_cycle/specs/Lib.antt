@@ -13,3 +13,4 @@ pub mod HeldPages
 pub mod Tallying
 pub mod Telling
 pub mod Begun
+pub mod Closing

@@ -2,7 +2,7 @@
 ghost use Rattle.std.specs.Prelude.{◌≡◌, false};
 ghost use Rattle.mk_turns.specs.Sweeping.{SweepsNothing};
 ghost use Rattle.mk_cycle.specs.BeginCycle.{BeginsCycle};
-ghost use Rattle.mk_cycle.specs.Begun.{EachIsBegun};
+ghost use Rattle.mk_cycle.specs.Begun.{EachIsBegun, IsBegunLast};
 ghost use Rattle.mk_cycle.specs.EngineLaw.{IsFreeForCycle, IsAtPhase};
 
 use crate::bench::Bench;
@@ -31,6 +31,7 @@ pub fn begin_cycle<E: Engine, R: Threads + Wait + Sync>(
     ensures law { BeginsCycle turn.old.pass turn.new.pass }
     ensures reached { E.sweeps ≡ false → SweepsNothing turn.old.pass turn.new.pass }
     ensures begun { EachIsBegun E.begins turn.old.pass turn.new.pass }
+    ensures last { IsBegunLast E.begins turn.old.pass turn.new.pass }
 {
     clean_pages(turn, words);
     tally(turn, words, Tally::Fresh, 0);

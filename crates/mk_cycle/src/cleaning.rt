@@ -4,7 +4,7 @@ ghost use Rattle.std.specs.Prelude.{◌≡◌, ◌<◌, ℕ, true, false};
 ghost use Rattle.mk_core.specs.Ranges.{is_word};
 ghost use Rattle.mk_core.specs.Words.{named_word};
 ghost use Rattle.mk_words.specs.States.{now_of};
-ghost use Rattle.mk_cycle.specs.Cleaning.{Cleans, IsUnmarked, IsUnscanned, HasSnapshot, IsClean, WasUndirty};
+ghost use Rattle.mk_cycle.specs.Cleaning.{Cleans, IsUnmarked, IsUnscanned, HasTakenSnapshot, IsClean, WasUndirty};
 ghost use Rattle.mk_cycle.specs.EngineLaw.{IsFreeForCycle, IsAtPhase, is_register};
 ghost use Rattle.mk_cycle.specs.TurnKeeps.{InTurn};
 
@@ -66,7 +66,7 @@ fn copy_freed(turn: &mut Turn, words: &Words, page: u64)
     requires within { page < words.now.config.pages }
     ensures op { turn.new.op ≡ turn.old.op }
     ensures cleans { Cleans turn.old.pass turn.new.pass }
-    ensures snapshot { HasSnapshot turn.new.pass page }
+    ensures snapshot { HasTakenSnapshot turn.new.pass page }
 {
     let quarantine = look(turn, words, Word::Quar(page));
     let freed = quarantine % FREED_END;

@@ -10,7 +10,7 @@ ghost use Rattle.mk_words.specs.States.{now_of};
 ghost use Rattle.mk_cycle.specs.ReleasedPages.{IsOfOnePage, released_on};
 ghost use Rattle.mk_cycle.specs.HeldPages.{held_at};
 ghost use Rattle.mk_cycle.specs.EngineLaw.{IsFreeForCycle, IsAtPhase, is_register};
-ghost use Rattle.mk_cycle.specs.Freeing.{FreesNone};
+ghost use Rattle.mk_cycle.specs.Freeing.{GivesNothingBack};
 ghost use Rattle.mk_cycle.specs.TurnKeeps.{InTurn};
 
 use crate::bits::FREED_END;
@@ -46,7 +46,7 @@ pub(crate) fn look_among(turn: &mut Turn, words: &Words, pages: u64, x: Word) ->
     requires in_range { is_word words.now.config x ≡ true }
     requires no_register { is_register x ≡ false }
     ensures op { turn.new.op ≡ turn.old.op }
-    ensures frees { FreesNone turn.old.pass turn.new.pass }
+    ensures frees { GivesNothingBack turn.old.pass turn.new.pass }
     ensures is { InTurn turn.new.pass }
     ensures reads { result ≡ named_word (now_of turn.new.pass).words x }
 {
@@ -61,7 +61,7 @@ pub(crate) fn look(turn: &mut Turn, words: &Words, x: Word) -> u64
     requires in_range { is_word words.now.config x ≡ true }
     requires no_register { is_register x ≡ false }
     ensures op { turn.new.op ≡ turn.old.op }
-    ensures frees { FreesNone turn.old.pass turn.new.pass }
+    ensures frees { GivesNothingBack turn.old.pass turn.new.pass }
     ensures is { InTurn turn.new.pass }
     ensures reads { result ≡ named_word (now_of turn.new.pass).words x }
 {
@@ -76,7 +76,7 @@ fn released_of(turn: &mut Turn, words: &Words, page: u64, snapshot: u64) -> Rele
     requires within { page < words.now.config.pages }
     requires snapshot { snapshot ≡ slice_index (now_of turn.old.pass).words.snapshot page }
     ensures op { turn.new.op ≡ turn.old.op }
-    ensures frees { FreesNone turn.old.pass turn.new.pass }
+    ensures frees { GivesNothingBack turn.old.pass turn.new.pass }
     ensures exact { result ≡ released_on (now_of turn.old.pass).words page }
     ensures few { IsOfOnePage result }
 {
@@ -92,7 +92,7 @@ pub(crate) fn released_on(turn: &mut Turn, words: &Words, page: u64) -> Released
     requires phase { IsAtPhase turn.old.pass 4 }
     requires within { page < words.now.config.pages }
     ensures op { turn.new.op ≡ turn.old.op }
-    ensures frees { FreesNone turn.old.pass turn.new.pass }
+    ensures frees { GivesNothingBack turn.old.pass turn.new.pass }
     ensures exact { result ≡ released_on (now_of turn.old.pass).words page }
     ensures few { IsOfOnePage result }
 {
@@ -114,7 +114,7 @@ pub(crate) fn held_on(turn: &mut Turn, words: &Words, page: u64) -> u64
     requires phase { IsAtPhase turn.old.pass 4 }
     requires within { page < words.now.config.pages }
     ensures op { turn.new.op ≡ turn.old.op }
-    ensures frees { FreesNone turn.old.pass turn.new.pass }
+    ensures frees { GivesNothingBack turn.old.pass turn.new.pass }
     ensures exact { result ≡ held_at turn.new.pass page }
     ensures few { result ≤ 64 }
 {

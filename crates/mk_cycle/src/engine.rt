@@ -5,6 +5,7 @@ ghost use Rattle.mk_core.specs.declared.events.Event.{Event};
 ghost use Rattle.mk_core.specs.declared.events.Seat.{Seat};
 ghost use Rattle.mk_core.specs.History.{World};
 ghost use Rattle.mk_turns.specs.Sweeping.{SweepsNothing};
+ghost use Rattle.mk_words.specs.States.{PassState};
 ghost use Rattle.mk_cycle.specs.Begun.{IsBegun};
 ghost use Rattle.mk_cycle.specs.EngineLaw.{IsFreeForCycle, IsAtPhase, BeginsMarking, ClosesMarks};
 ghost use Rattle.mk_cycle.specs.Telling.{IsToldOf};
@@ -17,7 +18,7 @@ use std::thread::Threads;
 
 /// What makes the marks of a cycle, for a heap of this many pages. What it answers to `keeps_on` is the same for all
 /// values of its type, and so are whether it makes sweeping marks, and what it does as a cycle begins. Of the marks
-/// that it closed last it tells something.
+/// that it closed last it tells something, and how it came to close them.
 pub trait Engine: Drop {
     ghost on: { Bool };
 
@@ -28,6 +29,8 @@ pub trait Engine: Drop {
     ghost tells: { Self → Config → World → Type 0 };
 
     ghost begins: { Config → Seat → List Event → List Event → Type 0 };
+
+    ghost closes: { Self → PassState → PassState → Type 0 };
 
     /// An engine for this many pages. It takes all its memory here.
     fn make(alloc: Global, pages: u64) -> Result<Self, NoMemory>
@@ -59,5 +62,6 @@ pub trait Engine: Drop {
         ensures op { stop.new.op ≡ stop.old.op }
         ensures law { ClosesMarks stop.old.pass stop.new.pass }
         ensures reached { sweeps ≡ false → SweepsNothing stop.old.pass stop.new.pass }
-        ensures told { IsToldOf (tells self.new) stop.new.pass };
+        ensures told { IsToldOf (tells self.new) stop.new.pass }
+        ensures closed { closes self.new stop.old.pass stop.new.pass };
 }

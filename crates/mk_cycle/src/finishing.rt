@@ -1,6 +1,7 @@
 //! The end of a cycle.
 ghost use Rattle.std.specs.Prelude.{◌≡◌, length, false};
 ghost use Rattle.mk_turns.specs.Sweeping.{SweepsNothing};
+ghost use Rattle.mk_cycle.specs.Closing.{IsClosedBy};
 ghost use Rattle.mk_cycle.specs.EngineLaw.{IsFreeForCycle, IsAtPhase};
 ghost use Rattle.mk_cycle.specs.FinishCycle.{FinishesCycle, HasReleased};
 ghost use Rattle.mk_cycle.specs.Telling.{IsToldAtClose};
@@ -43,6 +44,7 @@ pub fn finish_cycle<E: Engine, R: Threads + Wait + Sync>(
     ensures released { HasReleased turn.pass result.0.pass result.1 }
     ensures reached { E.sweeps ≡ false → SweepsNothing turn.pass result.0.pass }
     ensures told { IsToldAtClose (E.tells bench.new.engine) turn.pass result.0.pass }
+    ensures closed { IsClosedBy (E.closes bench.new.engine) turn.pass result.0.pass }
 {
     let (mut turn, settled) = give_all_back(rt, words, turn, &mut bench.engine);
     let Settled { released, held } = settled;

@@ -4,9 +4,10 @@ ghost use Rattle.mk_core.specs.Moments.{none_is_held};
 ghost use Rattle.mk_core.specs.TurnConditions.{held_by_pages};
 ghost use Rattle.mk_words.specs.States.{now_of};
 ghost use Rattle.mk_turns.specs.Sweeping.{SweepsNothing};
+ghost use Rattle.mk_cycle.specs.Closing.{IsClosedBy};
 ghost use Rattle.mk_cycle.specs.EngineLaw.{IsFreeForCycle, IsAtPhase};
 ghost use Rattle.mk_cycle.specs.FinishCycle.{HasReleased};
-ghost use Rattle.mk_cycle.specs.Freeing.{FreesNone};
+ghost use Rattle.mk_cycle.specs.Freeing.{GivesNothingBack};
 ghost use Rattle.mk_cycle.specs.GivingAll.{GivesAllBack};
 ghost use Rattle.mk_cycle.specs.Telling.{IsToldAtClose};
 
@@ -24,7 +25,7 @@ fn open_gates(words: &Words, stop: Stopped) -> Turn
     requires free { IsFreeForCycle stop.pass }
     requires phase { IsAtPhase stop.pass 4 }
     ensures op { result.op ≡ stop.op }
-    ensures opens { FreesNone stop.pass result.pass }
+    ensures opens { GivesNothingBack stop.pass result.pass }
     ensures gates { none_is_held stop.pass.table.config.callers (now_of result.pass).words ≡ true }
 {
     stop.is_in_order();
@@ -52,6 +53,7 @@ pub(crate) fn give_all_back<E: Engine, R: Threads + Wait + Sync>(
     ensures held { result.1.held ≡ held_by_pages (now_of result.0.pass).words }
     ensures reached { E.sweeps ≡ false → SweepsNothing turn.pass result.0.pass }
     ensures told_at_close { IsToldAtClose (E.tells engine.new) turn.pass result.0.pass }
+    ensures closed { IsClosedBy (E.closes engine.new) turn.pass result.0.pass }
 {
     hold_gates(rt, &mut turn, words);
     let mut stop = turn.stopped();

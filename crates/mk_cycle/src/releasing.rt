@@ -2,6 +2,7 @@
 ghost use Rattle.std.specs.Prelude.{◌≡◌, ℕ, false};
 ghost use Rattle.mk_words.specs.States.{now_of};
 ghost use Rattle.mk_turns.specs.Sweeping.{SweepsNothing};
+ghost use Rattle.mk_cycle.specs.Closing.{IsClosedBy};
 ghost use Rattle.mk_cycle.specs.ReleasedPages.{released_below};
 ghost use Rattle.mk_cycle.specs.FinishCycle.{HasReleased};
 ghost use Rattle.mk_cycle.specs.Freeing.{HasFreeCells};
@@ -33,6 +34,7 @@ pub(crate) fn release_unmarked<E: Engine, R: Threads + Wait + Sync>(
         (released_below (now_of stop.new.pass).words words.now.config.pages) }
     ensures reached { E.sweeps ≡ false → SweepsNothing stop.old.pass stop.new.pass }
     ensures told_at_close { IsToldAtClose (E.tells engine.new) stop.old.pass stop.new.pass }
+    ensures closed { IsClosedBy (E.closes engine.new) stop.old.pass stop.new.pass }
 {
     stop.is_in_order();
     engine.close_marks(rt, words, stop);

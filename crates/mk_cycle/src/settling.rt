@@ -1,5 +1,5 @@
 //! Page by page, what was released is counted and given back, pages on which nothing is left are freed, and what is
-//! held is counted: in one pass, which looks at a free page once.
+//! held is counted: in one pass, which looks at no free page.
 ghost use Rattle.std.specs.Prelude.{◌≡◌, ◌<◌, ◌≤◌, ℕ};
 ghost use Rattle.mk_core.specs.Cells.{head_page, left_unmarked};
 ghost use Rattle.mk_core.specs.TurnConditions.{held_by_pages};
@@ -10,7 +10,7 @@ ghost use Rattle.mk_cycle.specs.Freeing.{Frees, FreesPage, HasFreeCells, IsSettl
 ghost use Rattle.mk_cycle.specs.HeldPages.{held_at};
 ghost use Rattle.mk_cycle.specs.ReleasedPages.{IsOfOnePage, released_below, released_on};
 
-use crate::counting::{held_on, look_among, released_on};
+use crate::counting::{held_on, released_on};
 use crate::finishing::Released;
 use crate::freeing::release_cells;
 use crate::turn_steps::{self, free_head};
@@ -44,9 +44,7 @@ fn free_unused(turn: &mut Turn, words: &Words, page: u64, head: u64)
     }
 }
 
-/// Gives back the released cells of a page with this header word, and frees it if nothing is left on it. It stands by
-/// itself, so that to pass a free page costs a look.
-#[inline(never)]
+/// Gives back the released cells of a page with this header word, and frees it if nothing is left on it.
 fn settle_taken(turn: &mut Turn, words: &Words, page: u64, header: u64) -> Settled
     requires one_table { turn.old.pass.table ≡ words.now }
     requires free { IsFreeForCycle turn.old.pass }
@@ -70,8 +68,8 @@ fn settle_taken(turn: &mut Turn, words: &Words, page: u64, header: u64) -> Settl
     Settled { released, held }
 }
 
-/// Gives back all that was released, and counts it, and what the pages hold then. Of a free page no more than its
-/// header is looked at.
+/// Gives back all that was released, and counts it, and what the pages hold then. It goes from page in use to page in
+/// use: a free page has nothing.
 pub(crate) fn settle_pages(turn: &mut Turn, words: &Words) -> Settled
     requires one_table { turn.old.pass.table ≡ words.now }
     requires free { IsFreeForCycle turn.old.pass }
@@ -90,17 +88,15 @@ pub(crate) fn settle_pages(turn: &mut Turn, words: &Words) -> Settled
         kept: 0,
     };
     let mut held: u64 = 0;
-    let pages = words.pages();
-    for page in 0..pages {
-        let header = look_among(turn, words, pages, Word::Head(page));
-        if header == 0 {
-            continue;
-        }
+    let mut from = 0;
+    while let Some(page) = turn_steps::next_in_use(turn, from) {
+        let header = turn.page(page).header;
         let here = settle_taken(turn, words, page, header);
         all.count += here.released.count;
         all.words += here.released.words;
         all.kept += here.released.kept;
         held += here.held;
+        from = page + 1;
     }
     Settled {
         released: all,

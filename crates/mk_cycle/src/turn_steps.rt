@@ -8,6 +8,7 @@ ghost use Rattle.mk_core.specs.TurnConditions.{gives_back, drops, empties};
 ghost use Rattle.mk_core.specs.Moments.{is_held, is_number_of};
 ghost use Rattle.mk_core.specs.Ranges.{is_word};
 ghost use Rattle.mk_core.specs.Words.{named_word, quarantine_word};
+ghost use Rattle.mk_page_map.specs.Members.{IsNext, is_in_use};
 ghost use Rattle.mk_words.specs.States.{now_of};
 ghost use Rattle.mk_words.specs.TurnSteps.{Acts};
 ghost use Rattle.mk_cycle.specs.EngineLaw.{IsFreeForCycle, IsAtPhase, is_register};
@@ -51,6 +52,16 @@ pub(crate) fn look(turn: &mut Turn, words: &Words, x: Word) -> u64
     ensures reads { result ≡ named_word (now_of turn.new.pass).words x }
 {
     look_among(turn, words, words.pages(), x)
+}
+
+/// The lowest page that isn't free, of those from this one on. The page map knows it.
+#[inline(always)]
+pub(crate) fn next_in_use(turn: &Turn, from: u64) -> Option<u64>
+    ensures is { InTurn turn.now.pass }
+    ensures next { IsNext (is_in_use (now_of turn.now.pass).words.pages) from turn.now.pass.table.config.pages result }
+{
+    turn.is_in_order();
+    turn.next_in_use(from)
 }
 
 /// Clears a page's marks.

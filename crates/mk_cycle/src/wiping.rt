@@ -6,7 +6,7 @@ ghost use Rattle.mk_core.specs.Words.{header_at};
 ghost use Rattle.mk_geom.specs.Headers.{header_of};
 ghost use Rattle.mk_words.specs.States.{now_of};
 ghost use Rattle.mk_cycle.specs.EngineLaw.{IsFreeForCycle, IsAtPhase};
-ghost use Rattle.mk_cycle.specs.Freeing.{FreesNone, HasFreeCells, IsUnmapped, IsZero, IsUnmappedWord};
+ghost use Rattle.mk_cycle.specs.Freeing.{GivesNothingBack, HasFreeCells, IsUnmapped, IsZero, IsUnmappedWord};
 
 use crate::turn_steps::{look, wipe};
 use mk_core::{Word, has_bit, is_unmapped, words_under};
@@ -19,7 +19,7 @@ fn wipe_word(turn: &mut Turn, words: &Words, word: u64)
     requires phase { IsAtPhase turn.old.pass 4 }
     requires unmapped { IsUnmappedWord turn.old.pass word }
     ensures op { turn.new.op ≡ turn.old.op }
-    ensures frees { FreesNone turn.old.pass turn.new.pass }
+    ensures frees { GivesNothingBack turn.old.pass turn.new.pass }
     ensures zero { IsZero turn.new.pass word }
 {
     if look(turn, words, Word::Heap(word)) != 0 {
@@ -34,7 +34,7 @@ fn wipe_cell(turn: &mut Turn, words: &Words, first: u64, count: u64)
     requires phase { IsAtPhase turn.old.pass 4 }
     requires unmapped { (i : ℕ) → i < count → IsUnmappedWord turn.old.pass (first + i) }
     ensures op { turn.new.op ≡ turn.old.op }
-    ensures frees { FreesNone turn.old.pass turn.new.pass }
+    ensures frees { GivesNothingBack turn.old.pass turn.new.pass }
     ensures zeros { (i : ℕ) → i < count → IsZero turn.new.pass (first + i) }
 {
     words.is_within_limits();
@@ -54,7 +54,7 @@ fn wipe_chosen(turn: &mut Turn, words: &Words, page: u64, cells: u64, size: u64,
     requires unmapped { (i : ℕ) → has_bit cells k ≡ true → i < size
         → IsUnmappedWord turn.old.pass (64 * page + k * size + i) }
     ensures op { turn.new.op ≡ turn.old.op }
-    ensures frees { FreesNone turn.old.pass turn.new.pass }
+    ensures frees { GivesNothingBack turn.old.pass turn.new.pass }
     ensures zeros { (i : ℕ) → has_bit cells k ≡ true → i < size
         → IsZero turn.new.pass (64 * page + k * size + i) }
 {
@@ -74,7 +74,7 @@ fn wipe_cells(turn: &mut Turn, words: &Words, page: u64, cells: u64, size: u64)
     requires unmapped { (k i : ℕ) → has_bit cells k ≡ true → i < size
         → IsUnmappedWord turn.old.pass (64 * page + k * size + i) }
     ensures op { turn.new.op ≡ turn.old.op }
-    ensures frees { FreesNone turn.old.pass turn.new.pass }
+    ensures frees { GivesNothingBack turn.old.pass turn.new.pass }
     ensures zeros { (k : ℕ) → k < 32 → (i : ℕ) → has_bit cells k ≡ true → i < size
         → IsZero turn.new.pass (64 * page + k * size + i) }
 {
@@ -94,7 +94,7 @@ pub(crate) fn wipe_released(turn: &mut Turn, words: &Words, page: u64, header: u
         → has_bit (left_unmarked (now_of turn.old.pass).words page) k ≡ true }
     requires cells { HasFreeCells turn.old.pass page }
     ensures op { turn.new.op ≡ turn.old.op }
-    ensures frees { FreesNone turn.old.pass turn.new.pass }
+    ensures frees { GivesNothingBack turn.old.pass turn.new.pass }
     ensures zeros { (k : ℕ) → k < 32 → (i : ℕ) → has_bit cells k ≡ true → i < words_under (header_of header)
         → IsZero turn.new.pass (64 * page + k * words_under (header_of header) + i) }
 {

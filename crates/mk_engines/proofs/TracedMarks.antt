@@ -28,7 +28,7 @@ use Rattle.mk_words.specs.Steps.{IsEnabledTo}
 use Rattle.mk_turns.specs.Doing.{Does, are_of, done_in}
 use Rattle.mk_turns.proofs.Doing.{does_nothing}
 use Rattle.mk_tracing.specs.Grays.{TracesReached}
-use Rattle.mk_tracing.specs.Stops.{IsReady, IsWanted, is_loaded, is_loaded_at}
+use Rattle.mk_tracing.specs.Stops.{HolderIsLoaded, IsWanted, is_loaded, is_loaded_at}
 use Rattle.mk_tracing.specs.Tracing.{Counted, Traces, Untouched, untouched_of, is_tracing, is_want}
 use Rattle.mk_cycle.specs.EngineLaw.{BeginsMarking, ClosesMarks, IsFreeForCycle, is_pending_free, is_pending_free_at}
 use Rattle.mk_cycle.specs.Kinds.{begins_marking, closes_marks, is_want as is_wish}
@@ -57,7 +57,7 @@ loaded_of c m (Marker k) p holds decided = refl
 loaded_of c m Host p holds decided = refl
 
 pub ready_of : (p : PassState) → IsHistory p.table.config p.seen → Holds p.table.config (now_of p) p.seat
-    → IsFreeForCycle p → IsReady p
+    → IsFreeForCycle p → HolderIsLoaded p
 ready_of p history holds free =
     let protocol = lists_keep_the_protocol p.table.config p.seen history.within_limits history.enabled in
     record { loaded = loaded_of p.table.config (now_of p) p.seat protocol holds free.decided }

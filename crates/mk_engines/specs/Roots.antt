@@ -8,6 +8,7 @@ use Rattle.mk_core.specs.declared.events.Word.{Word}
 use Rattle.mk_core.specs.Growing.{Finding, in_this_call}
 use Rattle.mk_core.specs.History.{left}
 use Rattle.mk_core.specs.Ranges.{is_word}
+use Rattle.mk_cycle.specs.Begun.{CyclesAreBegun}
 use Rattle.mk_tracing.specs.Grays.{TracesReached}
 use Rattle.mk_tracing.specs.Stops.{is_root}
 use Rattle.mk_tracing.specs.Tracing.{OwnStepsKeep}
@@ -20,3 +21,7 @@ pub record MarksRoots (c : Config) (s : Seat) (es more : List Event) : Type 0 wh
       → list_any (λ (f : Finding). looks_at x f.event.step) (in_this_call c s es more) ≡ true
   pub found : list_all (found_well c.pages (left c (es ++ more)).now.words) (in_this_call c s es more) ≡ true
   pub reached : OwnStepsKeep TracesReached c s (left c es) more
+
+-- Whoever begins a cycle of the history does so directly after its `begin`, in the same turn.
+abbrev pub CyclesMarkRootsFirst : Config → List Event → Type 0
+CyclesMarkRootsFirst c es = CyclesAreBegun MarksRoots c es

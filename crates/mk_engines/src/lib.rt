@@ -1,7 +1,6 @@
 //! Engines that trace: one in the stop alone, and one beside the callers and then in the stop.
 #![tactic(auto)]
 
-mod bits;
 mod clients;
 mod gates;
 mod mostly_engine;

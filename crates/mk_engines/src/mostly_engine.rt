@@ -36,6 +36,8 @@ impl Engine for MostlyEngine {
 
     ghost begins = { λ c s es more. MarksRoots c s es more };
 
+    ghost closes = { λ engine p q. Traces is_tracing TracesReached p q };
+
     fn make(alloc: Global, pages: u64) -> Result<MostlyEngine, NoMemory> {
         let work = Worklist::new(alloc, pages.min(MOST_PAGES))?;
         Ok(MostlyEngine { pages, work })

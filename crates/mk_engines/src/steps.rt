@@ -11,8 +11,7 @@ ghost use Rattle.mk_tracing.specs.Stops.{hand_of, is_root};
 ghost use Rattle.mk_engines.specs.Beside.{FindsInRoot, GoesBeside, IsBeside, IsOpenToLook, KeepsOtherGates};
 ghost use Rattle.mk_engines.specs.Beside.{gives_no_hand};
 
-use crate::bits::bit;
-use mk_core::Word;
+use mk_core::{Word, bit};
 use mk_geom::Cell;
 use mk_words::{Turn, Words};
 

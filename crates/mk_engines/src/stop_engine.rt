@@ -1,6 +1,6 @@
 //! The engine that makes all marks in the stop.
 ghost use Rattle.std.specs.Prelude.{◌≡◌, false, ⊤};
-ghost use Rattle.mk_cycle.specs.Begun.{IsBegun, SaysNothing};
+ghost use Rattle.mk_cycle.specs.Begun.{DoesNothing, IsBegun};
 ghost use Rattle.mk_cycle.specs.EngineLaw.{IsFreeForCycle, IsAtPhase, BeginsMarking, ClosesMarks};
 ghost use Rattle.mk_turns.specs.Sweeping.{SweepsNothing};
 ghost use Rattle.mk_tracing.specs.Grays.{TracesReached};
@@ -31,7 +31,9 @@ impl Engine for StopEngine {
 
     ghost tells = { λ engine c w. ⊤ };
 
-    ghost begins = { SaysNothing };
+    ghost begins = { DoesNothing };
+
+    ghost closes = { λ engine p q. Traces is_tracing TracesReached p q };
 
     fn make(alloc: Global, pages: u64) -> Result<StopEngine, NoMemory> {
         let work = Worklist::new(alloc, pages.min(MOST_PAGES))?;
@@ -47,7 +49,7 @@ impl Engine for StopEngine {
         ensures op { _turn.new.op ≡ _turn.old.op }
         ensures law { BeginsMarking _turn.old.pass _turn.new.pass }
         ensures reached { SweepsNothing _turn.old.pass _turn.new.pass }
-        ensures begun { IsBegun SaysNothing _turn.old.pass _turn.new.pass }
+        ensures begun { IsBegun DoesNothing _turn.old.pass _turn.new.pass }
         ensures nothing { _turn.new ≡ _turn.old }
     {}
 

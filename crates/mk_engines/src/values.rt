@@ -7,16 +7,10 @@ ghost use Rattle.mk_tracing.specs.Grays.{IsInHand};
 ghost use Rattle.mk_tracing.specs.Stops.{hand_of};
 ghost use Rattle.mk_engines.specs.Beside.{GoesBeside, IsBeside};
 
-use crate::bits::has_bit;
 use crate::steps::{look_at, mark_cell};
-use mk_core::Word;
-use mk_geom::{Cell, lookup};
+use mk_core::{Word, has_bit};
+use mk_geom::{Cell, heap_page, lookup};
 use mk_words::{Turn, Words};
-
-/// The address of the heap's first word.
-const HEAP_START: u64 = 65536;
-
-const PAGE_BYTES: u64 = 512;
 
 /// The cell into which a value points.
 fn cell_pointed(words: &Words, turn: &mut Turn, value: u64) -> Option<Cell>
@@ -27,13 +21,7 @@ fn cell_pointed(words: &Words, turn: &mut Turn, value: u64) -> Option<Cell>
     ensures hand { hand_of turn.new.pass ≡ hand_of turn.old.pass }
     ensures points { result ≡ pointed_cell words.now.config.pages (now_of turn.new.pass).words.pages value }
 {
-    if value < HEAP_START {
-        return None;
-    }
-    let page = (value - HEAP_START) / PAGE_BYTES;
-    if page >= words.pages() {
-        return None;
-    }
+    let page = heap_page(words.pages(), value)?;
     let header = look_at(words, turn, Word::Head(page));
     lookup(words.pages(), header, value)
 }

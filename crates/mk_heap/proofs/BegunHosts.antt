@@ -18,7 +18,7 @@ use Rattle.mk_cycle.specs.EngineLaw.{IsAtPhase}
 use Rattle.mk_cycle.specs.FinishCycle.{FinishesCycle}
 use Rattle.mk_cycle.proofs.Begun.{HaveNoBegin, begun_then, does_begin_none, finish_begins_none, has_on}
 use Rattle.mk_cycle.proofs.Begun.{step_begins_none}
-use Rattle.mk_heap.specs.Ending.{EndsCycle, TakesIdleTurn}
+use Rattle.mk_heap.specs.Ending.{EndsCycle, SaysOver, TakesIdleTurn}
 use Rattle.mk_heap.proofs.MovedHosts.{idle_moves, turn_moves}
 
 taking_begins_none : HaveNoBegin is_take
@@ -59,3 +59,16 @@ module _ (begins : Config → Seat → List Event → List Event → Type 0) whe
       (begun_then begins idle begun q law.pass part
       (begun_then begins begun ended q finishes.pass (finish_begins_none begins begun ended own_begun finishes)
       (step_begins_none begins ended q step.Give (has_on begun ended finishes.pass own_begun) gives refl)))
+
+  -- and an `over`, which begins none
+  pub over_begun : (p q : PassState) → Has p.seats p.seat → SaysOver p q → EachIsBegun begins p q
+  over_begun p q own over =
+      let takes : TakesIdleTurn p over.idle =
+      record { taken = over.taken; takes = over.takes; ends = over.ends } in
+      let same = idle_same p over.idle takes in
+      let same_said = only_seen_by over.idle over.said step.Over over.says in
+      let own_idle = has_on p over.idle same own in
+      begun_then begins p over.idle q same (idle_begun p over.idle own takes)
+      (begun_then begins over.idle over.said q same_said
+      (step_begins_none begins over.idle over.said step.Over own_idle over.says refl)
+      (step_begins_none begins over.said q step.Give (has_on over.idle over.said same_said own_idle) over.gives refl))

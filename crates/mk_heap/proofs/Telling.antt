@@ -1,5 +1,6 @@
 -- What the host asks where it tells a word: a look decides nothing, and the turn may be given back after it.
 use Rattle.std.proofs.Common.{◌≡◌, ◌+◌, false, List, [], ◌∷◌, ◌++◌, refl, sym, ◌∙◌, ap, subst, append-nil, arith}
+use Rattle.std.specs.Prelude.{None}
 use Rattle.std.proofs.lemmas.Bool.{ne_eqb}
 use Rattle.mk_core.specs.declared.config.Config.{Config}
 use Rattle.mk_core.specs.declared.events.Event.{Event}
@@ -14,12 +15,19 @@ use Rattle.mk_core.specs.Words.{phase_of}
 use Rattle.mk_core.specs.History.{World, first_world, left, IsHistory, never_first, calls}
 use Rattle.mk_core.specs.Order.{host_has_turn}
 use Rattle.mk_core.proofs.Histories.{calls_more}
+use Rattle.mk_core.specs.Counts.{TalliesAreExact}
+use Rattle.mk_core.specs.Ranges.{has_phase}
 use Rattle.mk_never.specs.Admitted.{AreAdmitted}
 use Rattle.mk_placement.proofs.TallySteps.{CountsNothing}
 use Rattle.mk_words.specs.States.{PassState, now_of}
 use Rattle.mk_words.specs.Steps.{IsAdmittedTo}
-use Rattle.mk_words.specs.TurnSteps.{Acts}
+use Rattle.mk_words.specs.TurnSteps.{Acts, IsFresh}
 use Rattle.mk_words.proofs.Tallies.{counts_tidy_more}
+use Rattle.mk_cycle.specs.TurnKeeps.{InTurn, but_phase, whole}
+use Rattle.mk_cycle.proofs.CleaningSteps.{calm_keeps}
+use Rattle.mk_cycle.proofs.KeptInParts.{free_then, gates_behind, keeps_less}
+use Rattle.mk_heap.proofs.IdleTurns.{exact_kept, fresh_free, none_held_kept}
+use Rattle.mk_heap.proofs.Overs.{MayGive}
 
 -- No step of the host's decides a call.
 pub look_admitted : (p : PassState) (x : Word) → p.seat ≡ Host → IsHistory p.table.config p.seen
@@ -80,3 +88,16 @@ given_no_turn p q a =
 -- and the phase is as it was.
 pub given_phase : (p q : PassState) → Acts p step.Give q → phase_of (now_of q).words ≡ phase_of (now_of p).words
 given_phase p q a = ap (λ (w : World). phase_of w.now.words) a.world ∙ ap (λ (s : Steady). s.phase) a.turn.steady
+
+-- A turn of the host's that is fresh but for a look may be given back.
+pub looked_may_give : (p q : PassState) (x : Word) → p.seat ≡ Host → InTurn p → IsFresh p None
+    → IsHistory q.table.config q.seen → Acts p (step.Look x) q → TalliesAreExact p.table.config p.seen → MayGive q
+looked_may_give p q x host t f history a exact =
+    let keeps = calm_keeps p (step.Look x) q a t history refl (fresh_free p f) whole refl in
+    record {
+      seat = ap (λ (r : PassState). r.seat) keeps.call.pass ∙ host;
+      phase = ap (λ (s : Steady). has_phase s.phase step.Give) keeps.steady ∙ f.phase;
+      free = free_then p q keeps.call (fresh_free p f);
+      gates = none_held_kept p q keeps.call.pass (gates_behind p (step.Look x) q a refl) f.gates;
+      exact = exact_kept p q (keeps_less whole but_phase p q keeps) exact;
+    }

@@ -28,15 +28,15 @@ use Rattle.mk_words.specs.Markers.{marker_in}
 use Rattle.mk_turns.proofs.Doing.{of_kinds_in_parts}
 use Rattle.mk_marker.specs.declared.cells.MarkedCell.{MarkedCell}
 use Rattle.mk_marker.specs.Markers.{IsBetweenScans, between_scans, attends}
-use Rattle.mk_marker.specs.Doing.{Did, finding, looking, is_look}
+use Rattle.mk_marker.specs.Doing.{Did, finding, looking, is_markers_look}
 use Rattle.mk_marker.specs.Working.{SeesNoWork, SeesACell}
-use Rattle.mk_marker.specs.Steps.{Moves, IsMarkedIn, LooksInVain, SeesCell}
+use Rattle.mk_marker.specs.Steps.{MovesMarker, IsMarkedIn, LooksInVain, SeesCell}
 use Rattle.mk_marker.proofs.Did.{did_then, did_nothing, seat_kept}
 use Rattle.mk_marker.proofs.MarkedCells.{marks_are_of_cells}
 
 -- one more step
 pub did_more : (p : PassState) (xs : List Finding) (q : PassState) (s : Step) (n : ℕ) (r : PassState) → Did p xs q
-    → Moves q s n r
+    → MovesMarker q s n r
     → Did p (xs ++ finding p.seat s n ∷ []) r
 did_more p xs q s n r d m =
     did_then p xs q (finding p.seat s n ∷ []) r d
@@ -95,7 +95,7 @@ looked_on p a b q d e r first end one two all =
     record {
       steps = one.steps ++ two.steps;
       did = did_then p one.steps q two.steps r one.did two.did;
-      looks = of_kinds_in_parts is_look one.steps two.steps one.looks two.looks;
+      looks = of_kinds_in_parts is_markers_look one.steps two.steps one.looks two.looks;
       pages = λ page le lt. elim (all page le lt) [
         | inl there ↦ seen_before p.seat page one.steps two.steps (one.pages page there.0 there.1)
         | inr there ↦ seen_behind p.seat page one.steps two.steps
@@ -123,7 +123,7 @@ sees_then p a b q cell r one two =
             ∙ sym (append_assoc one.steps sees.looks
             (looking p.seat (word.Mark cell.page) sees.marks ∷ looking p.seat
             (word.Black cell.page) sees.blacks ∷ looking p.seat (word.Head cell.page) cell.header ∷ []));
-        are_looks = of_kinds_in_parts is_look one.steps sees.looks one.looks sees.are_looks;
+        are_looks = of_kinds_in_parts is_markers_look one.steps sees.looks one.looks sees.are_looks;
         marked = sees.marked;
         not_black = sees.not_black;
         cell = sees.cell;
@@ -144,8 +144,8 @@ pub record TwoLooks (p : PassState) (page n m : ℕ) (b : PassState) : Type 0 wh
   pub marker : marker_in b ≡ between_scans None
 
 pub two_looks : (p : PassState) (page n : ℕ) (a : PassState) (m : ℕ) (b : PassState) → IsBetweenScans p
-    → Moves p (step.Mlook (word.Mark page)) n a
-    → Moves a (step.Mlook (word.Black page)) m b → TwoLooks p page n m b
+    → MovesMarker p (step.Mlook (word.Mark page)) n a
+    → MovesMarker a (step.Mlook (word.Black page)) m b → TwoLooks p page n m b
 two_looks p page n a m b between one two =
     let at : marker_in a ≡ between_scans None =
     one.marker ∙ ap (λ (x : MarkerState). marker_behind p.table.config n (step.Mlook (word.Mark page)) x) between.1 in
@@ -171,7 +171,7 @@ nothing_to_scan p page n m b two none =
     }
 
 pub no_cell_yet : (p : PassState) (page n m : ℕ) (b : PassState) (h : ℕ) (d : PassState) → TwoLooks p page n m b
-    → Moves b (step.Mlook (word.Head page)) h d → h ≡ 0 → LooksInVain p page (page + 1) d
+    → MovesMarker b (step.Mlook (word.Head page)) h d → h ≡ 0 → LooksInVain p page (page + 1) d
 no_cell_yet p page n m b h d two head free =
     let xs = looking p.seat (word.Mark page) n ∷ looking p.seat (word.Black page) m ∷ looking p.seat
     (word.Head page) 0 ∷ [] in
@@ -213,9 +213,9 @@ marking_for c m Host known on = cc
 
 pub a_cell : (p : PassState) (page n : ℕ) (a : PassState) (m : ℕ) (b : PassState) (h : ℕ) (d : PassState) (k : ℕ)
     → IsBetweenScans p
-    → Moves p (step.Mlook (word.Mark page)) n a → n ≡ named_word (now_of a).words (word.Mark page)
-    → Moves a (step.Mlook (word.Black page)) m b
-    → Moves b (step.Mlook (word.Head page)) h d → h ≡ named_word (now_of d).words (word.Head page)
+    → MovesMarker p (step.Mlook (word.Mark page)) n a → n ≡ named_word (now_of a).words (word.Mark page)
+    → MovesMarker a (step.Mlook (word.Black page)) m b
+    → MovesMarker b (step.Mlook (word.Head page)) h d → h ≡ named_word (now_of d).words (word.Head page)
     → IsHistory d.table.config d.seen → h ≢ 0 → has_bit (without n m) k ≡ true
     → SeesCell p (record { page = page; index = k; header = h }) d
 a_cell p page n a m b h d k between one marks two head shows history some bit =

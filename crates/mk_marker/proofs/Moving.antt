@@ -41,7 +41,7 @@ use Rattle.mk_marker.specs.declared.cells.MarkedCell.{MarkedCell}
 use Rattle.mk_marker.specs.Markers.{attends, between_scans}
 use Rattle.mk_marker.specs.Doing.{Did, finding}
 use Rattle.mk_marker.specs.Scanning.{words_scanned}
-use Rattle.mk_marker.specs.Steps.{IsOf, Moves, Moved, MarksGrow, IsMarkedIn, IsScanning, IsScanOf, ClaimsMarked}
+use Rattle.mk_marker.specs.Steps.{IsOf, MovesMarker, Moved, MarksGrow, IsMarkedIn, IsScanning, IsScanOf, ClaimsMarked}
 use Rattle.mk_marker.specs.Steps.{words_left}
 
 -- one own event
@@ -94,7 +94,7 @@ marks_grow p s q has history makes on page k is =
     (scan.marks page k is))
 
 pub moves : (p : PassState) (s : Step) (n : ℕ) (q : PassState) → Has p.seats p.seat → IsHistory q.table.config q.seen
-    → Marks p s n q → Moves p s n q
+    → Marks p s n q → MovesMarker p s n q
 moves p s n q has history m =
     record { did = did_step p s n q has m.finds; marker = m.marker; marks = marks_grow p s q has history m.finds.makes }
 

@@ -9,19 +9,19 @@ use Rattle.mk_core.specs.Growing.{Finding}
 use Rattle.mk_words.specs.States.{PassState}
 use Rattle.mk_turns.proofs.Doing.{of_kinds_in_parts}
 use Rattle.mk_marker.specs.declared.cells.MarkedCell.{MarkedCell}
-use Rattle.mk_marker.specs.Doing.{Did, finding, is_of_scan, is_load, count_loads}
+use Rattle.mk_marker.specs.Doing.{Did, finding, is_of_scan, is_markers_load, count_loads}
 use Rattle.mk_marker.specs.Scanning.{words_scanned}
-use Rattle.mk_marker.specs.Steps.{Moves, Moved, ClaimsMarked, GoesOn, ScansCell}
+use Rattle.mk_marker.specs.Steps.{MovesMarker, Moved, ClaimsMarked, ScansOn, ScansCell}
 use Rattle.mk_marker.proofs.Did.{did_then, did_nothing, seat_kept}
 
 count_in_parts : (xs ys : List Finding) → count_loads (xs ++ ys) ≡ count_loads xs + count_loads ys
-count_in_parts xs ys = sum_by-append (λ (x : Finding). cond (is_load x.event.step) 1 0) xs ys
+count_in_parts xs ys = sum_by-append (λ (x : Finding). cond (is_markers_load x.event.step) 1 0) xs ys
 
-pub goes_nowhere : (p : PassState) → GoesOn p 0 p
+pub goes_nowhere : (p : PassState) → ScansOn p 0 p
 goes_nowhere p = record { steps = []; did = did_nothing p; of_scan = refl; has_loads = refl }
 
-pub goes_then : (p : PassState) (i : ℕ) (q : PassState) (j : ℕ) (r : PassState) → GoesOn p i q → GoesOn q j r
-    → GoesOn p (i + j) r
+pub goes_then : (p : PassState) (i : ℕ) (q : PassState) (j : ℕ) (r : PassState) → ScansOn p i q → ScansOn q j r
+    → ScansOn p (i + j) r
 goes_then p i q j r a b =
     record {
       steps = a.steps ++ b.steps;
@@ -31,8 +31,8 @@ goes_then p i q j r a b =
           ∙ ap (λ (n : ℕ). i + n) b.has_loads;
     }
 
-pub goes_once : (p : PassState) (s : Step) (n : ℕ) (q : PassState) → is_of_scan s ≡ true → is_load s ≡ false
-    → Moves p s n q → GoesOn p 0 q
+pub goes_once : (p : PassState) (s : Step) (n : ℕ) (q : PassState) → is_of_scan s ≡ true → is_markers_load s ≡ false
+    → MovesMarker p s n q → ScansOn p 0 q
 goes_once p s n q allowed silent m =
     record {
       steps = finding p.seat s n ∷ [];
@@ -41,11 +41,11 @@ goes_once p s n q allowed silent m =
       has_loads = ap (λ (b : Bool). 0 + cond {A = ℕ} b 1 0) silent;
     }
 
-pub loads_once : (p : PassState) (n : ℕ) (q : PassState) → Moves p step.Mload n q → GoesOn p 1 q
+pub loads_once : (p : PassState) (n : ℕ) (q : PassState) → MovesMarker p step.Mload n q → ScansOn p 1 q
 loads_once p n q m = record { steps = finding p.seat step.Mload n ∷ []; did = m.did; of_scan = refl; has_loads = refl }
 
 pub scanned : (p : PassState) (cell : MarkedCell) (a : PassState) (count : ℕ) (b q : PassState)
-    → ClaimsMarked p cell a → GoesOn a count b
+    → ClaimsMarked p cell a → ScansOn a count b
     → count ≡ words_scanned cell.header → Moved b step.Mblack q → ScansCell p cell q
 scanned p cell a count b q claims goes is black =
     let one = goes.did in

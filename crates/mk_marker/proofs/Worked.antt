@@ -10,11 +10,11 @@ use Rattle.mk_marker.specs.declared.cells.MarkedCell.{MarkedCell}
 use Rattle.mk_marker.specs.Doing.{finding, looking}
 use Rattle.mk_marker.specs.Scanning.{Scans}
 use Rattle.mk_marker.specs.Working.{FindsPhase, SeesNoWork, SeesACell, FindsNoWork, ScansACell, IsBlackIn}
-use Rattle.mk_marker.specs.Steps.{Moves, Moved, LooksInVain, SeesCell, ScansCell}
+use Rattle.mk_marker.specs.Steps.{MovesMarker, Moved, LooksInVain, SeesCell, ScansCell}
 use Rattle.mk_marker.proofs.Did.{did_then, seat_kept}
 use Rattle.mk_marker.proofs.Looking.{did_more}
 
-pub finds_phase : (p : PassState) (n : ℕ) (a q : PassState) → Moves p step.Attend n a → Moved a step.Quit q
+pub finds_phase : (p : PassState) (n : ℕ) (a q : PassState) → MovesMarker p step.Attend n a → Moved a step.Quit q
     → n % 8 ≢ 1 → FindsPhase p (n % 8) q
 finds_phase p n a q comes goes other =
     record {
@@ -26,7 +26,7 @@ finds_phase p n a q comes goes other =
       out = ap (λ (x : MarkerState). is_out x.presence) goes.1.marker;
     }
 
-pub finds_no_work : (p : PassState) (n : ℕ) (a q : PassState) (pages : ℕ) → Moves p (step.Mlook word.Phase) n a
+pub finds_no_work : (p : PassState) (n : ℕ) (a q : PassState) (pages : ℕ) → MovesMarker p (step.Mlook word.Phase) n a
     → n % 8 ≢ 2 → pages ≡ p.table.config.pages
     → LooksInVain a 0 pages q → FindsNoWork p q
 finds_no_work p n a q pages looks unwanted is vain =
@@ -43,7 +43,7 @@ finds_no_work p n a q pages looks unwanted is vain =
     }
 
 pub scans_a_cell : (p : PassState) (n : ℕ) (a b q : PassState) (cell : MarkedCell)
-    → Moves p (step.Mlook word.Phase) n a → n % 8 ≢ 2
+    → MovesMarker p (step.Mlook word.Phase) n a → n % 8 ≢ 2
     → SeesCell a cell b → ScansCell b cell q → IsBlackIn q cell.page cell.index → ScansACell p q
 scans_a_cell p n a b q cell looks unwanted sees scans black =
     let first : a.seat ≡ p.seat = seat_kept p (looking p.seat word.Phase n ∷ []) a looks.did in

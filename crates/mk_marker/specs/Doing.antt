@@ -25,13 +25,13 @@ pub record Did (p : PassState) (xs : List Finding) (q : PassState) : Type 0 wher
   pub own_or_others : AreOwnOrOfOthers p.seat p.seats more
   pub done : done_in p more ≡ xs
 
-abbrev pub is_look : Step → Bool
-is_look (step.Mlook x) = true
-is_look _ = false
+abbrev pub is_markers_look : Step → Bool
+is_markers_look (step.Mlook x) = true
+is_markers_look _ = false
 
-abbrev pub is_load : Step → Bool
-is_load step.Mload = true
-is_load _ = false
+abbrev pub is_markers_load : Step → Bool
+is_markers_load step.Mload = true
+is_markers_load _ = false
 
 -- the steps of a scan between its `claim` and its `mblack`
 abbrev pub is_of_scan : Step → Bool
@@ -41,4 +41,4 @@ is_of_scan step.Mmark = true
 is_of_scan _ = false
 
 abbrev pub count_loads : List Finding → ℕ
-count_loads xs = count_by (λ (x : Finding). is_load x.event.step) xs
+count_loads xs = count_by (λ (x : Finding). is_markers_load x.event.step) xs

@@ -16,7 +16,7 @@ use Rattle.mk_words.specs.Markers.{marker_in}
 use Rattle.mk_turns.specs.Doing.{are_of}
 use Rattle.mk_marker.specs.declared.cells.MarkedCell.{MarkedCell}
 use Rattle.mk_marker.specs.Markers.{IsMarkers, IsBetweenScans, between_scans, attends}
-use Rattle.mk_marker.specs.Doing.{Did, finding, is_look, is_of_scan, count_loads}
+use Rattle.mk_marker.specs.Doing.{Did, finding, is_markers_look, is_of_scan, count_loads}
 use Rattle.mk_marker.specs.Scanning.{Scans}
 use Rattle.mk_marker.specs.Working.{SeesNoWork, SeesACell}
 
@@ -30,14 +30,14 @@ abbrev pub MarksGrow : PassState → PassState → Type 0
 MarksGrow p q = attends p ≡ true → OnlyGrow (now_of p).words.marks (now_of q).words.marks
 
 -- The pass made one step, which found this number.
-pub record Moves (p : PassState) (s : Step) (n : ℕ) (q : PassState) : Type 0 where
+pub record MovesMarker (p : PassState) (s : Step) (n : ℕ) (q : PassState) : Type 0 where
   pub did : Did p (finding p.seat s n ∷ []) q
   pub marker : marker_in q ≡ marker_behind p.table.config n s (marker_in p)
   pub marks : MarksGrow p q
 
 -- whatever it found
 abbrev pub Moved : PassState → Step → PassState → Type 0
-Moved p s q = (n : ℕ) × Moves p s n q
+Moved p s q = (n : ℕ) × MovesMarker p s n q
 
 -- The cell is marked after what the pass has seen.
 abbrev pub IsMarkedIn : PassState → ℕ → ℕ → Type 0
@@ -78,11 +78,11 @@ pub record IsHolding (x : MarkerState) (value : ℕ) : Type 0 where
 -- The pass claimed the cell, and found it marked.
 pub record ClaimsMarked (p : PassState) (cell : MarkedCell) (q : PassState) : Type 0 where
   pub found : ℕ
-  pub moves : Moves p (step.Claim cell.page cell.index) found q
+  pub moves : MovesMarker p (step.Claim cell.page cell.index) found q
   pub marked : has_bit found cell.index ≡ true
 
 -- The pass made these steps of a scan, with this many loads, and is still scanning.
-pub record GoesOn (p : PassState) (loads : ℕ) (q : PassState) : Type 0 where
+pub record ScansOn (p : PassState) (loads : ℕ) (q : PassState) : Type 0 where
   pub steps : List Finding
   pub did : Did p steps q
   pub of_scan : are_of is_of_scan steps ≡ true
@@ -98,7 +98,7 @@ pub record ScansCell (p : PassState) (cell : MarkedCell) (q : PassState) : Type 
 pub record LooksInVain (p : PassState) (first end : ℕ) (q : PassState) : Type 0 where
   pub steps : List Finding
   pub did : Did p steps q
-  pub looks : are_of is_look steps ≡ true
+  pub looks : are_of is_markers_look steps ≡ true
   pub pages : (page : ℕ) → first ≤ page → page < end → SeesNoWork p.seat page steps
   pub between : IsBetweenScans q
 

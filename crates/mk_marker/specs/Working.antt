@@ -12,7 +12,7 @@ use Rattle.mk_turns.specs.Doing.{are_of}
 use Rattle.mk_marker.specs.declared.markers.Work.{Work}
 use Rattle.mk_marker.specs.declared.markers.Work.TheVariants.{Worked, Idle, Wanted}
 use Rattle.mk_marker.specs.Markers.{attends, IsOut}
-use Rattle.mk_marker.specs.Doing.{Did, finding, looking, is_look}
+use Rattle.mk_marker.specs.Doing.{Did, finding, looking, is_markers_look}
 use Rattle.mk_marker.specs.Scanning.{Scans}
 
 -- `attend` found the phase marking.
@@ -47,7 +47,7 @@ pub record FindsNoWork (p q : PassState) : Type 0 where
   pub steps : List Finding
   pub did : Did p (looking p.seat word.Phase phase ∷ steps) q
   pub not_wanted : phase % 8 ≢ 2
-  pub looks : are_of is_look steps ≡ true
+  pub looks : are_of is_markers_look steps ≡ true
   pub pages : (page : ℕ) → page < p.table.config.pages → SeesNoWork p.seat page steps
 
 -- These steps look at pages, and at the end see a cell that is marked and not black.
@@ -57,7 +57,7 @@ pub record SeesACell (s : Seat) (page index header : ℕ) (xs : List Finding) : 
   pub blacks : ℕ
   pub is : xs ≡ looks ++ looking s (word.Mark page) marks ∷ looking s (word.Black page) blacks ∷ looking s
       (word.Head page) header ∷ []
-  pub are_looks : are_of is_look looks ≡ true
+  pub are_looks : are_of is_markers_look looks ≡ true
   pub marked : has_bit marks index ≡ true
   pub not_black : has_bit blacks index ≡ false
   pub cell : index < cells_under (header_of header)

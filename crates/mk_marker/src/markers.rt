@@ -5,7 +5,7 @@ ghost use Rattle.mk_marker.specs.Markers.{IsMarkers, IsOut, attends};
 use crate::cells::find_cell;
 use crate::scans::scan_cell;
 use crate::steps::{attend, look, quit};
-use mk_core::{Seat, Word};
+use mk_core::{Phase, Seat, Word, phase_bits};
 use mk_words::{Pass, Words};
 use std::marker::Model;
 
@@ -81,12 +81,14 @@ impl<'h> Marker<'h> {
         ensures not_marking { IfErr result (λ e. FindsPhase self.old e.phase self.new) }
         ensures pass { self.new ≡ record self.old { seen = self.new.seen } }
     {
-        let phase = attend(self.words, &mut self.pass) % 8;
-        if phase == 1 {
+        let found = attend(self.words, &mut self.pass);
+        if Phase::Marking.is_in(found) {
             Ok(())
         } else {
             quit(self.words, &mut self.pass);
-            Err(NotMarking { phase })
+            Err(NotMarking {
+                phase: phase_bits(found),
+            })
         }
     }
 
@@ -98,7 +100,7 @@ impl<'h> Marker<'h> {
         ensures pass { self.new ≡ record self.old { seen = self.new.seen } }
     {
         let words = self.words;
-        if look(words, &mut self.pass, Word::Phase) % 8 == 2 {
+        if Phase::Wanted.is_in(look(words, &mut self.pass, Word::Phase)) {
             return Work::Wanted;
         }
         match find_cell(words, &mut self.pass, self.page) {

@@ -7,14 +7,14 @@ ghost use Rattle.mk_words.specs.Markers.{marker_in};
 ghost use Rattle.mk_marker.specs.Markers.{between_scans, IsBetweenScans};
 ghost use Rattle.mk_marker.specs.Scanning.{words_scanned};
 ghost use Rattle.mk_marker.specs.Working.{IsBlackIn};
-ghost use Rattle.mk_marker.specs.Steps.{IsOf, IsMarkedIn, IsScanning, IsHolding, SameScan, GoesOn, ScansCell};
+ghost use Rattle.mk_marker.specs.Steps.{IsOf, IsMarkedIn, IsScanning, IsHolding, SameScan, ScansOn, ScansCell};
 ghost use Rattle.mk_marker.specs.Steps.{words_left};
 
 use crate::cells::MarkedCell;
-use crate::headers::{page_of, words_scanned};
+use crate::headers::words_scanned;
 use crate::steps::{blacken, claim, load, look, mark};
 use mk_core::Word;
-use mk_geom::lookup;
+use mk_geom::{heap_page, lookup};
 use mk_words::{Pass, Words};
 
 /// Marks the cell into which the value in its hand points, or finds that it points into nothing.
@@ -26,7 +26,7 @@ fn mark_target(words: &Words, pass: &mut Pass, page: u64, value: u64)
     ensures scanning { IsScanning (marker_in pass.new) }
     ensures cell { SameScan (marker_in pass.old) (marker_in pass.new) }
     ensures left { words_left (marker_in pass.new) ≡ words_left (marker_in pass.old) }
-    ensures goes { GoesOn pass.old 0 pass.new }
+    ensures goes { ScansOn pass.old 0 pass.new }
 {
     let header = look(words, pass, Word::Head(page));
     match lookup(words.pages(), header, value) {
@@ -43,10 +43,10 @@ fn scan_word(words: &Words, pass: &mut Pass)
     ensures scanning { IsScanning (marker_in pass.new) }
     ensures cell { SameScan (marker_in pass.old) (marker_in pass.new) }
     ensures left { words_left (marker_in pass.new) + 1 ≡ words_left (marker_in pass.old) }
-    ensures goes { GoesOn pass.old 1 pass.new }
+    ensures goes { ScansOn pass.old 1 pass.new }
 {
     let value = load(words, pass);
-    match page_of(words.pages(), value) {
+    match heap_page(words.pages(), value) {
         Some(page) => mark_target(words, pass, page, value),
         None => {}
     }
@@ -60,7 +60,7 @@ fn scan_words(words: &Words, pass: &mut Pass, count: u64)
     ensures scanning { IsScanning (marker_in pass.new) }
     ensures cell { SameScan (marker_in pass.old) (marker_in pass.new) }
     ensures none_left { words_left (marker_in pass.new) ≡ 0 }
-    ensures goes { GoesOn pass.old count pass.new }
+    ensures goes { ScansOn pass.old count pass.new }
 {
     'words: for _loaded in 0..count {
         scan_word(words, pass);

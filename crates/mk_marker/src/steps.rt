@@ -11,7 +11,8 @@ ghost use Rattle.mk_words.specs.Markers.{marker_in};
 ghost use Rattle.mk_marker.specs.Markers.{IsOut, attends, between_scans};
 ghost use Rattle.mk_marker.specs.Scanning.{words_scanned};
 ghost use Rattle.mk_marker.specs.Working.{IsBlackIn};
-ghost use Rattle.mk_marker.specs.Steps.{IsOf, Moves, Moved, IsMarkedIn, IsScanning, IsScanOf, ClaimsMarked, words_left};
+ghost use Rattle.mk_marker.specs.Steps.{IsOf, MovesMarker, Moved, IsMarkedIn, IsScanning, IsScanOf, ClaimsMarked};
+ghost use Rattle.mk_marker.specs.Steps.{words_left};
 
 use crate::cells::MarkedCell;
 use mk_core::Word;
@@ -22,7 +23,7 @@ use mk_words::{Pass, Words};
 pub(crate) fn attend(words: &Words, pass: &mut Pass) -> u64
     requires marker { IsOf words.now pass.old }
     requires out { IsOut pass.old }
-    ensures { Moves pass.old step.Attend result pass.new }
+    ensures { MovesMarker pass.old step.Attend result pass.new }
 {
     pass.is_in_order();
     let found = pass.attend(words);
@@ -48,7 +49,7 @@ pub(crate) fn look(words: &Words, pass: &mut Pass, x: Word) -> u64
     requires marker { IsOf words.now pass.old }
     requires attends { attends pass.old ≡ true }
     requires word { (is_markers_word x && is_word words.now.config x) ≡ true }
-    ensures moves { Moves pass.old (step.Mlook x) result pass.new }
+    ensures moves { MovesMarker pass.old (step.Mlook x) result pass.new }
     ensures shows { result ≡ named_word (now_of pass.new).words x }
 {
     pass.is_in_order();
@@ -81,7 +82,7 @@ pub(crate) fn load(words: &Words, pass: &mut Pass) -> u64
     requires marker { IsOf words.now pass.old }
     requires scanning { IsScanning (marker_in pass.old) }
     requires more { 0 < words_left (marker_in pass.old) }
-    ensures { Moves pass.old step.Mload result pass.new }
+    ensures { MovesMarker pass.old step.Mload result pass.new }
 {
     pass.is_in_order();
     let found = pass.marker_load(words);

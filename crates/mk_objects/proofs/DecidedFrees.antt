@@ -26,7 +26,7 @@ use Rattle.mk_words.specs.TurnSteps.{turn_stays}
 use Rattle.mk_objects.specs.Deciding.{IsDecidedAt, StaysSo, is_following}
 use Rattle.mk_objects.specs.FreeParts.{Changes, HasGates, RunIsUnmapped, RunIsWiped, SetsGates, SetsTally, Unmaps}
 use Rattle.mk_objects.specs.FreeParts.{Wipes, is_clearing, is_holding, is_settling, with_tally}
-use Rattle.mk_objects.specs.Placing.{OnlyLooks, Reaches, entry_for, is_look}
+use Rattle.mk_objects.specs.Placing.{OnlyLooks, ComesTo, entry_for, is_look}
 use Rattle.mk_objects.specs.Retiring.{HasFreed, IsFreedAt, is_freeing, is_loading}
 use Rattle.mk_objects.specs.Unchanged.{IsAsLeft}
 use Rattle.mk_objects.proofs.FreedOnce.{FreesNot, is_quar}
@@ -135,7 +135,7 @@ following_not = record { stays = following_stays; no_quar = following_no_quar }
 -- What stays over each part.
 
 abbrev pub Stays : (Step → Bool) → PassState → PassState → Type 0
-Stays kinds p q = Reaches kinds p (StaysSo p.seat (world_of p)) [] q
+Stays kinds p q = ComesTo kinds p (StaysSo p.seat (world_of p)) [] q
 
 so_by : (s : Seat) (w v : World) → flight_of v.now s ≡ flight_of w.now s → v.now.seats.holding ≡ w.now.seats.holding
     → steady_of v ≡ steady_of w → StaysSo s w v
@@ -276,7 +276,7 @@ decided_by c s cell w v at =
     }
 
 abbrev pub Decides : (Step → Bool) → PassState → Answer → PassState → Type 0
-Decides kinds p a q = Reaches kinds p (IsDecidedAt p.seat (world_of p)) (entry_for p a) q
+Decides kinds p a q = ComesTo kinds p (IsDecidedAt p.seat (world_of p)) (entry_for p a) q
 
 pub freed_decides : (p q : PassState) (cell : Cell) → HasFreed p cell q → Decides is_freeing p answer.Done q
 freed_decides p q cell a =
@@ -328,7 +328,7 @@ pub decides_behind : (kinds : Step → Bool) → AreAmong kinds is_freeing → (
     → Stays kinds p q → Decides is_freeing q a r
     → Decides is_freeing p a r
 decides_behind kinds among p q r a s d =
-    subst (λ (l : List Decided). Reaches is_freeing p (IsDecidedAt p.seat (world_of p)) l r)
+    subst (λ (l : List Decided). ComesTo is_freeing p (IsDecidedAt p.seat (world_of p)) l r)
     (ap (λ (f : Flight). entry_of (caller_number p.seat) f.op (Some a)) s.world.call)
     (reaches_then kinds is_freeing is_freeing among (same_kinds is_freeing) p q r (StaysSo p.seat (world_of p))
     (λ x. IsDecidedAt x.seat (world_of x)) (IsDecidedAt p.seat (world_of p)) [] (λ x. entry_for x a) s d

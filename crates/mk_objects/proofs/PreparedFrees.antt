@@ -17,7 +17,7 @@ use Rattle.mk_words.specs.States.{PassState, WordsState, call_of, now_of, world_
 use Rattle.mk_objects.specs.Deciding.{FreesCell, StaysSo}
 use Rattle.mk_objects.specs.Dues.{IsOverQuarter}
 use Rattle.mk_objects.specs.FreeParts.{HasGates, IsButGates, SetsGates}
-use Rattle.mk_objects.specs.Placing.{OnlyLooks, Reaches, is_look}
+use Rattle.mk_objects.specs.Placing.{OnlyLooks, ComesTo, is_look}
 use Rattle.mk_objects.specs.Retiring.{is_freeing}
 use Rattle.mk_objects.specs.Unchanged.{IsAsLeft}
 use Rattle.mk_objects.proofs.DecidedFrees.{Stays, decides_behind}
@@ -28,7 +28,7 @@ abbrev pub IsExactly : WordsState → Bool → List PlacedAllocation → Type 0
 IsExactly t due xs = IsTrue due ↔ IsOverQuarter t.config xs
 
 abbrev pub Prepares : (Step → Bool) → PassState → PassState → Type 0
-Prepares kinds p q = Reaches kinds p (IsButGates p.seat (world_of p)) [] q
+Prepares kinds p q = ComesTo kinds p (IsButGates p.seat (world_of p)) [] q
 
 pub gates_prepare : (kinds : Step → Bool) (p q : PassState) (gates : ℕ → Bool) → SetsGates kinds p gates q
     → Prepares kinds p q

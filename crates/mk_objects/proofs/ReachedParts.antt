@@ -7,7 +7,7 @@ use Rattle.mk_turns.specs.Doing.{Does}
 use Rattle.mk_turns.proofs.Doing.{does_then}
 use Rattle.mk_words.specs.States.{PassState, world_of}
 use Rattle.mk_objects.specs.Entries.{own_calls}
-use Rattle.mk_objects.specs.Placing.{Reaches}
+use Rattle.mk_objects.specs.Placing.{ComesTo}
 use Rattle.mk_objects.proofs.Counted.{counts_then}
 use Rattle.mk_objects.proofs.JoinedLooks.{does_wider}
 use Rattle.mk_objects.proofs.Reaching.{seeing}
@@ -21,27 +21,27 @@ same_kinds kinds x h = h
 
 -- what is reached is of this sort, too
 pub reaches_so : (kinds : Step → Bool) (p q : PassState) (A B : World → Type 0) (ds : List Decided)
-    → Reaches kinds p A ds q
-    → (A (left p.table.config q.seen) → B (left p.table.config q.seen)) → Reaches kinds p B ds q
+    → ComesTo kinds p A ds q
+    → (A (left p.table.config q.seen) → B (left p.table.config q.seen)) → ComesTo kinds p B ds q
 reaches_so kinds p q A B ds a so =
     record { same = a.same; does = a.does; calls = a.calls; world = so a.world; counts = a.counts }
 
 -- with other names of its entries
 pub reaches_named : (kinds : Step → Bool) (p q : PassState) (A : World → Type 0) (ds es : List Decided) → ds ≡ es
-    → Reaches kinds p A ds q → Reaches kinds p A es q
-reaches_named kinds p q A ds es same a = subst (λ (l : List Decided). Reaches kinds p A l q) same a
+    → ComesTo kinds p A ds q → ComesTo kinds p A es q
+reaches_named kinds p q A ds es same a = subst (λ (l : List Decided). ComesTo kinds p A l q) same a
 
 module _ (one two kinds : Step → Bool) (ones : AreAmong one kinds) (twos : AreAmong two kinds) where
   pub reaches_then : (p q r : PassState) (A : World → Type 0) (B : PassState → World → Type 0) (C : World → Type 0)
       (ds : List Decided) (entries : PassState → List Decided)
-      → Reaches one p A ds q → Reaches two q (B q) (entries q) r
+      → ComesTo one p A ds q → ComesTo two q (B q) (entries q) r
       → ((v : World) → A (left p.table.config q.seen) → B (seeing p q.seen) v → C v)
-      → Reaches kinds p C (ds ++ entries (seeing p q.seen)) r
+      → ComesTo kinds p C (ds ++ entries (seeing p q.seen)) r
   reaches_then p q r A B C ds entries a b joined =
-      by (subst (λ (x : PassState). Reaches two x (B x) (entries x) r) a.same b)
+      by (subst (λ (x : PassState). ComesTo two x (B x) (entries x) r) a.same b)
     where
-      by : Reaches two (seeing p q.seen) (B (seeing p q.seen)) (entries (seeing p q.seen)) r
-          → Reaches kinds p C (ds ++ entries (seeing p q.seen)) r
+      by : ComesTo two (seeing p q.seen) (B (seeing p q.seen)) (entries (seeing p q.seen)) r
+          → ComesTo kinds p C (ds ++ entries (seeing p q.seen)) r
       by b =
           record {
             same = b.same;
@@ -56,14 +56,14 @@ module _ (one two kinds : Step → Bool) (ones : AreAmong one kinds) (twos : Are
   -- where the later part adds no entry
   pub reaches_after : (p q r : PassState) (A : World → Type 0) (B : PassState → World → Type 0) (C : World → Type 0)
       (ds : List Decided)
-      → Reaches one p A ds q → Reaches two q (B q) [] r
+      → ComesTo one p A ds q → ComesTo two q (B q) [] r
       → ((v : World) → A (left p.table.config q.seen) → B (seeing p q.seen) v → C v)
-      → Reaches kinds p C ds r
+      → ComesTo kinds p C ds r
   reaches_after p q r A B C ds a b joined =
       reaches_named kinds p r C (ds ++ []) ds (append-nil ds) (reaches_then p q r A B C ds (λ x. []) a b joined)
 
 -- what is known of the pass after it
-module _ (kinds : Step → Bool) (p q : PassState) (A : World → Type 0) (ds : List Decided) (a : Reaches kinds p A ds q)
+module _ (kinds : Step → Bool) (p q : PassState) (A : World → Type 0) (ds : List Decided) (a : ComesTo kinds p A ds q)
   where
     pub reached_there : (claim : PassState → Type 0) → claim (seeing p q.seen) → claim q
     reached_there claim there = subst claim (sym a.same) there

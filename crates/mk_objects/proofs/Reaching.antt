@@ -29,7 +29,7 @@ use Rattle.mk_words.proofs.Undecided.{decides_nothing}
 use Rattle.mk_turns.specs.Doing.{Does}
 use Rattle.mk_turns.proofs.Doing.{does_nothing, does_step, does_then}
 use Rattle.mk_objects.specs.Entries.{own_calls}
-use Rattle.mk_objects.specs.Placing.{Reaches}
+use Rattle.mk_objects.specs.Placing.{ComesTo}
 use Rattle.mk_objects.specs.Unchanged.{IsAsLeft}
 use Rattle.mk_objects.proofs.Counted.{counts_more, counts_then}
 use Rattle.mk_objects.proofs.OwnCalls.{own_step_adds}
@@ -86,7 +86,7 @@ made_in p es s r a own history =
     }
 
 pub reaches_nothing : (kinds : Step → Bool) (p : PassState) (A : World → Type 0) → A (world_of p)
-    → Reaches kinds p A [] p
+    → ComesTo kinds p A [] p
 reaches_nothing kinds p A here =
     record {
       same = refl;
@@ -141,11 +141,11 @@ GoesOnInStop p A C =
 
 -- One step further.
 pub reaches_in_stop : (kinds : Step → Bool) (p q r : PassState) (A B : World → Type 0) (ds es : List Decided) (s : Step)
-    → Reaches kinds p A ds q
+    → ComesTo kinds p A ds q
     → Acts q s r → Has q.seats q.seat → IsHistory r.table.config r.seen → kinds s ≡ true → is_end s ≡ false
     → IsCallers p
     → GoesOnInStop p A (StepsTo p s B es)
-    → Reaches kinds p B (ds ++ es) r
+    → ComesTo kinds p B (ds ++ es) r
 reaches_in_stop kinds p q r A B ds es s reached acts own history allowed no_end caller next =
     let c : Config = p.table.config in
     let m : MadeIn p q.seen s r =
@@ -172,11 +172,11 @@ reaches_in_stop kinds p q r A B ds es s reached acts own history allowed no_end 
     }
 
 pub reaches_on : (kinds : Step → Bool) (p q r : PassState) (A B : World → Type 0) (ds es : List Decided) (s : Step)
-    → Reaches kinds p A ds q
+    → ComesTo kinds p A ds q
     → Acts q s r → Has q.seats q.seat → IsHistory r.table.config r.seen → kinds s ≡ true → is_end s ≡ false
     → IsCallers p
     → GoesOn p A (StepsTo p s B es)
-    → Reaches kinds p B (ds ++ es) r
+    → ComesTo kinds p B (ds ++ es) r
 reaches_on kinds p q r A B ds es s reached acts own history allowed no_end caller next =
     reaches_in_stop kinds p q r A B ds es s reached acts own history allowed no_end caller
     (λ w v a kept stop known pages. next w v a kept known pages)
@@ -196,22 +196,22 @@ idle_steps p s B v idle there =
 
 pub reaches_still_in_stop : (kinds : Step → Bool) (p q r : PassState) (A B : World
     → Type 0) (ds : List Decided) (s : Step)
-    → Reaches kinds p A ds q
+    → ComesTo kinds p A ds q
     → Acts q s r → Has q.seats q.seat → IsHistory r.table.config r.seen → kinds s ≡ true → is_end s ≡ false
     → IsCallers p
     → may_decide s ≡ false
-    → GoesOnInStop p A (λ v. B (world_behind p.table.config v (event_of p s))) → Reaches kinds p B ds r
+    → GoesOnInStop p A (λ v. B (world_behind p.table.config v (event_of p s))) → ComesTo kinds p B ds r
 reaches_still_in_stop kinds p q r A B ds s reached acts own history allowed no_end caller idle next =
-    subst (λ (l : List Decided). Reaches kinds p B l r) (append-nil ds)
+    subst (λ (l : List Decided). ComesTo kinds p B l r) (append-nil ds)
     (reaches_in_stop kinds p q r A B ds [] s reached acts own history allowed no_end caller
     (λ w v a kept stop known pages. idle_steps p s B v idle (next w v a kept stop known pages)))
 
 pub reaches_still : (kinds : Step → Bool) (p q r : PassState) (A B : World → Type 0) (ds : List Decided) (s : Step)
-    → Reaches kinds p A ds q
+    → ComesTo kinds p A ds q
     → Acts q s r → Has q.seats q.seat → IsHistory r.table.config r.seen → kinds s ≡ true → is_end s ≡ false
     → IsCallers p
     → may_decide s ≡ false
-    → GoesOn p A (λ v. B (world_behind p.table.config v (event_of p s))) → Reaches kinds p B ds r
+    → GoesOn p A (λ v. B (world_behind p.table.config v (event_of p s))) → ComesTo kinds p B ds r
 reaches_still kinds p q r A B ds s reached acts own history allowed no_end caller idle next =
     reaches_still_in_stop kinds p q r A B ds s reached acts own history allowed no_end caller idle
     (λ w v a kept stop known pages. next w v a kept known pages)

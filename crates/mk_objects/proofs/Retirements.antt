@@ -33,7 +33,7 @@ use Rattle.mk_frames.proofs.Tests.{all_below_from}
 use Rattle.mk_invariant.proofs.Histories.{histories_keep_the_invariant}
 use Rattle.mk_words.specs.States.{PassState, WordsState, call_of, now_of, world_of}
 use Rattle.mk_objects.specs.Deciding.{FreesCell, IsDecidedAt, MayFree}
-use Rattle.mk_objects.specs.Placing.{IsOutOfStop, OnlyLooks, Reaches, entry_for, is_look}
+use Rattle.mk_objects.specs.Placing.{IsOutOfStop, OnlyLooks, ComesTo, entry_for, is_look}
 use Rattle.mk_objects.specs.Retired.{DecidesFree, FindsFreed, IsFreed, Retires, freed_and_fresh, with_freed_object}
 use Rattle.mk_objects.specs.Retiring.{CallIsAt, HasLoaded, HasSeen, IsFreeAt, IsUnloaded, entry_loaded, entry_seen}
 use Rattle.mk_objects.specs.Retiring.{is_freeing, is_loading, loaded_free, seen_free, value_of}
@@ -53,7 +53,7 @@ use Rattle.mk_objects.proofs.SmallFrees.{exact_from, none_held}
 -- Up to its `quar` a Free only loads.
 
 abbrev pub Comes : PassState → Flight → PassState → Type 0
-Comes p f q = Reaches is_loading p (CallIsAt p.seat f (world_of p)) [] q
+Comes p f q = ComesTo is_loading p (CallIsAt p.seat f (world_of p)) [] q
 
 looks_at : (s : Seat) (f : Flight) (w u v : World) → CallIsAt s f w u → IsAsLeft s u v → CallIsAt s f w v
 looks_at s f w u v a b =
@@ -107,7 +107,7 @@ comes_seeing p q r f cell a b live =
     (λ x. CallIsAt x.seat f (world_of x)) (CallIsAt p.seat f (world_of p)) [] a undecided
     (λ v a b. is_at_then p.seat f f (world_of p) _ v a b)
   where
-    undecided : Reaches is_loading q (CallIsAt q.seat f (world_of q)) [] r
+    undecided : ComesTo is_loading q (CallIsAt q.seat f (world_of q)) [] r
     undecided =
         reaches_named is_loading q r (CallIsAt q.seat f (world_of q)) (entry_seen q (is_freed (now_of q).words cell)) []
         (ap (λ (b : Bool). if b then entry_for q answer.Double else []) live)
@@ -190,7 +190,7 @@ decides_free kinds p q a d gone gates exact =
 
 -- Where the turn had done nothing, and the call only came to be decided
 module _ (p q : PassState) (f : Flight) (a : Answer)
-    (at : Reaches is_loading p (CallIsAt p.seat f (world_of p)) (entry_for p a) q)
+    (at : ComesTo is_loading p (CallIsAt p.seat f (world_of p)) (entry_for p a) q)
     (give : f.stage ≡ stage.Give) (same : f.op ≡ (call_of p).op) (nothing : (now_of p).seats.holding ≡ nothing_done)
     (gates : none_is_held p.table.config.callers (now_of p).words ≡ true)
     (exact : TalliesAreExact p.table.config p.seen) where
@@ -245,7 +245,7 @@ pub retires_null : (p q : PassState) (r u : ℕ) → IsUnloaded p r → HasLoade
     → TalliesAreExact p.table.config p.seen
     → IsHistory q.table.config q.seen → Holds p.table.config (now_of p) p.seat → Retires p r false q
 retires_null p q r u unloaded loaded none null nothing gates exact h holds =
-    let named : Reaches is_loading p (CallIsAt p.seat (loaded_free r u) (world_of p)) (entry_for p answer.Done) q =
+    let named : ComesTo is_loading p (CallIsAt p.seat (loaded_free r u) (world_of p)) (entry_for p answer.Done) q =
     reaches_named is_loading p q (CallIsAt p.seat (loaded_free r u) (world_of p)) (entry_loaded p u)
     (entry_for p answer.Done)
     (ap (λ (b : Bool). if b then entry_for p answer.Done else []) none) loaded in
@@ -325,7 +325,7 @@ pub finds_freed : (p q s : PassState) (r u : ℕ) (cell : Cell) → IsUnloaded p
     → FindsFreed p r s
 finds_freed p q s r u cell unloaded come seen set nothing gates exact freed =
     let f : Flight = record (loaded_free r u) { stage = stage.Give } in
-    let named : Reaches is_loading q (CallIsAt q.seat f (world_of q)) (entry_for q answer.Double) s =
+    let named : ComesTo is_loading q (CallIsAt q.seat f (world_of q)) (entry_for q answer.Double) s =
     reaches_named is_loading q s (CallIsAt q.seat f (world_of q)) (entry_seen q (is_freed (now_of q).words cell))
     (entry_for q answer.Double)
     (ap (λ (b : Bool). if b then entry_for q answer.Double else []) set)
@@ -341,8 +341,8 @@ finds_freed p q s r u cell unloaded come seen set nothing gates exact freed =
       gates = at.gates;
     })) in
     let same : (loaded_free r u).op ≡ (call_of p).op = sym (ap (λ (g : Flight). g.op) unloaded.call) in
-    let joined : Reaches is_loading p (CallIsAt p.seat f (world_of p)) (entry_for p answer.Double) s =
-    subst (λ (l : List Decided). Reaches is_loading p (CallIsAt p.seat f (world_of p)) l s)
+    let joined : ComesTo is_loading p (CallIsAt p.seat f (world_of p)) (entry_for p answer.Double) s =
+    subst (λ (l : List Decided). ComesTo is_loading p (CallIsAt p.seat f (world_of p)) l s)
     (ap (λ (g : Flight). entry_of (caller_number p.seat) g.op (Some answer.Double)) come.world.call
     ∙ ap (λ (o : Op). entry_of (caller_number p.seat) o (Some answer.Double)) same)
     (reaches_then is_loading is_loading is_loading (same_kinds is_loading) (same_kinds is_loading) p q s
@@ -453,7 +453,7 @@ retires p q t r u cell due unloaded come may keeps low f before h holds =
     let same : g.op ≡ (call_of p).op = sym (ap (λ (x : Flight). x.op) unloaded.call) in
     let table = come_table p q g come in
     let d : Decides is_freeing p answer.Done t =
-    subst (λ (l : List Decided). Reaches is_freeing p (IsDecidedAt p.seat (world_of p)) l t)
+    subst (λ (l : List Decided). ComesTo is_freeing p (IsDecidedAt p.seat (world_of p)) l t)
     (ap (λ (x : Flight). entry_of (caller_number p.seat) x.op (Some answer.Done)) come.world.call
     ∙ ap (λ (o : Op). entry_of (caller_number p.seat) o (Some answer.Done)) same)
     (reaches_then is_loading is_freeing is_freeing load_frees (same_kinds is_freeing) p q t

@@ -41,7 +41,7 @@ use Rattle.mk_words.specs.Steps.{IsEnabledTo}
 use Rattle.mk_words.specs.TurnSteps.{Acts, IsTurn}
 use Rattle.mk_objects.specs.Looking.{is_acting}
 use Rattle.mk_objects.specs.Placing.{GoesTo, HasCarved, IsOutOfStop, MayTake, is_placing, object_for}
-use Rattle.mk_objects.specs.Serving.{Carving, IsReady, Serving}
+use Rattle.mk_objects.specs.Serving.{Carving, IsCellReady, Serving}
 use Rattle.mk_objects.specs.Unchanged.{IsAsLeft}
 use Rattle.mk_objects.proofs.FoundPlaces.{found_clear}
 use Rattle.mk_objects.proofs.Granting.{carving_marked, carving_unmarked, serving_marks}
@@ -260,7 +260,7 @@ module _ (p : PassState) (place : Place) (goes : GoesTo p place) (k : KnowsPlace
 pub block_ready : (p : PassState) (place : Place) → KnowsPlace p place → header_at (now_of p).words place.page ≢ 0
     → MayTake p place p
 block_ready p place k some =
-    reaches_nothing is_placing p (IsReady p.table.config p.seat (object_for p) place (world_of p)) (record {
+    reaches_nothing is_placing p (IsCellReady p.table.config p.seat (object_for p) place (world_of p)) (record {
       serving = k.serving;
       stand = λ d lt.
           let block = block_of p place k some in

@@ -28,7 +28,7 @@ use Rattle.mk_core.specs.Words.{Words, header_at, used_at}
 use Rattle.mk_core.proofs.ObjectHeaders.{made_shows, part_not_free}
 use Rattle.mk_frames.proofs.Tests.{all_below_from, or_on, without_on}
 use Rattle.mk_objects.specs.Placing.{IsOutOfStop}
-use Rattle.mk_objects.specs.Serving.{Carving, IsReady, Serving}
+use Rattle.mk_objects.specs.Serving.{Carving, IsCellReady, Serving}
 use Rattle.mk_objects.specs.Unchanged.{IsAsLeft}
 use Rattle.mk_objects.proofs.MayAct.{off_four}
 use Rattle.mk_objects.proofs.Unchanged.{HasCall, OfCaller, call_behind}
@@ -197,9 +197,9 @@ carving_carves c s o place w v n sized at within =
     at.stand)
     at.marked
 
-pub ready_left : (c : Config) (s : Seat) (o : Object) (place : Place) (w u v : World) → IsReady c s o place w u
+pub ready_left : (c : Config) (s : Seat) (o : Object) (place : Place) (w u v : World) → IsCellReady c s o place w u
     → IsAsLeft s u v
-    → IsReady c s o place w v
+    → IsCellReady c s o place w v
 ready_left c s o place w u v at left =
     let pages : v.now.words.pages ≡ u.now.words.pages = ap (λ (x : Steady). x.pages) left.steady in
     record {
@@ -209,11 +209,11 @@ ready_left c s o place w u v at left =
     }
 
 pub ready_carved : (c : Config) (s : Seat) (o : Object) (place : Place) (w v : World)
-    → Carving c s o place w v (pages_made o) → IsReady c s o place w v
+    → Carving c s o place w v (pages_made o) → IsCellReady c s o place w v
 ready_carved c s o place w v at = record { serving = at.serving; stand = at.stand }
 
 pub ready_takes : (c : Config) (s : Seat) (o : Object) (place : Place) (w v : World) (used : ℕ)
-    → IsReady c s o place w v
+    → IsCellReady c s o place w v
     → used_at w.now.words place.page ≡ used → has_bit used place.index ≡ false
     → takes_cell v.now.words (object_made c (flight_of v.now s).op) (place_now c v.now (flight_of v.now s)) place.page
     (used + 2 ^ place.index) ≡ true

@@ -42,9 +42,9 @@ use Rattle.mk_words.specs.States.{PassState, call_of, now_of, world_of}
 use Rattle.mk_words.specs.Steps.{IsAdmittedTo, IsEnabledTo}
 use Rattle.mk_words.specs.TurnSteps.{Acts}
 use Rattle.mk_objects.specs.Looking.{is_acting}
-use Rattle.mk_objects.specs.Placing.{GoesTo, HeldIsExact, IsGrantedAt, IsOutOfStop, IsUnplaced, MayTake, Reaches}
+use Rattle.mk_objects.specs.Placing.{GoesTo, HeldIsExact, IsGrantedAt, IsOutOfStop, IsUnplaced, MayTake, ComesTo}
 use Rattle.mk_objects.specs.Placing.{entry_for, is_placing, object_at_place, object_for}
-use Rattle.mk_objects.specs.Serving.{IsReady}
+use Rattle.mk_objects.specs.Serving.{IsCellReady}
 use Rattle.mk_objects.proofs.AdmittedNews.{grant_admitted, register_small}
 use Rattle.mk_objects.proofs.Granting.{granted_behind, granted_left, tallied_behind}
 use Rattle.mk_objects.proofs.HeldMore.{held_is_little, held_one_more}
@@ -118,7 +118,7 @@ module _ (p : PassState) (place : Place) (goes : GoesTo p place) (k : KnowsPlace
 
   -- `used`
   abbrev pub HasTaken : PassState → Type 0
-  HasTaken q = Reaches is_placing p (IsTakenAt p.table.config p.seat (object_for p) place (world_of p)) [] q
+  HasTaken q = ComesTo is_placing p (IsTakenAt p.table.config p.seat (object_for p) place (world_of p)) [] q
 
   pub used_may : (q : PassState) (used : ℕ) → MayTake p place q → used_at (now_of p).words place.page ≡ used
       → IsEnabledTo q (step.Used place.page (used + 2 ^ place.index))
@@ -136,7 +136,7 @@ module _ (p : PassState) (place : Place) (goes : GoesTo p place) (k : KnowsPlace
       → Has q.seats q.seat
       → IsHistory r.table.config r.seen → HasTaken r
   used_on q r value reached a own history =
-      reaches_still is_placing p q r (IsReady c p.seat (object_for p) place (world_of p))
+      reaches_still is_placing p q r (IsCellReady c p.seat (object_for p) place (world_of p))
       (IsTakenAt c p.seat (object_for p) place (world_of p)) []
       (step.Used place.page value) reached a own history refl refl k.caller refl
       (λ w v here kept known pages.
@@ -194,7 +194,7 @@ module _ (p : PassState) (place : Place) (goes : GoesTo p place) (k : KnowsPlace
           there new op
 
   abbrev pub HasGranted : PassState → Type 0
-  HasGranted q = Reaches is_placing p (IsGrantedAt p.table.config p.seat place (world_of p)) (entry_for p answer.Done) q
+  HasGranted q = ComesTo is_placing p (IsGrantedAt p.table.config p.seat place (world_of p)) (entry_for p answer.Done) q
 
   grant_decides : (v : World) (s : Seat) (j : ℕ) → s ≡ Caller j
       → answer_decided c v.now (record { seat = s; step = step.Grant }) ≡ Some answer.Done
@@ -241,7 +241,7 @@ module _ (p : PassState) (place : Place) (goes : GoesTo p place) (k : KnowsPlace
       (may_tally c w.now p.seat (granted_acting w reached.world) tally.Held n)
 
   abbrev pub HasCounted : ℕ → PassState → Type 0
-  HasCounted n q = Reaches is_placing p (λ w. IsGrantedAt p.table.config p.seat place (world_of p) w ×
+  HasCounted n q = ComesTo is_placing p (λ w. IsGrantedAt p.table.config p.seat place (world_of p) w ×
       (w.now.words.held ≡ n)) (entry_for p answer.Done) q
 
   pub tally_on : (q r : PassState) (n : ℕ) → HasGranted q → Acts q (step.Tally tally.Held n) r → Has q.seats q.seat

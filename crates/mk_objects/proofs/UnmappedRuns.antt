@@ -49,7 +49,7 @@ use Rattle.mk_words.specs.Steps.{Finds, IsEnabledTo}
 use Rattle.mk_words.specs.TurnSteps.{Acts, IsTurn}
 use Rattle.mk_objects.specs.FreeParts.{Changes, RunIsUnmapped, RunIsWiped, Unmaps, Wipes, is_clearing}
 use Rattle.mk_objects.specs.Looking.{is_acting}
-use Rattle.mk_objects.specs.Placing.{IsOutOfStop, Reaches}
+use Rattle.mk_objects.specs.Placing.{IsOutOfStop, ComesTo}
 use Rattle.mk_objects.specs.Unchanged.{IsAsLeft}
 use Rattle.mk_objects.specs.Unmapping.{IsStillMapped, UnmappedTo, WipedTo}
 use Rattle.mk_objects.proofs.Looks.{acting_caller, acting_now, found_there}
@@ -136,7 +136,7 @@ unmapped_more c s run w v n at (OfCaller k lt) give low near room =
 module _ (p : PassState) (o : Option Op) (run : RunPages) (turn : IsTurn p o) (give : (call_of p).stage ≡ stage.Give)
     (low : IsOutOfStop (now_of p)) where
   abbrev pub HasUnmapped : PassState → ℕ → Type 0
-  HasUnmapped q n = Reaches is_clearing p (λ v. UnmappedTo p.seat run (world_of p) v n) [] q
+  HasUnmapped q n = ComesTo is_clearing p (λ v. UnmappedTo p.seat run (world_of p) v n) [] q
 
   pub unmapped_none : ((d : ℕ) → d < run.count → IsStillMapped (now_of p).words run d) → HasUnmapped p 0
   unmapped_none mapped =
@@ -345,7 +345,7 @@ wiped_more c s run w u v n at kept (OfCaller k lt) stop room =
 module _ (p : PassState) (o : Option Op) (run : RunPages) (turn : IsTurn p o) (give : (call_of p).stage ≡ stage.Give)
     (stopped : others_are_held p.table.config.callers (now_of p).words p.seat ≡ true) where
   abbrev pub HasWiped : PassState → ℕ → Type 0
-  HasWiped q n = Reaches is_clearing p (λ v. WipedTo p.seat run (world_of p) v n) [] q
+  HasWiped q n = ComesTo is_clearing p (λ v. WipedTo p.seat run (world_of p) v n) [] q
 
   pub wiped_none : HasWiped p 0
   wiped_none =
@@ -390,7 +390,7 @@ module _ (p : PassState) (o : Option Op) (run : RunPages) (turn : IsTurn p o) (g
 
   -- with the turn held, and all other gates
   with_turn : (q : PassState) (n : ℕ) → HasWiped q n → IsTurn q o
-      → Reaches is_clearing p (λ v. WipedTo p.seat run (world_of p) v n × HoldsAll p.table.config v.now p.seat) [] q
+      → ComesTo is_clearing p (λ v. WipedTo p.seat run (world_of p) v n × HoldsAll p.table.config v.now p.seat) [] q
   with_turn q n reached holds =
       let holds_here : Holds p.table.config (left p.table.config q.seen).now p.seat =
       subst (λ (x : PassState). Holds x.table.config (now_of x) x.seat) reached.same holds.holds in

@@ -15,7 +15,7 @@ use Rattle.mk_core.specs.NewPlaces.{is_run_gone, target}
 use Rattle.mk_core.specs.Words.{phase_of}
 use Rattle.mk_words.specs.States.{PassState, call_of, now_of, world_of}
 use Rattle.mk_objects.specs.Dues.{FreesOnce, IsOverQuarter}
-use Rattle.mk_objects.specs.Placing.{IsOutOfStop, Reaches, entry_for}
+use Rattle.mk_objects.specs.Placing.{IsOutOfStop, ComesTo, entry_for}
 use Rattle.mk_objects.specs.Retiring.{IsFreeAt, is_freeing, loaded_free}
 
 -- the kinds of step that come after the `quar`
@@ -53,7 +53,7 @@ pub record StaysSo (s : Seat) (w v : World) : Type 0 where
 
 -- The object of the cell was freed, by one event of the turn, and it is known whether that is due.
 pub record FreesCell (p : PassState) (cell : Cell) (due : Bool) (q : PassState) : Type 0 where
-  pub reaches : Reaches is_freeing p (IsDecidedAt p.seat (world_of p)) (entry_for p answer.Done) q
+  pub reaches : ComesTo is_freeing p (IsDecidedAt p.seat (world_of p)) (entry_for p answer.Done) q
   pub allocations : (world_of q).allocations ≡ map (freed_where_it_stands (now_of p).words (Some cell))
       (world_of p).allocations
   pub once : FreesOnce p q
@@ -76,7 +76,7 @@ pub record MayFree (p : PassState) (r u : ℕ) (cell : Cell) : Type 0 where
 
 -- The run that the call has freed is unmapped and wiped, all gates are open, and the tallies are as they were.
 pub record ClearsRun (p q : PassState) : Type 0 where
-  pub stays : Reaches is_following p (StaysSo p.seat (world_of p)) [] q
+  pub stays : ComesTo is_following p (StaysSo p.seat (world_of p)) [] q
   pub held : (now_of q).words.held ≡ (now_of p).words.held
   pub fresh : (now_of q).words.fresh ≡ (now_of p).words.fresh
   pub gone : is_run_gone (now_of q).words (now_of q).seats.holding.freed ≡ true

@@ -13,7 +13,7 @@ use Rattle.mk_core.specs.History.{World}
 use Rattle.mk_core.specs.Moments.{flight_of, is_held, is_number_of}
 use Rattle.mk_core.specs.NewPlaces.{is_run_unmapped}
 use Rattle.mk_words.specs.States.{PassState, now_of, world_of}
-use Rattle.mk_objects.specs.Placing.{Reaches}
+use Rattle.mk_objects.specs.Placing.{ComesTo}
 
 -- kinds of step: by which gates are held, a run's pages and words are looked at and cleared, and what comes after that
 
@@ -75,10 +75,10 @@ abbrev pub HasRunAt : PassState → ℕ → ℕ → Type 0
 HasRunAt p page count = run_headed (header_in (now_of p).words page) page ≡ Some (run_on page count)
 
 abbrev pub SetsGate : (Step → Bool) → PassState → ℕ → Bool → PassState → Type 0
-SetsGate kinds p gate held q = Reaches kinds p (GateIsSet p.seat gate held (world_of p)) [] q
+SetsGate kinds p gate held q = ComesTo kinds p (GateIsSet p.seat gate held (world_of p)) [] q
 
 abbrev pub SetsGates : (Step → Bool) → PassState → (ℕ → Bool) → PassState → Type 0
-SetsGates kinds p gates q = Reaches kinds p (HasGates p.seat p.table.config.callers gates (world_of p)) [] q
+SetsGates kinds p gates q = ComesTo kinds p (HasGates p.seat p.table.config.callers gates (world_of p)) [] q
 
 -- The holder's call is as it was, and what it has done in its turn, and its gates; what none but it changes is
 -- changed so.
@@ -96,7 +96,7 @@ with_tally tally.Released n x = record x { released = n }
 with_tally tally.Full n x = record x { full = n }
 
 abbrev pub SetsTally : PassState → Tally → ℕ → PassState → Type 0
-SetsTally p t n q = Reaches is_settling p (Changes p.seat (with_tally t n) (world_of p)) [] q
+SetsTally p t n q = ComesTo is_settling p (Changes p.seat (with_tally t n) (world_of p)) [] q
 
 abbrev pub with_pages : List Page → Steady → Steady
 with_pages pages x = record x { pages = pages }
@@ -112,7 +112,7 @@ pub record RunIsWiped (s : Seat) (run : RunPages) (w v : World) : Type 0 where
   pub wiped : words_are_zero v.now.words (64 * run.page) (64 * run.count) ≡ true
 
 abbrev pub Unmaps : PassState → RunPages → PassState → Type 0
-Unmaps p run q = Reaches is_clearing p (RunIsUnmapped p.seat run (world_of p)) [] q
+Unmaps p run q = ComesTo is_clearing p (RunIsUnmapped p.seat run (world_of p)) [] q
 
 abbrev pub Wipes : PassState → RunPages → PassState → Type 0
-Wipes p run q = Reaches is_clearing p (RunIsWiped p.seat run (world_of p)) [] q
+Wipes p run q = ComesTo is_clearing p (RunIsWiped p.seat run (world_of p)) [] q

@@ -28,7 +28,7 @@ use Rattle.mk_words.specs.States.{PassState, call_of, now_of, world_of}
 use Rattle.mk_turns.specs.Doing.{Does}
 use Rattle.mk_core.specs.TurnConditions.{place_now}
 use Rattle.mk_objects.specs.Entries.{own_calls}
-use Rattle.mk_objects.specs.Serving.{Carving, IsReady}
+use Rattle.mk_objects.specs.Serving.{Carving, IsCellReady}
 use Rattle.mk_objects.specs.Unchanged.{IsAsLeft}
 
 -- No cycle is on, or one whose cells are being marked.
@@ -70,7 +70,7 @@ is_placing _ = false
 
 -- The pass's seat did only steps of these kinds, which added these entries to its calls, and came to a world of this
 -- sort. No cycle has ended, and no call was answered Full.
-pub record Reaches (kinds : Step → Bool) (p : PassState) (sort : World
+pub record ComesTo (kinds : Step → Bool) (p : PassState) (sort : World
     → Type 0) (entries : List Decided) (q : PassState) : Type 0 where
   pub same : q ≡ record p { seen = q.seen }
   pub does : Does kinds p q
@@ -80,7 +80,7 @@ pub record Reaches (kinds : Step → Bool) (p : PassState) (sort : World
 
 -- It only looked, and all that is the turn's holder's is as it was.
 abbrev pub OnlyLooks : PassState → PassState → Type 0
-OnlyLooks p q = Reaches is_look p (IsAsLeft p.seat (world_of p)) [] q
+OnlyLooks p q = ComesTo is_look p (IsAsLeft p.seat (world_of p)) [] q
 
 -- the object that a grant at a place adds to the allocations
 abbrev pub object_at_place : Config → Flight → Place → PlacedAllocation
@@ -112,7 +112,7 @@ abbrev pub entry_for : PassState → Answer → List Decided
 entry_for p a = entry_of (caller_number p.seat) (call_of p).op (Some a)
 
 abbrev pub IsGranted : PassState → Place → PassState → Type 0
-IsGranted p place q = Reaches is_placing p (IsGrantedAt p.table.config p.seat place (world_of p))
+IsGranted p place q = ComesTo is_placing p (IsGrantedAt p.table.config p.seat place (world_of p))
     (entry_for p answer.Done) q
 
 -- The object of the New was granted at its place, and the tally of held words is that of the allocations.
@@ -135,8 +135,8 @@ pub record GoesTo (p : PassState) (place : Place) : Type 0 where
 -- This many pages of the place have their headers; its cell may be taken.
 
 abbrev pub HasCarved : PassState → Place → ℕ → PassState → Type 0
-HasCarved p place n q = Reaches is_placing p (λ w. Carving p.table.config p.seat (object_for p) place (world_of p) w n)
+HasCarved p place n q = ComesTo is_placing p (λ w. Carving p.table.config p.seat (object_for p) place (world_of p) w n)
     [] q
 
 abbrev pub MayTake : PassState → Place → PassState → Type 0
-MayTake p place q = Reaches is_placing p (IsReady p.table.config p.seat (object_for p) place (world_of p)) [] q
+MayTake p place q = ComesTo is_placing p (IsCellReady p.table.config p.seat (object_for p) place (world_of p)) [] q

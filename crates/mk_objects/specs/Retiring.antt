@@ -27,7 +27,7 @@ use Rattle.mk_core.specs.History.{World, never_behind}
 use Rattle.mk_core.specs.Moments.{flight_of, is_held}
 use Rattle.mk_core.specs.Words.{register_word}
 use Rattle.mk_words.specs.States.{PassState, call_of, now_of, world_of}
-use Rattle.mk_objects.specs.Placing.{Reaches, entry_for}
+use Rattle.mk_objects.specs.Placing.{ComesTo, entry_for}
 
 -- the value of a register of its caller in the heap that never reuses storage
 abbrev pub value_of : PassState → ℕ → Value
@@ -78,7 +78,7 @@ is_freeing (step.Tally n v) = true
 is_freeing _ = false
 
 abbrev pub HasLoaded : PassState → ℕ → ℕ → PassState → Type 0
-HasLoaded p r u q = Reaches is_loading p (CallIsAt p.seat (loaded_free r u) (world_of p)) (entry_loaded p u) q
+HasLoaded p r u q = ComesTo is_loading p (CallIsAt p.seat (loaded_free r u) (world_of p)) (entry_loaded p u) q
 
 -- A Free whose target's quarantine word was looked at: the freed bit decides it.
 
@@ -93,7 +93,7 @@ entry_seen p double = if double then entry_for p answer.Double else []
 
 abbrev pub HasSeen : PassState → Cell → PassState → Type 0
 HasSeen p cell q =
-    Reaches is_loading p (CallIsAt p.seat (seen_free (call_of p) (is_freed (now_of p).words cell)) (world_of p))
+    ComesTo is_loading p (CallIsAt p.seat (seen_free (call_of p) (is_freed (now_of p).words cell)) (world_of p))
     (entry_seen p (is_freed (now_of p).words cell)) q
 
 -- The target was quarantined: the call is decided, the allocation of the cell is freed and fresh, a run is what the
@@ -117,4 +117,4 @@ pub record IsFreedAt (c : Config) (s : Seat) (cell : Cell) (w v : World) : Type 
   pub gates : (j : ℕ) → is_held v.now.words j ≡ is_held w.now.words j
 
 abbrev pub HasFreed : PassState → Cell → PassState → Type 0
-HasFreed p cell q = Reaches is_freeing p (IsFreedAt p.table.config p.seat cell (world_of p)) (entry_for p answer.Done) q
+HasFreed p cell q = ComesTo is_freeing p (IsFreedAt p.table.config p.seat cell (world_of p)) (entry_for p answer.Done) q

@@ -30,6 +30,6 @@ pub record Carving (c : Config) (s : Seat) (o : Object) (place : Place) (w v : W
   pub marked : is_marked_first v.now.words o place ≡ true
 
 -- Once all have it, or where its page was a block already, its cell may be taken,
-pub record IsReady (c : Config) (s : Seat) (o : Object) (place : Place) (w v : World) : Type 0 where
+pub record IsCellReady (c : Config) (s : Seat) (o : Object) (place : Place) (w v : World) : Type 0 where
   pub serving : Serving c s o place w v
   pub stand : (d : ℕ) → d < pages_made o → header_at v.now.words (place.page + d) ≡ header_made o d

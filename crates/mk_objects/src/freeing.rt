@@ -17,10 +17,10 @@ ghost use Rattle.mk_objects.specs.Retiring.{IsUnloaded};
 use crate::gates::hold_gates;
 use crate::looking::look_at;
 use crate::retiring::{find_cell, is_freed, load_freed, look_at_quarantine, quarantine};
-use crate::unmapping::{PAGE_WORDS, clear_run};
+use crate::unmapping::clear_run;
 use mk_books::due;
-use mk_core::{RunPages, Tally, Word};
-use mk_geom::{Cell, Header, class_words, decode};
+use mk_core::{RunPages, Tally, Word, words_under};
+use mk_geom::{Cell, Header, PAGE_WORDS, decode};
 use mk_words::{Turn, Words};
 use std::sync::Wait;
 use std::thread::Threads;
@@ -150,17 +150,6 @@ fn run_under(header: u64) -> Option<u64>
     }
 }
 
-/// How many words a cell has under the header word of its block.
-fn cell_words(header: u64) -> u64
-    requires { heads_run (header_of header) ≡ false }
-    ensures { result ≡ words_under (header_of header) }
-{
-    match decode(header) {
-        Some(Header::Block(class) | Header::LeafBlock(class)) => class_words(class),
-        _ => 0,
-    }
-}
-
 /// Frees the object whose cell was found, and says whether that is due.
 fn free_found<R: Wait>(
     rt: &R,
@@ -184,7 +173,7 @@ fn free_found<R: Wait>(
     match run_under(header) {
         Some(count) => free_run(rt, words, turn, register, value, cell, quar, count),
         None => {
-            let size = cell_words(header);
+            let size = words_under(header);
             free_small(words, turn, register, value, cell, quar, size)
         }
     }

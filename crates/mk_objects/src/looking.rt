@@ -1,5 +1,5 @@
 //! Looks of the turn's holder, at words that none but it changes.
-ghost use Rattle.std.specs.Prelude.{◌≡◌, ℕ, ◌<◌, ◌%◌, true, length};
+ghost use Rattle.std.specs.Prelude.{◌≡◌, ℕ, ◌<◌, ◌==◌, true, length};
 ghost use Rattle.mk_core.specs.Ranges.{is_word};
 ghost use Rattle.mk_core.specs.Words.{named_word, page_of, phase_of};
 ghost use Rattle.mk_words.specs.States.{call_of, now_of};
@@ -8,7 +8,7 @@ ghost use Rattle.mk_objects.specs.Placing.{OnlyLooks};
 ghost use Rattle.mk_objects.specs.Retiring.{value_of};
 
 use mk_books::Book;
-use mk_core::Word;
+use mk_core::{Phase, Word};
 use mk_geom::Page;
 use mk_words::{Turn, Words};
 
@@ -29,18 +29,18 @@ pub(crate) fn look_at(words: &Words, turn: &mut Turn, word: Word) -> u64
     found
 }
 
-/// Looks at the phase.
-pub(crate) fn look_at_phase(words: &Words, turn: &mut Turn) -> u64
+/// Looks whether a cycle marks.
+pub(crate) fn is_marking(words: &Words, turn: &mut Turn) -> bool
     requires one_table { turn.old.pass.table ≡ words.now }
     requires acting { is_acting (call_of turn.old.pass).stage ≡ true }
     ensures op { turn.new.op ≡ turn.old.op }
     ensures looks { OnlyLooks turn.old.pass turn.new.pass }
-    ensures finds { result ≡ phase_of (now_of turn.old.pass).words }
+    ensures finds { result ≡ (phase_of (now_of turn.old.pass).words == 1) }
 {
     turn.is_in_order();
     let found = turn.look(words, Word::Phase);
     turn.is_in_order();
-    found % 8
+    Phase::Marking.is_in(found)
 }
 
 /// Looks at the words of a page.

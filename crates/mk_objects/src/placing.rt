@@ -10,7 +10,7 @@ ghost use Rattle.mk_objects.specs.Placing.{GoesTo, HasCarved, HeldIsExact, MayTa
 ghost use Rattle.mk_objects.specs.Placing.{IsGranted, object_for};
 ghost use Rattle.mk_objects.specs.Shapes.{object_shaped};
 
-use crate::looking::{fill, look_at, look_at_page, look_at_phase};
+use crate::looking::{fill, is_marking, look_at};
 use crate::objects::{Shape, shape_of};
 use crate::seeking::seek;
 use mk_books::Book;
@@ -121,7 +121,7 @@ fn serve_now(words: &Words, turn: &mut Turn, shape: Shape, place: Place, page: P
     ensures reached { SweepsNothing turn.old.pass turn.new.pass }
 {
     let held = look_at(words, turn, Word::Held);
-    let marking = look_at_phase(words, turn) == 1;
+    let marking = is_marking(words, turn);
     serve(words, turn, shape, place, page, marking, held);
 }
 
@@ -174,7 +174,7 @@ pub fn place_object(words: &Words, turn: &mut Turn, book: &mut Book) -> bool
             false
         }
         Some(place) => {
-            let page = look_at_page(words, turn, place.page);
+            let page = turn.page(place.page);
             serve_now(words, turn, shape, place, page);
             true
         }

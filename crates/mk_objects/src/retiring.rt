@@ -13,24 +13,18 @@ ghost use Rattle.mk_objects.specs.Dues.{FreesOnce};
 ghost use Rattle.mk_objects.specs.Retiring.{HasFreed, HasLoaded, HasSeen, IsFreeAt, IsUnloaded, loaded_free, value_of};
 
 use crate::looking::look_at;
-use mk_core::Word;
-use mk_geom::{Cell, lookup};
+use mk_core::{Word, has_bit};
+use mk_geom::{Cell, lookup, page_at};
 use mk_words::{Turn, Words};
-
-/// The address of the heap's first word, and how many a page takes.
-const HEAP_START: u64 = 65536;
-
-const PAGE_BYTES: u64 = 512;
 
 /// The low half of a quarantine word has the freed bits, and the high half the snapshot.
 const HALF_WORD: u64 = 4294967296;
 
 /// Whether the cell's bit is set among the freed bits of its page's quarantine word.
 pub(crate) fn is_freed(quar: u64, cell: Cell) -> bool
-    requires { cell.index < 32 }
     ensures { result ≡ has_bit (quar % 4294967296) cell.index }
 {
-    (quar % HALF_WORD) >> cell.index & 1 == 1
+    has_bit(quar % HALF_WORD, cell.index)
 }
 
 /// Loads the register of a Free. Null decides it.
@@ -62,7 +56,7 @@ pub(crate) fn find_cell(words: &Words, turn: &mut Turn, value: u64) -> Cell
     ensures keeps { (r : ℕ) → r < 8 → value_of turn.new.pass r ≡ value_of turn.old.pass r }
 {
     turn.is_in_order();
-    let page = (value - HEAP_START) / PAGE_BYTES;
+    let page = page_at(value);
     let header = look_at(words, turn, Word::Head(page));
     lookup(words.pages(), header, value).unwrap_or(Cell { page: 0, index: 0 })
 }

@@ -14,11 +14,8 @@ ghost use Rattle.mk_objects.specs.Unmapping.{IsStillMapped};
 
 use crate::gates::open_gates;
 use mk_core::{RunPages, Word};
-use mk_geom::{Header, encode};
+use mk_geom::{Header, PAGE_WORDS, encode};
 use mk_words::{Turn, Words};
-
-/// How many words a page has.
-pub(crate) const PAGE_WORDS: u64 = 64;
 
 /// The header of an unmapped run's page.
 fn unmapped(pages: u64, distance: u64) -> Header

@@ -29,11 +29,12 @@ use Rattle.mk_protocol.proofs.Standings.{Standing, Resting, InCall, UnderTurn, A
 use Rattle.mk_protocol.proofs.Stages.{is_call_stage, is_reg_stage, calls_stand, regs_work}
 use Rattle.mk_protocol.proofs.NextSteps.{stage_of, has_stage_of_its_own, at_its_stage, at_reg}
 use Rattle.mk_protocol.proofs.Views.{view_of, HoldsTurn}
-use Rattle.mk_protocol.proofs.Orderly.{shows_at}
+use Rattle.mk_protocol.proofs.Orderly.{shows_at, turn_of}
 use Rattle.mk_protocol.proofs.Actors.{Meets, Actor, InCallOf, AsMarker, CallTakes, HostTakes, AsHolder}
 use Rattle.mk_protocol.proofs.IdleMarkers.{work_attends, look_stays}
 use Rattle.mk_protocol.proofs.MarkerMoves.{attends_at}
 use Rattle.mk_protocol.proofs.Markers.{count_in-at}
+use Rattle.mk_protocol.proofs.NextSteps.{is_take}
 use Rattle.mk_protocol.proofs.OrderlyLists.{not_astray, actor_of}
 use Rattle.mk_protocol.proofs.Operands.{Operands, operands_of, register_small}
 use Rattle.mk_protocol.proofs.Known.{Known}
@@ -252,3 +253,19 @@ others_move c w seat x known held out h = by seat x (actor_of c w.now seat x kno
     by seat x (CallTakes k o lt idle is) out h = take_out c w k o held
     by seat x (HostTakes free) out h = host_take_out c w held
     by seat x (AsHolder _ _ t n) out h = absurd (out t)
+
+-- While nobody holds the turn: any step but a take.
+pub free_move : (c : Config) (w : World) (seat : Seat) (x : Step) → Known c w.now → w.now.words.turn ≡ 0
+    → is_take x ≡ false → Meets c w.now seat x
+    → OthersMove c w seat (WorldBehind c w seat x)
+free_move c w seat x known free takes h = by seat x (actor_of c w.now seat x known.orderly h) takes h
+  where
+    none : (seat : Seat) → HoldsTurn c (view_of w.now) seat → ⊥
+    none seat t = let is = turn_of c (view_of w.now) seat known.orderly t in absurd (omega arith)
+
+    by : (seat : Seat) (x : Step) → Actor c w.now seat x → is_take x ≡ false → Meets c w.now seat x → Outs c w seat x
+    by seat x (InCallOf k _ lt g) takes h = call_out c w k x known (λ t. none (Caller k) t) lt g h
+    by seat x (AsMarker k _ lt g) takes h = marker_out c w k x known lt g h
+    by seat x (CallTakes k o lt idle is) takes h = absurd (cc)
+    by seat x (HostTakes free) takes h = absurd (cc)
+    by seat x (AsHolder _ _ t n) takes h = absurd (none seat t)

@@ -43,7 +43,7 @@ steady_mark w k y ms x (ComesIn a) = ap (λ n. record (steady_of w) { phase = n 
 steady_mark w k y ms x (GoesOut a le) = ap (λ n. record (steady_of w) { phase = n }) (down w.now.words.phase le)
 steady_mark w k y ms x _ = refl
 
-steady_out : (c : Config) (w : World) (seat : Seat) (v : World) → OthersMove c w seat v → steady_of v ≡ steady_of w
+pub steady_out : (c : Config) (w : World) (seat : Seat) (v : World) → OthersMove c w seat v → steady_of v ≡ steady_of w
 steady_out c w seat v Waits = refl
 steady_out c w seat v (Calls {k} f {x} lt le write) = steady_call w k (slice_set w.now.seats.flights k f) x write
 steady_out c w seat v (Marks {k} y {x} lt write) = steady_mark w k y (slice_set w.now.seats.markers k y) x write

@@ -25,6 +25,7 @@ use Rattle.mk_heap.specs.Reports as report
 use Rattle.mk_heap.specs.Reports.{IsWhole}
 use Rattle.mk_run.specs.declared.outcomes.Outcome.{Outcome}
 use Rattle.mk_run.specs.Running.{answers_in, IsRunOf}
+use Rattle.mk_run.proofs.BoundedRuns.{quarantine_of_run_is_bounded}
 use Rattle.mk_run.proofs.UnsweptHistories.{unswept_is_precise}
 use Rattle.mk_run.specs.Headline.{cycles_go_on, RunsToItsEnd, RunsStandInOneHistory, RunsPrintTheirTexts}
 
@@ -76,7 +77,7 @@ runs_to_its_end on with_cycle program markers outcome k runs is = record {
 }
 
 unfoldable pub runs_stand_in_one_history : RunsStandInOneHistory
-runs_stand_in_one_history program markers sweep last_cycle outcome tell bytes runs unswept told =
+runs_stand_in_one_history program markers sweep last_cycle outcome tell bytes runs begun unswept told =
     let c = config_of program markers in
     let es = report.history_of outcome.report in
     let kept = histories_keep_all_promises c es runs.whole.history in
@@ -87,8 +88,10 @@ runs_stand_in_one_history program markers sweep last_cycle outcome tell bytes ru
       operations = λ k is. (runs.follows k is).noted;
       ends = λ k is. runs_to_its_end (cycles_go_on markers) last_cycle program markers outcome k runs is;
       cycles = λ k is. (runs.follows k is).exact;
+      roots = begun;
       host = runs.host;
       precise = λ none. unswept_is_precise c es kept (unswept none);
+      bounded = quarantine_of_run_is_bounded (cycles_go_on markers) last_cycle program markers outcome runs;
       told = told;
     }
 

@@ -7,9 +7,11 @@ mod MarkersBeside
 mod NotedCalls
 mod ScriptCalls
 mod WholeRuns
+pub mod BoundedRuns
 pub mod Headline
 pub mod LastTurns
 pub mod LastCycles
 pub mod LastOvers
 pub mod UnsweptHistories
 pub mod UnsweptScripts
+pub mod BegunScripts

@@ -124,6 +124,14 @@ still_admitted on p o q stays h history =
     (stays q.seen
     (subst (λ (w : WordsState). IsHistory w.config q.seen) (ap (λ (r : PassState). r.table) h.is) history) h.entries)
 
+-- ... and stays so.
+pub stays_admitted_after : (on : Bool) (p : PassState) (o : Op) (q : PassState) → StaysAdmitted p o
+    → MakesNoCall on p q → StaysAdmitted q o
+stays_admitted_after on p o q stays h es history own =
+    subst (λ (r : PassState). Admits (record r { seen = es }) o) (sym h.is)
+    (stays es (subst (λ (w : WordsState). IsHistory w.config es) (ap (λ (r : PassState). r.table) h.is) history)
+    (sym (same_own p q es h.is) ∙ own ∙ same_own p q q.seen h.is ∙ h.entries))
+
 -- A New.
 
 flagged_alike : (d ty : ℕ) (full : Bool) (a : Answer) → flagged (op.New d ty false) a ≡ flagged (op.New d ty full) a

@@ -15,9 +15,11 @@ use Rattle.mk_check.specs.Output.{output}
 use Rattle.mk_check.specs.declared.text.Text.{Text}
 use Rattle.mk_heap.specs.Reports.{IsWhole}
 use Rattle.mk_heap.specs.Reports as report
+use Rattle.mk_engines.specs.Roots.{CyclesMarkRootsFirst}
 use Rattle.mk_alloc.specs.TurnCycles.{TurnsOfAreExact}
 use Rattle.mk_precision.specs.Precision.{CyclesArePrecise}
 use Rattle.mk_theorems.specs.Promises.{KeepsAllPromises}
+use Rattle.mk_quarantine.specs.Bounds.{QuarantineIsBounded}
 use Rattle.mk_run.specs.declared.outcomes.Outcome.{Outcome}
 use Rattle.mk_run.specs.HostTurns.{HostComesLast}
 use Rattle.mk_run.specs.Running.{answers_in, IsRunOf}
@@ -56,12 +58,19 @@ pub record StandsInOneHistory (program : List Item) (markers : ℕ) (sweep last_
   pub cycles :
       (k : ℕ) → IsScript program k
       → TurnsOfAreExact (cycles_go_on markers) (config_of program markers) (Caller k) history
+  -- With markers each cycle begins with the roots: directly after its `begin`, and in the same turn, there is a look at
+  -- each register of each caller and at each global, and by their end what was found there points into nothing or into
+  -- a marked cell.
+  pub roots : cycles_go_on markers ≡ true → CyclesMarkRootsFirst (config_of program markers) history
   -- No step of a script stands after one of the host. The host begins one cycle where a last one is asked for, and else
   -- none.
   pub host : HostComesLast (config_of program markers).callers last_cycle history
   -- Unless a sweep makes the marks, each cycle releases all of its snapshot that no pointer led to from the `begin` to
   -- the `close`, and after its `end` that storage counts as free.
   pub precise : sweep ≡ false → CyclesArePrecise (config_of program markers) history
+  -- Quarantine is bounded: where nobody holds the turn, what was freed since the last `begin` is at most a quarter of
+  -- what is held and was given back since, the last cycle kept the rest, and freed large objects take no memory.
+  pub bounded : QuarantineIsBounded (cycles_go_on markers) (config_of program markers) history
   -- This is said of it, whole.
   pub told : bytes ≡ tell (config_of program markers) history
 
@@ -75,6 +84,8 @@ RunsStandInOneHistory =
     (program : List Item) (markers : ℕ) (sweep last_cycle : Bool) (outcome : Outcome)
     (tell : Config → List Event → List ℕ) (bytes : List ℕ)
     → IsRunOf (cycles_go_on markers) last_cycle program markers outcome
+    → (cycles_go_on markers ≡ true
+    → CyclesMarkRootsFirst (config_of program markers) (report.history_of outcome.report))
     → (sweep ≡ false → IsUnswept (config_of program markers) (report.history_of outcome.report))
     → bytes ≡ tell (config_of program markers) (report.history_of outcome.report)
     → StandsInOneHistory program markers sweep last_cycle tell bytes

@@ -8,3 +8,4 @@ pub mod LastTurns
 pub mod HostTurns
 pub mod Unswept
 pub mod UnsweptSeats
+pub mod BegunSeats

@@ -5,19 +5,21 @@ ghost use Rattle.mk_caller.specs.Causes.{FindsGateHeld, IsRefused};
 ghost use Rattle.mk_caller.specs.Moves.{is_access};
 ghost use Rattle.mk_caller.specs.States.{number_of, Admits};
 ghost use Rattle.mk_turns.specs.Sweeping.{SweepsNothing};
+ghost use Rattle.mk_cycle.specs.Begun.{EachIsBegun};
 ghost use Rattle.mk_run.specs.Scripts.{IsCalled, StaysAdmitted, Answers};
 
-use crossbeam_utils::Backoff;
 use mk_alloc::{free_object, new_object};
 use mk_caller::{Caller, Refusal};
 use mk_core::Answer;
 use mk_cycle::{Bench, Engine};
 use mk_never::Op;
+use mk_waiting::Patience;
 use mk_words::Held;
 use std::sync::Wait;
 use std::thread::Threads;
 
 /// An access through a register.
+#[inline(always)]
 fn access(caller: &mut Caller, op: Op) -> Result<Answer, Refusal>
     requires home { caller.old.home ≡ true }
     requires access { is_access op ≡ true }
@@ -50,6 +52,7 @@ fn access(caller: &mut Caller, op: Op) -> Result<Answer, Refusal>
 }
 
 /// An operation on registers and globals, or an access.
+#[inline(always)]
 fn call(caller: &mut Caller, op: Op) -> Result<Answer, Held>
     requires home { caller.old.home ≡ true }
     requires entered { is_under_turn op ≡ false }
@@ -88,23 +91,46 @@ fn call(caller: &mut Caller, op: Op) -> Result<Answer, Held>
 }
 
 /// The same, tried again while the gate is held.
+#[cold]
+#[inline(never)]
 fn call_until_open<R: Wait>(rt: &R, caller: &mut Caller, op: Op) -> Answer
     requires home { caller.old.home ≡ true }
+    requires exists { number_of caller.old.pass < caller.old.pass.table.config.callers }
     requires entered { is_under_turn op ≡ false }
     requires admitted { StaysAdmitted caller.old.pass op }
     ensures home { caller.new.home ≡ true }
     ensures answers { (on : Bool) → Answers on caller.old.pass op result caller.new.pass }
     ensures reached { SweepsNothing caller.old.pass caller.new.pass }
 {
-    let backoff = Backoff::new();
+    let words = caller.words();
+    let number = caller.number();
+    let mut patience = Patience::new();
     'held: for _ in rt.forever() {
         caller.is_idle();
         match call(caller, op) {
             Ok(told) => return told,
-            Err(_) => backoff.snooze(),
+            Err(_) => patience.pause_for_gate(rt, words, number),
         }
     }
     unreachable!()
+}
+
+/// The same, tried once where the gate is open, as it mostly is.
+#[inline(always)]
+fn call_at_once<R: Wait>(rt: &R, caller: &mut Caller, op: Op) -> Answer
+    requires home { caller.old.home ≡ true }
+    requires exists { number_of caller.old.pass < caller.old.pass.table.config.callers }
+    requires entered { is_under_turn op ≡ false }
+    requires admitted { StaysAdmitted caller.old.pass op }
+    ensures home { caller.new.home ≡ true }
+    ensures answers { (on : Bool) → Answers on caller.old.pass op result caller.new.pass }
+    ensures reached { SweepsNothing caller.old.pass caller.new.pass }
+{
+    caller.is_idle();
+    match call(caller, op) {
+        Ok(told) => told,
+        Err(_) => call_until_open(rt, caller, op),
+    }
 }
 
 /// Carries out an operation, and tells its answer. Which pointer was loaded isn't said.
@@ -125,6 +151,7 @@ pub fn answer_to<E: Engine, R: Threads + Wait + Sync>(
     ensures book { length bench.new.book ≡ length bench.old.book }
     ensures answers { Answers E.on caller.old.pass op result caller.new.pass }
     ensures reached { E.sweeps ≡ false → SweepsNothing caller.old.pass caller.new.pass }
+    ensures begun { EachIsBegun E.begins caller.old.pass caller.new.pass }
 {
     caller.is_idle();
     match op {
@@ -136,6 +163,6 @@ pub fn answer_to<E: Engine, R: Threads + Wait + Sync>(
             Ok(_) => Answer::Done,
             Err(_) => Answer::Double,
         },
-        _ => call_until_open(rt, caller, op),
+        _ => call_at_once(rt, caller, op),
     }
 }

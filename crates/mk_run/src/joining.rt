@@ -5,6 +5,7 @@ ghost use Rattle.mk_core.specs.declared.events.Seat.TheVariants as seat;
 ghost use denote.Param.Send.{IsSend};
 ghost use Rattle.mk_script.specs.Scopes.{script_names};
 ghost use Rattle.mk_check.specs.Laws.{IsScript};
+ghost use Rattle.mk_run.specs.BegunSeats.{CyclesOfAreBegun, ScriptsBeginCycles};
 ghost use Rattle.mk_run.specs.Joining.{IsHeapOf, IsFirstPass, HasMade, HasRun, AreJoined};
 ghost use Rattle.mk_run.specs.UnsweptSeats.{ScriptsSweepNothing, SeatSweepsNothing};
 
@@ -53,6 +54,7 @@ fn run_alone<E: Engine, P: Pace, R: Threads + Wait + Sync>(
     requires book { length bench.book ≡ heap.now.config.pages }
     ensures ran { HasRun E.on program.now heap.now k result }
     ensures reached { E.sweeps ≡ false → SeatSweepsNothing heap.now.config (seat.Caller k) result.pass.seen }
+    ensures begun { CyclesOfAreBegun E.begins heap.now.config (seat.Caller k) result.pass.seen }
 {
     let mut caller = Caller::new(heap.words(), pass);
     let mut bench = bench;
@@ -98,6 +100,7 @@ pub(crate) fn run_from<E: Engine + Send, P: Pace + Sync, R: Threads + Wait + Syn
     requires books { All (λ bench. length bench.book ≡ heap.now.config.pages) benches.items }
     ensures joined { AreJoined E.on program.now heap.now k host.markers result }
     ensures reached { E.sweeps ≡ false → ScriptsSweepNothing program.now k heap.now.config result.host.pass.seen }
+    ensures begun { ScriptsBeginCycles E.begins program.now k heap.now.config result.host.pass.seen }
 {
     let Some(bench) = benches.pop() else {
         return Joined {
@@ -118,6 +121,7 @@ pub(crate) fn run_from<E: Engine + Send, P: Pace + Sync, R: Threads + Wait + Syn
             ensures ran { HasRun E.on program.entry.now heap.entry.now k result }
             ensures reached { E.sweeps ≡ false
                 → SeatSweepsNothing heap.entry.now.config (seat.Caller k) result.pass.seen }
+            ensures begun { CyclesOfAreBegun E.begins heap.entry.now.config (seat.Caller k) result.pass.seen }
         { run_alone(rt, alloc, heap, pass, bench, program, k, pace) },
         move || -> Joined
             requires shared { IsSync R.row × IsSync P.row × IsSend E.row }
@@ -129,6 +133,8 @@ pub(crate) fn run_from<E: Engine + Send, P: Pace + Sync, R: Threads + Wait + Syn
             ensures joined { AreJoined E.on program.entry.now heap.entry.now (k + 1) host.markers result }
             ensures reached { E.sweeps ≡ false
                 → ScriptsSweepNothing program.entry.now (k + 1) heap.entry.now.config result.host.pass.seen }
+            ensures begun { ScriptsBeginCycles E.begins program.entry.now (k + 1) heap.entry.now.config
+                result.host.pass.seen }
         { run_from(rt, alloc, heap, program, pace, k + 1, host, benches) },
     );
     let Ran { pass, text } = ran;

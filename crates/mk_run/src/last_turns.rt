@@ -3,6 +3,7 @@ ghost use Rattle.std.specs.Prelude.{◌≡◌, length, true, false};
 ghost use Rattle.mk_core.specs.declared.events.Seat.TheVariants as seat;
 ghost use Rattle.mk_words.specs.Seats.{Has, HasCallers, has_over};
 ghost use Rattle.mk_turns.specs.Sweeping.{SweepsNothing};
+ghost use Rattle.mk_cycle.specs.Begun.{EachIsBegun};
 ghost use Rattle.mk_heap.specs.Ending.{CallersAreJoined};
 ghost use Rattle.mk_heap.specs.Hosts.{with_seen};
 ghost use Rattle.mk_run.specs.LastTurns.{BeginsAsAsked, CallersAreStill, TakesLastTurns};
@@ -30,6 +31,7 @@ fn cycle_and_over<E: Engine, R: Threads + Wait + Sync>(
     ensures host { host.new ≡ with_seen host.old host.new.pass.seen }
     ensures still { CallersAreStill host.old.pass host.new.pass.seen }
     ensures reached { E.sweeps ≡ false → SweepsNothing host.old.pass host.new.pass }
+    ensures begun { EachIsBegun E.begins host.old.pass host.new.pass }
     ensures turns { TakesLastTurns (E.tells bench.new.engine) heap.now host.new.pass }
     ensures cycles { BeginsAsAsked true host.old.pass.seen host.new.pass.seen }
 {
@@ -57,6 +59,7 @@ pub(crate) fn take_last_turns<E: Engine, R: Threads + Wait + Sync>(
     ensures host { host.new ≡ with_seen host.old host.new.pass.seen }
     ensures still { CallersAreStill host.old.pass host.new.pass.seen }
     ensures reached { E.sweeps ≡ false → SweepsNothing host.old.pass host.new.pass }
+    ensures begun { EachIsBegun E.begins host.old.pass host.new.pass }
     ensures turns { with_cycle ≡ true → TakesLastTurns (E.tells bench.new.engine) heap.now host.new.pass }
     ensures cycles { BeginsAsAsked with_cycle host.old.pass.seen host.new.pass.seen }
 {

@@ -4,6 +4,7 @@ ghost use Rattle.std.specs.Thread.{IsSync};
 ghost use denote.Param.Send.{IsSend};
 ghost use Rattle.mk_marker.specs.Markers.{attends};
 ghost use Rattle.mk_script.specs.Scopes.{script_names};
+ghost use Rattle.mk_run.specs.BegunSeats.{ScriptsBeginCycles};
 ghost use Rattle.mk_run.specs.Joining.{IsHeapOf, HasMade};
 ghost use Rattle.mk_run.specs.LastTurns.{TakesLastTurns};
 ghost use Rattle.mk_run.specs.Marking.{IsMarkersPass, IsOver};
@@ -12,28 +13,40 @@ ghost use Rattle.mk_run.specs.UnsweptSeats.{ScriptsSweepNothing};
 use crate::joining::{Joined, run_from};
 use crate::last_turns::take_last_turns;
 use crate::paces::Pace;
-use crossbeam_utils::Backoff;
 use mk_check::Checked;
 use mk_cycle::{Bench, Engine};
 use mk_heap::{Heap, Host};
 use mk_marker::{Marker, NotMarking, Work};
-use mk_words::Pass;
+use mk_waiting::Patience;
+use mk_words::{Pass, Words};
 use std::alloc::Global;
 use std::sync::Wait;
 use std::thread;
 use std::thread::Threads;
 
+/// The low bits of a phase word while markers mark.
+const MARKING: u64 = 1;
+
 /// Marks for the cycle that is on, until its close is wanted.
-fn mark_until_wanted<P: Pace, R: Wait>(rt: &R, marker: &mut Marker, number: u64, pace: &P)
+fn mark_until_wanted<P: Pace, R: Wait>(
+    rt: &R,
+    words: &Words,
+    marker: &mut Marker,
+    number: u64,
+    pace: &P,
+)
     requires attends { attends marker.old ≡ true }
     ensures out { attends marker.new ≡ false }
     ensures pass { marker.new ≡ record marker.old { seen = marker.new.seen } }
 {
-    let backoff = Backoff::new();
+    let mut patience = Patience::new();
     'cells: for _ in rt.forever() {
         match marker.work() {
-            Work::Worked => pace.marked(number),
-            Work::Idle => backoff.snooze(),
+            Work::Worked => {
+                pace.marked(number);
+                patience.reset();
+            }
+            Work::Idle => patience.pause_for_phase(rt, words, MARKING),
             Work::Wanted => break,
         }
     }
@@ -45,13 +58,17 @@ fn mark_until_over<P: Pace, R: Wait>(rt: &R, heap: &Heap, pass: Pass, number: u6
     requires { IsMarkersPass heap.now number pass }
     ensures { IsMarkersPass heap.now number result }
 {
-    let mut marker = Marker::new(heap.words(), pass);
-    let backoff = Backoff::new();
+    let words = heap.words();
+    let mut marker = Marker::new(words, pass);
+    let mut patience = Patience::new();
     'cycles: for _ in rt.forever() {
         match marker.attend() {
-            Ok(()) => mark_until_wanted(rt, &mut marker, number, pace),
+            Ok(()) => {
+                mark_until_wanted(rt, words, &mut marker, number, pace);
+                patience.reset();
+            }
             Err(NotMarking { phase: 5 }) => return marker.finish(),
-            Err(_) => backoff.snooze(),
+            Err(NotMarking { phase }) => patience.pause_for_phase(rt, words, phase),
         }
     }
     unreachable!()
@@ -88,6 +105,7 @@ fn run_scripts<E: Engine + Send, P: Pace + Sync, R: Threads + Wait + Sync>(
         → TakesLastTurns (E.tells result.bench.engine) heap.now result.joined.host.pass }
     ensures reached { E.sweeps ≡ false
         → ScriptsSweepNothing program.now 0 heap.now.config result.joined.host.pass.seen }
+    ensures begun { ScriptsBeginCycles E.begins program.now 0 heap.now.config result.joined.host.pass.seen }
 {
     let Joined { mut host, texts } = run_from(rt, alloc, heap, program, pace, 0, host, benches);
     let mut bench = bench;
@@ -129,6 +147,7 @@ pub(crate) fn run_beside<E: Engine + Send, P: Pace + Sync, R: Threads + Wait + S
         → TakesLastTurns (E.tells result.bench.engine) heap.now result.joined.host.pass }
     ensures reached { E.sweeps ≡ false
         → ScriptsSweepNothing program.now 0 heap.now.config result.joined.host.pass.seen }
+    ensures begun { ScriptsBeginCycles E.begins program.now 0 heap.now.config result.joined.host.pass.seen }
 {
     if number >= markers {
         return run_scripts(
@@ -160,6 +179,8 @@ pub(crate) fn run_beside<E: Engine + Send, P: Pace + Sync, R: Threads + Wait + S
                 → TakesLastTurns (E.tells result.bench.engine) heap.entry.now result.joined.host.pass }
             ensures reached { E.sweeps ≡ false
                 → ScriptsSweepNothing program.entry.now 0 heap.entry.now.config result.joined.host.pass.seen }
+            ensures begun { ScriptsBeginCycles E.begins program.entry.now 0 heap.entry.now.config
+                result.joined.host.pass.seen }
         {
             run_beside(
                 rt,

@@ -1,6 +1,7 @@
 //! The run of a program.
 ghost use Rattle.std.specs.Prelude.{◌≡◌, ◌≤◌, length, All, IfOk, true, false};
 ghost use Rattle.mk_check.specs.Declarations.{config_of};
+ghost use Rattle.mk_cycle.specs.Begun.{CyclesAreBegun};
 ghost use Rattle.mk_heap.specs.Reports.{history_of};
 ghost use Rattle.mk_run.specs.LastCycle.{EndsWithCycle};
 ghost use Rattle.mk_run.specs.Running.{IsRunOf};
@@ -48,6 +49,8 @@ fn run<E: Engine + Send, P: Pace + Sync, R: Threads + Wait + Sync>(
         (history_of ran.0.report)) }
     ensures reached { IfOk result (λ ran. E.sweeps ≡ false
         → IsUnswept (config_of program.now markers) (history_of ran.0.report)) }
+    ensures begun { IfOk result (λ ran.
+        CyclesAreBegun E.begins (config_of program.now markers) (history_of ran.0.report)) }
 {
     // No thread is started before all benches are made.
     let config = program.config(alloc, markers)?;
@@ -80,6 +83,8 @@ pub fn run_all<E: Engine + Send, P: Pace + Sync, R: Threads + Wait + Sync>(
     ensures runs { IfOk result (IsRunOf E.on false program.now markers) }
     ensures reached { IfOk result (λ outcome. E.sweeps ≡ false
         → IsUnswept (config_of program.now markers) (history_of outcome.report)) }
+    ensures begun { IfOk result (λ outcome.
+        CyclesAreBegun E.begins (config_of program.now markers) (history_of outcome.report)) }
 {
     let ran: (Outcome, Bench<E>) = run(rt, alloc, program, markers, pace, false)?;
     Ok(ran.0)
@@ -100,6 +105,8 @@ pub fn run_with_cycle<E: Engine + Send, P: Pace + Sync, R: Threads + Wait + Sync
         (history_of ran.0.report)) }
     ensures reached { IfOk result (λ ran. E.sweeps ≡ false
         → IsUnswept (config_of program.now markers) (history_of ran.0.report)) }
+    ensures begun { IfOk result (λ ran.
+        CyclesAreBegun E.begins (config_of program.now markers) (history_of ran.0.report)) }
 {
     run(rt, alloc, program, markers, pace, true)
 }

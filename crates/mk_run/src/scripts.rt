@@ -5,6 +5,7 @@ ghost use Rattle.mk_check.specs.Feeding.{IsWaiting};
 ghost use Rattle.mk_check.specs.Laws.{IsScript};
 ghost use Rattle.mk_caller.specs.States.{number_of};
 ghost use Rattle.mk_turns.specs.Sweeping.{SweepsNothing};
+ghost use Rattle.mk_cycle.specs.Begun.{EachIsBegun};
 ghost use Rattle.mk_run.specs.Running.{answers_in, FollowsScript, EndsScript, IsTextOf};
 ghost use Rattle.mk_run.specs.Scripts.{HasRoom, IsFedWith, TakesAnswer};
 
@@ -108,6 +109,7 @@ pub fn run_script<E: Engine, P: Pace, R: Threads + Wait + Sync>(
     ensures ends { IfOk result (λ text. EndsScript program.now k caller.new.pass.table.config caller.new.pass.seen) }
     ensures text { IfOk result (IsTextOf program.now k caller.new.pass.table.config caller.new.pass.seen) }
     ensures reached { E.sweeps ≡ false → SweepsNothing caller.old.pass caller.new.pass }
+    ensures begun { EachIsBegun E.begins caller.old.pass caller.new.pass }
 {
     // The program is well typed, so its scripts ask for nothing that isn't admitted.
     let _well_typed = program.program();

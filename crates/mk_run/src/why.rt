@@ -1,6 +1,7 @@
 //! The run of a program with a last cycle, and what that cycle keeps.
 ghost use Rattle.std.specs.Prelude.{◌≡◌, ◌≤◌, IfOk, true, false};
 ghost use Rattle.mk_check.specs.Declarations.{config_of};
+ghost use Rattle.mk_cycle.specs.Begun.{CyclesAreBegun};
 ghost use Rattle.mk_heap.specs.Reports.{history_of};
 ghost use Rattle.mk_why.specs.Chains.{AreKept};
 ghost use Rattle.mk_run.specs.LastCycle.{EndsWithCycle};
@@ -33,6 +34,8 @@ pub fn run_why<E: Engine + Send, P: Pace + Sync, R: Threads + Wait + Sync>(
         (history_of ran.0.report)) }
     ensures reached { IfOk result (λ ran. E.sweeps ≡ false
         → IsUnswept (config_of program.now markers) (history_of ran.0.report)) }
+    ensures begun { IfOk result (λ ran.
+        CyclesAreBegun E.begins (config_of program.now markers) (history_of ran.0.report)) }
 {
     let ran: (Outcome, Bench<Why<E>>) = run_with_cycle(rt, alloc, program, markers, pace)?;
     let (outcome, bench) = ran;

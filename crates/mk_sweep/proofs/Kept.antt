@@ -20,7 +20,7 @@ use Rattle.mk_core.specs.Words.{Words}
 use Rattle.mk_protocol.specs.Protocol.{Protocol, has_stage}
 use Rattle.mk_protocol.proofs.Protocols.{lists_keep_the_protocol}
 use Rattle.mk_words.specs.States.{PassState, world_of, now_of}
-use Rattle.mk_tracing.specs.Stops.{IsReady, is_loaded, is_loaded_at}
+use Rattle.mk_tracing.specs.Stops.{HolderIsLoaded, is_loaded, is_loaded_at}
 use Rattle.mk_tracing.specs.Tracing.{Untouched, untouched_of}
 use Rattle.mk_cycle.specs.EngineLaw.{IsFreeForCycle, is_pending_free, is_pending_free_at}
 use Rattle.mk_cycle.specs.TurnKeeps.{Done, IsGone, KeepsTurn, but_phase}
@@ -47,7 +47,7 @@ loaded_of c m (Marker k) p holds decided = refl
 loaded_of c m Host p holds decided = refl
 
 pub ready_of : (p : PassState) → IsHistory p.table.config p.seen → Holds p.table.config (now_of p) p.seat
-    → IsFreeForCycle p → IsReady p
+    → IsFreeForCycle p → HolderIsLoaded p
 ready_of p history holds free =
     let protocol = lists_keep_the_protocol p.table.config p.seen history.within_limits history.enabled in
     record { loaded = loaded_of p.table.config (now_of p) p.seat protocol holds free.decided }

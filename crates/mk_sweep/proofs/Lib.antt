@@ -11,3 +11,6 @@ pub mod SweptMarks
 pub mod Unswept
 pub mod UnsweptReleased
 pub mod WordLists
+pub mod BesideTurn
+pub mod SweepCycles
+pub mod WholeCycles

@@ -33,7 +33,7 @@ use Rattle.mk_words.specs.Seats.{Has}
 use Rattle.mk_words.specs.States.{PassState, TurnState, WordsState, now_of, world_of, event_of}
 use Rattle.mk_words.specs.Steps.{Finds, IsEnabledTo}
 use Rattle.mk_words.specs.TurnSteps.{Acts, world_at}
-use Rattle.mk_tracing.specs.Stops.{IsWanted, hand_of, is_plain, is_root, still_words}
+use Rattle.mk_tracing.specs.Stops.{IsWanted, hand_of, is_page_word, is_root, still_words}
 use Rattle.mk_tracing.specs.Tracing.{Traces, Untouched, is_marking, untouched_of}
 use Rattle.mk_tracing.proofs.MaySteps.{may_mark_by_hand, marks_by}
 use Rattle.mk_tracing.proofs.Parts.{traces_alike, traces_nothing, traces_then}
@@ -144,7 +144,7 @@ module _ (t u : TurnState) (sweeping : IsSweeping t.pass)
         looked = looks_of_step is_marking t.pass u.pass s a.makes traces.does own;
       }
 
-  pub on_plain : (x : Word) → Acts t.pass (step.Look x) u.pass → is_plain x ≡ true → SweepsOn t u []
+  pub on_plain : (x : Word) → Acts t.pass (step.Look x) u.pass → is_page_word x ≡ true → SweepsOn t u []
   on_plain (word.Head p) a h = sweeps_by_step (step.Look (word.Head p)) a refl refl tt
   on_plain (word.Used p) a h = sweeps_by_step (step.Look (word.Used p)) a refl refl tt
   on_plain (word.Mark p) a h = sweeps_by_step (step.Look (word.Mark p)) a refl refl tt

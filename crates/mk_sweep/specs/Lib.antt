@@ -2,3 +2,4 @@ pub mod Swept
 pub mod Sweeping
 pub mod Sweeps
 pub mod Unswept
+pub mod SweepCycle

@@ -8,9 +8,8 @@ ghost use Rattle.mk_tracing.specs.Stops.{still_words};
 ghost use Rattle.mk_sweep.specs.Sweeping.{BlacksMore, IsSweeping, PageIsBlack, SweepsOn};
 
 use crate::stepping::{blacken_cell, look_at};
-use mk_core::Word;
+use mk_core::{Word, cells_under, has_bit};
 use mk_geom::Cell;
-use mk_tracing::{cells_under, has_bit};
 use mk_words::{Stopped, Words};
 
 /// Blackens a cell, if it is marked.

@@ -4,7 +4,9 @@
 
 mod blackening;
 mod clearing;
+mod clients;
 mod closing;
+mod cycles;
 mod laws;
 mod roots;
 mod stepping;
@@ -12,5 +14,6 @@ mod sweep_engine;
 mod sweeping;
 mod values;
 
+pub use cycles::sweep_cycle;
 pub use laws::{what_is_not_swept_is_released, what_is_not_swept_stays_unmarked};
 pub use sweep_engine::SweepEngine;

@@ -6,13 +6,12 @@ ghost use Rattle.mk_core.specs.StopConditions.{may_turn_black};
 ghost use Rattle.mk_core.specs.Words.{named_word};
 ghost use Rattle.mk_words.specs.States.{world_of};
 ghost use Rattle.mk_tracing.specs.Grays.{with_marks, with_blacks, without_blacks, without_dirty};
-ghost use Rattle.mk_tracing.specs.Stops.{hand_of, is_plain, is_root, still_words};
+ghost use Rattle.mk_tracing.specs.Stops.{hand_of, is_page_word, is_root, still_words};
 ghost use Rattle.mk_sweep.specs.Swept.{IsScannedWord};
 ghost use Rattle.mk_sweep.specs.Sweeping.{HasInHand, IsReachedCell, IsSweeping, SweepsOn};
 
-use mk_core::Word;
+use mk_core::{Word, bit};
 use mk_geom::Cell;
-use mk_tracing::bit;
 use mk_words::{Stopped, Words};
 
 /// Looks at a word that gives no hand.
@@ -20,7 +19,7 @@ pub(crate) fn look_at(words: &Words, stop: &mut Stopped, x: Word) -> u64
     requires one_table { stop.old.pass.table ≡ words.now }
     requires sweeping { IsSweeping stop.old.pass }
     requires word { is_word words.now.config x ≡ true }
-    requires plain { is_plain x ≡ true }
+    requires plain { is_page_word x ≡ true }
     ensures on { SweepsOn stop.old stop.new [] }
     ensures words { still_words stop.new.pass ≡ still_words stop.old.pass }
     ensures hand { hand_of stop.new.pass ≡ hand_of stop.old.pass }

@@ -1,6 +1,6 @@
 //! The engine that sweeps.
 ghost use Rattle.std.specs.Prelude.{◌≡◌, true, false, IfOk, ⊤};
-ghost use Rattle.mk_cycle.specs.Begun.{IsBegun, SaysNothing};
+ghost use Rattle.mk_cycle.specs.Begun.{DoesNothing, IsBegun};
 ghost use Rattle.mk_cycle.specs.EngineLaw.{IsFreeForCycle, IsAtPhase, BeginsMarking, ClosesMarks};
 ghost use Rattle.mk_sweep.specs.Sweeps.{Sweeps};
 
@@ -39,7 +39,9 @@ impl Engine for SweepEngine {
 
     ghost tells = { λ engine c w. ⊤ };
 
-    ghost begins = { SaysNothing };
+    ghost begins = { DoesNothing };
+
+    ghost closes = { λ engine p q. Sweeps p q engine.looks };
 
     fn make(_alloc: Global, pages: u64) -> Result<SweepEngine, NoMemory>
         ensures made_for { IfOk result (λ engine. engine.pages ≡ pages) }
@@ -56,7 +58,7 @@ impl Engine for SweepEngine {
         ensures made_for { self.new.pages ≡ self.old.pages }
         ensures op { _turn.new.op ≡ _turn.old.op }
         ensures law { BeginsMarking _turn.old.pass _turn.new.pass }
-        ensures begun { IsBegun SaysNothing _turn.old.pass _turn.new.pass }
+        ensures begun { IsBegun DoesNothing _turn.old.pass _turn.new.pass }
         ensures nothing { _turn.new ≡ _turn.old }
         ensures looks { self.new.looks ≡ self.old.looks }
     {}

@@ -6,15 +6,9 @@ ghost use Rattle.mk_tracing.specs.Stops.{hand_of, still_words};
 ghost use Rattle.mk_sweep.specs.Sweeping.{HasInHand, IsSweeping, SweepsOn};
 
 use crate::stepping::{look_at, mark_cell};
-use mk_core::Word;
-use mk_geom::{Cell, lookup};
-use mk_tracing::has_bit;
+use mk_core::{Word, has_bit};
+use mk_geom::{Cell, heap_page, lookup};
 use mk_words::{Stopped, Words};
-
-/// The address of the heap's first word.
-const HEAP_START: u64 = 65536;
-
-const PAGE_BYTES: u64 = 512;
 
 /// The cell into which a value points.
 fn cell_pointed(words: &Words, stop: &mut Stopped, value: u64) -> Option<Cell>
@@ -25,13 +19,7 @@ fn cell_pointed(words: &Words, stop: &mut Stopped, value: u64) -> Option<Cell>
     ensures hand { hand_of stop.new.pass ≡ hand_of stop.old.pass }
     ensures points { result ≡ pointed_cell words.now.config.pages (still_words stop.old.pass).pages value }
 {
-    if value < HEAP_START {
-        return None;
-    }
-    let page = (value - HEAP_START) / PAGE_BYTES;
-    if page >= words.pages() {
-        return None;
-    }
+    let page = heap_page(words.pages(), value)?;
     let header = look_at(words, stop, Word::Head(page));
     lookup(words.pages(), header, value)
 }

@@ -1,25 +1,39 @@
 -- A small trace that is played: a store through a slot that is null, which is refused, and a new object.
-use Rattle.std.proofs.Common.{◌≡◌, false, List, [], ◌∷◌, ◌++◌, Some, None, refl, ap, arith}
+use Rattle.std.proofs.Common.{◌≡◌, false, List, [], ◌∷◌, ◌++◌, Some, None, refl, sym, ◌∙◌, ap, subst, arith}
 use lib.Chars.{codes}
+use Rattle.std.proofs.lemmas.Bool.{or_parts}
 use Rattle.mk_never.specs.declared.operations.Op.TheVariants as op
+use Rattle.mk_core.specs.declared.config.Config.{Config}
 use Rattle.mk_core.specs.declared.events.Event.{Event}
+use Rattle.mk_core.specs.declared.events.Seat.TheVariants.{Caller}
 use Rattle.mk_core.specs.declared.events.Step.TheVariants as step
 use Rattle.mk_core.specs.declared.events.Tally.TheVariants as tally
 use Rattle.mk_core.specs.Bounded.{all_below}
 use Rattle.mk_core.specs.Cells.{pointed_cell}
 use Rattle.mk_core.specs.Allocations.{unreleased_storage}
 use Rattle.mk_core.specs.Counts.{IsTidy, TalliesAreTidy}
-use Rattle.mk_core.specs.Cycles.{is_give}
+use Rattle.mk_core.specs.Cycles.{NoneSweepsFrom, is_begin, is_give}
 use Rattle.mk_core.specs.Decided.{answered}
-use Rattle.mk_core.specs.History.{left_from, calls_from, calls, CallsAreAdmitted}
+use Rattle.mk_core.specs.History.{left_from, calls_from, calls, first_world, world_behind, CallsAreAdmitted, IsHistory}
+use Rattle.mk_core.specs.History.{World}
+use Rattle.mk_core.specs.Moments.{flight_of}
 use Rattle.mk_core.proofs.EvaluatedHistories.{enabled}
 use Rattle.mk_core.proofs.EventsAt.{◌and◌, AtEach, Also, at_each}
 use Rattle.mk_core.proofs.Schedules.{by, c0, fault, first_fault}
+use Rattle.mk_theorems.proofs.Promises.{histories_keep_all_promises}
+use Rattle.mk_turns.specs.Sweeping.{is_mark}
+use Rattle.mk_turns.proofs.Sweeping.{other_steps_sweep}
+use Rattle.mk_alloc.specs.TurnCycles.{EndsExactly, TurnsOfAreExact, has_step, is_want, lets_go}
+use Rattle.mk_alloc.proofs.ListParts.{lacks_second, none_at}
+use Rattle.mk_alloc.proofs.OwnGives.{none_more, one_more}
+use Rattle.mk_run.specs.Unswept.{IsUnswept}
+use Rattle.mk_run.proofs.UnsweptHistories.{unswept_is_precise}
 use Rattle.mk_trace.specs.declared.trace.TraceEvent.TheVariants.{A, W}
 use Rattle.mk_trace.specs.Grammar.{along}
 use Rattle.mk_trace.specs.Peaks.{greatest_from, found_by_ends_from, peaks_of}
 use Rattle.mk_trace.specs.Playing.{config_of, refused_events, IsPlayed}
 use Rattle.mk_trace.specs.Traces.{Contents, IsOfSomeText}
+use Rattle.mk_trace.proofs.ExactPlays.{nothing_given}
 use Rattle.mk_trace.proofs.Playable.{is_playable}
 
 unfoldable pub stored_and_made : Contents
@@ -39,6 +53,28 @@ played =
     ++ by c0 (step.Enter (op.SetGlobal 0 0) ∷ step.Reg ∷ step.Setg ∷ step.Leave ∷ [])
     ++ by c0 (step.Enter (op.Clear 0) ∷ step.Reg ∷ step.Leave ∷ [])
 
+-- up to the take of the New, and from there up to its give, and what comes after it
+
+unfoldable stored : List Event
+stored =
+    by c0 (step.Enter (op.GetGlobal 0 0) ∷ step.Getg ∷ step.Reg ∷ step.Leave ∷ [])
+    ++ by c0 (step.Enter (op.SetNum 0 1 5) ∷ step.Reg ∷ step.Leave ∷ [])
+    ++ by c0 (step.Enter (op.Clear 0) ∷ step.Reg ∷ step.Leave ∷ [])
+
+unfoldable making : List Event
+making = by c0 (step.Head 0 1 ∷ step.Used 0 1 ∷ step.Grant ∷ step.Tally tally.Held 2 ∷ [])
+
+unfoldable behind : List Event
+behind =
+    by c0 (step.Enter (op.SetGlobal 0 0) ∷ step.Reg ∷ step.Setg ∷ step.Leave ∷ [])
+    ++ by c0 (step.Enter (op.Clear 0) ∷ step.Reg ∷ step.Leave ∷ [])
+
+abbrev upto_give : List Event
+upto_give = stored ++ record { seat = Caller 0; step = step.Take (Some (op.New 0 0 false)) } ∷ making
+
+abbrev gives : Event
+gives = record { seat = Caller 0; step = step.Give }
+
 no_fault : first_fault (config_of stored_and_made) played ≡ None
 unfolding first_fault fault by c0 all_below pointed_cell stored_and_made played
 no_fault = refl
@@ -53,25 +89,82 @@ are_admitted =
     and record { of_a_caller = omega arith; in_range = (omega arith, omega arith); access = tt; store = (refl, refl) }
     and record { of_a_caller = omega arith; in_range = omega arith; access = tt; store = tt } and tt
 
+parts : (upto_give ++ gives ∷ []) ++ behind ≡ played
+unfolding by c0 stored making behind played
+parts = refl
+
+-- The New does nothing with cycles, and nothing is freed or released in its turn.
+ends_exactly : EndsExactly false (config_of stored_and_made) (Caller 0) upto_give
+unfolding by c0 all_below pointed_cell stored_and_made stored making left_from
+ends_exactly =
+    record {
+      turn = record {
+        before = stored;
+        op = Some (op.New 0 0 false);
+        behind = making;
+        is = refl;
+        took = refl;
+        goes_on = refl;
+      };
+      exact = record {
+        begins = λ b. absurd (none_at is_begin making refl b);
+        ends = λ w. absurd (none_at is_want making refl w);
+        one = λ b. absurd (none_at is_begin making refl b);
+        keeps = λ g.
+            (or_parts (lets_go g.event.step) (has_step lets_go g.behind)
+            (lacks_second lets_go g.before (g.event ∷ g.behind)
+            (ap (λ (es : List Event). has_step lets_go es) (sym g.is) ∙ refl))).1;
+      };
+    }
+
+are_exact : TurnsOfAreExact false (config_of stored_and_made) (Caller 0) played
+unfolding by c0 stored making behind
+are_exact =
+    let c = config_of stored_and_made in
+    subst (λ (es : List Event). TurnsOfAreExact false c (Caller 0) es) parts
+    (none_more false c (Caller 0) (upto_give ++ gives ∷ []) behind refl
+    (one_more false c (Caller 0) upto_give gives
+    (none_more false c (Caller 0) [] upto_give refl (nothing_given false c (Caller 0))) ends_exactly))
+
+none_marks : (c : Config) (w : World) (es : List Event) → has_step is_mark es ≡ false → NoneSweepsFrom c w es
+unfolding NoneSweepsFrom
+none_marks c w [] h = tt
+none_marks c w (e ∷ es) h =
+    let each = or_parts (is_mark e.step) (has_step is_mark es) h in
+    (other_steps_sweep c w.now (flight_of w.now e.seat) e.step each.0, none_marks c (world_behind c w e) es each.1)
+
+is_unswept : IsUnswept (config_of stored_and_made) played
+unfolding by c0 played
+is_unswept = none_marks (config_of stored_and_made) (first_world (config_of stored_and_made)) played refl
+
 is_tidy : IsTidy (config_of stored_and_made) played
 unfolding by c0 all_below pointed_cell stored_and_made played left_from calls_from AtEach Also
 is_tidy before e behind is give =
     at_each is_give (λ (es : List Event) (x : Event). TalliesAreTidy (config_of stored_and_made) es) [] played
     (record { cycles = refl; released = refl; full = refl } and tt) before e behind is (ap is_give give)
 
+is_history : IsHistory (config_of stored_and_made) played
+is_history = record {
+  within_limits = (is_playable stored_and_made is_of_text).heap;
+  enabled = enabled (config_of stored_and_made) played no_fault;
+  admitted = are_admitted;
+}
+
 pub is_played : IsPlayed stored_and_made played
 unfolding by c0 all_below pointed_cell stored_and_made played left_from calls_from
 is_played =
     record {
-      history = record {
-        within_limits = (is_playable stored_and_made is_of_text).heap;
-        enabled = enabled (config_of stored_and_made) played no_fault;
-        admitted = are_admitted;
-      };
+      history = is_history;
       tidy = is_tidy;
       refines = refl;
       ops = refl;
       at_rest = refl;
+      cycles = are_exact;
+      host = refl;
+      unswept = is_unswept;
+      precise =
+          unswept_is_precise (config_of stored_and_made) played
+          (histories_keep_all_promises (config_of stored_and_made) played is_history) is_unswept;
     }
 
 pub refused : refused_events stored_and_made.events (answered (calls (config_of stored_and_made) played)) ≡ 1

@@ -36,6 +36,7 @@ looks_none c es = record {
   leaves = record { phase = refl; found = refl; count = refl; allocations = refl };
   table = record { allocations = refl; words = refl };
   most = λ measure. refl;
+  exact = λ before. before;
 }
 
 pub looks_twice : (c : Config) (es fs gs : List Event) → OnlyLooks c es fs → OnlyLooks c fs gs → OnlyLooks c es gs
@@ -44,6 +45,7 @@ looks_twice c es fs gs one two = record {
   leaves = leaves_twice c es fs gs one.leaves two.leaves;
   table = leaves_then (left c es) (left c fs) (left c gs) one.table two.table;
   most = λ measure. two.most measure ∙ one.most measure;
+  exact = λ before. two.exact (one.exact before);
 }
 
 pub freed_looked : (c : Config) (es fs : List Event) → OnlyLooks c es fs → (cell : Cell)

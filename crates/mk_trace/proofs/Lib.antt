@@ -9,6 +9,7 @@ pub mod EndsInLists
 pub mod EvaluatedPeaks
 pub mod EvaluatedPlays
 pub mod EvaluatedTraces
+pub mod ExactPlays
 pub mod FewEvents
 pub mod FirstLedgers
 pub mod FlagSteps
@@ -43,6 +44,7 @@ pub mod NoForm
 pub mod NumberLists
 pub mod OneCaller
 pub mod OwnPieces
+pub mod PeakBounds
 pub mod PeakParts
 pub mod PeaksGrow
 pub mod Playable

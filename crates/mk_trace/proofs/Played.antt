@@ -22,15 +22,19 @@ use Rattle.mk_caller.specs.States.{CallerState, at_home}
 use Rattle.mk_heap.specs.Hosts.{HostState, first_host, pass_for}
 use Rattle.mk_heap.specs.Reports.{IsWhole}
 use Rattle.mk_theorems.proofs.Promises.{histories_keep_all_promises}
+use Rattle.mk_quarantine.proofs.Bounds.{quarantine_of_one_is_bounded}
 use Rattle.mk_trace.specs.declared.trace.TraceEvent.{TraceEvent}
 use Rattle.mk_trace.specs.declared.trace.TraceEvent.TheVariants.{A, K, F, C, W}
 use Rattle.mk_trace.specs.Calls.{AreNull, MayBePlayed, SameCalls, PlaysEvent, EventsAreAdmitted, HasPlayed}
+use Rattle.mk_trace.specs.ExactPlays.{AllTurnsAreExact}
 use Rattle.mk_trace.specs.Laws.{IsEventOf, IsPlayable}
 use Rattle.mk_trace.specs.Playing.{config_of, ops_of, begins_full, calls_of_caller, ops_played, refused_events}
 use Rattle.mk_trace.specs.Playing.{is_refusal, IsPlayed}
 use Rattle.mk_trace.specs.Traces.{Contents, slot_of}
 use Rattle.mk_trace.proofs.AdmittedEvents.{events_are_admitted}
 use Rattle.mk_caller.proofs.OwnSteps.{calls_by, others_add_none}
+use Rattle.mk_run.proofs.UnsweptHistories.{unswept_is_precise}
+use Rattle.mk_trace.proofs.ExactPlays.{play_is_unswept}
 use Rattle.mk_trace.proofs.OneCaller.{as_many, calls_are_own, never_then_calls}
 use Rattle.mk_trace.proofs.PlayedEvents.{one_if, ops-played_more, refused_more}
 
@@ -95,15 +99,23 @@ module _ (trace : Contents) (events : List TraceEvent) (refused : ℕ) (es : Lis
     }
 
 -- When the heap is closed.
-pub is_played : (trace : Contents) (refused : ℕ) (es : List Event) → HasPlayed trace trace.events refused es
-    → IsWhole (config_of trace) es → IsPlayed trace es
-is_played trace refused es h whole = record {
-  history = whole.history;
-  tidy = whole.tidy;
-  refines = (histories_keep_all_promises (config_of trace) es whole.history).refined;
-  ops = h.ops;
-  at_rest = (whole.rests (Caller 0) refl).call;
-}
+is_played : (trace : Contents) (refused : ℕ) (es : List Event) → HasPlayed trace trace.events refused es
+    → IsWhole (config_of trace) es → AllTurnsAreExact (config_of trace) es → IsPlayed trace es
+is_played trace refused es h whole exact =
+    let kept = histories_keep_all_promises (config_of trace) es whole.history in
+    let unswept = play_is_unswept trace es whole.history exact in
+    record {
+      history = whole.history;
+      tidy = whole.tidy;
+      refines = kept.refined;
+      ops = h.ops;
+      at_rest = (whole.rests (Caller 0) refl).call;
+      cycles = exact.caller;
+      host = exact.host;
+      unswept = unswept;
+      precise = unswept_is_precise (config_of trace) es kept unswept;
+      bounded = quarantine_of_one_is_bounded false (config_of trace) es refl whole.history exact.caller exact.host;
+    }
 
 -- The host looks before an event and after it.
 pub plays_between : (c : Config) (es fs gs hs : List Event) (event : TraceEvent) (refused : Bool) → SameCalls c es fs
@@ -222,10 +234,12 @@ joined_first w h s q k c first made is came config one table history =
 
 -- The heap is closed.
 pub closed : (trace : Contents) (refused : ℕ) (d : Config) (es fs : List Event) → fs ≡ es → d ≡ config_of trace
-    → HasPlayed trace trace.events refused es → IsWhole d fs → IsPlayed trace fs
-closed trace refused d es fs same config h whole =
+    → HasPlayed trace trace.events refused es → IsWhole d fs
+    → AllTurnsAreExact (config_of trace) es → IsPlayed trace fs
+closed trace refused d es fs same config h whole exact =
     is_played trace refused fs (subst (λ (l : List Event). HasPlayed trace trace.events refused l) (sym same) h)
     (subst (λ (x : Config). IsWhole x fs) config whole)
+    (subst (λ (l : List Event). AllTurnsAreExact (config_of trace) l) (sym same) exact)
 
 -- An event of the trace.
 pub event_at : (trace : Contents) (events : List TraceEvent) (i : ℕ) (event : TraceEvent) → IsPlayable trace

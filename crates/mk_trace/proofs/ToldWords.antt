@@ -22,6 +22,7 @@ use Rattle.mk_alloc.specs.TurnCycles.{has_step}
 use Rattle.mk_alloc.proofs.ListParts.{lacks_append}
 use Rattle.mk_trace.specs.Calls.{IsHome, SameCalls}
 use Rattle.mk_trace.specs.Ends.{LeavesAllocations}
+use Rattle.mk_trace.specs.ExactPlays.{StayExact}
 use Rattle.mk_trace.specs.Looking.{LeavesTable, OnlyLooks, word_behind}
 use Rattle.mk_trace.specs.Peaks.{greatest}
 use Rattle.mk_trace.proofs.GreatestParts.{from-append, last_below}
@@ -99,8 +100,9 @@ module _ (w : WordsState) (h : HostState) (home : IsHome w h) (host : h.pass.sea
   all = subst (λ (y : WordsState). HasAll y.config h.pass.seats) (sym home.table) home.all
 
   pub look_only_looks : SameCalls w.config h.pass.seen k.pass.seen
-      → LeavesAllocations w.config h.pass.seen k.pass.seen → OnlyLooks w.config h.pass.seen k.pass.seen
-  look_only_looks same leaves = record {
+      → LeavesAllocations w.config h.pass.seen k.pass.seen → StayExact w.config h.pass.seen k.pass.seen
+      → OnlyLooks w.config h.pass.seen k.pass.seen
+  look_only_looks same leaves exact = record {
     calls = same;
     leaves = leaves;
     table = subst (λ (y : WordsState). LeavesTable (left y.config h.pass.seen) (left y.config k.pass.seen)) home.table
@@ -108,6 +110,7 @@ module _ (w : WordsState) (h : HostState) (home : IsHome w h) (host : h.pass.sea
     most = λ measure.
         subst (λ (y : WordsState). greatest y.config measure k.pass.seen ≡ greatest y.config measure h.pass.seen)
         home.table (told_most h.pass k.pass x n tells own all history measure);
+    exact = exact;
   }
 
   pub look_tells_word : n ≡ word_behind w.config h.pass.seen x

@@ -1,5 +1,6 @@
 pub mod Calls
 pub mod Ends
+pub mod ExactPlays
 pub mod Freeing
 pub mod Grammar
 pub mod Laws
@@ -7,6 +8,7 @@ pub mod Ledgers
 pub mod Lines
 pub mod Looking
 pub mod Numbers
+pub mod PeakBounds
 pub mod Peaks
 pub mod Playing
 pub mod Printed

@@ -9,6 +9,7 @@ use Rattle.mk_core.specs.History.{World, left}
 use Rattle.mk_core.specs.Words.{named_word}
 use Rattle.mk_trace.specs.Calls.{SameCalls}
 use Rattle.mk_trace.specs.Ends.{LeavesAllocations}
+use Rattle.mk_trace.specs.ExactPlays.{StayExact}
 use Rattle.mk_trace.specs.Peaks.{greatest}
 
 -- All words but the turn word, and the allocations
@@ -16,13 +17,14 @@ pub record LeavesTable (w v : World) : Type 0 where
   pub allocations : v.allocations ≡ w.allocations
   pub words : v.now.words ≡ record w.now.words { turn = v.now.words.turn }
 
--- The host only looked: no call was made, no cycle began or ended, and the table and all measures of the allocations
--- are as they were.
+-- The host only looked: no call was made, no cycle began or ended, the table and all measures of the allocations are as
+-- they were, and where all turns were exact they are.
 pub record OnlyLooks (c : Config) (es fs : List Event) : Type 0 where
   pub calls : SameCalls c es fs
   pub leaves : LeavesAllocations c es fs
   pub table : LeavesTable (left c es) (left c fs)
   pub most : (measure : List PlacedAllocation → ℕ) → greatest c measure fs ≡ greatest c measure es
+  pub exact : StayExact c es fs
 
 -- the word, after these events
 abbrev pub word_behind : Config → List Event → Word → ℕ

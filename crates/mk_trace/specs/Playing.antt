@@ -1,7 +1,7 @@
 -- Playing a trace: the operations that its events make, given their answers, on a heap of one caller whose globals are
 -- the slots.
-use Rattle.std.specs.Prelude.{◌≡◌, ℕ, ◌+◌, ◌-◌, Bool, true, false, if◌then◌else◌, List, [], ◌∷◌, ◌++◌, length, map}
-use Rattle.std.specs.Prelude.{replicate, take, drop}
+use Rattle.std.specs.Prelude.{◌≡◌, ℕ, ◌+◌, ◌-◌, Bool, true, false, ◌&&◌, if◌then◌else◌, List, [], ◌∷◌, ◌++◌, length}
+use Rattle.std.specs.Prelude.{map, replicate, take, drop}
 use Rattle.std.specs.List.{list_any, range_with_len}
 use Rattle.mk_never.specs.declared.types.Kind.{Kind}
 use Rattle.mk_never.specs.declared.types.Kind.TheVariants.{Num, To}
@@ -11,14 +11,20 @@ use Rattle.mk_never.specs.NeverHeap.{Call}
 use Rattle.mk_core.specs.declared.config.Config.{Config}
 use Rattle.mk_core.specs.declared.events.Answer.{Answer}
 use Rattle.mk_core.specs.declared.events.Event.{Event}
-use Rattle.mk_core.specs.declared.events.Seat.TheVariants.{Caller}
+use Rattle.mk_core.specs.declared.events.Seat.{Seat}
+use Rattle.mk_core.specs.declared.events.Seat.TheVariants.{Caller, Host}
 use Rattle.mk_core.specs.Calls.{at_rest}
 use Rattle.mk_core.specs.Counts.{is_full_answer, IsTidy}
 use Rattle.mk_core.specs.Decided.{asked, answered}
+use Rattle.mk_core.specs.Growing.{is_same_seat}
 use Rattle.mk_core.specs.History.{left, calls, IsHistory, RefinesNever}
 use Rattle.mk_core.specs.Moments.{flight_of}
 pub use Rattle.mk_check.specs.Feed.{is_refusal}
+use Rattle.mk_precision.specs.Precision.{CyclesArePrecise}
 use Rattle.mk_heap.specs.Reports as report
+use Rattle.mk_alloc.specs.TurnCycles.{TurnsOfAreExact, is_of_cycle}
+use Rattle.mk_quarantine.specs.Bounds.{QuarantineIsBounded}
+use Rattle.mk_run.specs.Unswept.{IsUnswept}
 use Rattle.mk_trace.specs.declared.trace.TraceEvent.{TraceEvent}
 use Rattle.mk_trace.specs.declared.trace.TraceEvent.TheVariants.{A, K, F, C, W}
 use Rattle.mk_trace.specs.declared.peaks.Peaks.{Peaks}
@@ -80,6 +86,10 @@ refused_events (event ∷ events) answers =
 abbrev pub calls_of_caller : List Op → List Call
 calls_of_caller ops = map (λ (o : Op). record { caller = 0; op = o }) ops
 
+-- No step of the seat begins a cycle or ends one.
+abbrev pub MakesNoCycle : Seat → List Event → Type 0
+MakesNoCycle s es = list_any (λ (e : Event). is_same_seat s e.seat && is_of_cycle e.step) es ≡ false
+
 -- A history is what playing the trace makes: it refines the heap that never reuses storage, its calls are those of the
 -- events, in order, and none is under way.
 pub record IsPlayed (trace : Contents) (es : List Event) : Type 0 where
@@ -89,6 +99,17 @@ pub record IsPlayed (trace : Contents) (es : List Event) : Type 0 where
   pub ops : asked (calls (config_of trace) es)
       ≡ calls_of_caller (ops_played trace.events (answered (calls (config_of trace) es)))
   pub at_rest : flight_of (left (config_of trace) es).now (Caller 0) ≡ at_rest
+  -- A Free begins a cycle exactly where it is due, and ends it in its call. A New begins or ends one only where its
+  -- object fits nowhere. The host makes none.
+  pub cycles : TurnsOfAreExact false (config_of trace) (Caller 0) es
+  pub host : MakesNoCycle Host es
+  -- No mark is a sweeping one. So each cycle releases all of its snapshot that no pointer led to from the `begin` to
+  -- the `close`, and after its `end` that storage counts as free.
+  pub unswept : IsUnswept (config_of trace) es
+  pub precise : CyclesArePrecise (config_of trace) es
+  -- What quarantine costs: where nobody holds the turn, what was freed since the last `begin` is at most a quarter of
+  -- what is held, the last cycle kept the rest, and freed large objects take no memory.
+  pub bounded : QuarantineIsBounded false (config_of trace) es
 
 -- the history of the heap on which the trace was played
 abbrev pub history_of : Peaks → List Event

@@ -5,6 +5,7 @@ ghost use Rattle.mk_core.specs.Counts.{ends};
 ghost use Rattle.mk_core.specs.History.{never_behind};
 ghost use Rattle.mk_trace.specs.Calls.{IsHome, MayCome, MayBePlayed, Calls, PlaysEvent, most_held, HoldsMostAtEnd};
 ghost use Rattle.mk_trace.specs.Ends.{EndsTell, IsIdle, LeavesAllocations};
+ghost use Rattle.mk_trace.specs.ExactPlays.{StayExact};
 ghost use Rattle.mk_trace.specs.Freeing.{FlagsBehindCall, FreesItsSlot, FreesSlot, QuarantinesMostWhereFreed};
 ghost use Rattle.mk_trace.specs.Ledgers.{Keeps};
 ghost use Rattle.mk_trace.specs.Traces.{slot_of};
@@ -42,6 +43,8 @@ fn call<E: Engine, R: Threads + Wait + Sync>(
     ensures calls { Calls heap.now.config host.old.pass.seen op result host.new.pass.seen }
     ensures held { HoldsMostAtEnd heap.now.config host.old.pass.seen host.new.pass.seen }
     ensures ends { E.on ≡ false → EndsTell heap.now.config host.old.pass.seen host.new.pass.seen }
+    ensures exact { E.on ≡ false → E.sweeps ≡ false
+        → StayExact heap.now.config host.old.pass.seen host.new.pass.seen }
     ensures quarantines { QuarantinesMostWhereFreed heap.now.config host.old.pass.seen op host.new.pass.seen }
     ensures flags { FlagsBehindCall heap.now.config host.old.pass.seen op host.new.pass.seen }
     ensures beside { is_under_turn op ≡ false →
@@ -71,6 +74,7 @@ fn answer<E: Engine, R: Threads + Wait + Sync>(
     requires slot { slot < 64 }
     requires points { FreesSlot (never_behind heap.now.config host.old.pass.seen) slot op }
     requires off { E.on ≡ false }
+    requires unswept { E.sweeps ≡ false }
     requires home { IsHome heap.now host.old }
     requires idle { IsIdle heap.now.config host.old.pass.seen }
     requires few { ends host.old.pass.seen < 18446744073709551615 }
@@ -86,6 +90,7 @@ fn answer<E: Engine, R: Threads + Wait + Sync>(
     ensures calls { IfOk result (λ told. Calls heap.now.config host.old.pass.seen op told host.new.pass.seen) }
     ensures held { IfOk result (λ told. ledger.new.held ≡ most_held heap.now.config host.new.pass.seen) }
     ensures ends { IfOk result (λ told. ends host.new.pass.seen ≤ ends host.old.pass.seen + 1) }
+    ensures exact { IfOk result (λ told. StayExact heap.now.config host.old.pass.seen host.new.pass.seen) }
     ensures keeps { IfOk result (λ told. Keeps heap.now.config host.new.pass.seen ledger.new.freed) }
 {
     let freed = object_to_free(rt, heap, host, slot, op);
@@ -111,6 +116,7 @@ pub(crate) fn refuses<E: Engine, R: Threads + Wait + Sync>(
 ) -> Result<bool, NoMemory>
     requires slot { slot_of event < 64 }
     requires off { E.on ≡ false }
+    requires unswept { E.sweeps ≡ false }
     requires home { IsHome heap.now host.old }
     requires idle { IsIdle heap.now.config host.old.pass.seen }
     requires few { ends host.old.pass.seen + 6 < 18446744073709551615 }
@@ -128,6 +134,7 @@ pub(crate) fn refuses<E: Engine, R: Threads + Wait + Sync>(
         PlaysEvent heap.now.config host.old.pass.seen event refused host.new.pass.seen) }
     ensures held { IfOk result (λ refused. ledger.new.held ≡ most_held heap.now.config host.new.pass.seen) }
     ensures ends { IfOk result (λ refused. ends host.new.pass.seen ≤ ends host.old.pass.seen + 6) }
+    ensures exact { IfOk result (λ refused. StayExact heap.now.config host.old.pass.seen host.new.pass.seen) }
     ensures keeps { IfOk result (λ refused. Keeps heap.now.config host.new.pass.seen ledger.new.freed) }
 {
     let slot = event.slot();

@@ -4,6 +4,7 @@ ghost use Rattle.mk_core.specs.declared.config.Config.{Config};
 ghost use Rattle.mk_core.specs.declared.events.Event.{Event};
 ghost use Rattle.mk_core.specs.Allocations.{PlacedAllocation};
 ghost use Rattle.mk_trace.specs.Laws.{IsPlayable, IsGreatest};
+ghost use Rattle.mk_trace.specs.PeakBounds.{BoundsMeetPeaks};
 ghost use Rattle.mk_trace.specs.Peaks.{greatest};
 ghost use Rattle.mk_trace.specs.Traces.{Contents, IsOfSomeText};
 
@@ -16,4 +17,10 @@ pub fn traces_are_playable()
 pub fn greatest_is_over_all_beginnings()
     ensures { (c : Config) (measure : List PlacedAllocation → ℕ) (es : List Event)
         → IsGreatest c measure es (greatest c measure es) }
+{}
+
+/// Where calls end the cycles that they begin, the peaks bound what quarantine costs: at each moment at which nobody
+/// holds the turn, what was freed since the last `begin` is at most a quarter of the peak of held words.
+pub fn peaks_bound_quarantine()
+    ensures { BoundsMeetPeaks }
 {}

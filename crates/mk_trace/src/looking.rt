@@ -14,11 +14,10 @@ ghost use Rattle.mk_trace.specs.Ledgers.{object_of};
 ghost use Rattle.mk_trace.specs.Looking.{OnlyLooks, word_behind};
 
 use crate::ledger::FreedObject;
-use mk_core::Word;
+use mk_core::{Word, has_bit, words_under};
 use mk_geom::{Cell, lookup};
 use mk_heap::{Heap, Host};
 use mk_never::Op;
-use mk_tracing::{has_bit, words_under};
 use std::sync::Wait;
 
 /// What a word is. It is no call.

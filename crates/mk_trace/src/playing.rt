@@ -5,6 +5,7 @@ ghost use Rattle.mk_core.specs.Counts.{ends};
 ghost use Rattle.mk_core.specs.History.{never_behind};
 ghost use Rattle.mk_trace.specs.Calls.{IsHome, AreNull, SameCalls, PlaysEvent, HasPlayed, most_held};
 ghost use Rattle.mk_trace.specs.Ends.{IsIdle};
+ghost use Rattle.mk_trace.specs.ExactPlays.{StayExact};
 ghost use Rattle.mk_trace.specs.Laws.{IsEventOf};
 ghost use Rattle.mk_trace.specs.Ledgers.{Keeps};
 ghost use Rattle.mk_trace.specs.Playing as spec;
@@ -37,6 +38,7 @@ fn play_event<E: Engine, R: Threads + Wait + Sync>(
 ) -> Result<bool, NoMemory>
     requires config { heap.now.config ≡ spec.config_of trace.now }
     requires off { E.on ≡ false }
+    requires unswept { E.sweeps ≡ false }
     requires home { IsHome heap.now host.old }
     requires idle { IsIdle heap.now.config host.old.pass.seen }
     requires few { ends host.old.pass.seen + 6 < 18446744073709551615 }
@@ -54,6 +56,7 @@ fn play_event<E: Engine, R: Threads + Wait + Sync>(
         PlaysEvent heap.now.config host.old.pass.seen event refused host.new.pass.seen) }
     ensures held { IfOk result (λ refused. ledger.new.held ≡ most_held heap.now.config host.new.pass.seen) }
     ensures ends { IfOk result (λ refused. ends host.new.pass.seen ≤ ends host.old.pass.seen + 6) }
+    ensures exact { IfOk result (λ refused. StayExact heap.now.config host.old.pass.seen host.new.pass.seen) }
     ensures keeps { IfOk result (λ refused. Keeps heap.now.config host.new.pass.seen ledger.new.freed) }
 {
     host.is_in_order();
@@ -97,6 +100,7 @@ fn play_events<E: Engine, R: Threads + Wait + Sync>(
 ) -> Result<u64, NoMemory>
     requires config { heap.now.config ≡ spec.config_of trace.now }
     requires off { E.on ≡ false }
+    requires unswept { E.sweeps ≡ false }
     requires home { IsHome heap.now host.old }
     requires idle { IsIdle heap.now.config host.old.pass.seen }
     requires none_ended { ends host.old.pass.seen ≡ 0 }
@@ -109,6 +113,7 @@ fn play_events<E: Engine, R: Threads + Wait + Sync>(
     ensures held { IfOk result (λ refused. ledger.new.held ≡ most_held heap.now.config host.new.pass.seen) }
     ensures keeps { IfOk result (λ refused. Keeps heap.now.config host.new.pass.seen ledger.new.freed) }
     ensures played { IfOk result (λ refused. HasPlayed trace.now trace.now.events refused host.new.pass.seen) }
+    ensures exact { IfOk result (λ refused. StayExact heap.now.config host.old.pass.seen host.new.pass.seen) }
 {
     let events = trace.events();
     let mut refused = 0;
@@ -127,6 +132,7 @@ fn play_by<E: Engine, R: Threads + Wait + Sync>(
     trace: &Trace,
 ) -> Result<Peaks, NoMemory>
     requires off { E.on ≡ false }
+    requires unswept { E.sweeps ≡ false }
     ensures played { IfOk result (λ peaks. IsPlayed trace.now (history_of peaks)) }
     ensures peaks { IfOk result (λ peaks. ArePeaks trace.now (history_of peaks) peaks) }
 {

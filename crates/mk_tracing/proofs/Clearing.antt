@@ -8,7 +8,7 @@ use Rattle.mk_core.specs.Cells.{head_page}
 use Rattle.mk_words.specs.States.{PassState}
 use Rattle.mk_tracing.specs.Stops.{still_words}
 use Rattle.mk_tracing.proofs.DirtyWords.{dirty_is_one}
-use Rattle.mk_tracing.specs.Grays.{BlacksFewer, DirtyFewer, HasDirtyPart, IsCleaner, IsUnscanned}
+use Rattle.mk_tracing.specs.Grays.{BlacksFewer, DirtyFewer, HasDirtyPart, IsCleaner, DirtyIsUnscanned}
 
 -- a word that is cleared, and the others
 
@@ -79,14 +79,14 @@ dirt_stays w v page e p z = ap (λ (x : Words). slice_index x.dirty p) e ∙ cle
 pub same_dirt : (w v : Words) (p : ℕ) → BlacksFewer w v → slice_index v.dirty p ≡ slice_index w.dirty p
 same_dirt w v p fewer = ap (λ (x : Words). slice_index x.dirty p) fewer.is
 
-pub not_dirty : (w v : Words) (page : ℕ) → v ≡ w → slice_index w.dirty page ≡ 0 → IsUnscanned v page
+pub not_dirty : (w v : Words) (page : ℕ) → v ≡ w → slice_index w.dirty page ≡ 0 → DirtyIsUnscanned v page
 not_dirty w v page e z =
     let clean : slice_index v.dirty page ≡ 0 = ap (λ (x : Words). slice_index x.dirty page) e ∙ z in
     record { own = λ some. absurd (some clean); head = λ some. absurd (some clean) }
 
 -- A dirty page whose black word is cleared, and that of its head.
 pub cleared_unscanned : (v : Words) (page : ℕ) → slice_index v.blacks page ≡ 0
-    → slice_index v.blacks (head_page v page) ≡ 0 → IsUnscanned v page
+    → slice_index v.blacks (head_page v page) ≡ 0 → DirtyIsUnscanned v page
 cleared_unscanned v page own head = record { own = λ some. own; head = λ some. head }
 
 pub own_part : (p : PassState) (page : ℕ) → slice_index (still_words p).dirty page ≢ 0

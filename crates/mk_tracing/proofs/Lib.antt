@@ -11,5 +11,6 @@ pub mod NoGrays
 pub mod FirstBits
 pub mod Blackened
 pub mod Clearing
+pub mod FreePages
 pub mod Closes
 pub mod DirtyWords

@@ -1,5 +1,5 @@
 -- Marks that are added: what points well goes on doing so.
-use Rattle.std.proofs.Common.{◌≡◌, ◌≢◌, ◌⊎◌, ℕ, ◌+◌, ◌*◌, ◌-◌, ◌/◌, ◌^◌, ◌<◌, ◌≤◌, Bool, true, List, length}
+use Rattle.std.proofs.Common.{◌≡◌, ◌≢◌, ◌⊎◌, ℕ, ◌+◌, ◌*◌, ◌-◌, ◌/◌, ◌^◌, ◌<◌, ◌≤◌, Bool, true, false, List, length}
 use Rattle.std.proofs.Common.{option_and_then, refl, sym, ◌∙◌, ap, subst, inl, inr, arith}
 use Rattle.std.specs.Prelude.{slice_index_or, Option, Some, None, slice_index, slice_set, bit_or, nat_le, nat_lt}
 use Rattle.std.specs.Prelude.{if◌then◌else◌}
@@ -71,24 +71,15 @@ marked_now w v cell lt small e =
     (subst (λ n. has_bit n cell.index ≡ true) (bit_for_small cell.index small) (bit_for_has cell.index small))
 
 -- what lies outside the heap points into nothing
-pub outside_none : (pages : ℕ) (ps : List Page) (u : ℕ) → (u < 65536) ⊎ (pages ≤ (u - 65536) / 512)
+pub outside_none : (pages : ℕ) (ps : List Page) (u : ℕ) → is_heap_address pages u ≡ false
     → pointed_cell pages ps u ≡ None
 unfolding pointed_cell
 outside_none pages ps u out = ap (λ (b : Bool). if b then option_and_then
     (λ h. cell_under h (page_at_address u) (word_at_address u))
-    (header_of (slice_index_or ps (page_at_address u) free_page).header) else None)
-    (false_from_ne_true (is_heap_address pages u) (λ h.
-    let parts = and_parts (nat_le 65536 u) (nat_lt u (65536 + 512 * pages)) h in
-    let low = leb-true 65536 u parts.0 in
-    let high = ltb-true u (65536 + 512 * pages) parts.1 in
-    never out low high))
-  where
-    never : (u < 65536) ⊎ (pages ≤ (u - 65536) / 512) → 65536 ≤ u → u < 65536 + 512 * pages → ⊥
-    never (inl a) low high = omega arith
-    never (inr b) low high = omega arith
+    (header_of (slice_index_or ps (page_at_address u) free_page).header) else None) out
 
 pub zero_none : (pages : ℕ) (ps : List Page) → pointed_cell pages ps 0 ≡ None
-zero_none pages ps = outside_none pages ps 0 (inl (omega arith))
+zero_none pages ps = outside_none pages ps 0 refl
 
 -- A value that points into a cell isn't 0.
 pub some_not_zero : (pages : ℕ) (ps : List Page) (u : ℕ) (cell : Cell) → pointed_cell pages ps u ≡ Some cell → u ≢ 0

@@ -53,7 +53,7 @@ use Rattle.mk_words.specs.States.{PassState, now_of, call_of, world_of, event_of
 use Rattle.mk_words.specs.Steps.{Makes, Finds, IsEnabledTo, may_decide as may_decide_call}
 use Rattle.mk_words.specs.TurnSteps.{Acts, world_at}
 use Rattle.mk_words.proofs.Undecided.{decides_nothing}
-use Rattle.mk_tracing.specs.Stops.{IsReady, is_loaded, is_loaded_at}
+use Rattle.mk_tracing.specs.Stops.{HolderIsLoaded, is_loaded, is_loaded_at}
 use Rattle.mk_tracing.specs.Tracing.{Untouched, untouched_of, is_tracing}
 
 -- what tracing doesn't touch, from what the frame law speaks of
@@ -140,7 +140,7 @@ no_marker c m (Caller k) s holds h = h (Caller k)
 no_marker c m (Marker k) s holds h = absurd holds
 no_marker c m Host s holds h = h Host
 
-pub may_step : (p : PassState) (s : Step) → IsReady p → Holds p.table.config (now_of p) p.seat
+pub may_step : (p : PassState) (s : Step) → HolderIsLoaded p → Holds p.table.config (now_of p) p.seat
     → is_of_any_holder s ≡ true
     → is_in_range p.table.config p.seat (call_of p) s ≡ true
     → has_gates p.table.config (now_of p).words p.seat (call_of p) s ≡ true
@@ -288,7 +288,7 @@ module _ (p q : PassState) (s : Step) (a : Acts p s q) (quiet : is_quiet s ≡ t
 
 -- the seat is as it was, and its call
 pub still_ready : (p q : PassState) (s : Step) (m : Makes p s q) → untouched_of (world_of q) ≡ untouched_of (world_of p)
-    → IsReady p → IsReady q
+    → HolderIsLoaded p → HolderIsLoaded q
 still_ready p q s m same ready =
     let flights : (now_of q).seats.flights ≡ (now_of p).seats.flights = ap (λ (x : Untouched). x.flights) same in
     let seat : q.seat ≡ p.seat = ap (λ (x : PassState). x.seat) m.is in

@@ -33,7 +33,7 @@ use Rattle.mk_words.specs.Steps.{Finds}
 use Rattle.mk_words.specs.TurnSteps.{Acts, world_at}
 use Rattle.mk_tracing.specs.Grays.{with_marks, with_blacks, without_blacks, without_dirty, MarksOn, IsInHand}
 use Rattle.mk_tracing.specs.Grays.{TracesReached}
-use Rattle.mk_tracing.specs.Stops.{IsWanted, is_plain, is_root, still_words, hand_of}
+use Rattle.mk_tracing.specs.Stops.{IsWanted, is_page_word, is_root, still_words, hand_of}
 use Rattle.mk_tracing.specs.Tracing.{Traces, untouched_of, is_marking}
 use Rattle.mk_tracing.proofs.Steps.{is_quiet, is_late, step_counts, step_untouched, still_ready, found_there}
 use Rattle.mk_tracing.proofs.Parts.{traces_step}
@@ -212,10 +212,10 @@ module _ (p q : PassState) (wanted : IsWanted p) (all : HoldsAll p.table.config 
       ∙ ap (λ (h : Holding). or_else (hand_given p.table.config (world_at a.makes).now p.seat x
       (found p.table.config (world_at a.makes).now (event_of p (step.Look x)))) h.hand) a.holding
 
-  pub plain_hand : is_plain x ≡ true → hand_of q ≡ hand_of p
+  pub plain_hand : is_page_word x ≡ true → hand_of q ≡ hand_of p
   plain_hand plain = hand_now ∙ by x (found p.table.config (world_at a.makes).now (event_of p (step.Look x))) plain
     where
-      by : (y : Word) (value : ℕ) → is_plain y ≡ true
+      by : (y : Word) (value : ℕ) → is_page_word y ≡ true
           → or_else (hand_given p.table.config (world_at a.makes).now p.seat y value) (hand_of p) ≡ hand_of p
       by (word.Head pg) value h = refl
       by (word.Used pg) value h = refl

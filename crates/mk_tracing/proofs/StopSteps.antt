@@ -28,7 +28,7 @@ use Rattle.mk_words.specs.Steps.{Finds}
 use Rattle.mk_words.specs.TurnSteps.{Acts}
 use Rattle.mk_tracing.specs.Grays.{ReachedMarksSweepNothing, HasDirtyPart, IsGray, IsGrayWord, IsInHand, HandPointsInto}
 use Rattle.mk_tracing.specs.Grays.{MarksOn, MarksReached, TracesReached}
-use Rattle.mk_tracing.specs.Stops.{IsWanted, is_plain, is_root, still_words}
+use Rattle.mk_tracing.specs.Stops.{IsWanted, is_page_word, is_root, still_words}
 use Rattle.mk_tracing.specs.Tracing.{is_marking}
 use Rattle.mk_tracing.proofs.CellWords.{cell_of_word, words_in_heap}
 use Rattle.mk_tracing.proofs.MaySteps.{marks_by}
@@ -58,7 +58,7 @@ on_then t u v one two =
 
 -- what each step keeps to
 
-looks_freely : (c : Config) (m : Moment) (x : Word) → is_plain x ≡ true → TracesReached c m (step.Look x)
+looks_freely : (c : Config) (m : Moment) (x : Word) → is_page_word x ≡ true → TracesReached c m (step.Look x)
 looks_freely c m (word.Heap n) h = cc
 looks_freely c m _ h = tt
 
@@ -66,7 +66,7 @@ looks_at_root : (c : Config) (m : Moment) (x : Word) → is_root x ≡ true → 
 looks_at_root c m (word.Heap n) h = cc
 looks_at_root c m _ h = tt
 
-plain_quiet : (x : Word) → is_plain x ≡ true → is_quiet (step.Look x) ≡ true
+plain_quiet : (x : Word) → is_page_word x ≡ true → is_quiet (step.Look x) ≡ true
 plain_quiet (word.Quar p) h = cc
 plain_quiet _ h = refl
 
@@ -103,7 +103,7 @@ reached_there p w cell same holding r =
 
 module _ (t u : TurnState) (wanted : IsWanted t.pass) (all : HoldsAll t.pass.table.config (now_of t.pass) t.pass.seat)
     (own : Has t.pass.seats t.pass.seat) (same : u.op ≡ t.op) where
-  pub on_plain : (x : Word) → Acts t.pass (step.Look x) u.pass → is_plain x ≡ true → MarksOn t u
+  pub on_plain : (x : Word) → Acts t.pass (step.Look x) u.pass → is_page_word x ≡ true → MarksOn t u
   on_plain x a plain =
       marks_on t.pass u.pass wanted all own (step.Look x) a (plain_quiet x plain) t.op u.op same
       (λ w e h. looks_freely t.pass.table.config w.now x plain)

@@ -15,7 +15,7 @@ use Rattle.mk_words.specs.States.{PassState, now_of}
 use Rattle.mk_words.specs.Steps.{Finds}
 use Rattle.mk_words.specs.TurnSteps.{Acts, world_at}
 use Rattle.mk_tracing.specs.Grays.{TracesReached}
-use Rattle.mk_tracing.specs.Stops.{IsReady}
+use Rattle.mk_tracing.specs.Stops.{HolderIsLoaded}
 use Rattle.mk_tracing.specs.Tracing.{Traces, Counted, is_tracing, is_marking, is_waiting, is_want}
 use Rattle.mk_tracing.proofs.Steps.{step_counts, step_untouched, still_ready, found_there}
 use Rattle.mk_tracing.proofs.Parts.{traces_step, traces_wider, counted_then, counted_wider}
@@ -27,7 +27,7 @@ phase_there p q s a = ap (λ (x : Steady). x.phase) a.turn.steady
 one_more : (n : ℕ) → n % 8 ≡ 1 → (n + 1) % 2 ^ 64 % 8 ≡ 2
 one_more n h = omega arith
 
-module _ (p q : PassState) (a : Acts p step.Want q) (own : Has p.seats p.seat) (ready : IsReady p)
+module _ (p q : PassState) (a : Acts p step.Want q) (own : Has p.seats p.seat) (ready : HolderIsLoaded p)
     (all : HoldsAll p.table.config (now_of p) p.seat) where
   pub want_traces : Counted is_waiting TracesReached is_want p q 1
   want_traces =
@@ -35,7 +35,7 @@ module _ (p q : PassState) (a : Acts p step.Want q) (own : Has p.seats p.seat) (
       (step_untouched p q step.Want a refl all refl)
       (step_counts p q step.Want a refl) refl
 
-  pub want_ready : IsReady q
+  pub want_ready : HolderIsLoaded q
   want_ready = still_ready p q step.Want a.makes (step_untouched p q step.Want a refl all refl) ready
 
   pub want_phase : phase_of (now_of p).words ≡ 1 → phase_of (now_of q).words ≡ 2
@@ -43,7 +43,7 @@ module _ (p q : PassState) (a : Acts p step.Want q) (own : Has p.seats p.seat) (
       ap (λ (w : World). phase_of w.now.words) a.world ∙ one_more (world_at a.makes).now.words.phase
       (phase_there p q step.Want a ∙ one)
 
-module _ (p q : PassState) (a : Acts p (step.Look word.Phase) q) (own : Has p.seats p.seat) (ready : IsReady p)
+module _ (p q : PassState) (a : Acts p (step.Look word.Phase) q) (own : Has p.seats p.seat) (ready : HolderIsLoaded p)
     (all : HoldsAll p.table.config (now_of p) p.seat) where
   pub look_traces : Counted is_waiting TracesReached is_want p q 0
   look_traces =
@@ -51,7 +51,7 @@ module _ (p q : PassState) (a : Acts p (step.Look word.Phase) q) (own : Has p.se
       (step_untouched p q (step.Look word.Phase) a refl all refl)
       (step_counts p q (step.Look word.Phase) a refl) refl
 
-  pub look_ready : IsReady q
+  pub look_ready : HolderIsLoaded q
   look_ready = still_ready p q (step.Look word.Phase) a.makes
       (step_untouched p q (step.Look word.Phase) a refl all refl) ready
 

@@ -129,7 +129,7 @@ pub record RootsPointWell (pages : ℕ) (w : Words) : Type 0 where
   pub globals : (g : ℕ) → points_well pages w (slice_index w.globals g) ≡ true
 
 -- Where the page is dirty, nothing of it is black.
-pub record IsUnscanned (w : Words) (page : ℕ) : Type 0 where
+pub record DirtyIsUnscanned (w : Words) (page : ℕ) : Type 0 where
   pub own : slice_index w.dirty page ≢ 0 → slice_index w.blacks page ≡ 0
   pub head : slice_index w.dirty page ≢ 0 → slice_index w.blacks (head_page w page) ≡ 0
 

@@ -24,23 +24,23 @@ is_loaded (Caller k) f = is_loaded_at f.stage
 is_loaded _ f = true
 
 -- The call of the turn's holder has loaded what it loads.
-pub record IsReady (p : PassState) : Type 0 where
+pub record HolderIsLoaded (p : PassState) : Type 0 where
   pub loaded : is_loaded p.seat (call_of p) ≡ true
 
 -- The close is wanted, and no marker attends, nor will one.
 pub record IsWanted (p : PassState) : Type 0 where
-  pub ready : IsReady p
+  pub ready : HolderIsLoaded p
   pub phase : phase_of (now_of p).words ≡ 2
   pub none : NoneAttends (now_of p)
 
 -- a word at which a look gives no hand and decides nothing
-abbrev pub is_plain : Word → Bool
-is_plain (word.Head p) = true
-is_plain (word.Used p) = true
-is_plain (word.Mark p) = true
-is_plain (word.Black p) = true
-is_plain (word.Dirty p) = true
-is_plain _ = false
+abbrev pub is_page_word : Word → Bool
+is_page_word (word.Head p) = true
+is_page_word (word.Used p) = true
+is_page_word (word.Mark p) = true
+is_page_word (word.Black p) = true
+is_page_word (word.Dirty p) = true
+is_page_word _ = false
 
 -- a register, or a global
 abbrev pub is_root : Word → Bool

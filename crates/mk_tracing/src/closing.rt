@@ -6,7 +6,7 @@ ghost use Rattle.mk_core.specs.Words.{phase_of};
 ghost use Rattle.mk_words.specs.States.{now_of, world_of};
 ghost use Rattle.mk_words.specs.Steps.{IsEnabledTo};
 ghost use Rattle.mk_tracing.specs.Grays.{HasNoGray, MarksOn, RootsPointWell, TracesReached};
-ghost use Rattle.mk_tracing.specs.Stops.{IsReady, IsWanted, still_words};
+ghost use Rattle.mk_tracing.specs.Stops.{HolderIsLoaded, IsWanted, still_words};
 ghost use Rattle.mk_tracing.specs.Tracing.{Counted, is_tracing, is_want};
 
 use crate::dirty::clean_dirty;
@@ -35,7 +35,7 @@ fn mark_in_stop(words: &Words, stop: &mut Stopped, work: &mut Worklist)
 /// where nothing is marked before the stop, no page has a black cell.
 pub fn close_marks<R: Wait>(rt: &R, words: &Words, stop: &mut Stopped, work: &mut Worklist)
     requires one_table { stop.old.pass.table ≡ words.now }
-    requires ready { IsReady stop.old.pass }
+    requires ready { HolderIsLoaded stop.old.pass }
     requires phase { phase_of (now_of stop.old.pass).words ≡ 1 }
     ensures table { stop.new.pass.table ≡ stop.old.pass.table }
     ensures op { stop.new.op ≡ stop.old.op }

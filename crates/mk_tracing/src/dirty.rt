@@ -1,12 +1,13 @@
 //! Dirty pages: their cells are made unscanned again, and then their dirty words are cleared. A word that is 0 isn't
 //! stored to.
 ghost use Rattle.std.specs.Prelude.{◌≡◌, ◌≢◌, ℕ, ◌<◌, true, false, slice_index};
-ghost use Rattle.mk_tracing.specs.Grays.{BlacksFewer, HasDirtyPart, IsCleaner, IsUnscanned, MarksOn, without_blacks};
+ghost use Rattle.mk_tracing.specs.Grays.{BlacksFewer, HasDirtyPart, IsCleaner, DirtyIsUnscanned, MarksOn};
+ghost use Rattle.mk_tracing.specs.Grays.{without_blacks};
 ghost use Rattle.mk_tracing.specs.Stops.{IsWanted, still_words};
 
-use crate::cells::head_page;
-use crate::stepping::{clear_black, look_among, look_at, undirty_page};
+use crate::stepping::{clear_black, look_among, look_at, next_in_use, undirty_page};
 use mk_core::Word;
+use mk_geom::head_page_under;
 use mk_words::{Stopped, Words};
 
 /// Makes the cells of a page unscanned again, of which a part is dirty.
@@ -31,7 +32,7 @@ fn unblack_if_dirty(words: &Words, stop: &mut Stopped, pages: u64, page: u64) ->
     requires page { page < words.now.config.pages }
     ensures on { MarksOn stop.old stop.new }
     ensures fewer { BlacksFewer (still_words stop.old.pass) (still_words stop.new.pass) }
-    ensures unscanned { IsUnscanned (still_words stop.new.pass) page }
+    ensures unscanned { DirtyIsUnscanned (still_words stop.new.pass) page }
     ensures dirty { result ≡ true → slice_index (still_words stop.old.pass).dirty page ≢ 0 }
     ensures clean { result ≡ false → slice_index (still_words stop.old.pass).dirty page ≡ 0 }
 {
@@ -40,7 +41,7 @@ fn unblack_if_dirty(words: &Words, stop: &mut Stopped, pages: u64, page: u64) ->
     }
     let header = look_at(words, stop, Word::Head(page));
     unblack_page(words, stop, page);
-    let head = head_page(header, page);
+    let head = head_page_under(header, page);
     if head == page {
         return true;
     }
@@ -63,7 +64,8 @@ fn clean_if_dirty(words: &Words, stop: &mut Stopped, pages: u64, page: u64)
     }
 }
 
-/// Clears all dirty words. The cells of dirty pages, and the runs with such a page, are scanned again.
+/// Clears all dirty words. The cells of dirty pages, and the runs with such a page, are scanned again. It goes from page
+/// in use to page in use: no free page is dirty.
 pub(crate) fn clean_dirty(words: &Words, stop: &mut Stopped)
     requires one_table { stop.old.pass.table ≡ words.now }
     requires wanted { IsWanted stop.old.pass }
@@ -71,7 +73,9 @@ pub(crate) fn clean_dirty(words: &Words, stop: &mut Stopped)
     ensures clean { (p : ℕ) → p < words.now.config.pages → slice_index (still_words stop.new.pass).dirty p ≡ 0 }
 {
     let pages = words.pages();
-    for page in 0..pages {
+    let mut from = 0;
+    while let Some(page) = next_in_use(stop, from) {
         clean_if_dirty(words, stop, pages, page);
+        from = page + 1;
     }
 }

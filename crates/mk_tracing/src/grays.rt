@@ -6,10 +6,9 @@ ghost use Rattle.mk_core.specs.Cells.{cells_under};
 ghost use Rattle.mk_tracing.specs.Grays.{HasNoGray, IsGray, MarksOn};
 ghost use Rattle.mk_tracing.specs.Stops.{IsWanted, still_words};
 
-use crate::cells::{cells_under, has_bit};
-use crate::stepping::{look_among, look_at};
+use crate::stepping::{look_among, look_at, next_in_use};
 use crate::worklist::Worklist;
-use mk_core::Word;
+use mk_core::{Word, cells_under, has_bit};
 use mk_geom::Cell;
 use mk_words::{Stopped, Words};
 
@@ -49,7 +48,26 @@ fn gray_among(words: &Words, stop: &mut Stopped, page: u64, marks: u64) -> Optio
     Some(Cell { page, index })
 }
 
-/// The first gray cell from a page on, up to another.
+/// The first gray cell of a page. Where no cell is marked, no more is looked at.
+#[inline(always)]
+fn gray_on(words: &Words, stop: &mut Stopped, pages: u64, page: u64) -> Option<Cell>
+    requires one_table { stop.old.pass.table ≡ words.now }
+    requires pages { pages ≡ words.now.config.pages }
+    requires wanted { IsWanted stop.old.pass }
+    requires page { page < words.now.config.pages }
+    ensures on { MarksOn stop.old stop.new }
+    ensures words { still_words stop.new.pass ≡ still_words stop.old.pass }
+    ensures gray { IfSome result (λ cell. IsGray words.now.config.pages (still_words stop.old.pass) cell) }
+    ensures none { IfNone result (HasNoGray (still_words stop.old.pass) page) }
+{
+    let marks = look_among(words, stop, pages, Word::Mark(page));
+    if marks == 0 {
+        return None;
+    }
+    gray_among(words, stop, page, marks)
+}
+
+/// The first gray cell from a page on, up to another. It goes from page in use to page in use: a free page has no cell.
 fn gray_between(words: &Words, stop: &mut Stopped, from: u64, to: u64) -> Option<Cell>
     requires one_table { stop.old.pass.table ≡ words.now }
     requires wanted { IsWanted stop.old.pass }
@@ -60,15 +78,16 @@ fn gray_between(words: &Words, stop: &mut Stopped, from: u64, to: u64) -> Option
     ensures none { IfNone result ((p : ℕ) → from ≤ p → p < to → HasNoGray (still_words stop.old.pass) p) }
 {
     let pages = words.pages();
-    for page in from..to {
-        let marks = look_among(words, stop, pages, Word::Mark(page));
-        if marks == 0 {
-            continue;
+    let mut next = from;
+    while let Some(page) = next_in_use(stop, next) {
+        if page >= to {
+            return None;
         }
-        let found = gray_among(words, stop, page, marks);
+        let found = gray_on(words, stop, pages, page);
         if let Some(cell) = found {
             return Some(cell);
         }
+        next = page + 1;
     }
     None
 }

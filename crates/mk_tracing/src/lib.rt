@@ -2,7 +2,6 @@
 //! marked cell, and looks again at what is dirty.
 #![tactic(auto)]
 
-mod cells;
 mod closing;
 mod dirty;
 mod grays;
@@ -14,7 +13,6 @@ mod values;
 mod waiting;
 mod worklist;
 
-pub use cells::{bit, cells_under, has_bit, has_no_pointers, words_under};
 pub use closing::close_marks;
 pub use laws::reached_marks_sweep_nothing;
 pub use roots::mark_roots;

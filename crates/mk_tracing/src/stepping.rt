@@ -1,16 +1,17 @@
 //! Steps in the stop, when the close is wanted and no marker attends.
 ghost use Rattle.std.specs.Prelude.{◌≡◌, ◌≢◌, ◌+◌, ◌<◌, ◌^◌, true, false, slice_index, slice_set, bit_or};
 ghost use Rattle.mk_core.specs.Cells.{cell_words, first_word, has_no_pointers, head_page, header_in};
+ghost use Rattle.mk_core.specs.History.{IsHistory};
 ghost use Rattle.mk_core.specs.Ranges.{is_word};
 ghost use Rattle.mk_core.specs.StopConditions.{may_turn_black};
 ghost use Rattle.mk_core.specs.Words.{named_word};
+ghost use Rattle.mk_page_map.specs.Members.{IsNext, is_in_use};
 ghost use Rattle.mk_tracing.specs.Grays.{with_marks, with_blacks, without_blacks, without_dirty, HasDirtyPart, IsGray};
 ghost use Rattle.mk_tracing.specs.Grays.{IsInHand, HandPointsInto, MarksOn};
-ghost use Rattle.mk_tracing.specs.Stops.{IsWanted, hand_of, is_plain, is_root, still_words};
+ghost use Rattle.mk_tracing.specs.Stops.{IsWanted, hand_of, is_page_word, is_root, still_words};
 
-use crate::cells::{PAGE_WORDS, bit};
-use mk_core::Word;
-use mk_geom::Cell;
+use mk_core::{Word, bit};
+use mk_geom::{Cell, PAGE_WORDS};
 use mk_words::{Stopped, Words};
 
 /// Looks at a word that gives no hand, in a table of this many pages.
@@ -20,7 +21,7 @@ pub(crate) fn look_among(words: &Words, stop: &mut Stopped, pages: u64, x: Word)
     requires pages { pages ≡ words.now.config.pages }
     requires wanted { IsWanted stop.old.pass }
     requires word { is_word words.now.config x ≡ true }
-    requires plain { is_plain x ≡ true }
+    requires plain { is_page_word x ≡ true }
     ensures on { MarksOn stop.old stop.new }
     ensures words { still_words stop.new.pass ≡ still_words stop.old.pass }
     ensures hand { hand_of stop.new.pass ≡ hand_of stop.old.pass }
@@ -35,13 +36,23 @@ pub(crate) fn look_at(words: &Words, stop: &mut Stopped, x: Word) -> u64
     requires one_table { stop.old.pass.table ≡ words.now }
     requires wanted { IsWanted stop.old.pass }
     requires word { is_word words.now.config x ≡ true }
-    requires plain { is_plain x ≡ true }
+    requires plain { is_page_word x ≡ true }
     ensures on { MarksOn stop.old stop.new }
     ensures words { still_words stop.new.pass ≡ still_words stop.old.pass }
     ensures hand { hand_of stop.new.pass ≡ hand_of stop.old.pass }
     ensures found { result ≡ named_word (still_words stop.old.pass) x }
 {
     look_among(words, stop, words.pages(), x)
+}
+
+/// The lowest page that isn't free, of those from this one on. The page map knows it.
+#[inline(always)]
+pub(crate) fn next_in_use(stop: &Stopped, from: u64) -> Option<u64>
+    ensures history { IsHistory stop.now.pass.table.config stop.now.pass.seen }
+    ensures next { IsNext (is_in_use (still_words stop.now.pass).pages) from stop.now.pass.table.config.pages result }
+{
+    stop.is_in_order();
+    stop.next_in_use(from)
 }
 
 /// Looks at a register or a global, whose value is then the hand.

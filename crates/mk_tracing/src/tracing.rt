@@ -5,12 +5,11 @@ ghost use Rattle.mk_core.specs.StopConditions.{may_turn_black};
 ghost use Rattle.mk_tracing.specs.Grays.{BlackensOne, ColoursMore, HasNoGray, IsGray, MarksMore, MarksOn};
 ghost use Rattle.mk_tracing.specs.Stops.{IsWanted, still_words};
 
-use crate::cells::{has_no_pointers, words_under};
 use crate::grays::next_gray;
 use crate::stepping::{blacken_cell, look_at, look_at_word};
 use crate::values::mark_value;
 use crate::worklist::Worklist;
-use mk_core::Word;
+use mk_core::{Word, has_no_pointers, words_under};
 use mk_geom::Cell;
 use mk_words::{Stopped, Words};
 

@@ -3,7 +3,7 @@ ghost use Rattle.std.specs.Prelude.{◌≡◌, ◌<◌};
 ghost use Rattle.mk_core.specs.Words.{phase_of};
 ghost use Rattle.mk_words.specs.States.{now_of};
 ghost use Rattle.mk_tracing.specs.Grays.{TracesReached};
-ghost use Rattle.mk_tracing.specs.Stops.{IsReady, IsWanted};
+ghost use Rattle.mk_tracing.specs.Stops.{HolderIsLoaded, IsWanted};
 ghost use Rattle.mk_tracing.specs.Tracing.{Counted, is_waiting, is_want};
 
 use crossbeam_utils::Backoff;
@@ -14,11 +14,11 @@ use std::sync::Wait;
 /// Wants the close.
 fn want(words: &Words, stop: &mut Stopped)
     requires one_table { stop.old.pass.table ≡ words.now }
-    requires ready { IsReady stop.old.pass }
+    requires ready { HolderIsLoaded stop.old.pass }
     requires phase { phase_of (now_of stop.old.pass).words ≡ 1 }
     ensures table { stop.new.pass.table ≡ stop.old.pass.table }
     ensures op { stop.new.op ≡ stop.old.op }
-    ensures ready { IsReady stop.new.pass }
+    ensures ready { HolderIsLoaded stop.new.pass }
     ensures phase { phase_of (now_of stop.new.pass).words ≡ 2 }
     ensures traces { Counted is_waiting TracesReached is_want stop.old.pass stop.new.pass 1 }
 {
@@ -29,11 +29,11 @@ fn want(words: &Words, stop: &mut Stopped)
 /// Looks at the phase word, which reports how many markers are in.
 fn look_at_phase(words: &Words, stop: &mut Stopped) -> u64
     requires one_table { stop.old.pass.table ≡ words.now }
-    requires ready { IsReady stop.old.pass }
+    requires ready { HolderIsLoaded stop.old.pass }
     requires phase { phase_of (now_of stop.old.pass).words ≡ 2 }
     ensures table { stop.new.pass.table ≡ stop.old.pass.table }
     ensures op { stop.new.op ≡ stop.old.op }
-    ensures ready { IsReady stop.new.pass }
+    ensures ready { HolderIsLoaded stop.new.pass }
     ensures phase { phase_of (now_of stop.new.pass).words ≡ 2 }
     ensures wanted { result < 8 → IsWanted stop.new.pass }
     ensures traces { Counted is_waiting TracesReached is_want stop.old.pass stop.new.pass 0 }
@@ -47,7 +47,7 @@ fn look_at_phase(words: &Words, stop: &mut Stopped) -> u64
 /// Wants the close, and waits until no marker is in. All gates of others are held all the while.
 pub fn want_and_wait<R: Wait>(rt: &R, words: &Words, stop: &mut Stopped)
     requires one_table { stop.old.pass.table ≡ words.now }
-    requires ready { IsReady stop.old.pass }
+    requires ready { HolderIsLoaded stop.old.pass }
     requires phase { phase_of (now_of stop.old.pass).words ≡ 1 }
     ensures table { stop.new.pass.table ≡ stop.old.pass.table }
     ensures op { stop.new.op ≡ stop.old.op }

@@ -1,2 +1,3 @@
+pub mod Sleeps
 pub mod Taking
 pub mod Unswept

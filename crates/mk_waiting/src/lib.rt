@@ -1,5 +1,7 @@
-//! Waiting for the turn.
+//! Waiting for the turn, and how whoever waits for long pauses.
 #![tactic(auto)]
+
+mod patience;
 
 ghost use Rattle.std.specs.Prelude.{◌≡◌};
 ghost use Rattle.mk_core.specs.declared.events.Step.TheVariants as step;
@@ -9,9 +11,9 @@ ghost use Rattle.mk_words.specs.TurnSteps.{IsFresh};
 ghost use Rattle.mk_waiting.specs.Taking.{TakesTurn};
 ghost use Rattle.mk_waiting.specs.Unswept.{TakingSweepsNothing};
 
-use crossbeam_utils::Backoff;
 use mk_never::Op;
 use mk_words::{Pass, Turn, Words};
+pub use patience::Patience;
 use std::sync::Wait;
 
 /// Waits for the turn, looks at it before each try, and takes it.
@@ -26,7 +28,7 @@ fn wait_for_turn<R: Wait>(rt: &R, words: &Words, home: Pass, op: Option<Op>) -> 
     ensures tidy { TalliesAreTidy result.pass.table.config result.pass.seen }
 {
     let mut pass = home;
-    let backoff = Backoff::new();
+    let mut patience = Patience::new();
     'waiting: for _ in rt.forever() {
         if words.is_turn_free(&mut pass) {
             match pass.try_take(words, op) {
@@ -34,7 +36,7 @@ fn wait_for_turn<R: Wait>(rt: &R, words: &Words, home: Pass, op: Option<Op>) -> 
                 Err((back, _)) => pass = back,
             }
         }
-        backoff.snooze();
+        patience.pause_for_turn(rt, words);
     }
     unreachable!()
 }

@@ -10,7 +10,7 @@ use Rattle.mk_why.specs.declared.found.Storage.{Storage}
 use Rattle.mk_why.specs.declared.kept.Kept.{Kept}
 use Rattle.mk_why.specs.declared.kept.Root.{Root}
 use Rattle.mk_why.specs.declared.kept.Root.TheVariants.{Global, Register}
-use Rattle.mk_why.specs.Chains.{AreKept, IsChain, IsEntryOf, IsLink, IsWhy, LeadsTo, word_of_root}
+use Rattle.mk_why.specs.Chains.{AreKept, IsChain, IsEntryOf, IsLink, IsWhy, LinksLead, word_of_root}
 use Rattle.mk_why.specs.Entries.{AreEntriesBelow}
 use Rattle.mk_why.specs.Listing.{IsTold}
 use Rattle.mk_why.specs.Stops.{base_at, view_of, world_in}
@@ -41,11 +41,11 @@ module _ (c : Config) (w : World) where
         to_the_other = x.to_the_other;
       }
 
-  leads_out : (links : List ℕ) (a b : ℕ) → LeadsTo c (world_in (view_of w)) a links b → LeadsTo c w a links b
+  leads_out : (links : List ℕ) (a b : ℕ) → LinksLead c (world_in (view_of w)) a links b → LinksLead c w a links b
   leads_out [] a b x = x
   leads_out (link ∷ links) a b x = (x.0, link_out a link x.0 x.1, leads_out links x.0 b x.2)
 
-  leads_in : (links : List ℕ) (a b : ℕ) → LeadsTo c w a links b → LeadsTo c (world_in (view_of w)) a links b
+  leads_in : (links : List ℕ) (a b : ℕ) → LinksLead c w a links b → LinksLead c (world_in (view_of w)) a links b
   leads_in [] a b x = x
   leads_in (link ∷ links) a b x = (x.0, link_in a link x.0 x.1, leads_in links x.0 b x.2)
 

@@ -7,15 +7,16 @@ use Rattle.mk_why.specs.declared.found.Found.{Found}
 use Rattle.mk_why.specs.declared.kept.Root.{Root}
 use Rattle.mk_why.specs.declared.kept.Root.TheVariants.{Global, Register}
 use Rattle.mk_why.specs.declared.tables.Tables.{Tables}
-use Rattle.mk_why.specs.Chains.{IsRoot, LeadsTo, word_of_root}
-use Rattle.mk_why.specs.Searching.{AreWays, Grows, IsDone, IsExplored, IsFound, IsNoted, IsSearch, IsWithin, at}
+use Rattle.mk_why.specs.Chains.{IsRoot, LinksLead, word_of_root}
+use Rattle.mk_why.specs.Searching.{AreWays, FindsMore, IsSearched, IsExplored, IsFound, IsNoted, IsSearch}
+use Rattle.mk_why.specs.Searching.{IsFoundWithin, at}
 use Rattle.mk_why.specs.Searching.{links_in, links_of}
 use Rattle.mk_why.specs.Stops.{View, base_at, world_in}
 use Rattle.mk_why.proofs.Searches.{Stays, links_stay, noted_stays, same_links}
 
 -- What is done stays so.
 done_stays : (c : Config) (v : View) (found more : List (Option Found)) → Stays found more → (base : ℕ)
-    → IsFound found base → IsDone c v found base → IsDone c v more base
+    → IsFound found base → IsSearched c v found base → IsSearched c v more base
 done_stays c v found more stays base x done a n begins scanned word =
     subst (λ k. IsNoted c v more (slice_index v.words.heap n) (k + 1)) (sym (same_links found more stays base x))
     (noted_stays c v found more stays (slice_index v.words.heap n) (links_in (at found base) + 1)
@@ -23,13 +24,13 @@ done_stays c v found more stays base x done a n begins scanned word =
 
 -- The search went on from one place of the queue.
 module _ (c : Config) (v : View) (r s : Tables) (place limit : ℕ) (known : place < r.count)
-    (search : IsSearch c v r limit) (behind : IsSearch c v s (links_of r place + 1)) (grows : Grows r s) where
-  pub done_more : ((i : ℕ) → i < place → IsDone c v r.found.items (slice_index r.queue.items i))
-      → IsDone c v s.found.items (slice_index r.queue.items place)
-      → (i : ℕ) → i < place + 1 → IsDone c v s.found.items (slice_index s.queue.items i)
+    (search : IsSearch c v r limit) (behind : IsSearch c v s (links_of r place + 1)) (grows : FindsMore r s) where
+  pub done_more : ((i : ℕ) → i < place → IsSearched c v r.found.items (slice_index r.queue.items i))
+      → IsSearched c v s.found.items (slice_index r.queue.items place)
+      → (i : ℕ) → i < place + 1 → IsSearched c v s.found.items (slice_index s.queue.items i)
   done_more before here i lt =
-      subst (λ n. IsDone c v s.found.items n) (sym (grows.same i (omega arith)))
-      (below_more (λ k. IsDone c v s.found.items (slice_index r.queue.items k)) place
+      subst (λ n. IsSearched c v s.found.items n) (sym (grows.same i (omega arith)))
+      (below_more (λ k. IsSearched c v s.found.items (slice_index r.queue.items k)) place
       (λ k few. done_stays c v r.found.items s.found.items grows.stays (slice_index r.queue.items k)
       (search.entries k (omega arith)) (before k few)) here i lt)
 
@@ -41,19 +42,19 @@ module _ (c : Config) (v : View) (r s : Tables) (place limit : ℕ) (known : pla
       omega arith
 
 pub all_done : (c : Config) (v : View) (r : Tables) (limit place : ℕ) → IsSearch c v r limit → r.count ≤ place
-    → ((i : ℕ) → i < place → IsDone c v r.found.items (slice_index r.queue.items i))
-    → (base : ℕ) → IsFound r.found.items base → IsDone c v r.found.items base
+    → ((i : ℕ) → i < place → IsSearched c v r.found.items (slice_index r.queue.items i))
+    → (base : ℕ) → IsFound r.found.items base → IsSearched c v r.found.items base
 all_done c v r limit place search past done base x =
     let q = search.queued base x in
-    subst (λ n. IsDone c v r.found.items n) q.is (done q.place (let low = q.known in omega arith))
+    subst (λ n. IsSearched c v r.found.items n) q.is (done q.place (let low = q.known in omega arith))
 
 -- Then chains lead to what was found.
 module _ (c : Config) (v : View) (found : List (Option Found))
-    (done : (base : ℕ) → IsFound found base → IsDone c v found base) where
-  leads_within : (links : List ℕ) (a b n : ℕ) → IsWithin found (base_at v a) n → LeadsTo c (world_in v) a links b
-      → IsWithin found (base_at v b) (n + length links)
+    (done : (base : ℕ) → IsFound found base → IsSearched c v found base) where
+  leads_within : (links : List ℕ) (a b n : ℕ) → IsFoundWithin found (base_at v a) n → LinksLead c (world_in v) a links b
+      → IsFoundWithin found (base_at v b) (n + length links)
   leads_within [] a b n x leads =
-      let y : IsWithin found (base_at v b) n = subst (λ k. IsWithin found (base_at v k) n) leads x in
+      let y : IsFoundWithin found (base_at v b) n = subst (λ k. IsFoundWithin found (base_at v k) n) leads x in
       record { entry = y.entry; there = y.there; near = let low = y.near in omega arith }
   leads_within (link ∷ links) a b n x leads =
       let next = leads.0 in

@@ -21,11 +21,11 @@ use Rattle.mk_why.specs.declared.found.Way.{Way}
 use Rattle.mk_why.specs.declared.found.Way.TheVariants.{Link, Start}
 use Rattle.mk_why.specs.declared.kept.Kept.{Kept}
 use Rattle.mk_why.specs.declared.kept.Root.{Root}
-use Rattle.mk_why.specs.Chains.{IsEntryOf, IsWhy, LeadsTo, is_kept}
+use Rattle.mk_why.specs.Chains.{IsEntryOf, IsWhy, LinksLead, is_kept}
 use Rattle.mk_why.specs.Entries.{AreEntriesBelow, IsLed, IsLedBack, IsMadeOf, IsOneMore, IsToldWhy, IsWayOf, back_to}
 use Rattle.mk_why.specs.Entries.{root_of, step_back}
 use Rattle.mk_why.specs.Listing.{IsKeptAt, IsTold}
-use Rattle.mk_why.specs.Searching.{AreApart, AreWays, IsOnward, IsWay, at}
+use Rattle.mk_why.specs.Searching.{BeginApart, AreWays, IsOnward, IsWay, at}
 use Rattle.mk_why.specs.Stops.{View, base_at, world_in}
 
 -- what is read of a table
@@ -63,7 +63,7 @@ pub led_first : (c : Config) (v : View) (found : List (Option Found)) (f : Found
     → IsWay c v found f.way f.links b → IsLedBack c v found f [] b f.links
 led_first c v found f b way = record { number = b; way = way; leads = refl; sum = omega arith }
 
-module _ (c : Config) (v : View) (found : List (Option Found)) (ways : AreWays c v found) (apart : AreApart v) where
+module _ (c : Config) (v : View) (found : List (Option Found)) (ways : AreWays c v found) (apart : BeginApart v) where
   unreleased_of : (a : ℕ) → is_scanned_allocation c (placed_at v.allocations a) ≡ true
       → (placed_at v.allocations a).released ≡ false
   unreleased_of a is =
@@ -80,7 +80,7 @@ module _ (c : Config) (v : View) (found : List (Option Found)) (ways : AreWays c
       subst (λ n. IsWay c v found on.before.way on.before.links n) same y.way
 
   led_by : (way : Way) (links : ℕ) (pushed : List ℕ) (b count x : ℕ) → IsWay c v found way links x
-      → LeadsTo c (world_in v) x (reverse pushed) b → length pushed + links ≡ count → (link : ℕ) (before : Found)
+      → LinksLead c (world_in v) x (reverse pushed) b → length pushed + links ≡ count → (link : ℕ) (before : Found)
       → step_back found (record { way = way; links = links }) ≡ Some (link, before)
       → IsLedBack c v found before (pushed ++ link ∷ []) b count
   led_by (Start root) links pushed b count x way leads sum link before is = absurd cc
@@ -95,7 +95,7 @@ module _ (c : Config) (v : View) (found : List (Option Found)) (ways : AreWays c
       (record {
         number = on.number;
         way = way_before to from links x on;
-        leads = subst (λ ls. LeadsTo c (world_in v) on.number ls b) (sym (reverse-append pushed (to ∷ [])))
+        leads = subst (λ ls. LinksLead c (world_in v) on.number ls b) (sym (reverse-append pushed (to ∷ [])))
             (x, on.onward, leads);
         sum = let long = length-append pushed (to ∷ []) in omega arith;
       }))
@@ -107,7 +107,7 @@ module _ (c : Config) (v : View) (found : List (Option Found)) (ways : AreWays c
       led_by f.way f.links pushed b count led.number led.way led.leads led.sum link before is
 
   ends_by : (way : Way) (links : ℕ) (pushed : List ℕ) (b count x : ℕ) → IsWay c v found way links x
-      → LeadsTo c (world_in v) x (reverse pushed) b → length pushed + links ≡ count
+      → LinksLead c (world_in v) x (reverse pushed) b → length pushed + links ≡ count
       → step_back found (record { way = way; links = links }) ≡ None
       → IsLed c v b count (root_of way) (reverse pushed)
   ends_by (Start root) links pushed b count x way leads sum is =

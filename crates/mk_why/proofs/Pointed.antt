@@ -29,7 +29,7 @@ use Rattle.mk_zeros.proofs.MappedWords.{mapped_stays}
 use Rattle.std.proofs.lemmas.Bool.{and_parts}
 use Rattle.mk_core.specs.Allocations.{is_mapped}
 use Rattle.std.specs.Prelude.{not}
-use Rattle.mk_why.specs.Searching.{AreApart, AreScannedFrom, IsBase, IsBasePointed, PointsAtBase}
+use Rattle.mk_why.specs.Searching.{BeginApart, AreScannedFrom, IsFirstWord, IsBasePointed, PointsAtBase}
 use Rattle.mk_why.specs.Stops.{IsStill, base_at, view_by}
 
 module _ (p : PassState) (history : IsHistory p.table.config p.seen) (still : IsStill p) where
@@ -122,7 +122,7 @@ module _ (p : PassState) (history : IsHistory p.table.config p.seen) (still : Is
       → (placed_at (world_of p).allocations b).released ≡ false
   unreleased_of b is = mapped_stays c (a b) (and_parts (is_mapped c (a b)) (not (storage_of c (a b)).leaf) is).0
 
-  module _ (base : ℕ) (is : IsBase (view_by p) base) where
+  module _ (base : ℕ) (is : IsFirstWord (view_by p) base) where
     pub bare_whole : has_no_pointers (header_in (now_of p).words (base / 64)) ≡ true
         → (b : ℕ) → base_at (view_by p) b ≡ base
         → is_scanned_allocation p.table.config (placed_at (world_of p).allocations b) ≡ true
@@ -174,7 +174,7 @@ module _ (p : PassState) (history : IsHistory p.table.config p.seen) (still : Is
         let end = st.stands.within in
         omega arith
 
-  pub apart : AreApart (view_by p)
+  pub apart : BeginApart (view_by p)
   apart i j u v same =
       let si = stands i u in
       let sj = stands j v in
@@ -219,7 +219,7 @@ module _ (p : PassState) (history : IsHistory p.table.config p.seen) (still : Is
   cell_within cell is = pointed_within k.config.pages (view_by p).words value cell (sym is)
 
 module _ (p : PassState) (history : IsHistory p.table.config p.seen) (still : IsStill p) (k : WordsState)
-    (same : p.table ≡ k) (base : ℕ) (is : IsBase (view_by p) base) where
+    (same : p.table ≡ k) (base : ℕ) (is : IsFirstWord (view_by p) base) where
   pub begins_at : base < 64 * k.config.pages
   begins_at = subst (λ (t : WordsState). base < 64 * t.config.pages) same (begins_within p history still base is)
 

@@ -10,7 +10,7 @@ use Rattle.mk_core.specs.Allocations.{placed_at, storage_words}
 use Rattle.mk_core.specs.ClosedMarks.{is_scanned_allocation}
 use Rattle.mk_why.specs.declared.found.Found.{Found}
 use Rattle.mk_why.specs.declared.tables.Tables.{Tables}
-use Rattle.mk_why.specs.Searching.{IsBase, IsDone, IsFoundThrough, IsNoted, IsSearch, at, links_in, links_of}
+use Rattle.mk_why.specs.Searching.{IsFirstWord, IsSearched, IsFoundThrough, IsNoted, IsSearch, at, links_in, links_of}
 use Rattle.mk_why.specs.Stops.{View, base_at}
 
 -- What a table has stands in it.
@@ -26,7 +26,7 @@ pub done_from : (c : Config) (v : View) (found : List (Option Found)) (base size
     → ((b : ℕ) → base_at v b ≡ base → is_scanned_allocation c (placed_at v.allocations b) ≡ true
     → size ≡ storage_words c (placed_at v.allocations b))
     → ((i : ℕ) → i < size → IsNoted c v found (slice_index v.words.heap (base + i)) (links + 1))
-    → IsDone c v found base
+    → IsSearched c v found base
 done_from c v found base size links through whole noted a n begins scanned word =
     let all = whole a begins scanned in
     let low = word.0 in
@@ -46,7 +46,7 @@ module _ (c : Config) (v : View) (r : Tables) (place limit : ℕ) (search : IsSe
         let x = search.entries place known in
         within_table r.found.items (slice_index r.queue.items place) x.entry x.there
 
-    pub queued_base : IsBase v (slice_index r.queue.items place)
+    pub queued_base : IsFirstWord v (slice_index r.queue.items place)
     queued_base =
         let x = search.entries place known in
         let y = search.ways (slice_index r.queue.items place) x.entry x.there in

@@ -11,8 +11,8 @@ use Rattle.mk_why.specs.declared.found.Found.{Found}
 use Rattle.mk_why.specs.declared.found.Way.{Way}
 use Rattle.mk_why.specs.declared.found.Way.TheVariants.{Link, Start}
 use Rattle.mk_why.specs.declared.tables.Tables.{Tables}
-use Rattle.mk_why.specs.Searching.{AreWays, Grows, IsFound, IsFoundAt, IsFoundThrough, IsNoted, IsQueued, IsSearch}
-use Rattle.mk_why.specs.Searching.{IsWay, IsWithin, SearchesOn, at, links_in, links_of}
+use Rattle.mk_why.specs.Searching.{AreWays, FindsMore, IsFound, IsFoundAt, IsFoundThrough, IsNoted, IsQueued, IsSearch}
+use Rattle.mk_why.specs.Searching.{IsWay, IsFoundWithin, SearchesOn, at, links_in, links_of}
 use Rattle.mk_why.specs.Stops.{IsStill, LooksOn, View, base_at, view_by}
 use Rattle.mk_why.proofs.Looks.{looks_at_nothing, looks_then}
 
@@ -45,7 +45,7 @@ found_stays c v found more stays base f x =
     }
 
 pub within_stays : (found more : List (Option Found)) → Stays found more → (base limit : ℕ)
-    → IsWithin found base limit → IsWithin more base limit
+    → IsFoundWithin found base limit → IsFoundWithin more base limit
 within_stays found more stays base limit x =
     record { entry = x.entry; there = stays base x.entry x.there; near = x.near }
 
@@ -64,7 +64,7 @@ pub same_links : (found more : List (Option Found)) → Stays found more → (ba
 same_links found more stays base x =
     ap links_in (stays base x.entry x.there) ∙ sym (ap links_in x.there)
 
-pub links_stay : (r s : Tables) → Grows r s → (i : ℕ) → i < r.count
+pub links_stay : (r s : Tables) → FindsMore r s → (i : ℕ) → i < r.count
     → IsFound r.found.items (slice_index r.queue.items i) → links_of s i ≡ links_of r i
 links_stay r s g i lt x =
     ap (λ n. links_in (at s.found.items n)) (g.same i lt)
@@ -72,10 +72,10 @@ links_stay r s g i lt x =
 
 -- It grows by nothing, and by one part after another.
 
-pub grows_nothing : (r : Tables) → Grows r r
+pub grows_nothing : (r : Tables) → FindsMore r r
 grows_nothing r = record { stays = λ base f h. h; same = λ i lt. refl; further = omega arith }
 
-pub grows_then : (r s x : Tables) → Grows r s → Grows s x → Grows r x
+pub grows_then : (r s x : Tables) → FindsMore r s → FindsMore s x → FindsMore r x
 grows_then r s x one two =
     record {
       stays = λ base f h. two.stays base f (one.stays base f h);
@@ -167,7 +167,7 @@ module _ (c : Config) (v : View) (r s : Tables) (base : ℕ) (f : Found) (search
       ap (λ (xs : List ℕ). slice_index xs i) queue
       ∙ get_or-set_other r.queue.items r.count i base 0 (λ e. absurd (omega arith))
 
-  pub note_grows : Grows r s
+  pub note_grows : FindsMore r s
   note_grows =
       record {
         stays = λ k g h. elsewhere k (not_there k g h) ∙ h;
@@ -276,8 +276,8 @@ module _ (c : Config) (v : View) (r s : Tables) (base : ℕ) (f : Found) (search
 -- What a note leaves, whether the allocation was found before or not.
 pub record Notes (c : Config) (v : View) (r s : Tables) (base limit : ℕ) : Type 0 where
   pub search : IsSearch c v s limit
-  pub grows : Grows r s
-  pub within : IsWithin s.found.items base limit
+  pub grows : FindsMore r s
+  pub within : IsFoundWithin s.found.items base limit
 
 pub notes : (c : Config) (v : View) (r s : Tables) (base : ℕ) (f : Found) → IsSearch c v r f.links
     → base < length r.found.items → (is_some (at r.found.items base) ≡ true → s ≡ r)
@@ -303,7 +303,8 @@ notes c v r s base f search lt known noted last more room shallow way =
           }
     ]
   where
-    before : (x : Option Found) → at r.found.items base ≡ x → is_some x ≡ true → IsWithin r.found.items base f.links
+    before : (x : Option Found) → at r.found.items base ≡ x → is_some x ≡ true
+        → IsFoundWithin r.found.items base f.links
     before None e h = absurd (true≢false (sym h))
     before (Some g) e h =
         let q = search.queued base (record { entry = g; there = e }) in

@@ -6,14 +6,14 @@ use Rattle.mk_core.specs.History.{World}
 use Rattle.mk_sweep.specs.Swept.{IsSwept, IsSweptValue, InGlobal, InRegister, InWord}
 use Rattle.mk_why.specs.declared.kept.Root.{Root}
 use Rattle.mk_why.specs.declared.kept.Root.TheVariants.{Global, Register}
-use Rattle.mk_why.specs.Chains.{LeadsTo, word_of_root}
+use Rattle.mk_why.specs.Chains.{LinksLead, word_of_root}
 use Rattle.mk_why.specs.SweptChains.{ChainsAreSwept}
 
 root_swept : (c : Config) (w : World) (root : Root) → IsSweptValue c w (word_of_root w.now.words root)
 root_swept c w (Register caller register) = InRegister (8 * caller + register) refl
 root_swept c w (Global global) = InGlobal global refl
 
-links_swept : (c : Config) (w : World) (links : List ℕ) (a b : ℕ) → LeadsTo c w a links b → IsSwept c w a
+links_swept : (c : Config) (w : World) (links : List ℕ) (a b : ℕ) → LinksLead c w a links b → IsSwept c w a
     → IsSwept c w b
 links_swept c w [] a b leads x = subst (λ n. IsSwept c w n) leads x
 links_swept c w (link ∷ links) a b leads x =

@@ -14,13 +14,13 @@ use Rattle.mk_why.specs.declared.found.Storage.{Storage}
 use Rattle.mk_why.specs.declared.tables.Tables.{Tables}
 use Rattle.mk_why.specs.Chains.{is_kept}
 use Rattle.mk_why.specs.Listing.{AreOfKept, IsListed, IsTold, ListsOn}
-use Rattle.mk_why.specs.Searching.{AreApart, IsExplored}
+use Rattle.mk_why.specs.Searching.{BeginApart, IsExplored}
 use Rattle.mk_why.specs.Stops.{IsToldBefore, LooksOn, View, base_at, view_by, view_of, world_in}
 use Rattle.mk_why.proofs.Closing.{others_still}
 
 -- the two tables, of the view after the engine's marks
 pub told_by : (k : Config) (t u : TurnState) (a b d : Tables) → LooksOn t u
-    → IsExplored k (view_by t.pass) a.found.items → AreApart (view_by t.pass) → b.found ≡ a.found
+    → IsExplored k (view_by t.pass) a.found.items → BeginApart (view_by t.pass) → b.found ≡ a.found
     → ListsOn k (view_by u.pass) b d
     → ((n : ℕ) → is_kept k (world_in (view_by u.pass)) n ≡ true → IsListed d.kept.items (base_at (view_by u.pass) n))
     → IsTold k d.found.items d.kept.items (view_by t.pass)

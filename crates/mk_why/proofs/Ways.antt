@@ -7,7 +7,7 @@ use Rattle.mk_geom.specs.StorageWords.{IsWordOf}
 use Rattle.mk_core.specs.Allocations.{placed_at, storage_of}
 use Rattle.mk_core.specs.ClosedMarks.{is_scanned_allocation}
 use Rattle.mk_why.specs.declared.found.Found.{Found}
-use Rattle.mk_why.specs.Searching.{IsFoundAt, IsFoundThrough, IsNoted, IsOnward, IsWay, IsWithin, PointsAtBase}
+use Rattle.mk_why.specs.Searching.{IsFoundAt, IsFoundThrough, IsNoted, IsOnward, IsWay, IsFoundWithin, PointsAtBase}
 use Rattle.mk_why.specs.Stops.{View, base_at, world_in}
 
 -- a scanned word of an allocation that begins there
@@ -46,6 +46,6 @@ found_by c v found value base f x way =
 -- Where that was found, so was whatever the value points into.
 pub noted_by : (c : Config) (v : View) (found : List (Option Found)) (value base limit : ℕ)
     → PointsAtBase c v value base
-    → IsWithin found base limit → IsNoted c v found value limit
+    → IsFoundWithin found base limit → IsNoted c v found value limit
 noted_by c v found value base limit x within b points =
-    subst (λ n. IsWithin found n limit) (sym (ap (base_at v) (x.only b points) ∙ x.is)) within
+    subst (λ n. IsFoundWithin found n limit) (sym (ap (base_at v) (x.only b points) ∙ x.is)) within

@@ -34,16 +34,16 @@ pub record IsLink (c : Config) (w : World) (a link b : ℕ) : Type 0 where
   pub to_the_other : PointsIntoAllocation c w (slice_index w.now.words.heap word) b
 
 -- Links lead from one allocation to another, each through one more.
-abbrev pub LeadsTo : Config → World → ℕ → List ℕ → ℕ → Type 0
-LeadsTo c w a [] b = a ≡ b
-LeadsTo c w a (link ∷ links) b = (next : ℕ) × IsLink c w a link next × LeadsTo c w next links b
+abbrev pub LinksLead : Config → World → ℕ → List ℕ → ℕ → Type 0
+LinksLead c w a [] b = a ≡ b
+LinksLead c w a (link ∷ links) b = (next : ℕ) × IsLink c w a link next × LinksLead c w next links b
 
 -- The root's word points into a first allocation, from which the links lead to this one.
 pub record IsChain (c : Config) (w : World) (root : Root) (links : List ℕ) (b : ℕ) : Type 0 where
   pub first : ℕ
   pub there : IsRoot c root
   pub points : PointsIntoAllocation c w (word_of_root w.now.words root) first
-  pub leads : LeadsTo c w first links b
+  pub leads : LinksLead c w first links b
 
 -- No chain to the allocation has fewer links than this many.
 abbrev pub NoneIsShorter : Config → World → ℕ → ℕ → Type 0

@@ -11,8 +11,8 @@ use Rattle.mk_why.specs.declared.found.Way.{Way}
 use Rattle.mk_why.specs.declared.found.Way.TheVariants.{Link, Start}
 use Rattle.mk_why.specs.declared.kept.Kept.{Kept}
 use Rattle.mk_why.specs.declared.kept.Root.{Root}
-use Rattle.mk_why.specs.Chains.{IsChain, IsEntryOf, LeadsTo, is_kept}
-use Rattle.mk_why.specs.Searching.{AreApart, AreWays, IsWay, at}
+use Rattle.mk_why.specs.Chains.{IsChain, IsEntryOf, LinksLead, is_kept}
+use Rattle.mk_why.specs.Searching.{BeginApart, AreWays, IsWay, at}
 use Rattle.mk_why.specs.Stops.{View, base_at, world_in}
 
 -- one link back, and how the allocation was found that has it
@@ -37,7 +37,7 @@ pub record IsLedBack (c : Config) (v : View) (found : List (Option Found)) (f : 
     : Type 0 where
   pub number : ℕ
   pub way : IsWay c v found f.way f.links number
-  pub leads : LeadsTo c (world_in v) number (reverse links) b
+  pub leads : LinksLead c (world_in v) number (reverse links) b
   pub sum : length links + f.links ≡ count
 
 -- a chain of this many links
@@ -61,7 +61,7 @@ IsToldWhy c v b (Some f) root links = IsLed c v b f.links root links
 pub record IsMadeOf (found : List (Option Found)) (s : Storage) (f : Option Found) (entry : Kept) : Type 0 where
   pub address : entry.address ≡ s.address
   pub words : entry.words ≡ s.words
-  pub why : (c : Config) (v : View) (b : ℕ) → AreWays c v found → AreApart v → IsWayOf c v found b f
+  pub why : (c : Config) (v : View) (b : ℕ) → AreWays c v found → BeginApart v → IsWayOf c v found b f
       → IsToldWhy c v b f entry.root entry.links.items
 
 -- one entry more

@@ -7,7 +7,7 @@ use Rattle.mk_why.specs.declared.found.Found.{Found}
 use Rattle.mk_why.specs.declared.found.Storage.{Storage}
 use Rattle.mk_why.specs.declared.tables.Tables.{Tables}
 use Rattle.mk_why.specs.Chains.{is_kept}
-use Rattle.mk_why.specs.Searching.{AreApart, IsExplored, at}
+use Rattle.mk_why.specs.Searching.{BeginApart, IsExplored, at}
 use Rattle.mk_why.specs.Stops.{View, base_at, world_in}
 
 -- The allocation is kept, and this is its storage.
@@ -40,6 +40,6 @@ pub record ListsOn (c : Config) (v : View) (r s : Tables) : Type 0 where
 -- What the two tables say of a view: each chain's end was found, and each kept allocation is listed.
 pub record IsTold (c : Config) (found : List (Option Found)) (kept : List (Option Storage)) (v : View) : Type 0 where
   pub explored : IsExplored c v found
-  pub apart : AreApart v
+  pub apart : BeginApart v
   pub of_kept : AreOfKept c v kept
   pub each : (b : ℕ) → is_kept c (world_in v) b ≡ true → IsListed kept (base_at v b)

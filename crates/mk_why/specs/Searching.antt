@@ -32,7 +32,7 @@ root_word (Register caller register) = word.Reg caller register
 root_word (Global global) = word.Global global
 
 -- An unreleased allocation begins at the heap word.
-pub record IsBase (v : View) (base : ℕ) : Type 0 where
+pub record IsFirstWord (v : View) (base : ℕ) : Type 0 where
   pub number : ℕ
   pub unreleased : (placed_at v.allocations number).released ≡ false
   pub is : base_at v number ≡ base
@@ -111,7 +111,7 @@ pub record IsSearch (c : Config) (v : View) (r : Tables) (limit : ℕ) : Type 0 
   pub shallow : (i : ℕ) → i < r.count → links_of r i ≤ i
 
 -- It was found through this many links, or fewer.
-pub record IsWithin (found : List (Option Found)) (base limit : ℕ) : Type 0 where
+pub record IsFoundWithin (found : List (Option Found)) (base limit : ℕ) : Type 0 where
   pub entry : Found
   pub there : at found base ≡ Some entry
   pub near : entry.links ≤ limit
@@ -119,17 +119,17 @@ pub record IsWithin (found : List (Option Found)) (base limit : ℕ) : Type 0 wh
 -- So was whatever the value points into.
 abbrev pub IsNoted : Config → View → List (Option Found) → ℕ → ℕ → Type 0
 IsNoted c v found value limit =
-    (b : ℕ) → PointsIntoAllocation c (world_in v) value b → IsWithin found (base_at v b) limit
+    (b : ℕ) → PointsIntoAllocation c (world_in v) value b → IsFoundWithin found (base_at v b) limit
 
 -- So was whatever the words of an allocation point into that begins there and is scanned, through one link more.
-abbrev pub IsDone : Config → View → List (Option Found) → ℕ → Type 0
-IsDone c v found base =
+abbrev pub IsSearched : Config → View → List (Option Found) → ℕ → Type 0
+IsSearched c v found base =
     (a n : ℕ) → base_at v a ≡ base → is_scanned_allocation c (placed_at v.allocations a) ≡ true
     → IsWordOf (storage_of c (placed_at v.allocations a)) n
     → IsNoted c v found (slice_index v.words.heap n) (links_in (at found base) + 1)
 
 -- More was found, and what was found before stays.
-pub record Grows (r s : Tables) : Type 0 where
+pub record FindsMore (r s : Tables) : Type 0 where
   pub stays : (base : ℕ) (f : Found) → at r.found.items base ≡ Some f → at s.found.items base ≡ Some f
   pub same : (i : ℕ) → i < r.count → slice_index s.queue.items i ≡ slice_index r.queue.items i
   pub further : r.count ≤ s.count
@@ -138,11 +138,11 @@ pub record Grows (r s : Tables) : Type 0 where
 pub record SearchesOn (c : Config) (t u : TurnState) (r s : Tables) (limit : ℕ) : Type 0 where
   pub on : LooksOn t u
   pub search : IsSearch c (view_by t.pass) s limit
-  pub grows : Grows r s
+  pub grows : FindsMore r s
 
 -- No two unreleased allocations begin at one heap word.
-abbrev pub AreApart : View → Type 0
-AreApart v =
+abbrev pub BeginApart : View → Type 0
+BeginApart v =
     (a b : ℕ) → (placed_at v.allocations a).released ≡ false → (placed_at v.allocations b).released ≡ false
     → base_at v a ≡ base_at v b → a ≡ b
 
@@ -150,4 +150,4 @@ AreApart v =
 pub record IsExplored (c : Config) (v : View) (found : List (Option Found)) : Type 0 where
   pub ways : AreWays c v found
   pub near : (root : Root) (links : List ℕ) (b : ℕ) → IsChain c (world_in v) root links b
-      → IsWithin found (base_at v b) (length links)
+      → IsFoundWithin found (base_at v b) (length links)

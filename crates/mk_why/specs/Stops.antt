@@ -1,5 +1,5 @@
--- What stays still in the stop, after the inner engine's marks. `Why` cites `view_of` and `IsToldBefore`; all other
--- words private functions alone cite.
+-- What stays still in the stop, after the inner engine's marks. `Why` cites `view_of`, `IsToldBefore` and
+-- `IsClosedBefore`; all other words private functions alone cite.
 use Rattle.std.specs.Prelude.{◌≡◌, ℕ, Bool, true, false, List, []}
 use Rattle.mk_core.specs.declared.events.Step.{Step}
 use Rattle.mk_core.specs.declared.events.Step.TheVariants as step
@@ -72,3 +72,9 @@ pub record IsToldBefore (tells : Config → World → Type 0) (c : Config) (w : 
   pub before : World
   pub told : tells c before
   pub view : view_of w ≡ view_of before
+
+-- The inner engine closed the marks so, and then the holder looked.
+pub record IsClosedBefore (closes : PassState → PassState → Type 0) (p q : PassState) : Type 0 where
+  pub inner : PassState
+  pub part : closes p inner
+  pub looks : Does is_look inner q

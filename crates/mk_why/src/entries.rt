@@ -4,7 +4,7 @@ ghost use Rattle.mk_core.specs.declared.config.Config.{Config};
 ghost use Rattle.mk_why.specs.declared.found.Storage.{Storage as StorageState};
 ghost use Rattle.mk_why.specs.Entries.{AreEntriesBelow, IsLed, IsMadeOf, IsOneMore, root_of, step_back};
 ghost use Rattle.mk_why.specs.Listing.{IsTold};
-ghost use Rattle.mk_why.specs.Searching.{AreApart, AreWays, IsWay, at};
+ghost use Rattle.mk_why.specs.Searching.{BeginApart, AreWays, IsWay, at};
 ghost use Rattle.mk_why.specs.Stops.{View};
 
 use crate::found::{Found, Storage, Way};
@@ -54,7 +54,7 @@ fn root_of(way: Way) -> Option<Root>
 
 /// The root and the links of the chain by which an allocation was found.
 fn chain(tables: &Tables, alloc: Global, found: Found) -> Result<(Option<Root>, Vec<u64>), NoMemory>
-    ensures { IfOk result (λ chain. (c : Config) (v : View) (b : ℕ) → AreWays c v tables.now.found.items → AreApart v
+    ensures { IfOk result (λ chain. (c : Config) (v : View) (b : ℕ) → AreWays c v tables.now.found.items → BeginApart v
         → IsWay c v tables.now.found.items found.way found.links b
         → IsLed c v b found.links chain.0 chain.1.items) }
 {

@@ -11,10 +11,8 @@ ghost use Rattle.mk_why.specs.Stops.{IsStill, LooksOn, base_at, view_by, world_i
 use crate::found::Storage;
 use crate::stepping::look_at;
 use crate::tables::Tables;
-use crate::values::{HEAP_START, PAGE_WORDS, WORD_BYTES};
-use mk_core::Word;
-use mk_geom::Cell;
-use mk_tracing::{cells_under, has_bit, words_under};
+use mk_core::{Word, cells_under, has_bit, words_under};
+use mk_geom::{Cell, HEAP_START, PAGE_WORDS, WORD_BYTES};
 use mk_words::{Stopped, Words};
 
 /// The bits of a quarantine word's snapshot stand after those of the freed cells.

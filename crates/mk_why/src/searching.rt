@@ -4,7 +4,8 @@ ghost use Rattle.std.specs.Prelude.{◌≡◌, ◌+◌, ◌*◌, ◌<◌, ◌≤
 ghost use Rattle.mk_core.specs.Touched.{PointsIntoAllocation};
 ghost use Rattle.mk_why.specs.declared.kept.Root.TheVariants.{Register, Global};
 ghost use Rattle.mk_why.specs.Chains.{IsRoot, word_of_root};
-ghost use Rattle.mk_why.specs.Searching.{AreScannedFrom, AreWays, Grows, IsDone, IsExplored, IsFound, IsFoundThrough};
+ghost use Rattle.mk_why.specs.Searching.{AreScannedFrom, AreWays, FindsMore, IsSearched, IsExplored, IsFound};
+ghost use Rattle.mk_why.specs.Searching.{IsFoundThrough};
 ghost use Rattle.mk_why.specs.Searching.{IsNoted, IsSearch, IsWay, SearchesOn, at, links_in, links_of, root_word};
 ghost use Rattle.mk_why.specs.Stops.{IsStill, LooksOn, view_by, world_in};
 
@@ -12,8 +13,9 @@ use crate::found::{Found, Way};
 use crate::kept::Root;
 use crate::stepping::look_at;
 use crate::tables::Tables;
-use crate::values::{HEAP_START, WORD_BYTES, base_pointed, scanned_size};
+use crate::values::{base_pointed, scanned_size};
 use mk_core::Word;
+use mk_geom::{HEAP_START, WORD_BYTES};
 use mk_words::{Stopped, Words};
 
 /// How many registers a caller has.
@@ -154,7 +156,7 @@ fn search_from(words: &Words, stop: &mut Stopped, tables: &mut Tables, place: us
     requires place { place < tables.old.count }
     requires search { IsSearch words.now.config (view_by stop.old.pass) tables.old (links_of tables.old place + 1) }
     ensures on { SearchesOn words.now.config stop.old stop.new tables.old tables.new (links_of tables.old place + 1) }
-    ensures done { IsDone words.now.config (view_by stop.old.pass) tables.new.found.items
+    ensures done { IsSearched words.now.config (view_by stop.old.pass) tables.new.found.items
         (slice_index tables.old.queue.items place) }
 {
     let base = tables.queue[place];
@@ -172,10 +174,10 @@ fn search_queue(words: &Words, stop: &mut Stopped, tables: &mut Tables)
     requires search { IsSearch words.now.config (view_by stop.old.pass) tables.old 0 }
     ensures on { LooksOn stop.old stop.new }
     ensures size { length tables.new.found.items ≡ 64 * words.now.config.pages }
-    ensures grows { Grows tables.old tables.new }
+    ensures grows { FindsMore tables.old tables.new }
     ensures ways { AreWays words.now.config (view_by stop.old.pass) tables.new.found.items }
     ensures done { (base : ℕ) → IsFound tables.new.found.items base
-        → IsDone words.now.config (view_by stop.old.pass) tables.new.found.items base }
+        → IsSearched words.now.config (view_by stop.old.pass) tables.new.found.items base }
 {
     let mut place = 0;
     while place < tables.count {

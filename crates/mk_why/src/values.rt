@@ -3,23 +3,13 @@ ghost use Rattle.std.specs.Prelude.{◌≡◌, ◌+◌, ◌*◌, ◌≤◌, ℕ,
 ghost use Rattle.mk_core.specs.Allocations.{placed_at, storage_words};
 ghost use Rattle.mk_core.specs.Cells.{pointed_cell};
 ghost use Rattle.mk_core.specs.ClosedMarks.{is_scanned_allocation};
-ghost use Rattle.mk_why.specs.Searching.{AreScannedFrom, IsBase, IsBasePointed};
+ghost use Rattle.mk_why.specs.Searching.{AreScannedFrom, IsFirstWord, IsBasePointed};
 ghost use Rattle.mk_why.specs.Stops.{IsStill, LooksOn, base_at, view_by};
 
 use crate::stepping::look_at;
-use mk_core::Word;
-use mk_geom::{Cell, lookup};
-use mk_tracing::{has_bit, has_no_pointers, words_under};
+use mk_core::{Word, has_bit, has_no_pointers, words_under};
+use mk_geom::{Cell, PAGE_WORDS, heap_page, lookup};
 use mk_words::{Stopped, Words};
-
-/// The address of the heap's first word.
-pub(crate) const HEAP_START: u64 = 65536;
-
-const PAGE_BYTES: u64 = 512;
-
-pub(crate) const PAGE_WORDS: u64 = 64;
-
-pub(crate) const WORD_BYTES: u64 = 8;
 
 /// The cell into which a value points.
 fn cell_pointed(words: &Words, stop: &mut Stopped, value: u64) -> Option<Cell>
@@ -28,13 +18,7 @@ fn cell_pointed(words: &Words, stop: &mut Stopped, value: u64) -> Option<Cell>
     ensures on { LooksOn stop.old stop.new }
     ensures points { result ≡ pointed_cell words.now.config.pages (view_by stop.old.pass).words.pages value }
 {
-    if value < HEAP_START {
-        return None;
-    }
-    let page = (value - HEAP_START) / PAGE_BYTES;
-    if page >= words.pages() {
-        return None;
-    }
+    let page = heap_page(words.pages(), value)?;
     let header = look_at(words, stop, Word::Head(page));
     lookup(words.pages(), header, value)
 }
@@ -63,7 +47,7 @@ pub(crate) fn base_pointed(words: &Words, stop: &mut Stopped, value: u64) -> Opt
 pub(crate) fn scanned_size(words: &Words, stop: &mut Stopped, base: u64) -> u64
     requires one_table { stop.old.pass.table ≡ words.now }
     requires still { IsStill stop.old.pass }
-    requires base { IsBase (view_by stop.old.pass) base }
+    requires base { IsFirstWord (view_by stop.old.pass) base }
     ensures on { LooksOn stop.old stop.new }
     ensures scanned { AreScannedFrom words.now.config (view_by stop.old.pass) base result }
     ensures whole { (b : ℕ) → base_at (view_by stop.old.pass) b ≡ base

@@ -9,7 +9,7 @@ ghost use Rattle.mk_why.specs.Chains.{AreKept};
 ghost use Rattle.mk_why.specs.Listing.{IsTold};
 ghost use Rattle.mk_why.specs.Sizes.{pages_for};
 ghost use Rattle.mk_why.specs.States.{HasKeptNothing};
-ghost use Rattle.mk_why.specs.Stops.{IsToldBefore, view_of};
+ghost use Rattle.mk_why.specs.Stops.{IsClosedBefore, IsToldBefore, view_of};
 
 use crate::entries::list_entries;
 use crate::kept::Kept;
@@ -60,6 +60,8 @@ impl<E: Engine> Engine for Why<E> {
     ghost sweeps = { E.sweeps };
 
     ghost begins = { E.begins };
+
+    ghost closes = { λ why p q. IsClosedBefore (E.closes why.inner) p q };
 
     ghost made_for = { λ why. pages_for (E.made_for why.inner) (length why.found) };
 

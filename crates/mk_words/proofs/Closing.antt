@@ -1,5 +1,5 @@
 -- What is known of a table that has ended.
-use Rattle.std.proofs.Common.{◌≡◌, ℕ, zero, suc, ◌+◌, ◌*◌, ◌<◌, ◌≤◌, List, [], ◌∷◌, refl, sym, ◌∙◌, ap, subst, add-one}
+use Rattle.std.proofs.Common.{◌≡◌, ℕ, zero, suc, ◌+◌, ◌<◌, ◌≤◌, List, [], ◌∷◌, refl, sym, ◌∙◌, ap, subst, add-one}
 use Rattle.std.proofs.Common.{arith}
 use Rattle.std.specs.Prelude.{◌%◌, ◌^◌, slice_index, count_ones}
 use Rattle.std.proofs.Math.Nat.{add-mul-mod_self_left}
@@ -17,6 +17,7 @@ use Rattle.mk_core.specs.Layout.{index_of, index_of_named, in_order, AreOfPages,
 use Rattle.mk_core.specs.History.{left}
 use Rattle.mk_core.proofs.Lengths.{histories_keep_lengths}
 use Rattle.mk_core.proofs.RegionLemmas.{words_stand}
+use Rattle.mk_page_map.specs.KnownPages.{KnownPages}
 use Rattle.mk_words.specs.declared.rule.View.{View}
 use Rattle.mk_words.specs.declared.finals.Final.{Final}
 use Rattle.mk_words.specs.Finals.{freed_bits_in, freed_cells, HasTallies}
@@ -60,7 +61,7 @@ abbrev last_of : List ℕ → Word → ℕ
 last_of ws tally = slice_index ws (index_of_named 0 tally)
 
 pub tallies_are : (c : Config) (es : List Event) (ws : List ℕ) (held fresh quarantined cycles released full : ℕ)
-    (memory : Token (Unit {0}) View)
+    (memory : Token KnownPages View)
     → ws ≡ in_order (left c es).now.words → held ≡ last_of ws word.Held → fresh ≡ last_of ws word.Fresh
     → quarantined ≡ freed_bits_in ws c.pages c.pages
     → cycles ≡ last_of ws word.Cycles → released ≡ last_of ws word.Released → full ≡ last_of ws word.Full
@@ -89,7 +90,7 @@ tallies_are c es ws held fresh quarantined cycles released full memory is a b q 
 
 -- The same, where a call names the configuration and the list in its own way.
 pub tallies_told : (c of_pass of_words : Config) (es seen : List Event) (ws : List ℕ)
-    (held fresh quarantined cycles released full : ℕ) (memory : Token (Unit {0}) View)
+    (held fresh quarantined cycles released full : ℕ) (memory : Token KnownPages View)
     → of_pass ≡ c → of_words ≡ c → seen ≡ es → ws ≡ in_order (left c es).now.words → held ≡ last_of ws word.Held
     → fresh ≡ last_of ws word.Fresh
     → quarantined ≡ freed_bits_in ws c.pages c.pages → cycles ≡ last_of ws word.Cycles

@@ -1,12 +1,13 @@
 -- Each move of a pass keeps the rule.
-use Rattle.std.proofs.Common.{◌≡◌, ◌≢◌, ◌⊎◌, ℕ, zero, suc, true, false, List, [], ◌∷◌, ◌++◌, length, set, refl}
-use Rattle.std.proofs.Common.{sym, ◌∙◌, ap, subst, inl, inr, ⊎_elim, append_assoc, append-nil}
+use Rattle.std.proofs.Common.{◌≡◌, ◌≢◌, ℕ, zero, suc, true, false, List, [], ◌∷◌, ◌++◌, set, refl}
+use Rattle.std.proofs.Common.{sym, ◌∙◌, ap, subst, ⊎_elim, append_assoc, append-nil}
 use Rattle.std.specs.Prelude.{slice_index, slice_set}
 use Rattle.std.proofs.lemmas.List.{set-get_or}
-use mathlib.Core.Option.{some, some-injective, some-ne-none}
+use mathlib.Core.Option.{Option as Maybe, some, some-injective, some-ne-none}
 use lib.ListN.{get_elem?}
-use Rattle.atomic_table.specs.Table.{State, Step as TableStep, keeps, Allows, Splits, Joins, Final, Seen}
-use Rattle.atomic_table.proofs.Lists.{at_set, set_else}
+use Rattle.atomic_table.specs.Table.{State, Step as TableStep, keeps, Allows, Final, Seen}
+use Rattle.atomic_table.proofs.Lists.{at_set}
+use Rattle.mk_page_map.specs.KnownPages.{KnownPages}
 use Rattle.mk_core.specs.declared.config.Config.{Config}
 use Rattle.mk_core.specs.declared.events.Seat.{Seat}
 use Rattle.mk_core.specs.declared.events.Seat.TheVariants.{Caller, Host}
@@ -21,26 +22,27 @@ use Rattle.mk_core.specs.Cycles.{is_give}
 use Rattle.mk_core.specs.Counts.{TalliesAreTidy, IsTidy}
 use Rattle.mk_core.specs.History.{World, first_world, left_from, left, AreEnabledFrom, AreEnabled, calls_from}
 use Rattle.mk_core.specs.History.{IsHistory}
-use Rattle.mk_core.specs.Growing.{AreOfOthers, is_same_seat}
+use Rattle.mk_core.specs.Growing.{AreOfOthers}
 use Rattle.mk_core.proofs.Conditions.{enabled_meets}
 use Rattle.mk_core.proofs.Histories.{left_more, enabled_parts, last_enabled}
 use Rattle.mk_core.proofs.Lengths.{histories_keep_lengths}
 use Rattle.mk_core.proofs.RegionLemmas.{words_stand, accesses_change}
 use Rattle.mk_words.specs.declared.rule.Part.{Part}
 use Rattle.mk_words.specs.declared.rule.View.{View}
-use Rattle.mk_words.specs.Seats.{CallersAreBeforeOver, Has, HasAll, HasCallers, all_seats, has_over, is_caller, is_over}
-use Rattle.mk_words.specs.Seats.{without_seat}
-use Rattle.mk_words.specs.Rule.{part, no_part, view, seats_of, Sees, Kept, Mine, adds, settles, first_view, nobody}
-use Rattle.mk_words.specs.Rule.{beside, stays_with, goes_with, copy_of}
+use Rattle.mk_words.specs.Seats.{CallersAreBeforeOver, Has, HasAll, HasCallers, all_seats, is_over}
+use Rattle.mk_words.specs.PageMaps.{IsMapOf, is_handing}
+use Rattle.mk_words.specs.Rule.{IsHome, Adds}
+use Rattle.mk_words.specs.Rule.{part, no_part, view, seats_of, Sees, Kept, Mine, adds, settles, first_view}
 use Rattle.mk_words.proofs.Seats.{has_left, has_right, has_either, others_append, others_none, others_one, others_own}
-use Rattle.mk_words.proofs.Seats.{others_fewer, others_nobody, only_one, without_keeps, without_less, without_it}
+use Rattle.mk_words.proofs.Seats.{others_fewer, others_nobody}
 use Rattle.mk_words.proofs.Seats.{not_both}
+use Rattle.mk_words.proofs.FreeTurns.{map_of_same, page_words, free_stays}
 use Rattle.mk_words.proofs.Tidy.{tidy_part, tidy_more, none_tidy}
 use Rattle.mk_words.proofs.LongerLists.{longer_lists}
-use Rattle.mk_words.proofs.Overs.{none_in_parts, none_over, overs_later, overs_with, set_there}
+use Rattle.mk_words.proofs.Overs.{overs_later, overs_with, set_there}
 
 abbrev pub Table : Type 0
-Table = State (Unit {0}) View
+Table = State KnownPages View
 
 abbrev pub Both : List Event → View → Type 0
 Both es v = Sees es v.own × Sees es v.came
@@ -110,17 +112,36 @@ finds pages w x y ws of table yx is =
     ap (λ (vs : List ℕ). slice_index vs (index_of pages x)) is ∙ words_stand pages w x of table
     ∙ ap (λ (z : TableWord). word_in w z) (sym yx)
 
--- The step of an event, whatever its kind.
-pub performs_at : (slots id : ℕ) (me : Mine) (e : Event) (st : TableStep (Unit {0})) → me.0.came ≡ no_part
+-- Where the event leaves the turn free, the slot has the map.
+abbrev pub HomesThen : Config → Event → List (Maybe KnownPages) → List Event → Type 0
+HomesThen c e homes es =
+    IsHistory c (es ++ e ∷ []) → (left c (es ++ e ∷ [])).now.words.turn ≡ 0
+    → IsHome homes (left c (es ++ e ∷ [])).now.words
+
+abbrev pub place_there : Mine → Event → ℕ
+place_there me e = index_of me.0.config.pages (word_accessed me.0.config (left me.0.config me.0.own.seen).now e)
+
+abbrev pub access_there : Mine → Event → Access
+access_there me e = access me.0.config (left me.0.config me.0.own.seen).now e
+
+-- The step of an event, whatever its kind, and whatever the slot has after it.
+pub steps_at : (id : ℕ) (me : Mine) (e : Event) → me.0.came ≡ no_part
     → Has me.0.own.seats e.seat
     → IsHistory me.0.config (me.0.own.seen ++ e ∷ [])
     → (is_give e.step ≡ true → TalliesAreTidy me.0.config me.0.own.seen)
     → (is_over e.step ≡ true → HasCallers me.0.config me.0.own.seats)
-    → Allows (Kept me.0.config) slots id me
-    (index_of me.0.config.pages (word_accessed me.0.config (left me.0.config me.0.own.seen).now e))
-    (becomes (access me.0.config (left me.0.config me.0.own.seen).now e))
-    (λ n m. adds e st me n m)
-performs_at slots id me e st alone has may give home s k long at small =
+    → (s : Table) (k : Kept me.0.config s) → get_elem? s.views id ≡ some me.0
+    → (homes : List (Maybe KnownPages))
+    → ((es : List Event) → k.events ≡ es → HomesThen me.0.config e homes es)
+    → (w : View)
+    × Kept me.0.config (record {
+      words = slice_set s.words (place_there me e)
+          (becomes (access_there me e) (slice_index s.words (place_there me e)));
+      homes = homes;
+      views = slice_set s.views id w;
+    })
+    × ((adds : Adds e me.0 (slice_index s.words (place_there me e)) w) × (k.events ≡ me.0.own.seen ++ adds.others))
+steps_at id me e alone has may give home s k at homes there =
     let v : View = me.0 in
     let c : Config = v.config in
     let mine = k.sees id v at in
@@ -149,8 +170,6 @@ performs_at slots id me e st alone has may give home s k long at small =
     let behind : (d : Part) → (Has d.seats e.seat → ⊥) → Sees k.events d → Sees (es ++ e ∷ []) d =
     λ d none sees. subst (λ (l : List Event). Sees (l ++ e ∷ []) d) mine.0.is (later k.events d e none sees) in (
       w,
-      keeps,
-      tt,
       record {
         events = es ++ e ∷ [];
         history = go.history;
@@ -174,9 +193,9 @@ performs_at slots id me e st alone has may give home s k long at small =
             (at_set s.views id j w d p);
         apart = apart_stays s.views id v w at (λ x h. h) k.apart;
         before_over = overs;
+        home = there es mine.0.is go.history;
       },
       (
-        refl,
         record {
           others = more;
           of_others = mine.0.of_others;
@@ -189,11 +208,33 @@ performs_at slots id me e st alone has may give home s k long at small =
               (left c es).now e)
               s.words of go.same.of_the_table go.same.word words;
         },
+        mine.0.is,
       ),
     )
 
+-- a step that leaves the map where it is
+pub performs_at : (slots id : ℕ) (me : Mine) (e : Event) (st : TableStep KnownPages) → me.0.came ≡ no_part
+    → Has me.0.own.seats e.seat
+    → IsHistory me.0.config (me.0.own.seen ++ e ∷ [])
+    → (is_give e.step ≡ true → TalliesAreTidy me.0.config me.0.own.seen)
+    → (is_over e.step ≡ true → HasCallers me.0.config me.0.own.seats)
+    → is_handing e.step ≡ false
+    → Allows (Kept me.0.config) slots id me (place_there me e) (becomes (access_there me e)) (λ n m. adds e st me n m)
+performs_at slots id me e st alone has may give home kind s k long at small =
+    let c : Config = me.0.config in
+    let t = steps_at id me e alone has may give home s k at s.homes
+    (λ es is h free.
+    let f = free_stays c es e h kind free in
+    let m = k.home (ap (λ (l : List Event). (left c l).now.words.turn) is ∙ f.free) in (
+      m.0,
+      m.1,
+      map_of_same m.0 (left c k.events).now.words (left c (es ++ e ∷ [])).now.words
+          (ap (λ (l : List Event). page_words (left c l).now.words) is ∙ sym f.pages) m.2,
+    )) in
+    (t.0, keeps, tt, t.1, (refl, t.2.0))
+
 -- A look that takes in what came by a join.
-pub settles_at : (slots id : ℕ) (me : Mine) (st : TableStep (Unit {0}))
+pub settles_at : (slots id : ℕ) (me : Mine) (st : TableStep KnownPages)
     → Allows (Kept me.0.config) slots id me 0 (λ n. n) (settles st me)
 settles_at slots id me st s k long at small =
     let v : View = me.0 in
@@ -211,6 +252,7 @@ settles_at slots id me st s k long at small =
             (λ (t : (j ≡ id) × (w ≡ d)). subst (Both k.events) t.1 (sees_all (seats_of v) k.events, sees_none k.events))
             (λ (t : (j ≢ id) × (get_elem? s.views j ≡ some d)). k.sees j d t.1)
             (at_set s.views id j w d p);
+        home = k.home;
         apart = apart_stays s.views id v w at
             (λ x h. ⊎_elim (λ (u : Has (seats_of v) x). u) (λ (u : Has [] x). cc) (has_either (seats_of v) [] x h))
             k.apart;
@@ -233,201 +275,6 @@ settles_at slots id me st s k long at small =
       ),
     )
 
--- A cut: what stays and what goes have seen as much as the view, and have seats of it, none in common.
-pub record Cut (v left right : View) : Type 0 where
-  pub stays : (x : Seat) → Has (seats_of left) x → Has (seats_of v) x
-  pub goes : (x : Seat) → Has (seats_of right) x → Has (seats_of v) x
-  pub alone : (x : Seat) → Has (seats_of left) x → Has (seats_of right) x → ⊥
-  pub sees : (es : List Event) → Both es v → Both es left × Both es right
-  pub before_over : (c : Config) (es : List Event) → IsHistory c es → Sees es v.own
-      → CallersAreBeforeOver c (seats_of v) es
-      → CallersAreBeforeOver c (seats_of left) es × CallersAreBeforeOver c (seats_of right) es
-
-snoc_at : (l : List View) (a b : View) (j : ℕ) → get_elem? (l ++ a ∷ []) j ≡ some b
-    → (get_elem? l j ≡ some b) ⊎ ((j ≡ length l) × (a ≡ b))
-snoc_at [] a b zero e = inr (refl, some-injective a b e)
-snoc_at [] a b (suc j) e = absurd (some-ne-none b (sym e))
-snoc_at (x ∷ l) a b zero e = inl e
-snoc_at (x ∷ l) a b (suc j) e =
-    ⊎_elim (λ (t : get_elem? l j ≡ some b). inl t) (λ (t : (j ≡ length l) × (a ≡ b)). inr (ap suc t.0, t.1))
-    (snoc_at l a b j e)
-
-pub splits : (c : Config) (id : ℕ) (v left_v right_v : View) → Cut v left_v right_v
-    → Splits (Kept c) id v left_v right_v
-splits c id v left_v right_v cut s k at =
-    let vs : List View = set s.views id left_v in
-    let apart : Apart vs = apart_stays s.views id v left_v at cut.stays k.apart in
-    -- nobody else has what goes
-    let nobody_has : (j : ℕ) (d : View) (x : Seat) → get_elem? vs j ≡ some d → Has (seats_of d) x
-    → Has (seats_of right_v) x → ⊥ =
-    λ j d x p h r. ⊎_elim
-    (λ (t : (j ≡ id) × (left_v ≡ d)). cut.alone x (subst (λ (z : View). Has (seats_of z) x) (sym t.1) h) r)
-    (λ (t : (j ≢ id) × (get_elem? s.views j ≡ some d)). t.0 (k.apart j id d v x t.1 at h (cut.goes x r)))
-    (at_set s.views id j left_v d p) in
-    let sees = cut.sees k.events (k.sees id v at) in
-    let overs = cut.before_over c k.events k.history (k.sees id v at).0 (k.before_over id v at) in
-    record {
-      events = k.events;
-      history = k.history;
-      tidy = k.tidy;
-      words = k.words;
-      sees = λ j d p. ⊎_elim
-          (λ (u : get_elem? vs j ≡ some d). ⊎_elim
-          (λ (t : (j ≡ id) × (left_v ≡ d)). subst (Both k.events) t.1 sees.0)
-          (λ (t : (j ≢ id) × (get_elem? s.views j ≡ some d)). k.sees j d t.1)
-          (at_set s.views id j left_v d u))
-          (λ (u : (j ≡ length vs) × (right_v ≡ d)). subst (Both k.events) u.1 sees.1)
-          (snoc_at vs right_v d j p);
-      apart = λ i j d e x p q hd he. ⊎_elim
-          (λ (a : get_elem? vs i ≡ some d). ⊎_elim
-          (λ (b : get_elem? vs j ≡ some e). apart i j d e x a b hd he)
-          (λ (b : (j ≡ length vs) × (right_v ≡ e)). absurd
-          (nobody_has i d x a hd (subst (λ (z : View). Has (seats_of z) x) (sym b.1) he)))
-          (snoc_at vs right_v e j q))
-          (λ (a : (i ≡ length vs) × (right_v ≡ d)). ⊎_elim
-          (λ (b : get_elem? vs j ≡ some e). absurd
-          (nobody_has j e x b he (subst (λ (z : View). Has (seats_of z) x) (sym a.1) hd)))
-          (λ (b : (j ≡ length vs) × (right_v ≡ e)). a.0 ∙ sym b.0)
-          (snoc_at vs right_v e j q))
-          (snoc_at vs right_v d i p);
-      before_over = λ j d p. ⊎_elim
-          (λ (u : get_elem? vs j ≡ some d). overs_with c s.views id left_v k.events k.before_over overs.0 j d u)
-          (λ (u : (j ≡ length vs) × (right_v ≡ d)). subst (λ (z : View). CallersAreBeforeOver c (seats_of z) k.events)
-          u.1 overs.1)
-          (snoc_at vs right_v d j p);
-    }
-
--- a seat is handed over, or none is
-
-pub hands_over : (x : Seat) (v : View) → v.came ≡ no_part → Has v.own.seats x → Has v.own.seats Host
-    → is_same_seat x Host ≡ false
-    → (is_caller x ≡ true → has_over v.own.seen ≡ false) → Cut v (stays_with x v) (goes_with x v)
-hands_over x v alone has host another early =
-    let left_v : View = stays_with x v in
-    let right_v : View = goes_with x v in
-    let out : (y : Seat) → Has v.came.seats y
-    → ⊥ = λ y h. (let n : Has [] y = subst (λ (p : Part). Has p.seats y) alone h in cc) in
-    let only : (y : Seat) → Has (seats_of right_v) y → y ≡ x = λ y h. only_one x y h in
-    record {
-      stays = λ y h. ⊎_elim
-          (λ (t : Has (without_seat x v.own.seats) y). has_left v.own.seats v.came.seats y
-          (without_less x v.own.seats y t))
-          (λ (t : Has v.came.seats y). has_right v.own.seats v.came.seats y t)
-          (has_either (without_seat x v.own.seats) v.came.seats y h);
-      goes = λ y h. subst (λ (z : Seat). Has (seats_of v) z) (sym (only y h)) (has_left v.own.seats v.came.seats x has);
-      alone = λ y h r. ⊎_elim
-          (λ (t : Has (without_seat x v.own.seats) x). without_it x v.own.seats t)
-          (λ (t : Has v.came.seats x). out x t)
-          (has_either (without_seat x v.own.seats) v.came.seats x
-          (subst (λ (z : Seat). Has (seats_of left_v) z) (only y r) h));
-      sees = λ es mine. (
-        (sees_fewer es v.own (without_seat x v.own.seats) (λ y h. without_less x v.own.seats y h) mine.0, mine.1),
-        (
-          sees_fewer es v.own (x ∷ []) (λ y h. subst (λ (z : Seat). Has v.own.seats z) (sym (only_one x y h)) has)
-              mine.0,
-          sees_none es,
-        ),
-      );
-      before_over = λ c es history sees before. (
-        λ i lt h over. has_left (without_seat x v.own.seats) v.came.seats Host
-            (without_keeps x v.own.seats Host another host),
-        λ i lt h over.
-            let caller : is_caller x ≡ true = ap (λ (z : Seat). is_caller z) (sym (only (Caller i) h)) in
-            let parts : AreEnabled c (v.own.seen ++ sees.more) =
-            subst (λ (l : List Event). AreEnabled c l) sees.is history.enabled in
-            let rest = none_over c (left c v.own.seen) v.own.seats sees.more host sees.of_others
-            (enabled_parts c (first_world c) v.own.seen sees.more parts).1 in
-            let none : has_over es ≡ false = ap (λ (l : List Event). has_over l) sees.is
-            ∙ none_in_parts v.own.seen sees.more (early caller) rest in
-            let both : true ≡ false = sym over ∙ none in cc,
-      );
-    }
-
-pub remembers : (v : View) → Cut v v (copy_of v)
-remembers v =
-    record {
-      stays = λ y h. h;
-      goes = λ y h. cc;
-      alone = λ y h r. cc;
-      sees = λ es mine. (mine, (sees_fewer es v.own [] (λ y h. cc) mine.0, sees_none es));
-      before_over = λ c es history sees before. (before, λ i lt h over. cc);
-    }
-
--- where nothing came, its seats are its own
-own_only : (v : View) → v.came ≡ no_part → (x : Seat) → Has (seats_of v) x → Has v.own.seats x
-own_only v alone x h =
-    ⊎_elim (λ (t : Has v.own.seats x). t)
-    (λ (t : Has v.came.seats x). (let n : Has [] x = subst (λ (p : Part). Has p.seats x) alone t in cc))
-    (has_either v.own.seats v.came.seats x h)
-
-pub joins : (c : Config) (id : ℕ) (v : View) (other : ℕ) (w : View) → v.came ≡ no_part → w.came ≡ no_part
-    → Joins (Kept c) id v other w (beside v w) nobody
-joins c id v other w v_alone w_alone s k at ne there_set =
-    let both : View = beside v w in
-    let vs : List View = set s.views id both in
-    let there : get_elem? s.views other ≡ some w = sym (set_else s.views id other both ne) ∙ there_set in
-    let mine = k.sees id v at in
-    let theirs = k.sees other w there in
-    let from : (i : ℕ) (d : View) (x : Seat) → get_elem? (set vs other nobody) i ≡ some d → Has (seats_of d) x
-    → (i ≢ other) × (((b : View) × (get_elem? s.views i ≡ some b) × Has (seats_of b) x)
-    ⊎ ((i ≡ id) × Has (seats_of w) x)) =
-    λ i d x p h. ⊎_elim
-    (λ (t : (i ≡ other) × (nobody ≡ d)).
-    (let n : Has [] x = subst (λ (z : View). Has (seats_of z) x) (sym t.1) h in cc))
-    (λ (t : (i ≢ other) × (get_elem? vs i ≡ some d)). (
-      t.0,
-      ⊎_elim
-          (λ (u : (i ≡ id) × (both ≡ d)). ⊎_elim
-          (λ (a : Has v.own.seats x). inl (
-            v,
-            subst (λ (z : ℕ). get_elem? s.views z ≡ some v) (sym u.0) at,
-            has_left v.own.seats v.came.seats x a,
-          ))
-          (λ (b : Has w.own.seats x). inr (u.0, has_left w.own.seats w.came.seats x b))
-          (has_either v.own.seats w.own.seats x (subst (λ (z : View). Has (seats_of z) x) (sym u.1) h)))
-          (λ (u : (i ≢ id) × (get_elem? s.views i ≡ some d)). inl (d, u.1, h))
-          (at_set s.views id i both d t.1),
-    ))
-    (at_set vs other i nobody d p) in
-    record {
-      events = k.events;
-      history = k.history;
-      tidy = k.tidy;
-      words = k.words;
-      sees = λ j d p. ⊎_elim
-          (λ (t : (j ≡ other) × (nobody ≡ d)). subst (Both k.events) t.1 (sees_none k.events, sees_none k.events))
-          (λ (t : (j ≢ other) × (get_elem? vs j ≡ some d)). ⊎_elim
-          (λ (u : (j ≡ id) × (both ≡ d)). subst (Both k.events) u.1 (mine.0, theirs.0))
-          (λ (u : (j ≢ id) × (get_elem? s.views j ≡ some d)). k.sees j d u.1)
-          (at_set s.views id j both d t.1))
-          (at_set vs other j nobody d p);
-      apart = λ i j d e x p q hd he.
-          let a = from i d x p hd in
-          let b = from j e x q he in
-          ⊎_elim
-          (λ (l : (g : View) × (get_elem? s.views i ≡ some g) × Has (seats_of g) x). ⊎_elim
-          (λ (r : (g : View) × (get_elem? s.views j ≡ some g) × Has (seats_of g) x). k.apart i j l.0 r.0 x l.1 r.1 l.2
-          r.2)
-          (λ (r : (j ≡ id) × Has (seats_of w) x). absurd (a.0 (k.apart i other l.0 w x l.1 there l.2 r.1)))
-          b.1)
-          (λ (l : (i ≡ id) × Has (seats_of w) x). ⊎_elim
-          (λ (r : (g : View) × (get_elem? s.views j ≡ some g) × Has (seats_of g) x). absurd
-          (b.0 (k.apart j other r.0 w x r.1 there r.2 l.1)))
-          (λ (r : (j ≡ id) × Has (seats_of w) x). l.0 ∙ sym r.0)
-          b.1)
-          a.1;
-      before_over = overs_with c vs other nobody k.events
-          (overs_with c s.views id both k.events k.before_over
-          (λ i lt h over. ⊎_elim
-          (λ (a : Has v.own.seats (Caller i)). has_left v.own.seats w.own.seats Host
-          (own_only v v_alone Host (k.before_over id v at i lt (has_left v.own.seats v.came.seats (Caller i) a) over)))
-          (λ (b : Has w.own.seats (Caller i)). has_right v.own.seats w.own.seats Host
-          (own_only w w_alone Host
-          (k.before_over other w there i lt (has_left w.own.seats w.came.seats (Caller i) b) over)))
-          (has_either v.own.seats w.own.seats (Caller i) h)))
-          (λ i lt h over. cc);
-    }
-
 -- at first
 
 one_view : (i : ℕ) (v w : View) → get_elem? (v ∷ []) i ≡ some w → (i ≡ 0) × (v ≡ w)
@@ -435,9 +282,10 @@ one_view zero v w e = (refl, some-injective v w e)
 one_view (suc i) v w e = absurd (some-ne-none w (sym e))
 
 pub opens : (c : Config) (s : Table) → IsWithinLimits c → s.words ≡ in_order (zero_words_of c.pages)
-    → s.views ≡ first_view c ∷ [] → Kept c s
+    → s.views ≡ first_view c ∷ []
+    → (map : KnownPages) → s.homes ≡ some map ∷ [] → IsMapOf map (zero_words_of c.pages) → Kept c s
 unfolding left_from AreEnabledFrom calls_from
-opens c s limits words_are views_are =
+opens c s limits words_are views_are map homes_are shows =
     let of_first : (i : ℕ) (d : View) → get_elem? s.views i ≡ some d → (i ≡ 0) × (first_view c ≡ d) =
     λ i d p. one_view i (first_view c) d (subst (λ (l : List View). get_elem? l i ≡ some d) views_are p) in
     record {
@@ -448,6 +296,7 @@ opens c s limits words_are views_are =
       sees = λ j d p. subst (Both []) (of_first j d p).1 (sees_all (all_seats c) [], sees_none []);
       apart = λ i j d e x p q hd he. (of_first i d p).0 ∙ sym (of_first j e q).0;
       before_over = λ i d p k lt h over. cc;
+      home = λ free. (map, ap (λ (l : List (Maybe KnownPages)). get_elem? l 0) homes_are, shows);
     }
 
 -- At the end a pass that has all seats has seen the history whole.
@@ -464,7 +313,7 @@ none_left c w seats [] all on others = refl
 none_left c w seats (e ∷ es) all on others =
     absurd (not_both seats e.seat others.0 (all e.seat (enabled_meets c w.now e on.0).seat))
 
-pub closes : (c : Config) (id : ℕ) (me : Mine) (ws : List ℕ) (xs : List (Unit {0})) → HasAll c me.0.own.seats
+pub closes : (c : Config) (id : ℕ) (me : Mine) (ws : List ℕ) (xs : List KnownPages) → HasAll c me.0.own.seats
     → Final (Seen (Kept c) id me.0) ws xs
     → Ended c me.0.own.seen ws
 closes c id me ws xs all f =

@@ -1,8 +1,10 @@
 -- What the calls owe the table for a step, a split, a join and the end, and what they learn.
-use Rattle.std.proofs.Common.{◌≡◌, ℕ, ◌<◌, List, [], ◌∷◌, ◌++◌, refl, sym, ◌∙◌, ap, subst, arith}
+use Rattle.std.proofs.Common.{◌≡◌, ℕ, ◌<◌, List, [], ◌∷◌, ◌++◌, map, refl, sym, ◌∙◌, ap, subst, arith}
+use mathlib.Core.Option.{some}
 use Rattle.std.specs.Prelude.{slice_index, replicate, true, false}
 use Rattle.atomic_table.specs.Seated.{TableId}
 use Rattle.atomic_table.specs.Table.{Allows, Splits, Joins, Final, Seen, opening}
+use Rattle.mk_page_map.specs.KnownPages.{KnownPages}
 use Rattle.mk_core.specs.declared.config.Config.{Config}
 use Rattle.mk_core.specs.declared.events.Seat.{Seat}
 use Rattle.mk_core.specs.declared.events.Seat.TheVariants.{Caller, Host}
@@ -11,7 +13,7 @@ use Rattle.mk_core.specs.declared.events.Event.{Event}
 use Rattle.mk_core.specs.declared.accesses.Access.{Access}
 use Rattle.mk_core.specs.declared.accesses.TableWord.{TableWord}
 use Rattle.mk_core.specs.Config.{IsWithinLimits}
-use Rattle.mk_core.specs.Words.{becomes}
+use Rattle.mk_core.specs.Words.{becomes, zero_words_of}
 use Rattle.mk_core.specs.Layout.{index_of, count_of_words, IsOfTable}
 use Rattle.mk_core.specs.Accesses.{word_accessed, access}
 use Rattle.mk_core.specs.History.{first_world, AreEnabledFrom, calls_from, IsHistory}
@@ -23,14 +25,16 @@ use Rattle.mk_core.proofs.RegionLemmas.{first_are_zero}
 use Rattle.mk_protocol.proofs.Reaching.{events_reach_the_table}
 use Rattle.mk_words.specs.declared.rule.View.{View}
 use Rattle.mk_words.specs.Seats.{CallersAreBeforeOver, Has, HasAll, has_over, is_caller}
+use Rattle.mk_words.specs.PageMaps.{IsMapOf, is_handing}
 use Rattle.mk_words.specs.States.{WordsState, PassState, now_of, event_of}
 use Rattle.mk_words.specs.Rule.{Kept, Mine, told_by, no_step, adds, stores, settles, stays_with, goes_with, copy_of}
-use Rattle.mk_words.specs.Rule.{beside, nobody, first_view}
+use Rattle.mk_words.specs.Rule.{beside, nobody, first_view, Adds}
 use Rattle.mk_words.specs.Passes.{state_of, IsInOrder}
 use Rattle.mk_words.specs.Steps.{May, Tells, Finds}
 use Rattle.mk_words.proofs.Tidy.{none_tidy}
 use Rattle.mk_words.proofs.Undecided.{undecided_admitted}
-use Rattle.mk_words.proofs.Keeps.{performs_at, settles_at, splits, hands_over, remembers, joins, opens, closes, Ended}
+use Rattle.mk_words.proofs.Keeps.{place_there, access_there, performs_at, settles_at, opens, closes, Ended}
+use Rattle.mk_words.proofs.Cuts.{splits, hands_over, remembers, joins}
 use Rattle.mk_words.proofs.Seats.{has_all, has_first, has_left, only_one, without_keeps, without_less}
 
 -- with the event the pass's list is a history
@@ -49,22 +53,23 @@ pub word_of_table : (p : PassState) (s : Step) → IsHistory p.table.config p.se
 word_of_table p s h may =
     events_reach_the_table p.table.config p.seen (event_of p s) h.within_limits h.enabled may.enabled
 
--- what a step owes
-pub event_call : (config key : Config) (tid : TableId) (words slots id : ℕ) (me : Mine) (seat : Seat) (s : Step) (i : ℕ)
-    (x : TableWord) (a : Access) (picked : Event)
+-- What is owed for the step's own event, word and access is owed by a call that has other names for them.
+pub owed_as : (config key : Config) (tid : TableId) (words slots id : ℕ) (me : Mine) (seat : Seat) (s : Step) (i : ℕ)
+    (x : TableWord) (a : Access) (picked : Event) (then : Event → ℕ → Mine → Type 0)
     → IsInOrder me seat → me.0.config ≡ config → key ≡ config → words ≡ count_of_words config.pages
     → picked ≡ event_of (state_of tid me seat) s
     → May (state_of tid me seat) s
     → x ≡ word_accessed me.0.config (now_of (state_of tid me seat)) (event_of (state_of tid me seat) s)
     → a ≡ access me.0.config (now_of (state_of tid me seat)) (event_of (state_of tid me seat) s)
     → i ≡ index_of config.pages x
-    → (i < words) × Allows (Kept key) slots id me i (becomes a) (λ n m. adds picked no_step me n m)
-event_call config key tid words slots id me seat s i x a picked order config_is key_is words_are picked_is may x_is a_is
-    i_is =
+    → Allows (Kept me.0.config) slots id me (place_there me (event_of (state_of tid me seat) s))
+    (becomes (access_there me (event_of (state_of tid me seat) s))) (then (event_of (state_of tid me seat) s))
+    → (i < words) × Allows (Kept key) slots id me i (becomes a) (then picked)
+owed_as config key tid words slots id me seat s i x a picked then order config_is key_is words_are picked_is may x_is
+    a_is i_is owed =
     let c : Config = me.0.config in
     let p : PassState = state_of tid me seat in
     let y : TableWord = word_accessed c (now_of p) (event_of p s) in
-    let b : Access = access c (now_of p) (event_of p s) in
     let j : ℕ = index_of c.pages y in
     let at : i ≡ j = i_is ∙ ap (λ (d : Config). index_of d.pages x) (sym config_is)
     ∙ ap (λ (z : TableWord). index_of c.pages z) x_is in
@@ -72,30 +77,22 @@ event_call config key tid words slots id me seat s i x a picked order config_is 
     let as_many : words ≡ count_of_words c.pages = words_are
     ∙ ap (λ (d : Config). count_of_words d.pages) (sym config_is) in
     let same_key : key ≡ c = key_is ∙ sym config_is in
-    let all = performs_at slots id me (event_of p s) no_step order.settled order.own
-    (history_more p s order.history may) may.tidy may.home in
-    let at_access : Allows (Kept c) slots id me j (becomes a) (λ n m. adds (event_of p s) no_step me n m) =
-    subst (λ (d : Access). Allows (Kept c) slots id me j (becomes d) (λ n m. adds (event_of p s) no_step me n m))
-    (sym a_is) all in
-    let at_index : Allows (Kept c) slots id me i (becomes a) (λ n m. adds (event_of p s) no_step me n m) =
-    subst (λ (k : ℕ). Allows (Kept c) slots id me k (becomes a) (λ n m. adds (event_of p s) no_step me n m))
-    (sym at) at_access in
-    let at_event : Allows (Kept c) slots id me i (becomes a) (λ n m. adds picked no_step me n m) =
-    subst (λ (e : Event). Allows (Kept c) slots id me i (becomes a) (λ n m. adds e no_step me n m))
-    (sym picked_is) at_index in (
+    let at_access : Allows (Kept c) slots id me j (becomes a) (then (event_of p s)) =
+    subst (λ (d : Access). Allows (Kept c) slots id me j (becomes d) (then (event_of p s))) (sym a_is) owed in
+    let at_index : Allows (Kept c) slots id me i (becomes a) (then (event_of p s)) =
+    subst (λ (k : ℕ). Allows (Kept c) slots id me k (becomes a) (then (event_of p s))) (sym at) at_access in
+    let at_event : Allows (Kept c) slots id me i (becomes a) (then picked) =
+    subst (λ (e : Event). Allows (Kept c) slots id me i (becomes a) (then e)) (sym picked_is) at_index in (
       omega arith,
-      subst (λ (d : Config). Allows (Kept d) slots id me i (becomes a) (λ n m. adds picked no_step me n m))
-          (sym same_key) at_event,
+      subst (λ (d : Config). Allows (Kept d) slots id me i (becomes a) (then picked)) (sym same_key) at_event,
     )
 
 -- what a step says, and that the pass is in order after it
 
-in_order_still : (me n : Mine) (seat : Seat) (e : Event) (answer : ℕ) → IsInOrder me seat → adds e no_step me answer n
+pub in_order_still : (me n : Mine) (seat : Seat) (e : Event) (found : ℕ) → IsInOrder me seat → Adds e me.0 found n.0
     → IsInOrder n seat
-in_order_still me n seat e answer order on =
-    let add = on.1 in
+in_order_still me n seat e found order add =
     record {
-      no_slot = on.0 ∙ order.no_slot;
       settled = ap (λ (w : View). w.came) add.is ∙ order.settled;
       own = subst (λ (w : View). Has w.own.seats seat) (sym add.is) order.own;
       history = subst (λ (w : View). IsHistory w.config w.own.seen) (sym add.is) add.history;
@@ -127,7 +124,7 @@ event_learnt tid me n seat s a answer picked picked_is a_is order found on_picke
             ∙ ap (λ (k : ℕ). told_by
             (access me.0.config (now_of (state_of tid me seat)) (event_of (state_of tid me seat) s)) k) on.1.finds;
       };
-      order = in_order_still me n seat e found order on;
+      order = in_order_still me n seat e found order on.1;
     }
 
 -- a split
@@ -179,7 +176,7 @@ settle_call config key words slots id me config_is key_is words_are = (
 )
 
 -- the end
-pub close_call : (config key : Config) (id : ℕ) (me : Mine) (ws : List ℕ) (xs : List (Unit {0})) → key ≡ config
+pub close_call : (config key : Config) (id : ℕ) (me : Mine) (ws : List ℕ) (xs : List KnownPages) → key ≡ config
     → HasAll config me.0.own.seats
     → Final (Seen (Kept key) id me.0) ws xs → Ended config me.0.own.seen ws
 close_call config key id me ws xs key_is all f =
@@ -211,20 +208,37 @@ module _ (w : WordsState) (p : PassState) (tid pid : TableId) (config key : Conf
       (subst (λ (d : Config). IsOfTable d.pages (word_accessed q.table.config (now_of q) (event_of q s))) same_config
       named)
 
-  pub perform_call : (words slots id : ℕ) (s : Step) (i : ℕ) (x : TableWord) (a : Access) (picked : Event)
+  pub owed_call : (words slots id : ℕ) (s : Step) (i : ℕ) (x : TableWord) (a : Access) (picked : Event)
+      (then : Event → ℕ → Mine → Type 0)
       → IsInOrder me seat → key ≡ config
       → words ≡ count_of_words config.pages → picked ≡ event_of p s → May p s
       → x ≡ word_accessed p.table.config (now_of p) (event_of p s)
       → a ≡ access p.table.config (now_of p) (event_of p s) → i ≡ index_of config.pages x
-      → (i < words) × Allows (Kept key) slots id me i (becomes a) (λ n m. adds picked no_step me n m)
-  perform_call words slots id s i x a picked order key_is words_are picked_is may x_is a_is i_is =
+      → (May (state_of pid me seat) s
+      → Allows (Kept me.0.config) slots id me (place_there me (event_of (state_of pid me seat) s))
+      (becomes (access_there me (event_of (state_of pid me seat) s))) (then (event_of (state_of pid me seat) s)))
+      → (i < words) × Allows (Kept key) slots id me i (becomes a) (then picked)
+  owed_call words slots id s i x a picked then order key_is words_are picked_is may x_is a_is i_is owed =
       let back : p ≡ state_of pid me seat = sym p_is in
-      event_call config key pid words slots id me seat s i x a picked order same_config key_is words_are
+      let mine : May (state_of pid me seat) s = subst (λ (r : PassState). May r s) back may in
+      owed_as config key pid words slots id me seat s i x a picked then order same_config key_is words_are
       (picked_is ∙ ap (λ (r : PassState). event_of r s) back)
-      (subst (λ (r : PassState). May r s) back may)
+      mine
       (x_is ∙ ap (λ (r : PassState). word_accessed r.table.config (now_of r) (event_of r s)) back)
       (a_is ∙ ap (λ (r : PassState). access r.table.config (now_of r) (event_of r s)) back)
-      i_is
+      i_is (owed mine)
+
+  pub perform_call : (words slots id : ℕ) (s : Step) (i : ℕ) (x : TableWord) (a : Access) (picked : Event)
+      → IsInOrder me seat → key ≡ config
+      → words ≡ count_of_words config.pages → picked ≡ event_of p s → May p s
+      → x ≡ word_accessed p.table.config (now_of p) (event_of p s)
+      → a ≡ access p.table.config (now_of p) (event_of p s) → i ≡ index_of config.pages x → is_handing s ≡ false
+      → (i < words) × Allows (Kept key) slots id me i (becomes a) (λ n m. adds picked no_step me n m)
+  perform_call words slots id s i x a picked order key_is words_are picked_is may x_is a_is i_is kind =
+      owed_call words slots id s i x a picked (λ e n m. adds e no_step me n m) order key_is words_are picked_is may x_is
+      a_is i_is
+      (λ mine. performs_at slots id me (event_of (state_of pid me seat) s) no_step order.settled order.own
+      (history_more (state_of pid me seat) s order.history mine) mine.tidy mine.home kind)
 
 pub perform_learns : (p : PassState) (pid qid : TableId) (me n : Mine) (seat : Seat) (s : Step) (a : Access)
     (answer : ℕ) (picked : Event) → state_of pid me seat ≡ p → qid ≡ pid
@@ -255,7 +269,7 @@ perform_finds pid qid me n seat s found picked q_is picked_is on_picked =
 
 pub perform_keeps : (me n : Mine) (seat : Seat) (found : ℕ) (picked : Event) → IsInOrder me seat
     → adds picked no_step me found n → IsInOrder n seat
-perform_keeps me n seat found picked order on = in_order_still me n seat picked found order on
+perform_keeps me n seat found picked order on = in_order_still me n seat picked found order on.1
 
 -- a store
 pub allows_store : (key : Config) (slots id : ℕ) (me : Mine) (i : ℕ) (e : Event) (value : ℕ)
@@ -271,16 +285,17 @@ pub none_is_history : (c : Config) → IsWithinLimits c → IsHistory c []
 unfolding AreEnabledFrom calls_from
 none_is_history c limits = record { within_limits = limits; enabled = tt; admitted = tt }
 
-pub first_call : (c : Config) (zeros : List ℕ) → IsWithinLimits c → zeros ≡ replicate (count_of_words c.pages) 0
-    → Kept c (opening {S = Unit {0}} zeros [] (first_view c))
-first_call c zeros limits are = opens c (opening {S = Unit {0}} zeros [] (first_view c)) limits (are
-    ∙ sym (first_are_zero c.pages)) refl
+pub first_call : (c : Config) (zeros : List ℕ) (slots : List KnownPages) (m : KnownPages) → IsWithinLimits c
+    → zeros ≡ replicate (count_of_words c.pages) 0 → slots ≡ m ∷ [] → IsMapOf m (zero_words_of c.pages)
+    → Kept c (opening {S = KnownPages} zeros slots (first_view c))
+first_call c zeros slots m limits are one shows =
+    opens c (opening {S = KnownPages} zeros slots (first_view c)) limits (are ∙ sym (first_are_zero c.pages)) refl m
+    (ap (λ (l : List KnownPages). map some l) one) shows
 
 pub first_in_order : (c : Config) (me : Mine) → IsWithinLimits c → me ≡ (first_view c, []) → IsInOrder me Host
 first_in_order c me limits is =
     subst (λ (m : Mine). IsInOrder m Host) (sym is)
     (record {
-      no_slot = refl;
       settled = refl;
       own = has_all c Host refl;
       history = none_is_history c limits;
@@ -295,7 +310,6 @@ pub kept_by_split : (me n : Mine) (seat x picked : Seat) → IsInOrder me seat �
 kept_by_split me n seat x picked order picked_is other another is =
     subst (λ (m : Mine). IsInOrder m seat) (sym (is ∙ ap (λ (y : Seat). (stays_with y me.0, me.1)) picked_is))
     (record {
-      no_slot = order.no_slot;
       settled = order.settled;
       own = without_keeps x me.0.own.seats seat other order.own;
       history = order.history;
@@ -309,7 +323,6 @@ pub made_by_split : (me n : Mine) (seat x picked : Seat) → IsInOrder me seat �
 made_by_split me n seat x picked order picked_is early is =
     subst (λ (m : Mine). IsInOrder m x) (sym (is ∙ ap (λ (y : Seat). (goes_with y me.0, [])) picked_is))
     (record {
-      no_slot = refl;
       settled = refl;
       own = has_first x [];
       history = order.history;
@@ -330,17 +343,16 @@ pub record Joined (tid : TableId) (me from n : Mine) (seat : Seat) : Type 0 wher
   pub came : Grows from.0.own.seats from.0.own.seen n.0.own.seen
   pub order : IsInOrder n seat
 
-joined_as : (tid : TableId) (me from n : Mine) (seat : Seat) (slots : List (ℕ × Unit {0})) → slots ≡ [] → (answer : ℕ)
+joined_as : (tid : TableId) (me from n : Mine) (seat : Seat) (slots : List (ℕ × KnownPages)) → (answer : ℕ)
     → IsInOrder me seat
     → settles no_step (beside me.0 from.0, slots) answer n → Joined tid me from n seat
-joined_as tid me from n seat slots none answer order on =
+joined_as tid me from n seat slots answer order on =
     let s = on.1 in
     record {
       pass = ap (λ (w : View). state_of tid (w, []) seat) s.is;
       own = s.own;
       came = s.came;
       order = record {
-        no_slot = on.0 ∙ none;
         settled = ap (λ (w : View). w.came) s.is;
         own = subst (λ (w : View). Has w.own.seats seat) (sym s.is)
             (has_left me.0.own.seats from.0.own.seats seat order.own);
@@ -355,5 +367,5 @@ pub joined : (tid : TableId) (me from m n : Mine) (seat : Seat) (answer : ℕ) �
     → m ≡ (beside me.0 from.0, me.1)
     → settles no_step m answer n → Joined tid me from n seat
 joined tid me from m n seat answer order is on =
-    joined_as tid me from n seat me.1 order.no_slot answer order
+    joined_as tid me from n seat me.1 answer order
     (subst (λ (x : Mine). settles no_step x answer n) is on)

@@ -44,9 +44,15 @@ use Rattle.mk_words.specs.Seats.{Has}
 use Rattle.mk_words.specs.States.{PassState, now_of, call_of, event_of}
 use Rattle.mk_words.specs.Steps.{IsEnabledTo, Makes, found_by}
 use Rattle.mk_words.specs.TurnSteps.{op_for, IsTurn, turn_stays, world_at, Acts}
-use Rattle.mk_words.specs.TurnSteps.{may_take_cell, KnowsCell, KeepsTurn, cell_behind, register_granted, cell_base}
+use Rattle.mk_page_map.specs.KnownPages.{KnownPages}
+use Rattle.mk_words.specs.TurnSteps.{KnowsCell, KeepsTurn, cell_behind, register_granted, cell_base}
 use Rattle.mk_words.proofs.Made.{made}
 use Rattle.mk_words.proofs.TurnSteps.{acts}
+
+-- `used` may take a cell.
+abbrev pub may_take_cell : Step → Bool
+may_take_cell (step.Used p v) = true
+may_take_cell _ = false
 
 -- the cell that a New has taken
 
@@ -223,9 +229,9 @@ used_placing : (placing : Placing) → is_used_once placing ≡ true → (x : Pl
 used_placing (Used x) h = (x, refl)
 used_placing _ h = cc
 
-pub grants : (p : PassState) (o : Option Op) (cell : Option Cell) → KeepsTurn p o cell → IsEnabledTo p step.Grant
-    → Grants p o cell
-grants p o cell t on =
+pub grants : (p : PassState) (o : Option Op) (cell : Option Cell) (map : KnownPages) → KeepsTurn p o cell map
+    → IsEnabledTo p step.Grant → Grants p o cell
+grants p o cell map t on =
     let c : Config = p.table.config in
     let m = enabled_meets c (now_of p) (event_of p step.Grant) on in
     let new = grants_new c (now_of p) p.seat m in
@@ -247,12 +253,12 @@ grants p o cell t on =
     by Host new = cc
 
 -- The value is the one that the event stores.
-pub grant_access : (p : PassState) (o : Option Op) (cell : Option Cell) (config : Config) (base address : ℕ)
-    → KeepsTurn p o cell → IsEnabledTo p step.Grant → config ≡ p.table.config
+pub grant_access : (p : PassState) (o : Option Op) (cell : Option Cell) (map : KnownPages) (config : Config)
+    (base address : ℕ) → KeepsTurn p o cell map → IsEnabledTo p step.Grant → config ≡ p.table.config
     → base ≡ cell_base config o cell → address ≡ address_of base % 2 ^ 64
     → Store address ≡ access p.table.config (now_of p) (event_of p step.Grant)
-grant_access p o cell config base address t on config_is base_is address_is =
-    let g = grants p o cell t on in
+grant_access p o cell map config base address t on config_is base_is address_is =
+    let g = grants p o cell map t on in
     ap (λ (n : ℕ). Store n) address_is
     ∙ ap (λ (n : ℕ). Store (address_of n % 2 ^ 64)) (base_is ∙ ap (λ (c : Config). cell_base c o cell) config_is
     ∙ sym g.base)

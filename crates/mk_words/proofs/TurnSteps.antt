@@ -53,6 +53,7 @@ use Rattle.mk_words.specs.States.{PassState, now_of, call_of, world_of, event_of
 use Rattle.mk_words.specs.Steps.{IsEnabledTo, Makes, moment_of, Finds, Tells}
 use Rattle.mk_words.specs.TurnSteps.{op_for, IsTurn, begun_for, IsFresh, turn_stays, gates_stay, world_at, Acts}
 use Rattle.mk_words.specs.TurnSteps.{KnowsCell}
+use Rattle.mk_words.proofs.FreeTurns.{turn_word_stays, hands_none}
 use Rattle.mk_words.proofs.Made.{Made, made}
 use Rattle.mk_words.proofs.CallSteps.{begins, goes, waits}
 
@@ -79,17 +80,6 @@ holder_is_no_marker : (c : Config) (m : Moment) (seat : Seat) → Holds c m seat
 holder_is_no_marker c m (Caller k) h = refl
 holder_is_no_marker c m (Marker k) h = absurd h
 holder_is_no_marker c m Host h = refl
-
--- The turn word is another only after `take` and `give`.
-turn_word_stays : (c : Config) (m : Moment) (seat : Seat) (s : Step) → turn_stays s ≡ true
-    → (Behind c m seat s).words.turn ≡ m.words.turn
-turn_word_stays c m seat (step.Take o) h = cc
-turn_word_stays c m seat step.Give h = cc
-turn_word_stays c m seat step.Reg h =
-    (reg_keeps m.words (caller_number seat) (register_met (flight_of m seat) (flight_of m seat).stage)
-    (reg_access (flight_of m seat) (flight_of m seat).stage)).turn
-turn_word_stays c m seat (step.Tally n v) h = (tally_keeps m.words n v).turn
-turn_word_stays c m seat _ h = refl
 
 -- No gate is changed but by `enter`, `leave`, `hold` and `open`.
 gates_are_kept : (c : Config) (m : Moment) (seat : Seat) (s : Step) → gates_stay s ≡ true
@@ -189,7 +179,7 @@ module _ (p : PassState) (s : Step) (q : PassState) (m : Makes p s q) (own : Has
   still_turn o stays t =
       let c : Config = p.table.config in
       let named : (world_of q).now.words.turn ≡ 1 + holder_number c p.seat =
-      ap (λ (w : World). w.now.words.turn) d.world ∙ turn_word_stays c (moment_of m) p.seat s stays
+      ap (λ (w : World). w.now.words.turn) d.world ∙ turn_word_stays c (moment_of m) p.seat s (hands_none s stays)
       ∙ holds_named c (moment_of m) p.seat d.protocol (holds_then t.holds) in
       let holds : Holds c (world_of q).now p.seat =
       named_holds c (world_of q).now p.seat protocol_now d.meets.seat

@@ -1,3 +1,4 @@
+pub mod PageMaps
 pub mod Seats
 pub mod States
 pub mod Rule

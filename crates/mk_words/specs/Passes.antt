@@ -1,6 +1,7 @@
 -- What a pass is made of, and what always holds of it.
-use Rattle.std.specs.Prelude.{◌≡◌, []}
+use Rattle.std.specs.Prelude.{◌≡◌, [], ◌∷◌}
 use Rattle.atomic_table.specs.Seated.{TableId}
+use Rattle.mk_page_map.specs.KnownPages.{KnownPages}
 use Rattle.mk_core.specs.declared.events.Seat.{Seat}
 use Rattle.mk_core.specs.History.{IsHistory}
 use Rattle.mk_core.specs.Counts.{IsTidy}
@@ -18,12 +19,21 @@ state_of id me seat =
       seen = me.0.own.seen;
     }
 
--- The token holds no slot, nothing that came is still beside what is its own, its own seat is one of its seats, and
--- what it has seen is a history, and tidy.
+-- Nothing that came is still beside what is the token's own, its own seat is one of its seats, and what it has seen is
+-- a history, and tidy.
 pub record IsInOrder (me : Mine) (seat : Seat) : Type 0 where
-  pub no_slot : me.1 ≡ []
   pub settled : me.0.came ≡ no_part
   pub own : Has me.0.own.seats seat
   pub history : IsHistory me.0.config me.0.own.seen
   pub tidy : IsTidy me.0.config me.0.own.seen
   pub before_over : CallersAreBeforeOver me.0.config me.0.own.seats me.0.own.seen
+
+-- A pass's token is in order, and holds no slot.
+pub record HasNoSlot (me : Mine) (seat : Seat) : Type 0 where
+  pub order : IsInOrder me seat
+  pub no_slot : me.1 ≡ []
+
+-- A turn's token is in order, and holds the slot of the page map, in which a blank one lies meanwhile.
+pub record HasTheSlot (me : Mine) (seat : Seat) : Type 0 where
+  pub order : IsInOrder me seat
+  pub slot : (blank : KnownPages) × (me.1 ≡ (0, blank) ∷ [])

@@ -1,8 +1,9 @@
 -- The rule of the table, and what each step says of it.
-use Rattle.std.specs.Prelude.{◌≡◌, ℕ, List, [], ◌∷◌, ◌++◌}
-use mathlib.Core.Option.{some, none}
+use Rattle.std.specs.Prelude.{◌≡◌, ◌≢◌, ℕ, List, [], ◌∷◌, ◌++◌}
+use mathlib.Core.Option.{Option, some, none}
 use lib.ListN.{get_elem?}
-use Rattle.atomic_table.specs.Table.{State, Me, Step as TableStep, step}
+use Rattle.atomic_table.specs.Table.{State, Me, Step as TableStep, step, rest}
+use Rattle.mk_page_map.specs.KnownPages.{KnownPages}
 use Rattle.mk_core.specs.declared.config.Config.{Config}
 use Rattle.mk_core.specs.declared.events.Seat.{Seat}
 use Rattle.mk_core.specs.declared.events.Seat.TheVariants.{Host}
@@ -10,6 +11,7 @@ use Rattle.mk_core.specs.declared.events.Step.TheVariants.{Leave}
 use Rattle.mk_core.specs.declared.events.Event.{Event}
 use Rattle.mk_core.specs.declared.accesses.Access.{Access}
 use Rattle.mk_core.specs.declared.accesses.Access.TheVariants.{Store}
+use Rattle.mk_core.specs.Words.{Words}
 use Rattle.mk_core.specs.Layout.{in_order}
 use Rattle.mk_core.specs.Accesses.{found}
 use Rattle.mk_core.specs.History.{left, IsHistory}
@@ -18,6 +20,7 @@ use Rattle.mk_core.specs.Growing.{AreOfOthers, Grows}
 use Rattle.mk_words.specs.declared.rule.Part.{Part}
 use Rattle.mk_words.specs.declared.rule.View.{View}
 use Rattle.mk_words.specs.Seats.{Has, CallersAreBeforeOver, without_seat, all_seats}
+use Rattle.mk_words.specs.PageMaps.{IsMapOf}
 
 abbrev pub part : List Seat → List Event → Part
 part seats seen = record { seats = seats; seen = seen }
@@ -46,9 +49,14 @@ seats_of v = v.own.seats ++ v.came.seats
 abbrev pub Sees : List Event → Part → Type 0
 Sees es p = Grows p.seats p.seen es
 
+-- The table's only slot has a map that shows these words.
+abbrev pub IsHome : List (Option KnownPages) → Words → Type 0
+IsHome homes w = (map : KnownPages) × (get_elem? homes 0 ≡ some (some map)) × IsMapOf map w
+
 -- There is one history, which is tidy and leaves the words. Each view has seen a beginning of it that has all events of
--- the view's seats, no seat is in two views, and who has a caller's seat after an `over` has the host's.
-pub record Kept (c : Config) (s : State (Unit {0}) View) : Type 0 where
+-- the view's seats, no seat is in two views, and who has a caller's seat after an `over` has the host's. While nobody
+-- has the turn, the page map is at home and shows what the history leaves.
+pub record Kept (c : Config) (s : State KnownPages View) : Type 0 where
   pub events : List Event
   pub history : IsHistory c events
   pub tidy : IsTidy c events
@@ -57,9 +65,10 @@ pub record Kept (c : Config) (s : State (Unit {0}) View) : Type 0 where
   pub apart : (i j : ℕ) (v w : View) (x : Seat) → get_elem? s.views i ≡ some v → get_elem? s.views j ≡ some w
       → Has (seats_of v) x → Has (seats_of w) x → i ≡ j
   pub before_over : (id : ℕ) (v : View) → get_elem? s.views id ≡ some v → CallersAreBeforeOver c (seats_of v) events
+  pub home : (left c events).now.words.turn ≡ 0 → IsHome s.homes (left c events).now.words
 
 abbrev pub Mine : Type 0
-Mine = Me (Unit {0}) View
+Mine = Me KnownPages View
 
 -- what an access tells where it finds that number: a store says what it stores
 abbrev pub told_by : Access → ℕ → ℕ
@@ -77,14 +86,14 @@ pub record Adds (e : Event) (v : View) (n : ℕ) (w : View) : Type 0 where
   pub finds : n ≡ found v.config (left v.config (v.own.seen ++ others)).now e
 
 -- what a step tells doesn't read the table's account of it
-abbrev pub no_step : TableStep (Unit {0})
+abbrev pub no_step : TableStep KnownPages
 no_step = step 0 0 0 0 none
 
-abbrev pub adds : Event → TableStep (Unit {0}) → Mine → ℕ → Mine → Type 0
+abbrev pub adds : Event → TableStep KnownPages → Mine → ℕ → Mine → Type 0
 adds e st m found n = (n.1 ≡ m.1) × Adds e m.0 found n.0
 
 -- A store isn't told what it finds.
-abbrev pub stores : Event → TableStep (Unit {0}) → Mine → ℕ → Mine → Type 0
+abbrev pub stores : Event → TableStep KnownPages → Mine → ℕ → Mine → Type 0
 stores e st m stored n = (found : ℕ) × adds e st m found n
 
 -- A look takes in what came by a join, and all events so far.
@@ -96,7 +105,7 @@ pub record Settles (v w : View) : Type 0 where
   pub tidy : IsTidy v.config w.own.seen
   pub before_over : CallersAreBeforeOver v.config (seats_of v) w.own.seen
 
-abbrev pub settles : TableStep (Unit {0}) → Mine → ℕ → Mine → Type 0
+abbrev pub settles : TableStep KnownPages → Mine → ℕ → Mine → Type 0
 settles st m found n = (n.1 ≡ m.1) × Settles m.0 n.0
 
 -- a view is cut: one seat goes with a new one, which has seen as much
@@ -117,3 +126,14 @@ beside v w = record v { came = w.own }
 
 abbrev pub no_event : Event
 no_event = record { seat = Host; step = Leave }
+
+-- A `take` that finds the turn free gets the page map too, which shows all that the new list leaves.
+abbrev pub takes_map : Event → TableStep KnownPages → Mine → ℕ → Mine → Type 0
+takes_map e st m found n =
+    Adds e m.0 found n.0
+    × (found ≡ 0 → (map : KnownPages) × (n.1 ≡ (0, map) ∷ m.1) × IsMapOf map (left n.0.config n.0.own.seen).now.words)
+    × (found ≢ 0 → n.1 ≡ m.1)
+
+-- A `give` leaves the map in the slot.
+abbrev pub gives_map : Event → TableStep KnownPages → Mine → ℕ → Mine → Type 0
+gives_map e st m stored n = (n.1 ≡ rest m.1) × ((found : ℕ) × Adds e m.0 found n.0)

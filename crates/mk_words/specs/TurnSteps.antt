@@ -22,6 +22,8 @@ use Rattle.mk_core.specs.TurnConditions.{held_by_pages}
 use Rattle.mk_core.specs.Readings.{Holds}
 use Rattle.mk_core.specs.History.{World, world_behind, left}
 use Rattle.mk_core.specs.Frames.{OwnIsLeft, HoldsAll, TurnIsLeft, CountsAreLeft, written_of}
+use Rattle.mk_page_map.specs.KnownPages.{KnownPages}
+use Rattle.mk_words.specs.PageMaps.{IsMapOf}
 use Rattle.mk_words.specs.States.{PassState, TurnState, world_of, now_of, call_of, event_of}
 use Rattle.mk_core.specs.Effects.{progress}
 use Rattle.mk_words.specs.Steps.{Makes, found_by}
@@ -103,15 +105,12 @@ abbrev pub KnowsCell : PassState → Option Cell → Type 0
 KnowsCell p cell = (x : Place) → (now_of p).seats.holding.placing ≡ Used x
     → cell ≡ Some (record { page = x.page; index = x.index })
 
--- The pass's seat holds the turn, for this operation, and knows the cell that it has taken.
-pub record KeepsTurn (p : PassState) (o : Option Op) (cell : Option Cell) : Type 0 where
+-- The pass's seat holds the turn, for this operation, and knows the cell that it has taken. Its map shows what is left
+-- after all that the pass has seen.
+pub record KeepsTurn (p : PassState) (o : Option Op) (cell : Option Cell) (map : KnownPages) : Type 0 where
   pub turn : IsTurn p o
   pub knows : KnowsCell p cell
-
--- `used` may take a cell.
-abbrev pub may_take_cell : Step → Bool
-may_take_cell (step.Used p v) = true
-may_take_cell _ = false
+  pub shows : IsMapOf map (now_of p).words
 
 -- the cell that is known after a `used` that stores a value over this one: one bit more is a cell that is taken
 abbrev pub cell_behind : ℕ → ℕ → ℕ → Option Cell → Option Cell

@@ -4,13 +4,16 @@
 mod call_steps;
 mod finals;
 mod granting;
+mod handing;
 mod indexes;
 mod laws;
+mod map_reads;
 mod marker_steps;
 mod passes;
 mod performing;
 mod rule;
 mod scans;
+mod sleeping;
 mod stop_steps;
 mod stopped;
 mod telling;

@@ -5,6 +5,7 @@ ghost use Rattle.mk_core.specs.History.{IsHistory};
 ghost use Rattle.mk_core.specs.Counts.{IsTidy};
 ghost use Rattle.mk_core.specs.Order.{group_of};
 ghost use Rattle.mk_words.specs.Seats.{CallersAreBeforeOver, Has};
+ghost use Rattle.mk_words.specs.PageMaps.{is_handing};
 ghost use Rattle.mk_words.specs.States.{now_of, event_of};
 ghost use Rattle.mk_words.specs.Markers.{is_markers, marker_in, Marks};
 ghost use Rattle.mk_words.specs.Steps.{May, Tells};
@@ -75,6 +76,7 @@ impl Pass {
     pub(crate) fn perform(&mut self, words: &Words, step: Step, word: TableWord, by: Access) -> u64
         requires one_table { self.old.table ≡ words.now }
         requires kind { is_markers (group_of step) ≡ false }
+        requires hands_none { is_handing step ≡ false }
         requires may { May self.old step }
         requires word { word ≡ word_accessed self.old.table.config (now_of self.old) (event_of self.old step) }
         requires access { by ≡ access self.old.table.config (now_of self.old) (event_of self.old step) }
@@ -104,6 +106,7 @@ impl Pass {
     ) -> u64
         requires one_table { self.old.table ≡ words.now }
         requires kind { is_markers (group_of step) ≡ true }
+        requires hands_none { is_handing step ≡ false }
         requires may { May self.old step }
         requires word { word ≡ word_accessed self.old.table.config (now_of self.old) (event_of self.old step) }
         requires access { by ≡ access self.old.table.config (now_of self.old) (event_of self.old step) }

@@ -9,12 +9,13 @@ use crate::rule::{OneHistory, View};
 use crate::telling::{Make, Making, Put};
 use atomic_table::{Seat as Token, Shared};
 use mk_core::{Access, Config};
+use mk_page_map::PageMap;
 
 /// Makes the access, of whatever event. Answers what was found, and what was stored at a store.
 #[inline(always)]
 pub(crate) fn access_as<J: Making>(
-    table: &Shared<(), View, Config, OneHistory>,
-    token: &mut Token<(), View>,
+    table: &Shared<PageMap, View, Config, OneHistory>,
+    token: &mut Token<PageMap, View>,
     index: usize,
     access: Access,
 ) -> u64
@@ -44,8 +45,8 @@ pub(crate) fn access_as<J: Making>(
 /// Makes a store that answers what it found.
 #[inline(always)]
 pub(crate) fn swap_as<J: Making>(
-    table: &Shared<(), View, Config, OneHistory>,
-    token: &mut Token<(), View>,
+    table: &Shared<PageMap, View, Config, OneHistory>,
+    token: &mut Token<PageMap, View>,
     index: usize,
     value: u64,
 ) -> u64

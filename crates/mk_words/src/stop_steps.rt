@@ -76,6 +76,7 @@ impl Turn {
             TableWord::Named(Word::Phase),
             Access::Add(1),
         );
+        words.wake_markers();
     }
 
     /// Says that all is over, where the host has the seats of all callers.
@@ -92,6 +93,7 @@ impl Turn {
             TableWord::Named(Word::Phase),
             Access::Add(5),
         );
+        words.wake_markers();
     }
 
     /// The same turn, where the gates of all other callers are held.

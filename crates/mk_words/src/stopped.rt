@@ -5,12 +5,13 @@ ghost use Rattle.mk_core.specs.Accesses.{word_accessed, access};
 ghost use Rattle.mk_core.specs.History.{IsHistory};
 ghost use Rattle.mk_core.specs.Moments.{others_are_held, none_is_held, is_number_of};
 ghost use Rattle.mk_words.specs.Opening.{OthersMayOpen, Opens};
+ghost use Rattle.mk_words.specs.PageMaps.{stores_page_word};
 ghost use Rattle.mk_words.specs.Steps.{IsEnabledTo, IsAdmittedTo, Finds, may_decide};
 ghost use Rattle.mk_words.specs.TurnSteps.{Acts};
 ghost use Rattle.mk_words.specs.Seats.{CallersAreBeforeOver, Has};
 ghost use Rattle.mk_words.specs.States.{now_of, event_of};
 ghost use Rattle.mk_words.specs.Steps.{May, Tells};
-ghost use Rattle.mk_words.specs.TurnSteps.{IsTurn, gates_stay, may_take_cell};
+ghost use Rattle.mk_words.specs.TurnSteps.{IsTurn, gates_stay};
 
 use crate::turn_steps::tally_word;
 use crate::turns::Turn;
@@ -66,12 +67,12 @@ impl Stopped {
         turn.is_in_order();
     }
 
-    /// Makes a step that opens no gate.
+    /// Makes a step that opens no gate, and stores no word that the page map shows.
     #[inline(always)]
     pub(crate) fn perform(&mut self, words: &Words, step: Step, word: TableWord, by: Access) -> u64
         requires one_table { self.old.pass.table ≡ words.now }
         requires stays { gates_stay step ≡ true }
-        requires takes_none { may_take_cell step ≡ false }
+        requires leaves_pages { stores_page_word step ≡ false }
         requires may { May self.old.pass step }
         requires word { word ≡ word_accessed self.old.pass.table.config (now_of self.old.pass)
             (event_of self.old.pass step) }
@@ -120,12 +121,8 @@ impl Stopped {
         ensures op { self.new.op ≡ self.old.op }
         ensures acts { Acts self.old.pass (step.Head page v) self.new.pass }
     {
-        self.perform(
-            words,
-            Step::Head { page, value: v },
-            TableWord::Named(Word::Head(page)),
-            Access::Store(v),
-        );
+        self.turn.is_in_order();
+        self.turn.head(words, page, v);
     }
 
     /// Stores a page's used word. Where the word gains a bit, its cell is the one that the turn's New takes.
@@ -147,12 +144,8 @@ impl Stopped {
         ensures op { self.new.op ≡ self.old.op }
         ensures acts { Acts self.old.pass (step.Quar page v) self.new.pass }
     {
-        self.perform(
-            words,
-            Step::Quar { page, value: v },
-            TableWord::Named(Word::Quar(page)),
-            Access::Store(v),
-        );
+        self.turn.is_in_order();
+        self.turn.quar(words, page, v);
     }
 
     /// Clears a page's marks.
@@ -273,6 +266,7 @@ impl Stopped {
             TableWord::Named(Word::Phase),
             Access::Add(1),
         );
+        words.wake_markers();
     }
 
     /// Closes the marks.

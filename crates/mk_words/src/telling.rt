@@ -2,6 +2,7 @@
 
 use crate::rule::View;
 use atomic_table::{Join, Play, Split};
+use mk_page_map::PageMap;
 use std::marker::{Brand, PhantomData};
 
 /// The event that a step makes.
@@ -22,7 +23,7 @@ pub struct Make<J> {
     of: PhantomData<J>,
 }
 
-impl<J: Making> Play<(), View> for Make<J> {
+impl<J: Making> Play<PageMap, View> for Make<J> {
     ghost use Rattle.mk_words.specs.Rule.{adds};
 
     ghost then = { adds J.event };
@@ -33,16 +34,38 @@ pub struct Put<J> {
     of: PhantomData<J>,
 }
 
-impl<J: Making> Play<(), View> for Put<J> {
+impl<J: Making> Play<PageMap, View> for Put<J> {
     ghost use Rattle.mk_words.specs.Rule.{stores};
 
     ghost then = { stores J.event };
 }
 
+/// The step that takes the turn, and the page map with it.
+pub struct TakeMap<J> {
+    of: PhantomData<J>,
+}
+
+impl<J: Making> Play<PageMap, View> for TakeMap<J> {
+    ghost use Rattle.mk_words.specs.Rule.{takes_map};
+
+    ghost then = { takes_map J.event };
+}
+
+/// The step that gives the turn back, and the page map with it.
+pub struct GiveMap<J> {
+    of: PhantomData<J>,
+}
+
+impl<J: Making> Play<PageMap, View> for GiveMap<J> {
+    ghost use Rattle.mk_words.specs.Rule.{gives_map};
+
+    ghost then = { gives_map J.event };
+}
+
 /// A look that takes in what came by a join.
 pub struct Settle;
 
-impl Play<(), View> for Settle {
+impl Play<PageMap, View> for Settle {
     ghost use Rattle.mk_words.specs.Rule.{settles};
 
     ghost then = { settles };

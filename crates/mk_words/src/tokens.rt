@@ -1,9 +1,10 @@
 //! A token of the table with the seat whose steps it makes: what a pass and a turn have in common.
-ghost use Rattle.std.specs.Prelude.{◌≡◌};
+ghost use Rattle.std.specs.Prelude.{◌≡◌, false};
 ghost use Rattle.mk_core.specs.Accesses.{caller_number, word_accessed, access};
 ghost use Rattle.mk_core.specs.History.{IsHistory};
 ghost use Rattle.mk_core.specs.Counts.{IsTidy};
 ghost use Rattle.mk_core.specs.declared.accesses.Access.TheVariants.{Store};
+ghost use Rattle.mk_words.specs.PageMaps.{is_handing};
 ghost use Rattle.mk_words.specs.Seats.{CallersAreBeforeOver, Has};
 ghost use Rattle.mk_words.specs.States.{now_of, event_of};
 ghost use Rattle.mk_words.specs.Passes.{state_of, IsInOrder};
@@ -16,12 +17,13 @@ use crate::telling::Making;
 use crate::words::Words;
 use atomic_table::Seat as Token;
 use mk_core::{Access, Seat, Step, TableWord};
+use mk_page_map::PageMap;
 use std::marker::{Brand, Model};
 
-/// A token with a seat. What a marker is at isn't kept here, so a turn is moved in few words.
+/// A pass's token with its seat. What a marker is at isn't kept here, so a turn is moved in few words.
 #[derive(Drop)]
 pub(crate) struct SeatToken {
-    pub(crate) token: Token<(), View>,
+    pub(crate) token: Token<PageMap, View>,
     pub(crate) seat: Seat,
 }
 
@@ -30,20 +32,39 @@ impl Model for SeatToken {
 
     ghost Value = { PassState };
 
-    ghost use Rattle.mk_words.specs.Passes.{state_of, IsInOrder};
+    ghost use Rattle.mk_words.specs.Passes.{state_of, HasNoSlot};
 
     ghost view = { λ t. state_of t.token.table_id t.token.me t.seat };
 
-    ghost invariant = { λ t. IsInOrder t.token.me t.seat };
+    ghost invariant = { λ t. HasNoSlot t.token.me t.seat };
 }
 
-/// Makes a step of any kind: the access that the event makes after what the pass has seen, to the word that it
-/// reaches there. After all that others did since it is the same one.
+/// A turn's token with its seat, which holds the slot of the page map.
+#[derive(Drop)]
+pub(crate) struct TurnToken {
+    pub(crate) token: Token<PageMap, View>,
+    pub(crate) seat: Seat,
+}
+
+impl Model for TurnToken {
+    ghost use Rattle.mk_words.specs.States.{PassState};
+
+    ghost Value = { PassState };
+
+    ghost use Rattle.mk_words.specs.Passes.{state_of, HasTheSlot};
+
+    ghost view = { λ t. state_of t.token.table_id t.token.me t.seat };
+
+    ghost invariant = { λ t. HasTheSlot t.token.me t.seat };
+}
+
+/// Makes a step of any kind but the two that hand over the turn: the access that the event makes after what the pass
+/// has seen, to the word that it reaches there. After all that others did since it is the same one.
 #[inline(always)]
 fn perform_as<J: Making>(
     words: &Words,
     pages: u64,
-    token: &mut Token<(), View>,
+    token: &mut Token<PageMap, View>,
     seat: Seat,
     step: Step,
     word: TableWord,
@@ -53,6 +74,7 @@ fn perform_as<J: Making>(
     requires order { IsInOrder token.old.me seat }
     requires one_table { (state_of token.old.table_id token.old.me seat).table ≡ words.now }
     requires pages { pages ≡ words.now.config.pages }
+    requires hands_none { is_handing step ≡ false }
     requires may { May (state_of token.old.table_id token.old.me seat) step }
     requires word { word ≡ word_accessed token.old.me.0.config (now_of (state_of token.old.table_id token.old.me seat))
         (record { seat = seat; step = step }) }
@@ -61,6 +83,7 @@ fn perform_as<J: Making>(
     ensures told { Tells (state_of token.old.table_id token.old.me seat) step result
         (state_of token.new.table_id token.new.me seat) }
     ensures order { IsInOrder token.new.me seat }
+    ensures slots { token.new.me.1 ≡ token.old.me.1 }
 {
     words.is_within_limits();
     let shared = &words.table.shared;
@@ -72,7 +95,7 @@ fn perform_as<J: Making>(
 #[inline(always)]
 fn replace_as<J: Making>(
     words: &Words,
-    token: &mut Token<(), View>,
+    token: &mut Token<PageMap, View>,
     seat: Seat,
     step: Step,
     word: TableWord,
@@ -81,6 +104,7 @@ fn replace_as<J: Making>(
     requires picked { J.event ≡ record { seat = seat; step = step } }
     requires order { IsInOrder token.old.me seat }
     requires one_table { (state_of token.old.table_id token.old.me seat).table ≡ words.now }
+    requires hands_none { is_handing step ≡ false }
     requires may { May (state_of token.old.table_id token.old.me seat) step }
     requires word { word ≡ word_accessed token.old.me.0.config (now_of (state_of token.old.table_id token.old.me seat))
         (record { seat = seat; step = step }) }
@@ -90,6 +114,7 @@ fn replace_as<J: Making>(
     ensures finds { Finds (state_of token.old.table_id token.old.me seat) step result
         (state_of token.new.table_id token.new.me seat) }
     ensures order { IsInOrder token.new.me seat }
+    ensures slots { token.new.me.1 ≡ token.old.me.1 }
 {
     let index = index_of(words.config.pages, word);
     swap_as::<J>(&words.table.shared, token, index, value)
@@ -126,7 +151,55 @@ impl SeatToken {
         }
     }
 
-    /// Makes a step of any kind, in a table of this many pages.
+    /// Makes a step of any kind but a `take`.
+    #[inline(always)]
+    pub(crate) fn perform(&mut self, words: &Words, step: Step, word: TableWord, by: Access) -> u64
+        requires one_table { self.old.table ≡ words.now }
+        requires hands_none { is_handing step ≡ false }
+        requires may { May self.old step }
+        requires word { word ≡ word_accessed self.old.table.config (now_of self.old) (event_of self.old step) }
+        requires access { by ≡ access self.old.table.config (now_of self.old) (event_of self.old step) }
+        ensures told { Tells self.old step result self.new }
+        ensures own { Has self.old.seats self.old.seat }
+        ensures history { IsHistory self.new.table.config self.new.seen }
+    {
+        let seat = self.seat;
+        perform_as::<Brand>(words, words.pages(), &mut self.token, seat, step, word, by)
+    }
+}
+
+impl TurnToken {
+    /// Whose token it is.
+    #[inline(always)]
+    pub(crate) fn seat(&self) -> Seat
+        ensures { result ≡ self.now.seat }
+    {
+        self.seat
+    }
+
+    /// What holds of every token. It does nothing.
+    #[inline(always)]
+    pub(crate) fn is_in_order(&self)
+        ensures own { Has self.now.seats self.now.seat }
+        ensures history { IsHistory self.now.table.config self.now.seen }
+        ensures before_over { CallersAreBeforeOver self.now.table.config self.now.seats self.now.seen }
+        ensures tidy { IsTidy self.now.table.config self.now.seen }
+    {
+        let _seat = &self.seat;
+    }
+
+    /// The number of a caller, and 0 of another.
+    #[inline(always)]
+    pub(crate) fn caller(&self) -> u64
+        ensures { result ≡ caller_number self.now.seat }
+    {
+        match self.seat {
+            Seat::Caller(caller) => caller,
+            Seat::Marker(_) | Seat::Host => 0,
+        }
+    }
+
+    /// Makes a step of any kind but a `give`, in a table of this many pages.
     #[inline(always)]
     pub(crate) fn perform_among(
         &mut self,
@@ -138,6 +211,7 @@ impl SeatToken {
     ) -> u64
         requires one_table { self.old.table ≡ words.now }
         requires pages { pages ≡ words.now.config.pages }
+        requires hands_none { is_handing step ≡ false }
         requires may { May self.old step }
         requires word { word ≡ word_accessed self.old.table.config (now_of self.old) (event_of self.old step) }
         requires access { by ≡ access self.old.table.config (now_of self.old) (event_of self.old step) }
@@ -149,10 +223,11 @@ impl SeatToken {
         perform_as::<Brand>(words, pages, &mut self.token, seat, step, word, by)
     }
 
-    /// Makes a step of any kind.
+    /// Makes a step of any kind but a `give`.
     #[inline(always)]
     pub(crate) fn perform(&mut self, words: &Words, step: Step, word: TableWord, by: Access) -> u64
         requires one_table { self.old.table ≡ words.now }
+        requires hands_none { is_handing step ≡ false }
         requires may { May self.old step }
         requires word { word ≡ word_accessed self.old.table.config (now_of self.old) (event_of self.old step) }
         requires access { by ≡ access self.old.table.config (now_of self.old) (event_of self.old step) }
@@ -167,6 +242,7 @@ impl SeatToken {
     #[inline(always)]
     pub(crate) fn replace(&mut self, words: &Words, step: Step, word: TableWord, value: u64) -> u64
         requires one_table { self.old.table ≡ words.now }
+        requires hands_none { is_handing step ≡ false }
         requires may { May self.old step }
         requires word { word ≡ word_accessed self.old.table.config (now_of self.old) (event_of self.old step) }
         requires access { Store value ≡ access self.old.table.config (now_of self.old) (event_of self.old step) }

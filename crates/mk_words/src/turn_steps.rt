@@ -66,12 +66,9 @@ impl Turn {
         ensures op { self.new.op ≡ self.old.op }
         ensures acts { Acts self.old.pass (step.Head page v) self.new.pass }
     {
-        self.perform(
-            words,
-            Step::Head { page, value: v },
-            TableWord::Named(Word::Head(page)),
-            Access::Store(v),
-        );
+        let head = TableWord::Named(Word::Head(page));
+        self.pass.perform(words, Step::Head { page, value: v }, head, Access::Store(v));
+        self.map.header_stored(page, v);
     }
 
     /// Stores a page's quarantine word.
@@ -82,12 +79,9 @@ impl Turn {
         ensures op { self.new.op ≡ self.old.op }
         ensures acts { Acts self.old.pass (step.Quar page v) self.new.pass }
     {
-        self.perform(
-            words,
-            Step::Quar { page, value: v },
-            TableWord::Named(Word::Quar(page)),
-            Access::Store(v),
-        );
+        let quar = TableWord::Named(Word::Quar(page));
+        self.pass.perform(words, Step::Quar { page, value: v }, quar, Access::Store(v));
+        self.map.quarantine_stored(page, v % (1 << 32), v >> 32);
     }
 
     /// Clears a page's marks.
@@ -209,6 +203,7 @@ impl Turn {
             v,
         );
         self.cell = cell_behind(page, v, found, self.cell);
+        self.map.used_stored(page, v);
     }
 
     /// Loads the register of an undecided Free.

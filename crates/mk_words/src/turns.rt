@@ -5,27 +5,28 @@ ghost use Rattle.mk_core.specs.Accesses.{word_accessed, access};
 ghost use Rattle.mk_core.specs.Calls.{at_rest};
 ghost use Rattle.mk_core.specs.Counts.{TalliesAreExact, TalliesAreTidy, IsTidy};
 ghost use Rattle.mk_core.specs.History.{IsHistory};
-ghost use Rattle.mk_core.specs.Moments.{holder_number};
-ghost use Rattle.mk_core.specs.Order.{seat_exists};
+ghost use Rattle.mk_words.specs.PageMaps.{stores_page_word};
 ghost use Rattle.mk_words.specs.Seats.{CallersAreBeforeOver, Has};
 ghost use Rattle.mk_words.specs.States.{now_of, call_of, event_of};
 ghost use Rattle.mk_words.specs.Steps.{IsEnabledTo, May, Makes, Finds, Tells};
-ghost use Rattle.mk_words.specs.TurnSteps.{IsTurn, IsFresh, turn_stays, may_take_cell, Acts};
+ghost use Rattle.mk_words.specs.TurnSteps.{IsTurn, IsFresh, turn_stays, Acts};
 
 use crate::passes::{OUTSIDE, Pass};
-use crate::tokens::SeatToken;
+use crate::tokens::TurnToken;
 use crate::words::Words;
 use mk_core::{Access, Seat, Step, TableWord};
 use mk_geom::Cell;
 use mk_never::Op;
+use mk_page_map::PageMap;
 use std::marker::Model;
 
-/// The turn of a table, with the pass of the seat that has it.
+/// The turn of a table, with the pass of the seat that has it, and the map of the heap's pages, which travels with it.
 #[derive(Drop)]
 pub struct Turn {
-    pub(crate) pass: SeatToken,
+    pub(crate) pass: TurnToken,
     pub(crate) op: Option<Op>,
     pub(crate) cell: Option<Cell>,
+    pub(crate) map: PageMap,
 }
 
 impl Model for Turn {
@@ -37,29 +38,13 @@ impl Model for Turn {
 
     ghost view = { λ t. record { pass = t.pass; op = t.op } };
 
-    ghost invariant = { λ t. KeepsTurn t.pass t.op t.cell };
+    ghost invariant = { λ t. KeepsTurn t.pass t.op t.cell t.map };
 }
 
 /// Another seat has the turn, by its number: a caller's own, or for the host the number of callers.
 #[derive(Clone, Copy, Debug, PartialEq, Eq)]
 pub struct Busy {
     pub holder: u64,
-}
-
-impl SeatToken {
-    /// What the turn word is while the seat has the turn.
-    #[inline(always)]
-    fn turn_word(&self, words: &Words) -> u64
-        requires one_table { self.now.table ≡ words.now }
-        requires exists { seat_exists self.now.table.config self.now.seat ≡ true }
-        ensures { result ≡ 1 + holder_number self.now.table.config self.now.seat }
-    {
-        words.is_within_limits();
-        match self.seat {
-            Seat::Caller(caller) => 1 + caller,
-            Seat::Marker(_) | Seat::Host => 1 + words.callers(),
-        }
-    }
 }
 
 impl Pass {
@@ -77,30 +62,26 @@ impl Pass {
         ensures stays { IfErr result (λ back. call_of back.0 ≡ call_of self) }
         ensures again { IfErr result (λ back. IsEnabledTo back.0 (step.Take op)) }
     {
-        let Pass { own: mut pass, .. } = self;
-        let number = pass.turn_word(words);
-        let found = pass.perform(
-            words,
-            Step::Take(op),
-            TableWord::Turn,
-            Access::Exchange {
-                old: 0,
-                new: number,
-            },
-        );
-        pass.is_in_order();
-        if found == 0 {
-            Ok(Turn {
-                pass,
-                op,
-                cell: None,
-            })
-        } else {
-            let back = Pass {
-                own: pass,
-                marker: OUTSIDE,
-            };
-            Err((back, Busy { holder: found - 1 }))
+        let Pass { own, .. } = self;
+        own.is_in_order();
+        match own.take(words, op) {
+            Ok((pass, map)) => {
+                pass.is_in_order();
+                Ok(Turn {
+                    pass,
+                    op,
+                    cell: None,
+                    map,
+                })
+            }
+            Err((own, found)) => {
+                own.is_in_order();
+                let back = Pass {
+                    own,
+                    marker: OUTSIDE,
+                };
+                Err((back, Busy { holder: found - 1 }))
+            }
         }
     }
 }
@@ -132,12 +113,12 @@ impl Turn {
         self.pass.is_in_order();
     }
 
-    /// Makes a step after which the turn goes on.
+    /// Makes a step after which the turn goes on, and which stores no word that the map shows.
     #[inline(always)]
     pub(crate) fn perform(&mut self, words: &Words, step: Step, word: TableWord, by: Access) -> u64
         requires one_table { self.old.pass.table ≡ words.now }
         requires stays { turn_stays step ≡ true }
-        requires takes_none { may_take_cell step ≡ false }
+        requires leaves_pages { stores_page_word step ≡ false }
         requires may { May self.old.pass step }
         requires word { word ≡ word_accessed self.old.pass.table.config (now_of self.old.pass)
             (event_of self.old.pass step) }
@@ -159,10 +140,12 @@ impl Turn {
         ensures acts { Acts self.pass step.Give result }
         ensures rests { call_of result ≡ at_rest }
     {
-        let Turn { mut pass, .. } = self;
-        pass.perform(words, Step::Give, TableWord::Turn, Access::Store(0));
+        let Turn { pass, map, .. } = self;
+        pass.is_in_order();
+        let own = pass.give(words, map);
+        own.is_in_order();
         Pass {
-            own: pass,
+            own,
             marker: OUTSIDE,
         }
     }

@@ -17,16 +17,16 @@ use crate::tokens::SeatToken;
 use atomic_table::Table;
 use mk_core::{Config, Seat, TableWord, Word};
 use mk_never::{NoMemory, TypeTable};
+use mk_page_map::PageMap;
 use std::alloc::Global;
 use std::marker::{Brand, Model};
-use std::sync::{Mutex, MutexGuard, Wait};
 
 /// The words of a heap, which threads share. Who has a pass may access them.
 #[derive(Drop)]
 pub struct Words {
-    pub(crate) table: Table<(), View, Config, OneHistory, Global>,
+    pub(crate) table: Table<PageMap, View, Config, OneHistory, Global>,
     pub(crate) config: Config,
-    queue: Mutex<()>,
+    pub(crate) alloc: Global,
 }
 
 impl Model for Words {
@@ -42,7 +42,7 @@ impl Model for Words {
     ghost invariant = { λ w. record {
       key : w.table.shared.key ≡ w.config;
       words : w.table.shared.table_id.words ≡ count_of_words w.config.pages;
-      slots : w.table.shared.table_id.slots ≡ 0;
+      slots : w.table.shared.table_id.slots ≡ 1;
       limits : IsWithinLimits w.config;
     } };
 }
@@ -100,12 +100,15 @@ impl Words {
     {
         let zeros = zeros(alloc, count_of_words(config.pages))?;
         let copy = config.try_clone(alloc)?;
-        match Table::of_words(alloc, zeros.as_slice(), config) {
+        let map = PageMap::new(alloc, config.pages)?;
+        let mut slots = Vec::new(alloc);
+        slots.push(map)?;
+        match Table::new(alloc, zeros.as_slice(), slots, config) {
             Ok((table, token)) => Ok((
                 Words {
                     table,
                     config: copy,
-                    queue: Mutex::new(()),
+                    alloc,
                 },
                 Pass {
                     own: SeatToken {
@@ -194,12 +197,6 @@ impl Words {
             == 0
     }
 
-    /// Waits in line with others that want the turn, and stands first until what it gives is dropped. Who stands after
-    /// sleeps. No promise rests on it: the turn is had by the turn word alone, with or without a place in line.
-    pub fn line_up<R: Wait>(&self, rt: &R) -> MutexGuard<'_, ()> {
-        self.queue.lock(rt)
-    }
-
     /// Ends the table. The pass has all seats, so what it has seen is the whole history.
     pub fn close(words: Words, pass: Pass) -> Final
         requires one_table { pass.table ≡ words }
@@ -222,7 +219,7 @@ impl Words {
         let Words { table, config, .. } = words;
         let SeatToken { mut token, .. } = own;
         let memory = table.shared.split_seat::<Remember>(&mut token);
-        let closed = table.close_with(token);
+        let mut closed = table.close_with(token);
         let pages = config.pages;
         let last = Final {
             held: last_word(&closed, pages, Word::Held),
@@ -233,6 +230,7 @@ impl Words {
             full: last_word(&closed, pages, Word::Full),
             memory,
         };
+        let _map = closed.take(0);
         closed.free();
         last
     }

@@ -1,22 +1,12 @@
 //! Calls that access a word of the heap.
 ghost use Rattle.std.specs.Prelude.{◌≡◌, ◌<◌};
-ghost use Rattle.mk_core.specs.Cells.{is_unmapped_header};
-ghost use Rattle.mk_geom.specs.Headers.{header_of};
 ghost use Rattle.mk_words_clients.specs.Clients.{IsCallers, PointsWell, StaysAdmitted};
 ghost use Rattle.mk_never.specs.declared.operations.Op.TheVariants as op;
 
-use mk_geom::{Header, decode};
+use mk_core::is_unmapped;
+use mk_geom::{HEAP_START, PAGE_WORDS, WORD_BYTES};
 use mk_never::Op;
 use mk_words::{Held, Pass, Words};
-
-fn is_unmapped(header: u64) -> bool
-    ensures { result ≡ is_unmapped_header (header_of header) }
-{
-    match decode(header) {
-        Some(Header::Run { mapped, .. } | Header::Later { mapped, .. }) => !mapped,
-        _ => false,
-    }
-}
 
 /// `SetPtr`, through a pointer that points well.
 pub fn set_ptr(words: &Words, pass: &mut Pass, q: u8, i: u64, p: u8) -> Result<(), Held>
@@ -35,15 +25,15 @@ pub fn set_ptr(words: &Words, pass: &mut Pass, q: u8, i: u64, p: u8) -> Result<(
     pass.is_in_order();
     let value = pass.reg_load(words, p);
     pass.is_in_order();
-    let word = (to - 65536) / 8 + i;
-    let header = pass.probe(words, word / 64);
+    let word = (to - HEAP_START) / WORD_BYTES + i;
+    let header = pass.probe(words, word / PAGE_WORDS);
     if is_unmapped(header) {
         pass.leave(words);
         return Ok(());
     }
     pass.is_in_order();
     pass.write(words, word, value);
-    pass.dirty(words, word / 64);
+    pass.dirty(words, word / PAGE_WORDS);
     pass.leave(words);
     Ok(())
 }

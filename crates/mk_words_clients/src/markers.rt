@@ -2,24 +2,13 @@
 ghost use Rattle.std.specs.Prelude.{◌≡◌, ◌<◌, ◌≤◌, ◌+◌, ◌*◌, true, false, Some, None, IfSome, IfNone};
 ghost use Rattle.mk_core.specs.Effects.{scan_onward};
 ghost use Rattle.mk_core.specs.MarkerConditions.{has_next_word};
-ghost use Rattle.mk_geom.specs.Addresses.{is_heap_address, page_at_address};
 ghost use Rattle.mk_geom.specs.Classes.{class_words_of};
 ghost use Rattle.mk_words.specs.Markers.{marker_in};
 ghost use Rattle.mk_words_clients.specs.Clients.{IsOutside, IsAttending, IsAt};
 
-use mk_core::Word;
-use mk_geom::{Header, cells, class_words, decode, lookup};
+use mk_core::{Phase, Word};
+use mk_geom::{Header, cells, class_words, decode, heap_page, lookup};
 use mk_words::{Pass, Words};
-
-/// The page of a heap of this many pages into which the value points.
-fn page_of(pages: u64, value: u64) -> Option<u64>
-    ensures some { IfSome result (λ page. (page ≡ page_at_address value) × (page < pages)
-        × (is_heap_address pages value ≡ true)) }
-    ensures none { IfNone result (is_heap_address pages value ≡ false) }
-{
-    let page = value.checked_sub(65536)? / 512;
-    if page < pages { Some(page) } else { None }
-}
 
 /// Loads the next word of the cell, and marks what it points to.
 fn scan_word(words: &Words, pass: &mut Pass)
@@ -31,7 +20,7 @@ fn scan_word(words: &Words, pass: &mut Pass)
     ensures scan { (marker_in pass.new).scan ≡ scan_onward (marker_in pass.old).scan }
 {
     let value = pass.marker_load(words);
-    match page_of(words.pages(), value) {
+    match heap_page(words.pages(), value) {
         Some(page) => {
             let header = pass.marker_look(words, Word::Head(page));
             match lookup(words.pages(), header, value) {
@@ -87,7 +76,7 @@ pub fn visit(words: &Words, pass: &mut Pass, page: u64, k: u64)
     ensures one_table { pass.new.table ≡ words.now }
     ensures outside { IsOutside pass.new }
 {
-    if pass.attend(words) % 8 == 1 {
+    if Phase::Marking.is_in(pass.attend(words)) {
         scan_cell(words, pass, page, k);
         pass.quit(words);
     } else {

@@ -50,9 +50,10 @@ pub enum Instruction {
 impl Instruction {
     ghost use Rattle.std.specs.Prelude.{◌≡◌, ℕ, List, is_some};
     ghost use Rattle.mk_core.specs.declared.events.Answer.{Answer};
-    ghost use Rattle.mk_check.specs.Steps.{is_silent, op_asked};
+    ghost use Rattle.mk_check.specs.Steps.{is_print, is_silent, op_asked};
 
     /// Whether it asks for an operation.
+    #[inline(always)]
     pub fn asks(&self) -> bool
         ensures { (numbers : List ℕ) → result ≡ is_some (op_asked numbers self.now) }
     {
@@ -65,7 +66,15 @@ impl Instruction {
         )
     }
 
+    /// Whether it prints when it runs.
+    pub fn prints(&self) -> bool
+        ensures { result ≡ is_print self.now }
+    {
+        matches!(self, Instruction::Print { .. })
+    }
+
     /// Whether it prints nothing when it takes this answer.
+    #[inline(always)]
     pub fn is_silent(&self, answer: Answer) -> bool
         ensures { result ≡ is_silent self.now answer }
     {

@@ -1,12 +1,15 @@
 //! A script that runs.
-ghost use Rattle.std.specs.Prelude.{◌≡◌, ◌+◌, ◌*◌, ◌<◌, ◌++◌, [], ◌∷◌, true, false, length, slice_index, slice_set};
+ghost use Rattle.std.specs.Prelude.{◌≡◌, ◌+◌, ◌-◌, ◌*◌, ◌<◌, ◌++◌, [], ◌∷◌, true, false, length, slice_index};
+ghost use Rattle.std.specs.Prelude.{slice_set, take};
 ghost use Rattle.std.specs.Prelude.{IsTrue, IfOk, OnOk, OnErr, is_some, replicate, codes};
 ghost use Rattle.std.specs.Fmt.{decimal};
 ghost use Rattle.mk_check.specs.Feed.{refusal_line, refusal_text, newline, answered_number, show_text};
 ghost use Rattle.mk_check.specs.Steps as steps;
+ghost use Rattle.mk_check.specs.Steps.{asks_first};
 ghost use Rattle.mk_check.specs.Trees.{kept_in, with_kept, left_in, stopped_in, IsWithin, place_in_rounds};
-ghost use Rattle.mk_check.specs.Trees.{place_behind_block};
-ghost use Rattle.mk_check.specs.Trees.{place_in_branch, LeavesBlock, MovesOn, HasStopped};
+ghost use Rattle.mk_check.specs.Trees.{innermost, place_behind_block, place_in_branch, resumed_node, steps_at};
+ghost use Rattle.mk_check.specs.Trees.{trees, LeavesBlock, MovesOn, MovesToOp, HasStopped};
+ghost use Rattle.mk_check.specs.declared.feeding.tree.Frame.TheVariants as frame;
 
 use crate::feeding::instructions::Instruction;
 use crate::feeding::tree::{Frame, Node, Tree};
@@ -103,6 +106,7 @@ impl Running {
         Ok(())
     }
 
+    #[inline(always)]
     pub fn at(&self) -> usize
         ensures { result ≡ self.now.at }
     {
@@ -152,12 +156,14 @@ impl Running {
         self.print(refusal)
     }
 
+    #[inline(always)]
     fn number(&self, number: usize) -> u64
         ensures { result ≡ slice_index self.now.numbers number }
     {
         self.numbers.get(number).copied().unwrap_or(0)
     }
 
+    #[inline(always)]
     fn set(&mut self, number: usize, value: u64)
         ensures { self.new ≡ record self.old { numbers = slice_set self.old.numbers number value } }
     {
@@ -167,6 +173,7 @@ impl Running {
     }
 
     /// The operation that an instruction asks for.
+    #[inline(always)]
     pub fn asked(&self, instruction: Instruction) -> Option<Op>
         ensures { result ≡ steps.op_asked self.now.numbers instruction }
     {
@@ -179,6 +186,27 @@ impl Running {
             }),
             Instruction::Show { p } => Some(Op::IsNull { p }),
             _ => None,
+        }
+    }
+
+    /// Runs an instruction that prints nothing.
+    fn calculate(&mut self, instruction: Instruction)
+        requires { steps.is_print instruction ≡ false }
+        ensures { self.new ≡ with_kept self.old (steps.after_line instruction (kept_in self.old)) }
+    {
+        match instruction {
+            Instruction::Const { number, value } => self.set(number, value),
+            Instruction::Add {
+                number,
+                left,
+                right,
+            } => self.set(number, self.number(left).wrapping_add(self.number(right))),
+            Instruction::Sub {
+                number,
+                left,
+                right,
+            } => self.set(number, self.number(left).wrapping_sub(self.number(right))),
+            _ => {}
         }
     }
 
@@ -248,19 +276,54 @@ impl Running {
         self.open(Frame::Branch { next })
     }
 
-    /// Leaves the innermost open block, if there is one.
-    fn leave(&mut self) -> Result<bool, NoMemory>
-        ensures left { IfOk result (λ leaves. IsTrue leaves → LeavesBlock self.old self.new) }
-        ensures none { IfOk result (λ leaves. leaves ≡ false → (self.old.frames ≡ []) × (self.new ≡ self.old)) }
+    /// The innermost open block goes on with these rounds left, after its node.
+    fn go_round(&mut self, rounds: u64, body: usize, next: usize)
+        requires { 0 < length self.old.frames }
+        ensures { self.new ≡ record self.old {
+          at = body;
+          frames = slice_set self.old.frames (length self.old.frames - 1) (frame.Rounds rounds body next);
+        } }
     {
-        let Some(frame) = self.frames.pop() else {
-            return Ok(false);
-        };
-        match frame {
-            Frame::Rounds { rounds, body, next } => self.enter(rounds, body, next)?,
-            Frame::Branch { next } => self.at = next,
+        let innermost = self.frames.len() - 1;
+        self.frames[innermost] = Frame::Rounds { rounds, body, next };
+        self.at = body;
+    }
+
+    /// The innermost open block ends.
+    fn close(&mut self, next: usize)
+        ensures { self.new ≡ record self.old { at = next; frames = take (length self.old.frames - 1) self.old.frames } }
+    {
+        self.frames.pop();
+        self.at = next;
+    }
+
+    /// The innermost open block.
+    fn innermost(&self) -> Option<Frame>
+        ensures { result ≡ innermost self.now.frames }
+    {
+        self.frames.last().copied()
+    }
+
+    /// Leaves the innermost open block, if there is one, or begins its next round. No memory is taken.
+    fn leave(&mut self) -> bool
+        ensures left { IsTrue result → LeavesBlock self.old self.new }
+        ensures none { result ≡ false → (self.old.frames ≡ []) × (self.new ≡ self.old) }
+    {
+        match self.innermost() {
+            Some(Frame::Rounds { rounds, body, next }) if rounds > 0 => {
+                self.go_round(rounds - 1, body, next);
+                true
+            }
+            Some(Frame::Rounds { next, .. }) => {
+                self.close(next);
+                true
+            }
+            Some(Frame::Branch { next }) => {
+                self.close(next);
+                true
+            }
+            None => false,
         }
-        Ok(true)
     }
 
     /// Moves on, unless it is at an operation or at the end.
@@ -270,7 +333,7 @@ impl Running {
         ensures stops { IfOk result (λ more. more ≡ false → HasStopped tree.now self.old self.new) }
     {
         match tree.node(self.at) {
-            Node::Done => self.leave(),
+            Node::Done => Ok(self.leave()),
             Node::Line {
                 instruction,
                 next,
@@ -330,6 +393,7 @@ impl Running {
 
     /// The instruction takes an answer at which it prints nothing, and the script is at another node. No memory is
     /// taken.
+    #[inline(always)]
     pub fn take_at(&mut self, at: usize, instruction: Instruction, answer: Answer)
         requires { steps.is_silent instruction answer ≡ true }
         ensures { self.new ≡ with_kept (record self.old { at = at })
@@ -339,5 +403,113 @@ impl Running {
             self.set(number, answered_number(answer));
         }
         self.at = at;
+    }
+
+    /// The node where the script goes on that is at this one: after the end of a block it has left that.
+    fn resumed_node(&self, tree: &Tree, at: usize) -> usize
+        requires { at < length tree.now }
+        ensures { result ≡ resumed_node tree.now (record self.now { at = at }) }
+    {
+        match tree.node(at) {
+            Node::Done => match self.innermost() {
+                Some(frame) => frame.node_after(),
+                None => at,
+            },
+            _ => at,
+        }
+    }
+
+    /// Leaves the block that ends here, if one does.
+    fn resume(&mut self, tree: &Tree)
+        requires within { IsWithin (length tree.now) self.old }
+        requires first { asks_first (steps_at (trees tree.now) (resumed_node tree.now self.old)) ≡ true }
+        ensures { MovesToOp tree.now self.old self.new }
+    {
+        match tree.node(self.at) {
+            Node::Done => {
+                self.leave();
+            }
+            _ => {}
+        }
+    }
+
+    /// Runs a line, unless it asks for an operation.
+    fn step_to_op(&mut self, tree: &Tree) -> bool
+        requires within { IsWithin (length tree.now) self.old }
+        requires first { asks_first (steps_at (trees tree.now) self.old.at) ≡ true }
+        ensures goes_on { IsTrue result → MovesOn tree.now self.old self.new }
+        ensures first { IsTrue result → asks_first (steps_at (trees tree.now) self.new.at) ≡ true }
+        ensures stops { result ≡ false → HasStopped tree.now self.old self.new }
+    {
+        let Node::Line {
+            instruction,
+            next,
+            ..
+        } = tree.node(self.at)
+        else {
+            unreachable!()
+        };
+        if instruction.asks() {
+            return false;
+        }
+        self.at = next;
+        self.calculate(instruction);
+        true
+    }
+
+    /// Runs to the operation that comes first.
+    fn run_to_op(&mut self, tree: &Tree)
+        requires within { IsWithin (length tree.now) self.old }
+        requires first { asks_first (steps_at (trees tree.now) self.old.at) ≡ true }
+        ensures { HasStopped tree.now self.old self.new }
+    {
+        while self.step_to_op(tree) {}
+    }
+
+    /// Takes an answer at which nothing is printed and runs on from the node after it to the next operation, if that
+    /// comes before anything is printed, with at most one block left and none begun. Says whether it comes so. No
+    /// memory is taken.
+    #[inline(always)]
+    pub fn take_quietly(
+        &mut self,
+        tree: &Tree,
+        next: usize,
+        instruction: Instruction,
+        answer: Answer,
+    ) -> bool
+        requires within { IsWithin (length tree.now) (record self.old { at = next }) }
+        requires silent { steps.is_silent instruction answer ≡ true }
+        ensures taken { IsTrue result → HasStopped tree.now (with_kept (record self.old { at = next })
+            (steps.after_answer instruction answer (kept_in self.old))) self.new }
+        ensures refused { result ≡ false → self.new ≡ self.old }
+    {
+        if tree.asks(next) {
+            self.take_at(next, instruction, answer);
+            return true;
+        }
+        self.take_to_op(tree, next, instruction, answer)
+    }
+
+    /// The same where the node after it isn't an operation.
+    fn take_to_op(
+        &mut self,
+        tree: &Tree,
+        next: usize,
+        instruction: Instruction,
+        answer: Answer,
+    ) -> bool
+        requires within { IsWithin (length tree.now) (record self.old { at = next }) }
+        requires silent { steps.is_silent instruction answer ≡ true }
+        ensures taken { IsTrue result → HasStopped tree.now (with_kept (record self.old { at = next })
+            (steps.after_answer instruction answer (kept_in self.old))) self.new }
+        ensures refused { result ≡ false → self.new ≡ self.old }
+    {
+        if !tree.asks_first(self.resumed_node(tree, next)) {
+            return false;
+        }
+        self.take_at(next, instruction, answer);
+        self.resume(tree);
+        self.run_to_op(tree);
+        true
     }
 }

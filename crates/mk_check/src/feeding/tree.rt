@@ -41,6 +41,20 @@ pub enum Frame {
     },
 }
 
+impl Frame {
+    ghost use Rattle.mk_check.specs.Trees.{node_after};
+
+    /// The node where a script goes on once the block's end is reached.
+    pub fn node_after(self) -> usize
+        ensures { result ≡ node_after self }
+    {
+        match self {
+            Frame::Rounds { rounds, body, next } => { if rounds == 0 { next } else { body } }
+            Frame::Branch { next } => next,
+        }
+    }
+}
+
 /// The nodes, each of which names those before it alone.
 #[derive(Drop)]
 pub struct Tree {
@@ -62,7 +76,8 @@ impl Model for Tree {
 impl Tree {
     ghost use Rattle.std.specs.Prelude.{ℕ, List, is_some};
     ghost use Rattle.mk_check.specs.Feeding.{op_of_node};
-    ghost use Rattle.mk_check.specs.Trees.{IsTree, IsBelow, node_at};
+    ghost use Rattle.mk_check.specs.Steps.{asks_first};
+    ghost use Rattle.mk_check.specs.Trees.{IsTree, IsBelow, node_at, steps_at, trees};
 
     pub fn new(alloc: Global) -> Tree
         ensures { result ≡ [] }
@@ -86,6 +101,7 @@ impl Tree {
         Ok(self.nodes.push(node)?)
     }
 
+    #[inline(always)]
     pub fn node(&self, at: usize) -> Node
         requires { at < length self.now }
         ensures value { result ≡ node_at self.now at }
@@ -95,13 +111,38 @@ impl Tree {
     }
 
     /// Whether the node is a line that asks for an operation, which doesn't depend on the number registers.
+    #[inline(always)]
     pub fn asks(&self, at: usize) -> bool
         requires { at < length self.now }
-        ensures { (numbers : List ℕ) → result ≡ is_some (op_of_node numbers (node_at self.now at)) }
+        ensures asks { (numbers : List ℕ) → result ≡ is_some (op_of_node numbers (node_at self.now at)) }
+        ensures tree { IsTree self.now }
     {
         match &self.nodes[at] {
             Node::Line { instruction, .. } => instruction.asks(),
             _ => false,
         }
+    }
+
+    /// Whether a script at this node comes to an operation before it prints, and before a block begins or ends.
+    pub fn asks_first(&self, at: usize) -> bool
+        requires { at < length self.now }
+        ensures { result ≡ asks_first (steps_at (trees self.now) at) }
+    {
+        let mut here = at;
+        'lines: while let Node::Line {
+            instruction,
+            next,
+            ..
+        } = self.node(here)
+        {
+            if instruction.asks() {
+                return true;
+            }
+            if instruction.prints() {
+                return false;
+            }
+            here = next;
+        }
+        false
     }
 }

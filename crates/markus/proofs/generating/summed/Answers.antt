@@ -1,8 +1,9 @@
-use Rattle.std.proofs.Common.{ℕ, List, Vec, Global, ap, ◌∙◌, refl, sym, subst, length, arith, false}
+use Rattle.std.proofs.Common.{◌≡◌, ℕ, true, List, Vec, Global, ap, ◌∙◌, refl, sym, subst, length, arith, false}
 use Rattle.std.specs.Prelude.{slice_get}
 use Rattle.mk_script.specs.declared.items.Item.{Item}
 use Rattle.mk_check.specs.declared.text.Text.{Text}
 use Rattle.mk_run.specs.Headline.{cycles_go_on}
+use Rattle.mk_engines.specs.Roots.{CyclesMarkRootsFirst}
 use Rattle.mk_check.specs.Declarations.{config_of}
 use Rattle.mk_heap.specs.Reports.{history_of}
 use Rattle.mk_run.specs.Running.{IsRunOf}
@@ -39,5 +40,8 @@ returns g c =
     ∙ (c.in_ok-lines.ensures ∙ ap summary_of_texts c.deref.ensures.value) in
     let unswept = subst (λ (p : List Item). IsUnswept (config_of p c.args.request.markers) (history_of outcome.report))
     c.in_ok-program.ensures (c.in_ok-outcome.ensures.reached refl) in
-    run_is_summed c.args.request.start c.args.request.count c.args.request.markers outcome runs unswept
+    let begun = subst (λ (p : List Item). cycles_go_on c.args.request.markers ≡ true
+    → CyclesMarkRootsFirst (config_of p c.args.request.markers) (history_of outcome.report))
+    c.in_ok-program.ensures c.in_ok-outcome.ensures.begun in
+    run_is_summed c.args.request.start c.args.request.count c.args.request.markers outcome runs begun unswept
     c.into_bytes.result.items is

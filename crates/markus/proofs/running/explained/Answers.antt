@@ -16,5 +16,5 @@ returns g c =
     ap (λ (program : List Item). front ++ kept_text program c.deref-2.result.now) c.program.ensures.program
     ∙ ap (λ (entries : List Kept). front ++ kept_text c.args.program.now entries) c.deref-2.ensures.value in
     run_is_explained c.args.program.now c.args.markers c.args.sweep c.in_ok-outcome.outcome front _
-    c.in_ok-outcome.kept.items c.in_ok-outcome.ensures.runs c.in_ok-outcome.ensures.reached c.in_ok-outcome.ensures.kept
-    texts (c.in_ok-push_kept.ensures ∙ lines)
+    c.in_ok-outcome.kept.items c.in_ok-outcome.ensures.runs c.in_ok-outcome.ensures.begun
+    c.in_ok-outcome.ensures.reached c.in_ok-outcome.ensures.kept texts (c.in_ok-push_kept.ensures ∙ lines)

@@ -15,5 +15,4 @@ returns g c =
     (λ bytes. StandsInOneHistory c.args.program.now c.args.markers c.args.sweep false (output c.args.program.now)
     bytes.items)
     (λ bytes are. run_is_printed c.args.program.now c.args.markers c.args.sweep c.in_ok-outcome.outcome bytes.items
-    ran.runs
-    ran.reached (are ∙ texts)) c.joined.ensures
+    ran.runs ran.begun ran.reached (are ∙ texts)) c.joined.ensures

@@ -1,7 +1,7 @@
 use Rattle.std.proofs.Common.{refl}
 use Rattle.mk_caller.proofs.Chains.{called, go, go_on, faults, reached, sees_more, sees_further}
 use Rattle.mk_caller.proofs.Comparing.{compares_values}
-use Rattle.mk_caller.specs.Moves.{passes, exchanges, ends, loads}
+use Rattle.mk_caller.specs.Moves.{passes, exchanges, call_ends, loads}
 use Rattle.mk_caller.proofs.calls.cas_ptr.Goals as goal
 
 pub returns-in_default-clause-refused : goal.returns-in_default-clause-refused
@@ -17,7 +17,7 @@ returns-clause-called c =
     let loaded_1 = go loaded_0 (loads c.load-new.result) refl c.load-new.ensures.moves in
     let probed = go loaded_1 passes refl c.in-Some.ensures.moves in
     let exchanged = go probed (exchanges c.cas-exchanged.result) refl c.cas-exchanged.ensures.moves in
-    called (go_on exchanged ends refl refl c.mark_and_leave.ensures) refl
+    called (go_on exchanged call_ends refl refl c.mark_and_leave.ensures) refl
 
 pub returns-clause-reached : goal.returns-clause-reached
 returns-clause-reached c =

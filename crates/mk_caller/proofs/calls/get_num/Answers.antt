@@ -1,6 +1,6 @@
 use Rattle.std.proofs.Common.{refl}
 use Rattle.mk_caller.proofs.Chains.{called, go, go_on, faults, reached, sees_more, sees_further}
-use Rattle.mk_caller.specs.Moves.{passes, reads, ends}
+use Rattle.mk_caller.specs.Moves.{passes, reads, call_ends}
 use Rattle.mk_caller.proofs.calls.get_num.Goals as goal
 
 pub returns-in_default-clause-refused : goal.returns-in_default-clause-refused
@@ -12,7 +12,7 @@ pub returns-clause-called : goal.returns-clause-called
 returns-clause-called c =
     let probed = go c.in_ok-u.ensures.begun passes refl c.in-Some.ensures.moves in
     let read = go probed (reads c.read-n.result) refl c.read-n.ensures.moves in
-    called (go_on read ends refl refl c.leave.ensures.moves) refl
+    called (go_on read call_ends refl refl c.leave.ensures.moves) refl
 
 pub returns-clause-reached : goal.returns-clause-reached
 returns-clause-reached c =

@@ -1,9 +1,9 @@
 use Rattle.std.proofs.Common.{refl}
 use Rattle.mk_caller.proofs.Chains.{called, go, go_on}
-use Rattle.mk_caller.specs.Moves.{ends, loads}
+use Rattle.mk_caller.specs.Moves.{call_ends, loads}
 use Rattle.mk_caller.proofs.calls.is_null.Goals as goal
 
 pub returns-clause-called : goal.returns-clause-called
 returns-clause-called c =
     let one = go c.in_ok-enter.ensures.moves (loads c.load-value.result) refl c.load-value.ensures.moves in
-    called (go_on one ends refl refl c.leave.ensures.moves) refl
+    called (go_on one call_ends refl refl c.leave.ensures.moves) refl

@@ -1,10 +1,10 @@
 use Rattle.std.proofs.Common.{refl}
 use Rattle.mk_caller.proofs.Chains.{called, go, go_on}
-use Rattle.mk_caller.specs.Moves.{ends, loads, writes}
+use Rattle.mk_caller.specs.Moves.{call_ends, loads, writes}
 use Rattle.mk_caller.proofs.calls.set_global.Goals as goal
 
 pub returns-clause-called : goal.returns-clause-called
 returns-clause-called c =
     let one = go c.in_ok-enter.ensures.moves (loads c.load-value.result) refl c.load-value.ensures.moves in
     let two = go one writes refl c.global_store.ensures.moves in
-    called (go_on two ends refl refl c.leave.ensures.moves) refl
+    called (go_on two call_ends refl refl c.leave.ensures.moves) refl

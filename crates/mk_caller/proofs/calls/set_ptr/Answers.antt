@@ -1,6 +1,6 @@
 use Rattle.std.proofs.Common.{refl}
 use Rattle.mk_caller.proofs.Chains.{called, go, go_on, faults, reached, sees_more, sees_further}
-use Rattle.mk_caller.specs.Moves.{passes, writes, ends, loads}
+use Rattle.mk_caller.specs.Moves.{passes, writes, call_ends, loads}
 use Rattle.mk_caller.proofs.calls.set_ptr.Goals as goal
 
 pub returns-in_default-clause-refused : goal.returns-in_default-clause-refused
@@ -14,7 +14,7 @@ returns-clause-called c =
     let loaded_0 = go c.in_ok-u.ensures.begun (loads c.load-value.result) refl c.load-value.ensures.moves in
     let probed = go loaded_0 passes refl c.in-Some.ensures.moves in
     let written = go probed writes refl c.write.ensures.moves in
-    called (go_on written ends refl refl c.mark_and_leave.ensures) refl
+    called (go_on written call_ends refl refl c.mark_and_leave.ensures) refl
 
 pub returns-clause-reached : goal.returns-clause-reached
 returns-clause-reached c =

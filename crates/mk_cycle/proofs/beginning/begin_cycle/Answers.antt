@@ -79,3 +79,18 @@ returns-clause-begun g c =
     begun_then begins p b q all.keeps.call.pass (does_begin_none begins clears p b clearing_begins_none all.does)
     (begin_begun begins b c.begin.new.turn.pass q c.begin.ensures.was.own c.begin.ensures.acts.makes
     c.begin-2.ensures.law.does c.begin-2.ensures.begun)
+
+pub returns-clause-last : goal.returns-clause-last
+returns-clause-last g c =
+    let first = c.clean_pages.ensures.cleans in
+    let free = cleaned_free _ _ first c.requires.free in
+    let zero = cleaned_phase _ _ first c.requires.phase in
+    let all = cleans_then _ _ _ first
+    (tallied _ _ c.tally.ensures.was free zero c.tally.ensures.is 0 c.tally.ensures.acts) in
+    record {
+      cleared = c.tally.new.turn.pass;
+      begun = c.begin.new.turn.pass;
+      before = all.does;
+      begin = c.begin.ensures.acts.makes;
+      part = c.begin-2.ensures.begun;
+    }

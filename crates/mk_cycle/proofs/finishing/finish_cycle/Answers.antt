@@ -10,6 +10,7 @@ use Rattle.mk_cycle.proofs.FinishedCycles.{ended_free, finishes_cycle, gives_cal
 use Rattle.mk_turns.proofs.Sweeping.{does_sweep, only_seen_by, other_step_sweeps, sweeps_then}
 use Rattle.mk_cycle.proofs.Sweepless.{setting_marks_nothing}
 use Rattle.mk_cycle.proofs.Told.{told_later}
+use Rattle.mk_cycle.proofs.ClosedBy.{closed_later}
 use Rattle.mk_cycle.proofs.finishing.finish_cycle.Goals as goal
 
 pub count_cycle-requires-clause-free : goal.count_cycle-requires-clause-free
@@ -62,3 +63,14 @@ returns-clause-told g c =
     told_later _ p e q sets.more (ap (λ (x : PassState). x.seen) sets.is)
     (told_later _ p b e _ (ap (λ (x : PassState). x.seen) c.end.ensures.acts.makes.is ∙ append_assoc b.seen _ _)
     c.give_all_back-turn.ensures.told_at_close)
+
+pub returns-clause-closed : goal.returns-clause-closed
+returns-clause-closed g c =
+    let p = c.args.turn.pass in
+    let b = c.give_all_back-turn.result.0.pass in
+    let e = c.end.new.turn.pass in
+    let q = c.count_cycle.new.turn.pass in
+    let sets = c.count_cycle.ensures.sets.does in
+    closed_later _ p e q sets.more (ap (λ (x : PassState). x.seen) sets.is)
+    (closed_later _ p b e _ (ap (λ (x : PassState). x.seen) c.end.ensures.acts.makes.is ∙ append_assoc b.seen _ _)
+    c.give_all_back-turn.ensures.closed)

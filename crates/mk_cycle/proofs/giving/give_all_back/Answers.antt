@@ -8,6 +8,7 @@ use Rattle.mk_cycle.proofs.SettledPages.{free_cells_stay}
 use Rattle.mk_turns.proofs.Sweeping.{does_sweep, sweeps_then}
 use Rattle.mk_cycle.proofs.Sweepless.{giving_marks_nothing, holding_marks_nothing}
 use Rattle.mk_cycle.proofs.Told.{told_earlier, told_later}
+use Rattle.mk_cycle.proofs.ClosedBy.{closed_later, closed_when_held}
 use Rattle.mk_cycle.proofs.giving.give_all_back.Goals as goal
 
 pub settle_pages-settled-requires-clause-cells : goal.settle_pages-settled-requires-clause-cells
@@ -60,3 +61,16 @@ returns-clause-told_at_close g c =
     told_earlier _ p h holds.does.more q holds.does.is
     (told_later _ h r q frees.does.more (ap (λ (x : PassState). x.seen) frees.does.is)
     c.release_unmarked.ensures.told_at_close)
+
+pub returns-clause-closed : goal.returns-clause-closed
+returns-clause-closed g c =
+    let p = c.args.turn.pass in
+    let h = c.stopped-stop.result.pass in
+    let r = c.release_unmarked.new.stop.pass in
+    let q = c.settle_pages-settled.new.turn.pass in
+    let holds = subst (λ (t : TurnState). HoldsGates p t.pass) (sym c.stopped-stop.ensures) c.hold_gates.ensures.holds
+    in
+    let frees = frees_then r _ q c.open_gates-turn.ensures.opens.frees c.settle_pages-settled.ensures.frees in
+    closed_when_held _ p h q holds
+    (closed_later _ h r q frees.does.more (ap (λ (x : PassState). x.seen) frees.does.is)
+    c.release_unmarked.ensures.closed)

@@ -12,6 +12,7 @@ use Rattle.mk_cycle.proofs.ReleasedCells.{cells_are_free}
 use Rattle.mk_cycle.proofs.ReleaseSteps.{close_leaves, releases_unmarked}
 use Rattle.mk_turns.proofs.Sweeping.{only_seen_by, other_step_sweeps, sweeps_then}
 use Rattle.mk_cycle.proofs.Told.{told_closing, told_earlier, told_later}
+use Rattle.mk_cycle.proofs.ClosedBy.{closed_in_stop}
 use Rattle.mk_cycle.proofs.releasing.release_unmarked.Goals as goal
 
 pub returns-clause-releases : goal.returns-clause-releases
@@ -78,3 +79,15 @@ returns-clause-told_at_close g c =
     (told_later _ b d q _ (ap (λ (x : PassState). x.seen) c.release.ensures.acts.makes.is ∙ append_assoc d.seen _ _)
     (told_closing _ b d c.is_in_order-2.ensures.own c.close_phase.ensures.acts.makes c.is_in_order-3.ensures.history
     c.close_marks.ensures.told))
+
+pub returns-clause-closed : goal.returns-clause-closed
+returns-clause-closed g c =
+    closed_in_stop _ c.args.stop.now.pass c.release.new.self.pass
+    (record {
+      closing = c.close_marks.new.stop.pass;
+      closed = c.close_phase.new.self.pass;
+      marks = c.close_marks.ensures.law;
+      close = c.close_phase.ensures.acts.makes;
+      release = c.release.ensures.acts.makes;
+    })
+    c.close_marks.ensures.closed

@@ -1,11 +1,11 @@
 use Rattle.std.proofs.Common.{◌≡◌, ℕ, ◌+◌, ◌<◌}
-use Rattle.mk_cycle.specs.Freeing.{FreesNone, IsZero}
+use Rattle.mk_cycle.specs.Freeing.{GivesNothingBack, IsZero}
 use Rattle.mk_cycle.proofs.wiping.wipe_cell.Given as goal
 
 abbrev pub invariant-loop-i : goal.invariant-loop-i
 invariant-loop-i l =
     record {
       op : l.turn.op ≡ l.fn.turn.op;
-      frees : FreesNone l.fn.turn.pass l.turn.pass;
+      frees : GivesNothingBack l.fn.turn.pass l.turn.pass;
       zeros : (k : ℕ) → k < l.i → IsZero l.turn.pass (l.first + k);
     }

@@ -1,6 +1,6 @@
 use Rattle.std.proofs.Common.{◌≡◌, ◌+◌}
 use Rattle.mk_words.specs.Markers.{marker_in}
-use Rattle.mk_marker.specs.Steps.{IsOf, IsScanning, SameScan, GoesOn, words_left}
+use Rattle.mk_marker.specs.Steps.{IsOf, IsScanning, SameScan, ScansOn, words_left}
 use Rattle.mk_marker.proofs.scans.scan_words.Given as goal
 
 abbrev pub invariant-words : goal.invariant-words
@@ -9,5 +9,5 @@ invariant-words l = record {
   scanning : IsScanning (marker_in l.pass);
   cell : SameScan (marker_in l.initial.pass) (marker_in l.pass);
   left : words_left (marker_in l.pass) + l._loaded ≡ l.count;
-  goes : GoesOn l.initial.pass l._loaded l.pass;
+  goes : ScansOn l.initial.pass l._loaded l.pass;
 }

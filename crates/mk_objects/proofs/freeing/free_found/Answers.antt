@@ -13,11 +13,6 @@ use Rattle.mk_objects.proofs.LargeFrees.{heads_none}
 use Rattle.mk_objects.proofs.PreparedFrees.{frees_behind, looks_prepare, still_open}
 use Rattle.mk_objects.proofs.freeing.free_found.Goals as goal
 
-pub cell_words-size-requires : goal.cell_words-size-requires
-cell_words-size-requires g c =
-    heads_none (header_of c.look_at-header.result) 0
-    (c.run_under.ensures 0 ∙ ap (λ (x : Option ℕ). option_map (λ n. record { page = 0; count = n }) x) c.in-None.is)
-
 pub free_small-requires-clause-gates : goal.free_small-requires-clause-gates
 free_small-requires-clause-gates g c =
     let p : PassState = c.args.turn.now.pass in

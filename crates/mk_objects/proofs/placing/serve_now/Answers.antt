@@ -6,15 +6,15 @@ use Rattle.mk_objects.proofs.placing.serve_now.Goals as goal
 pub returns-clause-granted : goal.returns-clause-granted
 returns-clause-granted c =
     let p : PassState = c.args.turn.now.pass in
-    let q : PassState = c.look_at_phase-marking.new.turn.pass in
+    let q : PassState = c.is_marking-marking.new.turn.pass in
     granted_behind_looks p q c.serve.new.turn.pass c.args.place
-    (looks_joined p c.look_at-held.new.turn.pass q c.look_at-held.ensures.looks c.look_at_phase-marking.ensures.looks)
+    (looks_joined p c.look_at-held.new.turn.pass q c.look_at-held.ensures.looks c.is_marking-marking.ensures.looks)
     c.serve.ensures.granted
 
 pub returns-clause-reached : goal.returns-clause-reached
 returns-clause-reached c =
     let p : PassState = c.args.turn.now.pass in
-    let q : PassState = c.look_at_phase-marking.new.turn.pass in
+    let q : PassState = c.is_marking-marking.new.turn.pass in
     looks_then_sweep p q c.serve.new.turn.pass
-    (looks_joined p c.look_at-held.new.turn.pass q c.look_at-held.ensures.looks c.look_at_phase-marking.ensures.looks)
+    (looks_joined p c.look_at-held.new.turn.pass q c.look_at-held.ensures.looks c.is_marking-marking.ensures.looks)
     c.serve.ensures.reached

@@ -3,15 +3,10 @@ use Rattle.std.specs.Prelude.{Option, Some, unwrap_or}
 use Rattle.std.proofs.lemmas.Bool.{lt-ltb}
 use Rattle.mk_geom.specs.declared.addresses.Cell.{Cell}
 use Rattle.mk_geom.specs.Addresses.{cell_at}
-use Rattle.mk_words.specs.States.{PassState, WordsState}
+use Rattle.mk_core.specs.Words.{header_at}
+use Rattle.mk_words.specs.States.{PassState, WordsState, now_of}
 use Rattle.mk_objects.proofs.FoundCells.{pointed_now}
 use Rattle.mk_objects.proofs.retiring.find_cell.Goals as goal
-
-pub overflow_sub-page : goal.overflow_sub-page
-overflow_sub-page c =
-    let p : PassState = c.args.turn.now.pass in
-    let t = pointed_now p c.args.value c.is_in_order.ensures.history c.requires.undecided c.requires.value in
-    t.from
 
 pub returns-clause-cell : goal.returns-clause-cell
 returns-clause-cell c =
@@ -21,7 +16,8 @@ returns-clause-cell c =
     ∙ ap (λ (w : WordsState). w.config.pages) (sym c.requires.one_table) in
     let found : c.lookup.result ≡ Some t.cell =
     c.lookup.ensures ∙ ap (λ n. cell_at n c.look_at-header.result c.args.value) pages
-    ∙ ap (λ n. cell_at p.table.config.pages n c.args.value) c.look_at-header.ensures.finds ∙ t.by_header in
+    ∙ ap (λ n. cell_at p.table.config.pages n c.args.value)
+    (c.look_at-header.ensures.finds ∙ ap (λ n. header_at (now_of p).words n) c.page_at-page.ensures) ∙ t.by_header in
     let cell : c.unwrap_or.result ≡ t.cell =
     c.unwrap_or.ensures ∙ ap (λ (x : Option Cell). unwrap_or x (record { page = 0; index = 0 })) found in
     t.target ∙ ap (λ (x : Cell). Some x) (sym cell)
@@ -30,7 +26,7 @@ pub look_at-header-requires-clause-in_range : goal.look_at-header-requires-claus
 look_at-header-requires-clause-in_range c =
     let p : PassState = c.args.turn.now.pass in
     let t = pointed_now p c.args.value c.is_in_order.ensures.history c.requires.undecided c.requires.value in
-    lt-ltb _ p.table.config.pages t.page
+    lt-ltb _ p.table.config.pages (subst (λ n. n < p.table.config.pages) (sym c.page_at-page.ensures) t.page)
 
 pub returns-clause-within : goal.returns-clause-within
 returns-clause-within c =

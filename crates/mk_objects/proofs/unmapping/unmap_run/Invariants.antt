@@ -1,6 +1,6 @@
 use Rattle.std.proofs.Common.{◌≡◌, []}
 use Rattle.mk_objects.specs.FreeParts.{is_clearing}
-use Rattle.mk_objects.specs.Placing.{Reaches}
+use Rattle.mk_objects.specs.Placing.{ComesTo}
 use Rattle.mk_objects.specs.Unmapping.{UnmappedTo}
 use Rattle.mk_words.specs.States.{world_of}
 use Rattle.mk_objects.proofs.unmapping.unmap_run.Given as goal
@@ -9,6 +9,6 @@ abbrev pub invariant-loop-distance : goal.invariant-loop-distance
 invariant-loop-distance l =
     record {
       op : l.turn.op ≡ l.fn.turn.op;
-      unmapped : Reaches is_clearing l.fn.turn.pass (λ v. UnmappedTo l.fn.turn.pass.seat l.run
+      unmapped : ComesTo is_clearing l.fn.turn.pass (λ v. UnmappedTo l.fn.turn.pass.seat l.run
           (world_of l.fn.turn.pass) v l.distance) [] l.turn.pass;
     }

@@ -1,5 +1,7 @@
-use Rattle.std.proofs.Common.{refl}
+use Rattle.std.proofs.Common.{◌≡◌, false, refl, rules}
 use Rattle.mk_core.specs.declared.events.Answer.TheVariants as answer
+use Rattle.mk_core.specs.Calls.{is_under_turn}
+use Rattle.mk_run.proofs.BegunScripts.{beside_begun}
 use Rattle.mk_run.proofs.ScriptCalls.{answered_new, answered_free, type_exists}
 use Rattle.mk_run.proofs.answers.answer_to.Goals as goal
 
@@ -28,3 +30,9 @@ pub returns-in-Err-free_object-clause-answers : goal.returns-in-Err-free_object-
 returns-in-Err-free_object-clause-answers g c =
     answered_free g.E.Engine.on c.args.caller.now.pass c.args.op c.in-Free.p answer.Double
     c.free_object.new.caller.pass c.is_idle.ensures.own c.in-Free.is c.in-Err-free_object.ensures.double.called
+
+pub returns-in_default-clause-begun : goal.returns-in_default-clause-begun
+returns-in_default-clause-begun g c =
+    let entered : is_under_turn c.args.op ≡ false = search rules in
+    beside_begun g.E.Engine.begins c.args.caller.now.pass c.call_at_once.new.caller.pass
+    ((c.call_at_once.ensures.answers g.E.Engine.on).beside entered)

@@ -12,6 +12,7 @@ use Rattle.mk_run.specs.Joining.{IsFirstPass, HasMade, HasRun, HasJoined, AreJoi
 use Rattle.mk_run.proofs.LaterLists.{of_one}
 use Rattle.mk_run.proofs.HostTurns.{host_is_still, unseen_by_host}
 use Rattle.mk_run.proofs.JoinedScripts.{next_made, first_pass, one_joined, texts_joined}
+use Rattle.mk_run.proofs.BegunScripts as begun
 use Rattle.mk_run.proofs.UnsweptScripts.{none_joined, script_joined, scripts_on}
 use Rattle.mk_run.proofs.joining.+fn-run_from-join+arg3+run_from.Goals as goal
 
@@ -84,6 +85,31 @@ returns-in_default-clause-reached g t c =
     λ none.
     none_joined c.args.program.now c.args.k c.args.heap.now.config c.args.host.pass.seen c.requires.host.seen all
 
+pub returns-in_default-clause-begun : goal.returns-in_default-clause-begun
+returns-in_default-clause-begun g t c =
+    let all : c.args.k ≡ length (script_names c.args.program.now) = search rules in
+    begun.none_joined g.E.Engine.begins c.args.program.now c.args.k c.args.heap.now.config c.args.host.pass.seen
+    c.requires.host.seen all
+
+pub returns-clause-begun : goal.returns-clause-begun
+returns-clause-begun g t c =
+    let program = c.args.program.now in
+    let w = c.args.heap.now in
+    let k = c.args.k in
+    let ran : HasRun g.E.Engine.on program w k c.join-ran.result.0 = c.join-ran.ensures.first.0 in
+    let joined : AreJoined g.E.Engine.on program w (k + 1) c.caller.new.self.markers c.join-ran.result.1 =
+    c.join-ran.ensures.second.0 in
+    let pass = c.join-ran.result.0.pass in
+    let old = c.join-ran.result.1.host in
+    let new = c.join_caller.new.self in
+    let own : Grows old.pass.seats old.pass.seen new.pass.seen = c.join_caller.ensures.own in
+    begun.script_joined g.E.Engine.begins program k w.config pass.seats pass.seen new.pass.seen ran.alone
+    c.join_caller.ensures.came c.join-ran.ensures.first.1.1
+    (begun.scripts_on g.E.Engine.begins program (k + 1) w.config old.pass.seen new.pass.seen
+    (begun.others_on g.E.Engine.begins w.config Host old.pass.seats old.pass.seen new.pass.seen joined.own own)
+    (λ j le is. of_one old.pass.seats (Caller j) old.pass.seen new.pass.seen (joined.is_host.seats j le is) own)
+    c.join-ran.ensures.second.1.1)
+
 pub returns-clause-reached : goal.returns-clause-reached
 returns-clause-reached g t c =
     let program = c.args.program.now in
@@ -98,8 +124,8 @@ returns-clause-reached g t c =
     let own : Grows old.pass.seats old.pass.seen new.pass.seen = c.join_caller.ensures.own in
     λ none.
     script_joined program k w.config pass.seats pass.seen new.pass.seen ran.alone c.join_caller.ensures.came
-    (c.join-ran.ensures.first.1 none)
+    (c.join-ran.ensures.first.1.0 none)
     (scripts_on program (k + 1) w old.pass new.pass joined.is_host.table joined.is_host.seat
     c.join_caller.ensures.reached
     (λ j le is. of_one old.pass.seats (Caller j) old.pass.seen new.pass.seen (joined.is_host.seats j le is) own)
-    (c.join-ran.ensures.second.1 none))
+    (c.join-ran.ensures.second.1.0 none))

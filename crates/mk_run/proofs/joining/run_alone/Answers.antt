@@ -3,6 +3,7 @@ use Rattle.mk_core.specs.declared.events.Seat.{Seat}
 use Rattle.mk_words.specs.States.{PassState}
 use Rattle.mk_caller.specs.States.{CallerState}
 use Rattle.mk_run.proofs.JoinedScripts.{no_answers, follows_at_first}
+use Rattle.mk_run.proofs.BegunScripts.{script_begun}
 use Rattle.mk_run.proofs.UnsweptScripts.{script_sweeps}
 use Rattle.mk_run.proofs.joining.run_alone.Goals as goal
 
@@ -32,3 +33,9 @@ returns-clause-reached g c =
     λ none.
     script_sweeps c.args.heap.now c.args.k c.args.pass c.new-caller.result c.run_script-text.new.caller.pass
     c.finish.result c.requires.pass c.new-caller.ensures (c.run_script-text.ensures.reached none) c.finish.ensures.pass
+
+pub returns-clause-begun : goal.returns-clause-begun
+returns-clause-begun g c =
+    script_begun g.E.Engine.begins c.args.heap.now c.args.k c.args.pass c.new-caller.result
+    c.run_script-text.new.caller.pass c.finish.result c.requires.pass c.new-caller.ensures
+    c.run_script-text.ensures.begun c.finish.ensures.pass

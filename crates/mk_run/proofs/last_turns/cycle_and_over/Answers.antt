@@ -1,12 +1,14 @@
 use Rattle.std.proofs.Common.{ap, subst, sym}
 use Rattle.mk_turns.proofs.Sweeping.{sweeps_then}
+use Rattle.mk_cycle.proofs.Begun.{begun_then}
 use Rattle.mk_heap.specs.Ending.{CallersAreJoined}
 use Rattle.mk_heap.specs.Hosts.{HostState}
+use Rattle.mk_heap.proofs.BegunHosts.{over_begun}
 use Rattle.mk_run.specs.LastTurns.{TakesLastTurns}
-use Rattle.mk_words.specs.Seats.{HasCallers}
+use Rattle.mk_words.specs.Seats.{Has, HasCallers}
 use Rattle.mk_words.specs.States.{WordsState}
 use Rattle.mk_run.proofs.HostTurns.{both_begin}
-use Rattle.mk_run.proofs.LastTurns.{last_turns, still_behind_both}
+use Rattle.mk_run.proofs.LastTurns.{last_turns, own_seat, still_behind_both}
 use Rattle.mk_run.proofs.last_turns.cycle_and_over.Goals as goal
 
 pub over-requires-clause-joined : goal.over-requires-clause-joined
@@ -30,6 +32,16 @@ pub returns-clause-reached : goal.returns-clause-reached
 returns-clause-reached g c none =
     sweeps_then c.args.host.now.pass c.cycle.new.self.pass c.over.new.self.pass
     (ap (λ (h : HostState). h.pass) c.cycle.ensures.host) (c.cycle.ensures.reached none) (c.over.ensures.reached none)
+
+pub returns-clause-begun : goal.returns-clause-begun
+returns-clause-begun g c =
+    let begins = g.E.Engine.begins in
+    let cycled = c.cycle.new.self.pass in
+    begun_then begins c.args.host.now.pass cycled c.over.new.self.pass
+    (ap (λ (h : HostState). h.pass) c.cycle.ensures.host) c.cycle.ensures.begun
+    (over_begun begins cycled c.over.new.self.pass
+    (subst (λ (h : HostState). Has h.pass.seats h.pass.seat) (sym c.cycle.ensures.host)
+    (own_seat c.args.host.now c.requires.seat c.requires.own)) c.over.ensures.over)
 
 pub returns-clause-cycles : goal.returns-clause-cycles
 returns-clause-cycles g c =

@@ -3,12 +3,18 @@ use Rattle.mk_words.specs.Seats.{HasCallers}
 use Rattle.mk_words.specs.States.{WordsState}
 use Rattle.mk_run.specs.LastTurns.{BeginsAsAsked}
 use Rattle.mk_run.proofs.HostTurns.{over_begins}
-use Rattle.mk_run.proofs.LastTurns.{still_behind_over}
+use Rattle.mk_heap.proofs.BegunHosts.{over_begun}
+use Rattle.mk_run.proofs.LastTurns.{own_seat, still_behind_over}
 use Rattle.mk_run.proofs.last_turns.take_last_turns.Goals as goal
 
 pub returns-else-with_cycle-clause-still : goal.returns-else-with_cycle-clause-still
 returns-else-with_cycle-clause-still g c =
     still_behind_over c.args.host.now.pass c.over.new.self.pass c.requires.seat c.over.ensures.over
+
+pub returns-else-with_cycle-clause-begun : goal.returns-else-with_cycle-clause-begun
+returns-else-with_cycle-clause-begun g c =
+    over_begun g.E.Engine.begins c.args.host.now.pass c.over.new.self.pass
+    (own_seat c.args.host.now c.requires.seat c.requires.own) c.over.ensures.over
 
 pub returns-else-with_cycle-clause-cycles : goal.returns-else-with_cycle-clause-cycles
 returns-else-with_cycle-clause-cycles g c =

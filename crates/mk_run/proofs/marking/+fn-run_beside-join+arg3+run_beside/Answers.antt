@@ -1,11 +1,12 @@
 use Rattle.std.proofs.Common.{◌≡◌, ◌∙◌, ◌+◌, ◌-◌, ◌<◌, sym, ap, subst, arith, refl, rules}
-use Rattle.mk_core.specs.declared.events.Seat.TheVariants.{Caller}
+use Rattle.mk_core.specs.declared.events.Seat.TheVariants.{Caller, Host}
 use Rattle.mk_heap.specs.Hosts.{HostState}
 use Rattle.mk_run.specs.Joining.{HasMade}
 use Rattle.mk_run.specs.Marking.{IsMarkersPass, IsOver}
 use Rattle.mk_run.proofs.LastTurns.{last_turns_joined}
 use Rattle.mk_run.proofs.MarkersBeside.{first_marker, marker_made, marker_joined}
 use Rattle.mk_run.proofs.LaterLists.{of_one}
+use Rattle.mk_run.proofs.BegunScripts as begun
 use Rattle.mk_run.proofs.UnsweptScripts.{scripts_on}
 use Rattle.mk_run.proofs.marking.+fn-run_beside-join+arg3+run_beside.Goals as goal
 
@@ -59,4 +60,20 @@ returns-clause-reached g t c =
     (λ j le is.
     of_one old.pass.seats (Caller j) old.pass.seen new.pass.seen (before.is_host.seats j le is)
     c.join_marker.ensures.own)
-    (c.join-pass.ensures.second.1.1 none)
+    (c.join-pass.ensures.second.1.1.0 none)
+
+pub returns-clause-begun : goal.returns-clause-begun
+returns-clause-begun g t c =
+    let begins = g.E.Engine.begins in
+    let w = c.args.heap.now in
+    let before : IsOver g.E.Engine.on c.args.with_cycle c.args.program.now w (c.args.number + 1)
+    c.join-pass.result.1.joined = c.join-pass.ensures.second.0 in
+    let old = c.join-pass.result.1.joined.host in
+    let new = c.join_marker.new.self in
+    begun.scripts_on begins c.args.program.now 0 w.config old.pass.seen new.pass.seen
+    (begun.others_on begins w.config Host old.pass.seats old.pass.seen new.pass.seen before.own
+    c.join_marker.ensures.own)
+    (λ j le is.
+    of_one old.pass.seats (Caller j) old.pass.seen new.pass.seen (before.is_host.seats j le is)
+    c.join_marker.ensures.own)
+    c.join-pass.ensures.second.1.1.1

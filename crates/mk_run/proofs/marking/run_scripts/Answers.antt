@@ -6,6 +6,7 @@ use Rattle.mk_core.specs.declared.events.Seat.TheVariants.{Host}
 use Rattle.mk_words.specs.Seats.{Has}
 use Rattle.mk_run.proofs.HostTurns.{comes_last}
 use Rattle.mk_run.proofs.WholeRuns.{all_callers_home, all_callers_joined, still_joined, still_texts}
+use Rattle.mk_run.proofs.BegunScripts as begun
 use Rattle.mk_run.proofs.UnsweptScripts.{scripts_on}
 use Rattle.mk_run.proofs.marking.run_scripts.Goals as goal
 
@@ -45,6 +46,17 @@ returns-clause-over g c =
           (λ texts. AreTextsFrom program 0 w.config new.pass.seen texts.items)
           (λ texts t. still_texts on program w h new.pass.seen joined.is_host still texts.items t) joined.texts;
     }
+
+pub returns-clause-begun : goal.returns-clause-begun
+returns-clause-begun g c =
+    let begins = g.E.Engine.begins in
+    let w = c.args.heap.now in
+    let joined = c.run_from-host.ensures.joined in
+    let h = c.run_from-host.result.host in
+    let new = c.take_last_turns.new.host in
+    begun.scripts_on begins c.args.program.now 0 w.config h.pass.seen new.pass.seen
+    (begun.host_on begins w h.pass new.pass joined.is_host.table joined.is_host.seat c.take_last_turns.ensures.begun)
+    (λ j le is. c.take_last_turns.ensures.still j (joined.is_host.seats j le is)) c.run_from-host.ensures.begun
 
 pub returns-clause-reached : goal.returns-clause-reached
 returns-clause-reached g c =

@@ -6,7 +6,9 @@ use Rattle.mk_heap.specs.Reports as report
 use Rattle.mk_heap.specs.Reports.{IsWhole}
 use Rattle.mk_check.specs.Declarations.{config_of}
 use Rattle.mk_run.specs.Joining.{AreTextsFrom}
+use Rattle.mk_run.specs.BegunSeats.{ScriptsBeginCycles}
 use Rattle.mk_run.specs.UnsweptSeats.{ScriptsSweepNothing}
+use Rattle.mk_run.proofs.BegunScripts.{run_is_begun}
 use Rattle.mk_run.proofs.LastOvers.{run_ends_with_cycle}
 use Rattle.mk_run.proofs.UnsweptScripts.{run_is_unswept}
 use Rattle.mk_run.proofs.WholeRuns.{all_joined, is_run}
@@ -33,7 +35,8 @@ returns-clause-runs g c =
       report = c.close-report.result;
     })
     made c.run_beside-joined.ensures.over.is_host c.run_beside-joined.ensures.over.last texts
-    c.close-report.ensures.history c.close-report.ensures.config c.close-report.ensures.whole c.close-report.ensures.counts
+    c.close-report.ensures.history c.close-report.ensures.config c.close-report.ensures.whole
+    c.close-report.ensures.counts
 
 pub returns-clause-cycle : goal.returns-clause-cycle
 returns-clause-cycle g c asked =
@@ -56,3 +59,18 @@ returns-clause-reached g c none =
     (sym c.close-report.ensures.history)
     (subst (λ (d : Config). ScriptsSweepNothing program 0 d h.pass.seen) made
     (c.run_beside-joined.ensures.reached none)))
+
+pub returns-clause-begun : goal.returns-clause-begun
+returns-clause-begun g c =
+    let begins = g.E.Engine.begins in
+    let program = c.args.program.now in
+    let h = c.run_beside-joined.result.joined.host in
+    let made = c.in_ok-heap.ensures.config ∙ c.in_ok-config.ensures.config in
+    let es = report.history_of c.close-report.result in
+    let same = c.close-report.ensures.config ∙ made in
+    let whole = subst (λ (d : Config). IsWhole d es) same c.close-report.ensures.whole in
+    run_is_begun begins program c.args.markers es whole.history
+    (subst (λ (l : List Event). ScriptsBeginCycles begins program 0 (config_of program c.args.markers) l)
+    (sym c.close-report.ensures.history)
+    (subst (λ (d : Config). ScriptsBeginCycles begins program 0 d h.pass.seen) made
+    c.run_beside-joined.ensures.begun))

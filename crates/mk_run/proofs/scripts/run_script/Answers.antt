@@ -7,6 +7,7 @@ use Rattle.mk_words.specs.States.{PassState}
 use Rattle.mk_run.proofs.ScriptCalls.{exists_on, seat_is, asked_stays_admitted, follows_now, runs_on, one_more_op}
 use Rattle.mk_run.proofs.ScriptCalls.{refused_within}
 use Rattle.mk_turns.proofs.Sweeping.{nothing_sweeps, sweeps_then}
+use Rattle.mk_cycle.proofs.Begun.{begun_then, nothing_begun}
 use Rattle.mk_run.proofs.scripts.run_script.Goals as goal
 
 pub answer_to-answer-requires-clause-admitted : goal.answer_to-answer-requires-clause-admitted
@@ -64,6 +65,9 @@ instructions-preserved g c =
       reached = λ none.
           sweeps_then p q c.answer_to-answer.new.caller.pass run.is (c.instructions.invariant.reached none)
           (c.answer_to-answer.ensures.reached none);
+      begun =
+          begun_then g.E.Engine.begins p q c.answer_to-answer.new.caller.pass run.is c.instructions.invariant.begun
+          c.answer_to-answer.ensures.begun;
     }
 
 pub returns-in_err-answer-clause-follows : goal.returns-in_err-answer-clause-follows
@@ -84,6 +88,14 @@ returns-in_err-answer-clause-reached g c =
     sweeps_then c.args.caller.now.pass c.instructions.caller.pass c.answer_to-answer.new.caller.pass
     c.instructions.invariant.running.is (c.instructions.invariant.reached none)
     (c.answer_to-answer.ensures.reached none)
+
+pub returns-in_err-answer-clause-begun : goal.returns-in_err-answer-clause-begun
+returns-in_err-answer-clause-begun g c =
+    begun_then g.E.Engine.begins c.args.caller.now.pass c.instructions.caller.pass c.answer_to-answer.new.caller.pass
+    c.instructions.invariant.running.is c.instructions.invariant.begun c.answer_to-answer.ensures.begun
+
+pub returns-in_err-script-clause-begun : goal.returns-in_err-script-clause-begun
+returns-in_err-script-clause-begun g c = nothing_begun g.E.Engine.begins c.args.caller.now.pass
 
 pub returns-in_err-script-clause-reached : goal.returns-in_err-script-clause-reached
 returns-in_err-script-clause-reached g c = λ none. nothing_sweeps c.args.caller.now.pass
@@ -108,4 +120,5 @@ instructions-init g c =
       counted = search rules;
       refused = refused_within program k [] script fed;
       reached = λ none. nothing_sweeps p;
+      begun = nothing_begun g.E.Engine.begins p;
     }

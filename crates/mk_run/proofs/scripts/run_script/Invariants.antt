@@ -1,5 +1,6 @@
 use Rattle.std.proofs.Common.{◌≡◌, ◌+◌, ◌≤◌, true, false, length}
 use Rattle.mk_turns.specs.Sweeping.{SweepsNothing}
+use Rattle.mk_cycle.specs.Begun.{EachIsBegun}
 use Rattle.mk_run.specs.Scripts.{IsRunning}
 use Rattle.mk_run.proofs.scripts.run_script.Given as goal
 
@@ -12,4 +13,5 @@ invariant-instructions g l = record {
   counted : l.script.ops + l.iterator'.left ≤ 18446744073709551615;
   refused : l.script.refused ≤ l.script.ops;
   reached : g.E.Engine.sweeps ≡ false → SweepsNothing l.fn.caller.pass l.caller.pass;
+  begun : EachIsBegun g.E.Engine.begins l.fn.caller.pass l.caller.pass;
 }

@@ -1,6 +1,7 @@
 use Rattle.std.proofs.Common.{subst}
 use Rattle.mk_core.specs.History.{IsHistory}
 use Rattle.mk_words.specs.States.{WordsState}
+use Rattle.mk_trace.proofs.ExactPlays.{exact_over}
 use Rattle.mk_trace.proofs.LedgerCalls.{ends_over, keeps_behind}
 use Rattle.mk_trace.proofs.calls.answer.Goals as goal
 
@@ -25,3 +26,10 @@ returns-clause-ends g c =
     c.call-told.new.host.pass.seen c.look-now.new.host.pass.seen c.settle.new.host.pass.seen
     c.object_to_free-freed.ensures.looks c.requires.idle (c.call-told.ensures.ends c.requires.off)
     c.look-now.ensures.looks c.settle.ensures.looks
+
+pub returns-clause-exact : goal.returns-clause-exact
+returns-clause-exact g c =
+    exact_over c.args.heap.now.config c.args.host.now.pass.seen c.object_to_free-freed.new.host.pass.seen
+    c.call-told.new.host.pass.seen c.look-now.new.host.pass.seen c.settle.new.host.pass.seen
+    c.object_to_free-freed.ensures.looks.exact (c.call-told.ensures.exact c.requires.off c.requires.unswept)
+    c.look-now.ensures.looks.exact c.settle.ensures.looks.exact

@@ -7,6 +7,7 @@ use Rattle.mk_words.specs.States.{WordsState, PassState}
 use Rattle.mk_caller.specs.States.{CallerState}
 use Rattle.mk_heap.specs.Hosts.{HostState, pass_for}
 use Rattle.mk_trace.proofs.EndsAtHome.{call_leaves, call_tells_ends}
+use Rattle.mk_trace.proofs.ExactPlays.{call_stays_exact}
 use Rattle.mk_trace.proofs.FreedCalls.{call_flags, call_quarantines}
 use Rattle.mk_trace.proofs.HeldCalls.{call_holds}
 use Rattle.mk_trace.proofs.OneCaller.{joined_home, made_seats, made_alone, made_exists, made_admits, made_calls}
@@ -111,3 +112,11 @@ returns-clause-flags g c =
     call_flags c.args.heap.now c.args.host.now c.caller_again-caller.result.pass g.E.Engine.on c.args.op
     c.answer_to-answer.result c.answer_to-answer.new.caller.pass c.join_caller.new.self.pass.seen c.requires.home
     (caller g x) c.answer_to-answer.ensures.answers (own g x) (came g x) (history g x) (called g c)
+
+pub returns-clause-exact : goal.returns-clause-exact
+returns-clause-exact g c = λ off unswept.
+    let x = (goal.at.returns-clause-exact g c).After-is_in_order in
+    call_stays_exact c.args.heap.now c.args.host.now c.caller_again-caller.result.pass g.E.Engine.on c.args.op
+    c.answer_to-answer.result c.answer_to-answer.new.caller.pass c.join_caller.new.self.pass.seen c.requires.home
+    (caller g x) c.answer_to-answer.ensures.answers (own g x) (came g x)
+    (c.answer_to-answer.ensures.reached unswept) off

@@ -19,6 +19,7 @@ loop-op-init g c = record {
   held = c.in_ok-first.ensures.held;
   ends = (let first = c.in_ok-first.ensures.ends in omega (arith, first));
   keeps = c.in_ok-first.ensures.keeps;
+  exact = c.in_ok-first.ensures.exact;
   calls =
       called_first c.args.heap.now.config c.args.host.now.pass.seen c.args.event c.first_op.result c.in_ok-first.first
       c.answer.new.host.pass.seen c.is_full_answer.result c.is_refusal-refused.result c.deref-op-items.result.now
@@ -79,6 +80,7 @@ loop-op-preserved g c =
           (let so_far = c.loop-op.invariant.ends in
           let one = c.in_ok-later.ensures.ends in omega (arith, so_far, one));
       keeps = c.in_ok-later.ensures.keeps;
+      exact = λ before. c.in_ok-later.ensures.exact (c.loop-op.invariant.exact before);
       calls =
           called_one_more c.args.heap.now.config c.args.host.now.pass.seen c.args.event ops i c.loop-op.refused
           c.loop-op.host.pass.seen c.loop-op.invariant.calls o c.loop-op-test.true there c.in_ok-later.later

@@ -2,6 +2,7 @@ use Rattle.std.proofs.Common.{◌≡◌, ◌+◌, ◌≤◌, length}
 use Rattle.mk_trace.specs.Calls.{IsHome, most_held}
 use Rattle.mk_core.specs.Counts.{ends}
 use Rattle.mk_trace.specs.Ends.{IsIdle}
+use Rattle.mk_trace.specs.ExactPlays.{StayExact}
 use Rattle.mk_trace.specs.Ledgers.{Keeps}
 use Rattle.mk_trace.proofs.LaterOps.{AreCalled}
 use Rattle.mk_trace.proofs.calls.refuses.Given as goal
@@ -16,5 +17,6 @@ invariant-loop-op g l = record {
   held : l.ledger.held ≡ most_held l.heap.config l.host.pass.seen;
   ends : ends l.host.pass.seen ≤ ends l.fn.host.pass.seen + 1 + l.op-index;
   keeps : Keeps l.heap.config l.host.pass.seen l.ledger.freed;
+  exact : StayExact l.heap.config l.fn.host.pass.seen l.host.pass.seen;
   calls : AreCalled l.heap.config l.fn.host.pass.seen l.fn.event l.op-items l.op-index l.refused l.host.pass.seen;
 }

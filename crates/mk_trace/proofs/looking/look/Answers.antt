@@ -5,6 +5,7 @@ use Rattle.mk_words.specs.States.{WordsState}
 use Rattle.mk_heap.specs.Hosts.{HostState}
 use Rattle.mk_trace.specs.Calls.{SameCalls}
 use Rattle.mk_trace.proofs.EndsAtHome.{look_leaves}
+use Rattle.mk_trace.proofs.ExactPlays.{look_stays_exact}
 use Rattle.mk_trace.proofs.HeldCalls.{look_tells}
 use Rattle.mk_trace.proofs.ToldWords.{look_only_looks, look_tells_word}
 use Rattle.mk_trace.proofs.OneCaller.{told_calls, told_home}
@@ -41,6 +42,8 @@ returns-clause-looks g c =
     c.tell-found.ensures.tells history))
     (look_leaves c.args.heap.now h home c.is_in_order.ensures.seat c.args.word c.tell-found.result k
     c.tell-found.ensures.tells history)
+    (look_stays_exact c.args.heap.now h home c.is_in_order.ensures.seat c.args.word c.tell-found.result k
+    c.tell-found.ensures.tells history c.tell-found.ensures.reached)
 
 pub returns-clause-tells : goal.returns-clause-tells
 returns-clause-tells g c =

@@ -1,6 +1,9 @@
-use Rattle.std.proofs.Common.{◌∙◌, List, ap, length, sym}
+use Rattle.std.proofs.Common.{◌∙◌, List, ap, length, subst, sym}
+use Rattle.mk_core.specs.declared.config.Config.{Config}
 use Rattle.mk_trace.specs.declared.trace.TraceEvent.{TraceEvent}
+use Rattle.mk_trace.specs.ExactPlays.{AllTurnsAreExact}
 use Rattle.mk_trace.specs.Peaks.{quarantined_words, reserved_words}
+use Rattle.mk_trace.proofs.ExactPlays.{first_exact}
 use Rattle.mk_trace.proofs.FewEvents.{none_ended}
 use Rattle.mk_trace.proofs.FirstLedgers.{ages_of, first_held, first_idle, first_keeps, most_of, peaks_by}
 use Rattle.mk_trace.proofs.HeldCalls.{most_told}
@@ -12,11 +15,19 @@ pub close-report-requires-clause-joined : goal.close-report-requires-clause-join
 close-report-requires-clause-joined g c =
     home_joined c.in_ok-heap.heap c.play_events.new.host c.play_events.ensures.home
 
-pub returns-clause-played : goal.returns-clause-played
-returns-clause-played g c =
-    closed c.args.trace.now c.in_ok-refused.refused _ c.play_events.new.host.pass.seen _ c.close-report.ensures.history
-    (c.close-report.ensures.config ∙ c.in_ok-heap.ensures.config ∙ c.in_ok-config.ensures.config)
+played : goal.returns-clause-played
+played g c =
+    let trace = c.args.trace.now in
+    let es = c.play_events.new.host.pass.seen in
+    let at = c.in_ok-heap.ensures.config ∙ c.in_ok-config.ensures.config in
+    closed trace c.in_ok-refused.refused _ es _ c.close-report.ensures.history (c.close-report.ensures.config ∙ at)
     c.in_ok-refused.ensures.played c.close-report.ensures.whole
+    (subst (λ (d : Config). AllTurnsAreExact d es) at
+    (c.in_ok-refused.ensures.exact
+    (first_exact c.in_ok-heap.heap.config c.in_ok-heap.host.pass.seen c.in_ok-heap.ensures.empty)))
+
+pub returns-clause-played : goal.returns-clause-played
+returns-clause-played g c = played g c
 
 pub returns-clause-peaks : goal.returns-clause-peaks
 returns-clause-peaks g c =
@@ -25,9 +36,6 @@ returns-clause-peaks g c =
     let es = c.play_events.new.host.pass.seen in
     let at = c.in_ok-heap.ensures.config ∙ c.in_ok-config.ensures.config in
     let keeps = c.in_ok-refused.ensures.keeps in
-    let played =
-    closed trace c.in_ok-refused.refused _ es _ c.close-report.ensures.history (c.close-report.ensures.config ∙ at)
-    c.in_ok-refused.ensures.played c.close-report.ensures.whole in
     record {
       events = ap (λ (l : List TraceEvent). length l) c.events.ensures.events;
       refused =
@@ -40,7 +48,7 @@ returns-clause-peaks g c =
           (most_of trace d quarantined_words es _ _ c.close-report.ensures.history at keeps.quarantined.most)
           (most_of trace d reserved_words es _ _ c.close-report.ensures.history at keeps.reserved.most)
           c.close-report.ensures.counts.cycles
-          (ages_of trace d es _ _ c.close-report.ensures.history at played.history keeps.ages);
+          (ages_of trace d es _ _ c.close-report.ensures.history at (played g c).history keeps.ages);
     }
 
 pub play_events-requires-clause-idle : goal.play_events-requires-clause-idle

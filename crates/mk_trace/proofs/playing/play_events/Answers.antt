@@ -20,6 +20,7 @@ loop-event-init g c = record {
   book = c.requires.book;
   idle = c.requires.idle;
   keeps = c.requires.keeps;
+  exact = λ before. before;
   held = c.requires.held;
   played =
       played_first c.args.trace.now c.args.heap.now.config c.events-events.result.now c.args.host.now.pass.seen
@@ -65,6 +66,7 @@ loop-event-preserved g c =
       book = c.play_event.ensures.book ∙ c.loop-event.invariant.book;
       idle = c.play_event.ensures.idle;
       keeps = c.in_ok-is_refused.ensures.keeps;
+      exact = λ before. c.in_ok-is_refused.ensures.exact (c.loop-event.invariant.exact before);
       held = c.in_ok-is_refused.ensures.held;
       played =
           next_played trace w.config c.events-events.result.now c.loop-event.event-index c.loop-event.refused

@@ -3,6 +3,7 @@ use Rattle.std.specs.Prelude.{take}
 use Rattle.mk_core.specs.Counts.{ends}
 use Rattle.mk_trace.specs.Calls.{IsHome, HasPlayed, most_held}
 use Rattle.mk_trace.specs.Ends.{IsIdle}
+use Rattle.mk_trace.specs.ExactPlays.{StayExact}
 use Rattle.mk_trace.specs.Ledgers.{Keeps}
 use Rattle.mk_trace.proofs.playing.play_events.Given as goal
 
@@ -14,6 +15,7 @@ invariant-loop-event g l = record {
   book : length l.bench.book ≡ l.heap.config.pages;
   idle : IsIdle l.heap.config l.host.pass.seen;
   keeps : Keeps l.heap.config l.host.pass.seen l.ledger.freed;
+  exact : StayExact l.heap.config l.fn.host.pass.seen l.host.pass.seen;
   held : l.ledger.held ≡ most_held l.heap.config l.host.pass.seen;
   played : HasPlayed l.trace (take l.event-index l.events) l.refused l.host.pass.seen;
   ends : ends l.host.pass.seen ≤ 6 * l.event-index;

@@ -1,7 +1,9 @@
-use Rattle.std.proofs.Common.{◌≡◌, arith}
+use Rattle.std.proofs.Common.{◌≡◌, ◌∙◌, ap, arith}
 use Rattle.std.specs.Prelude.{slice_index}
+use Rattle.mk_words.specs.States.{WordsState}
 use Rattle.mk_tracing.specs.Stops.{still_words}
 use Rattle.mk_tracing.proofs.Clearing.{pages_then}
+use Rattle.mk_tracing.proofs.FreePages.{clean_past}
 use Rattle.mk_tracing.proofs.StopSteps.{on_from, on_then}
 use Rattle.mk_tracing.proofs.dirty.clean_dirty.Goals as goal
 
@@ -15,10 +17,21 @@ pub loop-page-preserved : goal.loop-page-preserved
 loop-page-preserved c =
     let v = still_words c.loop-page.stop.pass in
     let x = still_words c.clean_if_dirty.new.stop.pass in
+    let found = c.in-Some.ensures in
     record {
       on = on_then c.args.stop.now c.loop-page.stop c.clean_if_dirty.new.stop c.loop-page.invariant.on
           c.clean_if_dirty.ensures.on;
-      clean = pages_then (λ p. slice_index v.dirty p ≡ 0) (λ p. slice_index x.dirty p ≡ 0) c.loop-page.page
+      clean = pages_then (λ p. slice_index v.dirty p ≡ 0) (λ p. slice_index x.dirty p ≡ 0) c.in-Some.page
           c.clean_if_dirty.ensures.fewer
-          c.loop-page.invariant.clean c.clean_if_dirty.ensures.clean;
+          (clean_past c.loop-page.stop.pass found.history c.loop-page.from c.in-Some.page c.loop-page.invariant.clean
+          found.next.3)
+          c.clean_if_dirty.ensures.clean;
     }
+
+pub returns-clause-clean : goal.returns-clause-clean
+returns-clause-clean c =
+    let q = c.loop-page.stop.pass in
+    let pages : q.table.config.pages ≡ c.args.words.now.config.pages =
+    ap (λ (w : WordsState). w.config.pages) (c.loop-page.invariant.on.table ∙ c.requires.one_table) in
+    clean_past q c.in_default.ensures.history c.loop-page.from c.args.words.now.config.pages
+    c.loop-page.invariant.clean (λ n low high. c.in_default.ensures.next n low (omega (arith, high, pages)))

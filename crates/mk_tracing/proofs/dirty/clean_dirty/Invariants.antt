@@ -1,4 +1,4 @@
-use Rattle.std.proofs.Common.{ℕ, ◌<◌, ◌≡◌}
+use Rattle.std.proofs.Common.{ℕ, ◌-◌, ◌<◌, ◌≡◌}
 use Rattle.std.specs.Prelude.{slice_index}
 use Rattle.mk_tracing.specs.Grays.{MarksOn}
 use Rattle.mk_tracing.specs.Stops.{still_words}
@@ -7,5 +7,8 @@ use Rattle.mk_tracing.proofs.dirty.clean_dirty.Given as goal
 abbrev pub invariant-loop-page : goal.invariant-loop-page
 invariant-loop-page l = record {
   on : MarksOn l.fn.stop l.stop;
-  clean : (p : ℕ) → p < l.page → slice_index (still_words l.stop.pass).dirty p ≡ 0;
+  clean : (p : ℕ) → p < l.from → slice_index (still_words l.stop.pass).dirty p ≡ 0;
 }
+
+abbrev pub decreases-loop-page : goal.decreases-loop-page
+decreases-loop-page l = l.words.config.pages - l.from

@@ -30,15 +30,15 @@ returns-clause-unscanned c =
     let x = still_words c.unblack_page.new.stop.pass in
     let v = still_words c.unblack_page-2.new.stop.pass in
     let headed : Words → ℕ = λ (y : Words). head_page y page in
-    let head : head_page v page ≡ c.head_page-head.result =
+    let head : head_page v page ≡ c.head_page_under-head.result =
     ap headed c.unblack_page-2.ensures.words ∙ ap headed c.unblack_page.ensures.words
     ∙ ap headed c.look_at-header.ensures.words
     ∙ ap (λ h. head_page_under (header_of h) page) (sym c.look_at-header.ensures.found)
-    ∙ sym c.head_page-head.ensures.exact in
+    ∙ sym c.head_page_under-head.ensures.exact in
     cleared_unscanned v page
-    ((blacks_cleared x v c.head_page-head.result c.unblack_page-2.ensures.words).fewer page
+    ((blacks_cleared x v c.head_page_under-head.result c.unblack_page-2.ensures.words).fewer page
     (black_cleared w x page c.unblack_page.ensures.words))
-    (ap (λ q. slice_index v.blacks q) head ∙ black_cleared x v c.head_page-head.result c.unblack_page-2.ensures.words)
+    (ap (λ q. slice_index v.blacks q) head ∙ black_cleared x v c.head_page_under-head.result c.unblack_page-2.ensures.words)
 
 pub unblack_page-requires-clause-part : goal.unblack_page-requires-clause-part
 unblack_page-requires-clause-part c =
@@ -55,12 +55,12 @@ unblack_page-requires-2-clause-part c =
     let q = c.look_at-header.new.stop.pass in
     let same : still_words q ≡ still_words c.args.stop.now.pass = c.look_at-header.ensures.words
     ∙ c.look_among.ensures.words in
-    let head : head_page (still_words q) page ≡ c.head_page-head.result =
+    let head : head_page (still_words q) page ≡ c.head_page_under-head.result =
     ap (λ (w : Words). head_page w page) c.look_at-header.ensures.words
     ∙ ap (λ h. head_page_under (header_of h) page) (sym c.look_at-header.ensures.found)
-    ∙ sym c.head_page-head.ensures.exact in
-    part_kept (still_words q) (still_words c.unblack_page.new.stop.pass) c.head_page-head.result
+    ∙ sym c.head_page_under-head.ensures.exact in
+    part_kept (still_words q) (still_words c.unblack_page.new.stop.pass) c.head_page_under-head.result
     (blacks_cleared (still_words q) (still_words c.unblack_page.new.stop.pass) page c.unblack_page.ensures.words)
-    (head_part q page c.head_page-head.result
+    (head_part q page c.head_page_under-head.result
     (λ z. c.if-look_among-eq0.false (c.look_among.ensures.found
     ∙ sym (ap (λ (w : Words). slice_index w.dirty page) same) ∙ z)) head)

@@ -1,10 +1,9 @@
-use Rattle.std.proofs.Common.{◌≡◌, ℕ, ◌+◌, ◌<◌, ◌≤◌, ◌∙◌, sym, subst, refl, arith, inl, inr}
-use Rattle.std.specs.Prelude.{slice_index}
+use Rattle.std.proofs.Common.{◌≡◌, ℕ, ◌+◌, ◌<◌, ◌≤◌, ◌∙◌, subst, refl, arith, inl, inr}
 use Rattle.std.proofs.lemmas.Bool.{cases_lt}
 use Rattle.mk_core.specs.Words.{Words}
 use Rattle.mk_tracing.specs.Grays.{HasNoGray}
 use Rattle.mk_tracing.specs.Stops.{still_words}
-use Rattle.mk_tracing.proofs.FirstBits.{no_gray_there}
+use Rattle.mk_tracing.proofs.FreePages.{none_past}
 use Rattle.mk_tracing.proofs.StopSteps.{on_from, on_then}
 use Rattle.mk_tracing.proofs.grays.gray_between.Goals as goal
 
@@ -26,35 +25,25 @@ loop-page-init c = record {
       (omega arith);
 }
 
-pub loop-page-preserved-then-marks-eq0 : goal.loop-page-preserved-then-marks-eq0
-loop-page-preserved-then-marks-eq0 c =
-    let w = still_words c.args.stop.now.pass in
-    let v = still_words c.loop-page.stop.pass in
-    let page = c.loop-page.page in
-    record {
-      on = on_then c.args.stop.now c.loop-page.stop c.look_among-marks.new.stop c.loop-page.invariant.on
-          c.look_among-marks.ensures.on;
-      words = c.look_among-marks.ensures.words ∙ c.loop-page.invariant.words;
-      none = none_on w v c.args.from page c.loop-page.invariant.words c.loop-page.invariant.none
-          (no_gray_there v page 0 (slice_index v.blacks page) (sym c.if-marks-eq0.true ∙ c.look_among-marks.ensures.found)
-          refl refl);
-    }
+pub returns-then-page-to-clause-none : goal.returns-then-page-to-clause-none
+returns-then-page-to-clause-none c p low high =
+    none_past (still_words c.args.stop.now.pass) (still_words c.loop-page.stop.pass) c.args.from c.loop-page.next
+    c.in-Some.page c.loop-page.invariant.words c.loop-page.invariant.none c.in-Some.ensures.next.3 p low
+    (omega (arith, high, c.if-page-to.true))
 
-pub returns-in-Some-clause-on : goal.returns-in-Some-clause-on
-returns-in-Some-clause-on c =
-    on_then c.args.stop.now c.look_among-marks.new.stop c.gray_among-found.new.stop
-    (on_then c.args.stop.now c.loop-page.stop c.look_among-marks.new.stop c.loop-page.invariant.on
-    c.look_among-marks.ensures.on) c.gray_among-found.ensures.on
+pub returns-in-Some-found-clause-on : goal.returns-in-Some-found-clause-on
+returns-in-Some-found-clause-on c =
+    on_then c.args.stop.now c.loop-page.stop c.gray_on-found.new.stop c.loop-page.invariant.on c.gray_on-found.ensures.on
 
 pub loop-page-preserved : goal.loop-page-preserved
 loop-page-preserved c =
     let w = still_words c.args.stop.now.pass in
-    let same = c.look_among-marks.ensures.words ∙ c.loop-page.invariant.words in
+    let v = still_words c.loop-page.stop.pass in
+    let i = c.loop-page.invariant in
     record {
-      on = on_then c.args.stop.now c.look_among-marks.new.stop c.gray_among-found.new.stop
-          (on_then c.args.stop.now c.loop-page.stop c.look_among-marks.new.stop c.loop-page.invariant.on
-          c.look_among-marks.ensures.on) c.gray_among-found.ensures.on;
-      words = c.gray_among-found.ensures.words ∙ same;
-      none = none_on w (still_words c.look_among-marks.new.stop.pass) c.args.from c.loop-page.page same
-          c.loop-page.invariant.none c.in_default.ensures.none;
+      on = on_then c.args.stop.now c.loop-page.stop c.gray_on-found.new.stop i.on c.gray_on-found.ensures.on;
+      words = c.gray_on-found.ensures.words ∙ i.words;
+      none = none_on w v c.args.from c.in-Some.page i.words
+          (none_past w v c.args.from c.loop-page.next c.in-Some.page i.words i.none c.in-Some.ensures.next.3)
+          c.in_default-found.ensures.none;
     }

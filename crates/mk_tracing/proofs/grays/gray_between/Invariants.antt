@@ -1,4 +1,4 @@
-use Rattle.std.proofs.Common.{◌≡◌, ℕ, ◌<◌, ◌≤◌}
+use Rattle.std.proofs.Common.{◌≡◌, ℕ, ◌-◌, ◌<◌, ◌≤◌}
 use Rattle.mk_tracing.specs.Grays.{MarksOn, HasNoGray}
 use Rattle.mk_tracing.specs.Stops.{still_words}
 use Rattle.mk_tracing.proofs.grays.gray_between.Given as goal
@@ -7,5 +7,8 @@ abbrev pub invariant-loop-page : goal.invariant-loop-page
 invariant-loop-page l = record {
   on : MarksOn l.fn.stop l.stop;
   words : still_words l.stop.pass ≡ still_words l.fn.stop.pass;
-  none : (p : ℕ) → l.from ≤ p → p < l.page → HasNoGray (still_words l.fn.stop.pass) p;
+  none : (p : ℕ) → l.from ≤ p → p < l.next → HasNoGray (still_words l.fn.stop.pass) p;
 }
+
+abbrev pub decreases-loop-page : goal.decreases-loop-page
+decreases-loop-page l = l.words.config.pages - l.next

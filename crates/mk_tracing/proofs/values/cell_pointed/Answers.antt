@@ -1,28 +1,23 @@
-use Rattle.std.proofs.Common.{◌∙◌, ap, sym, inl, inr, subst, ◌≤◌, ◌-◌, ◌/◌}
-use Rattle.mk_geom.specs.Addresses.{cell_at}
+use Rattle.std.proofs.Common.{◌≡◌, ◌∙◌, false, ap, sym, subst}
+use Rattle.mk_geom.specs.Addresses.{cell_at, is_heap_address}
+use Rattle.mk_core.specs.Words.{header_at}
 use Rattle.mk_tracing.specs.Stops.{still_words}
 use Rattle.mk_tracing.proofs.MoreMarks.{outside_none, found_by_header}
 use Rattle.mk_tracing.proofs.StopSteps.{on_from}
 use Rattle.mk_tracing.proofs.values.cell_pointed.Goals as goal
 
-pub returns-then-value-lt-HEAP_START-clause-on : goal.returns-then-value-lt-HEAP_START-clause-on
-returns-then-value-lt-HEAP_START-clause-on c = on_from c.args.stop.now c.requires.wanted
+pub returns-in_err-page-clause-on : goal.returns-in_err-page-clause-on
+returns-in_err-page-clause-on c = on_from c.args.stop.now c.requires.wanted
 
-pub returns-then-value-lt-HEAP_START-clause-points : goal.returns-then-value-lt-HEAP_START-clause-points
-returns-then-value-lt-HEAP_START-clause-points c =
-    sym (outside_none c.args.words.now.config.pages (still_words c.args.stop.now.pass).pages c.args.value
-    (inl c.if-value-lt-HEAP_START.true))
-
-pub returns-then-page-pages-clause-on : goal.returns-then-page-pages-clause-on
-returns-then-page-pages-clause-on c = on_from c.args.stop.now c.requires.wanted
-
-pub returns-then-page-pages-clause-points : goal.returns-then-page-pages-clause-points
-returns-then-page-pages-clause-points c =
-    sym (outside_none c.args.words.now.config.pages (still_words c.args.stop.now.pass).pages c.args.value
-    (inr (subst (λ n. n ≤ (c.args.value - 65536) / 512) c.pages.ensures c.if-page-pages.true)))
+pub returns-in_err-page-clause-points : goal.returns-in_err-page-clause-points
+returns-in_err-page-clause-points c =
+    c.from_residual.ensures
+    ∙ sym (outside_none c.args.words.now.config.pages (still_words c.args.stop.now.pass).pages c.args.value
+    (subst (λ n. is_heap_address n c.args.value ≡ false) c.pages.ensures c.in_err-page.ensures.outside))
 
 pub returns-clause-points : goal.returns-clause-points
 returns-clause-points c =
     c.lookup.ensures ∙ ap (λ n. cell_at n c.look_at-header.result c.args.value) c.pages-2.ensures
-    ∙ ap (λ h. cell_at c.args.words.now.config.pages h c.args.value) c.look_at-header.ensures.found
+    ∙ ap (λ h. cell_at c.args.words.now.config.pages h c.args.value)
+    (c.look_at-header.ensures.found ∙ ap (λ n. header_at (still_words c.args.stop.now.pass) n) c.in_ok-page.ensures.page)
     ∙ found_by_header c.args.words.now.config.pages (still_words c.args.stop.now.pass) c.args.value

@@ -1,13 +1,13 @@
 use Rattle.std.proofs.Common.{ℕ}
 use Rattle.mk_core.specs.declared.config.Config.{Config}
 use Rattle.mk_why.specs.Entries.{IsLedBack}
-use Rattle.mk_why.specs.Searching.{AreApart, AreWays, IsWay}
+use Rattle.mk_why.specs.Searching.{BeginApart, AreWays, IsWay}
 use Rattle.mk_why.specs.Stops.{View}
 use Rattle.mk_why.proofs.entries.chain.Given as goal
 
 abbrev pub invariant-loop-link : goal.invariant-loop-link
 invariant-loop-link l = record {
-  led : (c : Config) (v : View) (b : ℕ) → AreWays c v l.tables.found.items → AreApart v
+  led : (c : Config) (v : View) (b : ℕ) → AreWays c v l.tables.found.items → BeginApart v
       → IsWay c v l.tables.found.items l.fn.found.way l.fn.found.links b
       → IsLedBack c v l.tables.found.items l.current l.links.items b l.fn.found.links;
 }

@@ -1,7 +1,7 @@
 use Rattle.std.proofs.Common.{ℕ, ◌<◌, subst}
 use Rattle.mk_why.specs.declared.kept.Root.TheVariants.{Global, Register}
 use Rattle.mk_why.specs.Chains.{word_of_root}
-use Rattle.mk_why.specs.Searching.{AreWays, IsDone, IsFound, IsNoted}
+use Rattle.mk_why.specs.Searching.{AreWays, IsSearched, IsFound, IsNoted}
 use Rattle.mk_why.specs.Stops.{View, view_by}
 use Rattle.mk_why.proofs.Explored.{explored, roots_noted}
 use Rattle.mk_why.proofs.Looks.{looks_then}
@@ -52,7 +52,7 @@ returns-clause-explored c =
     (part_noted k t c.search_registers.new.stop c.search_globals.new.tables.found.items
     (λ y. word_of_root y.words (Global global)) 0 c.search_registers.ensures.on.on
     (c.search_globals.ensures.noted global lt)) in
-    let done : (base : ℕ) → IsFound found base → IsDone k v found base = λ base x.
-    subst (λ (y : View). IsDone k y found base) on.view (c.search_queue.ensures.done base x) in
+    let done : (base : ℕ) → IsFound found base → IsSearched k v found base = λ base x.
+    subst (λ (y : View). IsSearched k y found base) on.view (c.search_queue.ensures.done base x) in
     explored k v found done (subst (λ (y : View). AreWays k y found) on.view c.search_queue.ensures.ways)
     (roots_noted k v found registers globals)

@@ -1,6 +1,6 @@
 use Rattle.std.proofs.Common.{◌≡◌, ◌+◌, ◌<◌, refl, sym, subst, arith, length}
 use Rattle.std.specs.Prelude.{Some, slice_index}
-use Rattle.mk_why.specs.Searching.{AreScannedFrom, IsBase, IsDone, IsSearch, SearchesOn, at, links_of}
+use Rattle.mk_why.specs.Searching.{AreScannedFrom, IsFirstWord, IsSearched, IsSearch, SearchesOn, at, links_of}
 use Rattle.mk_why.specs.Stops.{View, view_by}
 use Rattle.mk_why.proofs.Scans.{done_from, entry_read, links_there, one_more_fits, queue_read, queued_base}
 use Rattle.mk_why.proofs.Scans.{queued_within}
@@ -42,7 +42,7 @@ pub scanned_size-size-requires-clause-base : goal.scanned_size-size-requires-cla
 scanned_size-size-requires-clause-base c =
     let r = c.args.tables.now in
     let v = view_by c.args.stop.now.pass in
-    subst (λ n. IsBase v n) (sym (base (goal.at.scanned_size-size-requires-clause-base c).After-index-base))
+    subst (λ n. IsFirstWord v n) (sym (base (goal.at.scanned_size-size-requires-clause-base c).After-index-base))
     (queued_base c.args.words.now.config v r c.args.place (links_of r c.args.place + 1) c.requires.search
     c.requires.place)
 
@@ -92,7 +92,7 @@ returns-clause-done c =
     let r = c.args.tables.now in
     let there = there x.In-Some (low x.After-index-base) in
     let found = c.search_words.new.tables.found.items in
-    subst (λ n. IsDone k v found n) (base x.After-index-base)
+    subst (λ n. IsSearched k v found n) (base x.After-index-base)
     (done_from k v found c.index-base.result.now c.scanned_size-size.result c.in-Some.found.links
     (through_stays r.found.items found c.search_words.ensures.on.grows.stays c.index-base.result.now
     c.in-Some.found.links (record { entry = c.in-Some.found; there = there; through = refl }))

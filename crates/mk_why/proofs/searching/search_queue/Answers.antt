@@ -1,6 +1,6 @@
 use Rattle.std.proofs.Common.{ℕ, ◌+◌, ◌<◌, subst, arith}
 use Rattle.std.specs.Prelude.{slice_index}
-use Rattle.mk_why.specs.Searching.{IsDone, IsSearch, links_of}
+use Rattle.mk_why.specs.Searching.{IsSearched, IsSearch, links_of}
 use Rattle.mk_why.specs.Stops.{View, view_by}
 use Rattle.mk_why.proofs.Explored.{all_done, done_more, near_next}
 use Rattle.mk_why.proofs.Looks.{looks_at_nothing, looks_then}
@@ -37,8 +37,8 @@ loop-place-preserved c =
     let known : place < r.count = c.loop-place-test.true in
     let behind : IsSearch k v s (links_of r place + 1) =
     subst (λ (y : View). IsSearch k y s (links_of r place + 1)) x.on.view c.search_from.ensures.on.search in
-    let here : IsDone k v s.found.items (slice_index r.queue.items place) =
-    subst (λ (y : View). IsDone k y s.found.items (slice_index r.queue.items place)) x.on.view
+    let here : IsSearched k v s.found.items (slice_index r.queue.items place) =
+    subst (λ (y : View). IsSearched k y s.found.items (slice_index r.queue.items place)) x.on.view
     c.search_from.ensures.done in
     record {
       on = looks_then c.args.stop.now c.loop-place.stop c.search_from.new.stop x.on c.search_from.ensures.on.on;

@@ -1,6 +1,6 @@
 use Rattle.std.proofs.Common.{ℕ, ◌+◌, ◌-◌, ◌*◌, ◌<◌, ◌≤◌}
 use Rattle.std.specs.Prelude.{slice_index}
-use Rattle.mk_why.specs.Searching.{Grows, IsDone, IsSearch, links_of}
+use Rattle.mk_why.specs.Searching.{FindsMore, IsSearched, IsSearch, links_of}
 use Rattle.mk_why.specs.Stops.{LooksOn, view_by}
 use Rattle.mk_why.proofs.searching.search_queue.Given as goal
 
@@ -9,9 +9,9 @@ invariant-loop-place l = record {
   on : LooksOn l.fn.stop l.stop;
   limit : ℕ;
   search : IsSearch l.words.config (view_by l.fn.stop.pass) l.tables limit;
-  grows : Grows l.fn.tables l.tables;
+  grows : FindsMore l.fn.tables l.tables;
   near : l.place < l.tables.count → (i : ℕ) → i < l.tables.count → links_of l.tables i ≤ links_of l.tables l.place + 1;
-  done : (i : ℕ) → i < l.place → IsDone l.words.config (view_by l.fn.stop.pass) l.tables.found.items
+  done : (i : ℕ) → i < l.place → IsSearched l.words.config (view_by l.fn.stop.pass) l.tables.found.items
       (slice_index l.tables.queue.items i);
 }
 

@@ -35,7 +35,7 @@ access_as-requires-clause-within g c =
     c.args.by g.J.Making.event
     c.requires.order c.words.invariant.key c.words.invariant.words c.requires.picked c.requires.may c.requires.word
     c.requires.access (index_told _ c.args.words.now c.args.pages c.index_of-index.result c.args.word
-    c.words.view_is c.requires.pages c.index_of-index.ensures)).0
+    c.words.view_is c.requires.pages c.index_of-index.ensures) c.requires.hands_none).0
 
 pub access_as-requires-clause-allowed : goal.access_as-requires-clause-allowed
 access_as-requires-clause-allowed g c =
@@ -47,7 +47,7 @@ access_as-requires-clause-allowed g c =
     c.args.by g.J.Making.event
     c.requires.order c.words.invariant.key c.words.invariant.words c.requires.picked c.requires.may c.requires.word
     c.requires.access (index_told _ c.args.words.now c.args.pages c.index_of-index.result c.args.word
-    c.words.view_is c.requires.pages c.index_of-index.ensures)).1
+    c.words.view_is c.requires.pages c.index_of-index.ensures) c.requires.hands_none).1
 
 pub returns-clause-told : goal.returns-clause-told
 returns-clause-told g c =
@@ -61,3 +61,6 @@ returns-clause-order g c =
     let t = c.args.token.now in
     perform_keeps t.me c.access_as.new.token.me c.args.seat c.access_as.ensures.told.0 g.J.Making.event c.requires.order
     c.access_as.ensures.told.1
+
+pub returns-clause-slots : goal.returns-clause-slots
+returns-clause-slots g c = c.access_as.ensures.told.1.0

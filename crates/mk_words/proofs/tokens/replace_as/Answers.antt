@@ -21,7 +21,7 @@ swap_as-requires-clause-within g c =
     w.table.shared.table_id.words w.table.shared.table_id.slots t.id c.args.step c.index_of-index.result c.args.word
     (Store c.args.value) g.J.Making.event
     c.requires.order c.words.invariant.key c.words.invariant.words c.requires.picked c.requires.may c.requires.word
-    c.requires.access c.index_of-index.ensures).0
+    c.requires.access c.index_of-index.ensures c.requires.hands_none).0
 
 pub swap_as-requires-clause-allowed : goal.swap_as-requires-clause-allowed
 swap_as-requires-clause-allowed g c =
@@ -32,7 +32,7 @@ swap_as-requires-clause-allowed g c =
     w.table.shared.table_id.words w.table.shared.table_id.slots t.id c.args.step c.index_of-index.result c.args.word
     (Store c.args.value) g.J.Making.event
     c.requires.order c.words.invariant.key c.words.invariant.words c.requires.picked c.requires.may c.requires.word
-    c.requires.access c.index_of-index.ensures).1
+    c.requires.access c.index_of-index.ensures c.requires.hands_none).1
 
 pub returns-clause-finds : goal.returns-clause-finds
 returns-clause-finds g c =
@@ -46,3 +46,6 @@ returns-clause-order g c =
     let t = c.args.token.now in
     perform_keeps t.me c.swap_as.new.token.me c.args.seat c.swap_as.result g.J.Making.event c.requires.order
     c.swap_as.ensures.told
+
+pub returns-clause-slots : goal.returns-clause-slots
+returns-clause-slots g c = c.swap_as.ensures.told.0

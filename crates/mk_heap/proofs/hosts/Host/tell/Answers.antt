@@ -8,7 +8,9 @@ use Rattle.mk_heap.specs.Hosts.{HostState}
 use Rattle.mk_heap.proofs.BeforeOver.{hosts_seat, step_overs, taken_overs}
 use Rattle.mk_heap.proofs.HostsKept.{home_host, home_is, home_view}
 use Rattle.mk_heap.proofs.MovedHosts.{moved_is_host, moves_more, turn_moves}
-use Rattle.mk_heap.proofs.Telling.{look_admitted, look_tidy, given_no_turn}
+use Rattle.mk_cycle.proofs.Allowed.{in_turn}
+use Rattle.mk_heap.proofs.Overs.{give_allowed}
+use Rattle.mk_heap.proofs.Telling.{look_admitted, look_tidy, looked_may_give, given_no_turn}
 use Rattle.mk_heap.proofs.UnsweptHosts.{given_sweeps, taken_then_sweeps}
 use Rattle.mk_turns.specs.Sweeping.{SweepsNothing}
 use Rattle.mk_heap.proofs.hosts.Host.tell.Goals as goal
@@ -22,6 +24,21 @@ look-found-requires-clause-admitted g c = λ decides.
     let host : p.seat ≡ Host =
     ap (λ (x : PassState). x.seat) (turn_moves c.in-Some.home p c.take_turn-turn.ensures.takes).is ∙ is.seat in
     look_admitted p c.args.x host c.is_in_order-in-Some.ensures.history
+
+pub give-back-requires-clause-enabled : goal.give-back-requires-clause-enabled
+give-back-requires-clause-enabled g c =
+    let s = c.self.inside in
+    let is = home_is s.pass c.in-Some.home s.callers s.markers (sym c.take.ensures.value
+    ∙ c.in-Some.is) c.self.invariant in
+    let p : PassState = c.take_turn-turn.result.pass in
+    let q : PassState = c.look-found.new.self.pass in
+    let host : p.seat ≡ Host =
+    ap (λ (x : PassState). x.seat) (turn_moves c.in-Some.home p c.take_turn-turn.ensures.takes).is ∙ is.seat in
+    let o = c.is_in_order-in-Some.ensures in
+    let v = c.is_in_order-in-Some-2.ensures in
+    give_allowed q (in_turn q c.look-found.new.self.op v.own v.turn v.history)
+    (looked_may_give p q c.args.x host (in_turn p c.take_turn-turn.result.op o.own o.turn o.history)
+    c.take_turn-turn.ensures.fresh v.history c.look-found.ensures.acts c.take_turn-turn.ensures.exact)
 
 pub give-back-requires-clause-tidy : goal.give-back-requires-clause-tidy
 give-back-requires-clause-tidy g c =

@@ -1,4 +1,5 @@
-use Rattle.std.proofs.Common.{subst, ap, sym}
+use Rattle.std.proofs.Common.{subst, ap, sym, ◌∙◌, ◌%◌}
+use Rattle.std.proofs.lemmas.Bool.{eqb-false}
 use Rattle.mk_words.specs.States.{PassState, WordsState}
 use Rattle.mk_marker.specs.Working.{FindsNoWork, ScansACell}
 use Rattle.mk_marker.proofs.Worked.{finds_no_work, scans_a_cell}
@@ -9,7 +10,7 @@ returns-in-Some-clause-cause c =
     let a = c.look in
     subst (λ (p : PassState). ScansACell p c.scan_cell.new.pass) c.self.view_is
     (scans_a_cell c.self.inside.pass a.result a.new.pass c.find_cell.new.pass c.scan_cell.new.pass c.in-Some.cell
-    a.ensures.moves c.if-look-eq2.false
+    a.ensures.moves (eqb-false (a.result % 8) 2 (sym c.is_in.ensures ∙ c.if-is_in.false))
     c.in-Some.ensures.some c.scan_cell.ensures.scans c.scan_cell.ensures.black)
 
 pub returns-in-None-clause-cause : goal.returns-in-None-clause-cause
@@ -17,5 +18,5 @@ returns-in-None-clause-cause c =
     let a = c.look in
     subst (λ (p : PassState). FindsNoWork p c.find_cell.new.pass) c.self.view_is
     (finds_no_work c.self.inside.pass a.result a.new.pass c.find_cell.new.pass c.self.inside.words.now.config.pages
-    a.ensures.moves c.if-look-eq2.false
+    a.ensures.moves (eqb-false (a.result % 8) 2 (sym c.is_in.ensures ∙ c.if-is_in.false))
     (sym (ap (λ (w : WordsState). w.config.pages) c.self.invariant.one_table)) c.in-None.ensures.none)

@@ -68,3 +68,12 @@ returns-clause-told g c =
     c.list_kept.new.tables.found.items c.list_kept.new.tables.kept.items tables
     (in_turn _ _ c.is_in_order-2.ensures.own c.is_in_order-2.ensures.turn c.is_in_order-2.ensures.history)
     c.is_in_order-2.ensures.gates
+
+pub returns-clause-closed : goal.returns-clause-closed
+returns-clause-closed g c =
+    record {
+      inner = c.close_marks.new.stop.pass;
+      part = c.close_marks.ensures.closed;
+      looks = (looks_then c.close_marks.new.stop c.search.new.stop c.list_kept.new.stop c.search.ensures.on
+          c.list_kept.ensures.looks).does;
+    }

@@ -7,12 +7,13 @@ use Rattle.mk_words.proofs.turns.Turn.give.Goals as goal
 
 pub returns-clause-acts : goal.returns-clause-acts
 returns-clause-acts c =
-    let f = c.perform in
+    let f = c.give-own in
     let t = c.self.inside in
-    subst (λ (v : TurnState). Acts v.pass step.Give f.new.self) c.self.view_is
-    (acts t.pass step.Give f.new.self f.ensures.told.makes f.ensures.own f.ensures.history c.self.invariant.turn.holds)
+    subst (λ (v : TurnState). Acts v.pass step.Give f.result) c.self.view_is
+    (acts t.pass step.Give f.result f.ensures c.is_in_order.ensures.own c.is_in_order-2.ensures.history
+    c.self.invariant.turn.holds)
 
 pub returns-clause-rests : goal.returns-clause-rests
 returns-clause-rests c =
-    let f = c.perform in
-    gives_rest c.self.inside.pass f.new.self f.ensures.told.makes f.ensures.own f.ensures.history
+    gives_rest c.self.inside.pass c.give-own.result c.give-own.ensures c.is_in_order.ensures.own
+    c.is_in_order-2.ensures.history

@@ -6,6 +6,7 @@ use Rattle.mk_words.specs.Steps.{Finds}
 use Rattle.mk_words.specs.TurnSteps.{Acts}
 use Rattle.mk_words.proofs.TurnSteps.{still_turn, acts}
 use Rattle.mk_words.proofs.TakenCells.{knows_still}
+use Rattle.mk_words.proofs.MapSteps.{shows_still}
 use Rattle.mk_words.proofs.turns.Turn.look_among.Goals as goal
 
 pub invariant_of-self : goal.invariant_of-self
@@ -18,6 +19,7 @@ invariant_of-self c =
       turn = still_turn t.pass s f.new.self f.ensures.told.makes f.ensures.own f.ensures.history t.op refl
           c.self.invariant.turn;
       knows = knows_still t.pass s f.new.self a t.cell refl refl c.self.invariant.knows;
+      shows = shows_still t.pass s f.new.self a t.map refl c.self.invariant.shows;
     }
 
 pub returns-clause-acts : goal.returns-clause-acts

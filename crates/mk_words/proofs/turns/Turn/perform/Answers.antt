@@ -3,7 +3,12 @@ use Rattle.mk_words.specs.States.{TurnState}
 use Rattle.mk_words.specs.TurnSteps.{Acts}
 use Rattle.mk_words.proofs.TurnSteps.{still_turn, acts}
 use Rattle.mk_words.proofs.TakenCells.{knows_still}
+use Rattle.mk_words.proofs.FreeTurns.{hands_none}
+use Rattle.mk_words.proofs.MapSteps.{takes_none, shows_still}
 use Rattle.mk_words.proofs.turns.Turn.perform.Goals as goal
+
+pub perform-requires-clause-hands_none : goal.perform-requires-clause-hands_none
+perform-requires-clause-hands_none c = hands_none c.args.step c.requires.stays
 
 pub invariant_of-self : goal.invariant_of-self
 invariant_of-self c =
@@ -14,8 +19,9 @@ invariant_of-self c =
     record {
       turn = still_turn t.pass c.args.step f.new.self f.ensures.told.makes f.ensures.own f.ensures.history t.op
           c.requires.stays c.self.invariant.turn;
-      knows = knows_still t.pass c.args.step f.new.self a t.cell c.requires.stays c.requires.takes_none
-          c.self.invariant.knows;
+      knows = knows_still t.pass c.args.step f.new.self a t.cell c.requires.stays
+          (takes_none c.args.step c.requires.leaves_pages) c.self.invariant.knows;
+      shows = shows_still t.pass c.args.step f.new.self a t.map c.requires.leaves_pages c.self.invariant.shows;
     }
 
 pub returns-clause-acts : goal.returns-clause-acts

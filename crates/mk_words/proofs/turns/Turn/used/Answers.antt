@@ -4,8 +4,17 @@ use Rattle.mk_core.specs.declared.events.Step.TheVariants as step
 use Rattle.mk_words.specs.States.{TurnState}
 use Rattle.mk_words.specs.TurnSteps.{Acts, KnowsCell}
 use Rattle.mk_words.proofs.TurnSteps.{acts, still_turn}
+use Rattle.mk_words.specs.Steps.{IsEnabledTo}
 use Rattle.mk_words.proofs.TakenCells.{used_turn}
+use Rattle.mk_words.proofs.MapSteps.{used_known, shows_used}
 use Rattle.mk_words.proofs.turns.Turn.used.Goals as goal
+
+pub used_stored-requires : goal.used_stored-requires
+used_stored-requires c =
+    let t = c.self.inside in
+    used_known t.pass c.args.page c.args.v t.map
+    (subst (λ (v : TurnState). IsEnabledTo v.pass (step.Used c.args.page c.args.v)) (sym c.self.view_is)
+    c.requires.enabled) c.self.invariant.shows
 
 pub invariant_of-self : goal.invariant_of-self
 invariant_of-self c =
@@ -19,6 +28,9 @@ invariant_of-self c =
           (used_turn t.pass c.args.page c.args.v f.result f.new.self makes f.ensures.own f.ensures.history t.cell
           c.self.invariant.turn.holds f.ensures.finds.finds c.ranges.v.fits
           c.self.invariant.knows);
+      shows = shows_used t.pass c.args.page c.args.v f.new.self
+          (acts t.pass s f.new.self makes f.ensures.own f.ensures.history c.self.invariant.turn.holds) t.map
+          c.used_stored.new.self c.used_stored.ensures c.self.invariant.shows;
     }
 
 pub returns-clause-acts : goal.returns-clause-acts

@@ -1,5 +1,5 @@
-use Rattle.std.proofs.Common.{◌≡◌, ◌∙◌, sym, ap, subst, arith}
-use Rattle.std.specs.Mem.Slots.{slots_items, slots_len}
+use Rattle.std.proofs.Common.{◌∙◌, sym, ap, subst}
+use Rattle.std.specs.Mem.Slots.{slots_items}
 use Rattle.mk_core.specs.declared.config.Config.{Config}
 use Rattle.mk_words.specs.Seats.{HasAll}
 use Rattle.mk_words.specs.States.{PassState, WordsState}
@@ -19,12 +19,6 @@ split_seat-memory-requires c =
     let t = copy_call w.config w.table.shared.key w.table.shared.table_id.words p.token.id p.token.me
     c.words.invariant.key c.words.invariant.words in
     (id, t.0, t.1)
-
-pub free-requires : goal.free-requires
-free-requires c k lt =
-    let none : slots_len c.close_with-closed.result.slots ≡ 0 = c.close_with-closed.ensures.counts.1
-    ∙ c.words.invariant.slots in
-    absurd (omega arith)
 
 pub returns-clause-tallies : goal.returns-clause-tallies
 returns-clause-tallies c =

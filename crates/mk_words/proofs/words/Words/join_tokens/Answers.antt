@@ -13,7 +13,7 @@ join_seat-requires c =
     let theirs = same_id c.args.words.now c.args.from w.table.shared.table_id q.token.table_id w.config
     w.table.shared.key q.token.me q.seat c.words.view_is c.from.view_is c.requires.from in
     let t = join_call w.config w.table.shared.key w.table.shared.table_id.words p.token.id p.token.me q.token.id
-    q.token.me p.seat q.seat c.into.invariant c.from.invariant c.words.invariant.key
+    q.token.me p.seat q.seat c.into.invariant.order c.from.invariant.order c.words.invariant.key
     c.words.invariant.words in
     (mine, theirs, c.from.invariant.no_slot, t.0, t.1)
 
@@ -34,5 +34,8 @@ pub invariant_of-into : goal.invariant_of-into
 invariant_of-into c =
     let p = c.into.inside in
     let j = joined p.token.table_id p.token.me c.from.inside.token.me c.join_seat.new.seat.me c.load.new.seat.me p.seat
-    c.load.result c.into.invariant c.join_seat.ensures.2 c.load.ensures.2 in
-    j.order
+    c.load.result c.into.invariant.order c.join_seat.ensures.2 c.load.ensures.2 in
+    record {
+      order = j.order;
+      no_slot = c.load.ensures.2.0 ∙ ap (λ (m : Mine). m.1) c.join_seat.ensures.2 ∙ c.into.invariant.no_slot;
+    }

@@ -1,11 +1,18 @@
-use Rattle.std.proofs.Common.{ℕ, ◌∙◌, ap}
+use Rattle.std.proofs.Common.{◌≡◌, ℕ, [], ◌∷◌, ◌∙◌, ap, rules}
 use Rattle.std.specs.Prelude.{replicate}
+use Rattle.mk_words.specs.Rule.{Mine}
 use Rattle.mk_words.proofs.Owed.{first_call, first_in_order}
 use Rattle.mk_words.proofs.words.Words.new.Goals as goal
 
-pub of_words-requires : goal.of_words-requires
-of_words-requires c = first_call c.args.config.now c.as_slice.result.now c.requires (c.as_slice.ensures.value
-    ∙ c.in_ok-zeros.ensures ∙ ap (λ (n : ℕ). replicate {A = ℕ} n 0) c.count_of_words.ensures)
+pub new-requires-2 : goal.new-requires-2
+new-requires-2 c =
+    let one : c.push.new.self.items ≡ c.in_ok-map.map ∷ [] = search rules in
+    first_call c.args.config.now c.as_slice.result.now c.push.new.self.items c.in_ok-map.map c.requires
+    (c.as_slice.ensures.value ∙ c.in_ok-zeros.ensures ∙ ap (λ (n : ℕ). replicate {A = ℕ} n 0) c.count_of_words.ensures)
+    one c.in_ok-map.ensures
 
 pub invariant_of-result : goal.invariant_of-result
-invariant_of-result c = first_in_order c.args.config.now c.in-Ok.token.me c.requires c.in-Ok.ensures.4
+invariant_of-result c = record {
+  order = first_in_order c.args.config.now c.in-Ok.token.me c.requires c.in-Ok.ensures.ok.4;
+  no_slot = ap (λ (m : Mine). m.1) c.in-Ok.ensures.ok.4;
+}

@@ -1,8 +1,7 @@
-use Rattle.std.proofs.Common.{◌≡◌, true, false, [], ap, sym, ◌∙◌, subst, IsTrue, is_some}
-use Rattle.std.proofs.lemmas.Result.{IfOk-weaker}
+use Rattle.std.proofs.Common.{◌≡◌, true, false, ap, sym, ◌∙◌, subst, is_some}
 use Rattle.mk_check.specs.declared.feeding.tree.Node.TheVariants as node
 use Rattle.mk_check.specs.Steps.{after_line, op_asked}
-use Rattle.mk_check.specs.Trees.{Place, LeavesBlock, MovesOn, HasStopped, node_at, with_kept, kept_in}
+use Rattle.mk_check.specs.Trees.{Place, MovesOn, HasStopped, node_at, with_kept, kept_in}
 use Rattle.mk_check.proofs.Moves.{line_goes_on, rounds_go_on, choice_goes_on, end_goes_on, ends_at, asks_at}
 use Rattle.mk_check.proofs.feeding.running.Running.step.Goals as goal
 
@@ -21,22 +20,16 @@ returns-in-Done-clause-goes_on c =
     let at = ap (λ (p : Place). p.at) c.self.view_is in
     let here : node_at c.args.tree.now c.args.self.now.at ≡ node.Done = ap (node_at c.args.tree.now) (sym at)
     ∙ sym c.in-Done.ensures.value in
-    IfOk-weaker c.leave.result (λ leaves. IsTrue leaves
-    → LeavesBlock c.args.self.now c.leave.new.self) (λ more. IsTrue more
-    → MovesOn c.args.tree.now c.args.self.now c.leave.new.self)
-    (λ b h t. end_goes_on c.args.tree.now c.args.self.now c.leave.new.self c.in-Done.ensures.tree c.requires here (h t))
-    c.leave.ensures.left
+    λ t. end_goes_on c.args.tree.now c.args.self.now c.leave.new.self c.in-Done.ensures.tree c.requires here
+    (c.leave.ensures.left t)
 
 pub returns-in-Done-clause-stops : goal.returns-in-Done-clause-stops
 returns-in-Done-clause-stops c =
     let at = ap (λ (p : Place). p.at) c.self.view_is in
     let here : node_at c.args.tree.now c.args.self.now.at ≡ node.Done = ap (node_at c.args.tree.now) (sym at)
     ∙ sym c.in-Done.ensures.value in
-    IfOk-weaker c.leave.result (λ leaves. leaves ≡ false
-    → (c.args.self.now.frames ≡ []) × (c.leave.new.self ≡ c.args.self.now)) (λ more. more ≡ false
-    → HasStopped c.args.tree.now c.args.self.now c.leave.new.self)
-    (λ b h f. subst (λ (p : Place). HasStopped c.args.tree.now c.args.self.now p) (sym (h f).1)
-    (ends_at c.args.tree.now c.args.self.now c.in-Done.ensures.tree c.requires here (h f).0)) c.leave.ensures.none
+    λ f. subst (λ (p : Place). HasStopped c.args.tree.now c.args.self.now p) (sym (c.leave.ensures.none f).1)
+    (ends_at c.args.tree.now c.args.self.now c.in-Done.ensures.tree c.requires here (c.leave.ensures.none f).0)
 
 pub returns-in_ok-run_line-in-Line-clause-goes_on :
     goal.returns-in_ok-run_line-in-Line-clause-goes_on

@@ -1,0 +1,263 @@
+-- Steps that come to an operation before anything is printed, and before a block begins or ends.
+use Rattle.std.proofs.Common.{◌≡◌, ℕ, zero, suc, ◌+◌, ◌-◌, ◌<◌, Bool, true, false, List, [], ◌∷◌, ◌++◌, length}
+use Rattle.std.proofs.Common.{refl, ap, sym, ◌∙◌, subst, arith, take, IsTrue}
+use Rattle.std.specs.Prelude.{not, ◌&&◌, ◌||◌, is_some, Option, Some, None, slice_get, slice_set}
+use Rattle.std.proofs.lemmas.List.{length_push, take_all, take_more, set_split, drop_all}
+use Rattle.std.proofs.lemmas.Option.{slice_get_within, get_or_from_slice_get, slice_get-get_or}
+use Rattle.mk_check.specs.declared.feeding.instructions.Instruction.{Instruction}
+use Rattle.mk_check.specs.declared.feeding.instructions.Instruction.TheVariants.{Nothing, Const, Add, Sub, Print, Ask}
+use Rattle.mk_check.specs.declared.feeding.instructions.Instruction.TheVariants.{Store, Load, Show}
+use Rattle.mk_check.specs.declared.feeding.tree.Node.{Node}
+use Rattle.mk_check.specs.declared.feeding.tree.Node.TheVariants as node
+use Rattle.mk_check.specs.declared.feeding.tree.Frame.{Frame}
+use Rattle.mk_check.specs.declared.feeding.tree.Frame.TheVariants as frame
+use Rattle.mk_check.specs.Steps.{after_line, asks_first, is_asking, is_print, op_asked}
+use Rattle.mk_check.specs.Trees.{FrameIsWithin, FramesAreWithin, HasStopped, IsBelow, IsTree, IsWithin, LeavesBlock}
+use Rattle.mk_check.specs.Trees.{MovesOn, MovesToOp, Place}
+use Rattle.mk_check.specs.Trees.{innermost, kept_in, node_after, node_at, node_to_go_on, place_behind_block}
+use Rattle.mk_check.specs.Trees.{resumed_node, steps_at, steps_from, trees, with_kept}
+use Rattle.mk_check.proofs.Moves.{FramesAreWithin_pop, asks_at, end_goes_on, line_goes_on, steps_at-trees}
+
+pub asked_so : (numbers : List ℕ) (instruction : Instruction)
+    → is_some (op_asked numbers instruction) ≡ is_asking instruction
+asked_so numbers Nothing = refl
+asked_so numbers (Const number value) = refl
+asked_so numbers (Add number left right) = refl
+asked_so numbers (Sub number left right) = refl
+asked_so numbers (Print number) = refl
+asked_so numbers (Ask o) = refl
+asked_so numbers (Store q i number) = refl
+asked_so numbers (Load number o) = refl
+asked_so numbers (Show p) = refl
+
+asks_here : (a b c : Bool) → a ≡ true → (a || (not b && c)) ≡ true
+asks_here true b c e = refl
+asks_here false b c e = cc
+
+prints_here : (a b c : Bool) → a ≡ false → b ≡ true → (a || (not b && c)) ≡ false
+prints_here false true c e f = refl
+prints_here false false c e f = cc
+prints_here true b c e f = cc
+
+asks_later : (a b c : Bool) → a ≡ false → b ≡ false → (a || (not b && c)) ≡ c
+asks_later false false c e f = refl
+asks_later false true c e f = cc
+asks_later true b c e f = cc
+
+no_print : (a b c : Bool) → a ≡ false → (a || (not b && c)) ≡ true → b ≡ false
+no_print false false c e h = refl
+no_print false true c e h = cc
+no_print true b c e h = cc
+
+-- The innermost block.
+
+get_last : (frames : List Frame) (f : Frame) → slice_get (frames ++ f ∷ []) (length frames) ≡ Some f
+get_last [] f = refl
+get_last (g ∷ frames) f = get_last frames f
+
+pub innermost_push : (frames : List Frame) (f : Frame) → innermost (frames ++ f ∷ []) ≡ Some f
+innermost_push frames f =
+    let e : length (frames ++ f ∷ []) - 1 ≡ length frames = omega (arith, length_push frames f) in
+    ap (λ (n : ℕ). slice_get (frames ++ f ∷ []) n) e ∙ get_last frames f
+
+pub none_open : (frames : List Frame) → innermost frames ≡ None → frames ≡ []
+none_open [] e = refl
+none_open (f ∷ frames) e =
+    let some = slice_get-get_or (f ∷ frames) (length (f ∷ frames) - 1) f (omega arith) in cc
+
+split_last : (frames : List Frame) (f : Frame) → innermost frames ≡ Some f
+    → frames ≡ take (length frames - 1) frames ++ f ∷ []
+split_last frames f e =
+    let last = length frames - 1 in
+    let within : last < length frames = slice_get_within frames last f e in
+    let all : take (last + 1) frames ≡ frames = take_all (last + 1) frames (omega arith) in
+    sym all
+    ∙ (take_more frames last f within
+    ∙ ap (λ (x : Frame). take last frames ++ x ∷ []) (get_or_from_slice_get frames last f f e))
+
+set_last : (frames : List Frame) (f g : Frame) → innermost frames ≡ Some f
+    → slice_set frames (length frames - 1) g ≡ take (length frames - 1) frames ++ g ∷ []
+set_last frames f g e =
+    let last = length frames - 1 in
+    let within : last < length frames = slice_get_within frames last f e in
+    set_split frames last g within
+    ∙ ap (λ (xs : List Frame). take last frames ++ g ∷ xs) (drop_all (suc last) frames (omega arith))
+
+-- another round of a `repeat`
+pub round_left : (p q : Place) (rounds less body next : ℕ)
+    → innermost p.frames ≡ Some (frame.Rounds rounds body next) → 0 < rounds → less ≡ rounds - 1
+    → q ≡ record p { at = body; frames = slice_set p.frames (length p.frames - 1) (frame.Rounds less body next) }
+    → LeavesBlock p q
+round_left p q zero less body next e some one is = absurd (omega arith)
+round_left p q (suc more) less body next e some one is =
+    let same : less ≡ more = omega arith in
+    record {
+      frame = frame.Rounds (suc more) body next;
+      frames = take (length p.frames - 1) p.frames;
+      was = split_last p.frames (frame.Rounds (suc more) body next) e;
+      is = is
+          ∙ (ap (λ (n : ℕ). let at : Place = record p
+          { at = body; frames = slice_set p.frames (length p.frames - 1) (frame.Rounds n body next) } in at) same
+          ∙ ap (λ (xs : List Frame). let at : Place = record p { at = body; frames = xs } in at)
+          (set_last p.frames (frame.Rounds (suc more) body next) (frame.Rounds more body next) e));
+    }
+
+-- no round is left
+pub repeat_left : (p q : Place) (rounds body next : ℕ) → innermost p.frames ≡ Some (frame.Rounds rounds body next)
+    → rounds ≡ 0 → q ≡ record p { at = next; frames = take (length p.frames - 1) p.frames } → LeavesBlock p q
+repeat_left p q zero body next e none is = record {
+  frame = frame.Rounds 0 body next;
+  frames = take (length p.frames - 1) p.frames;
+  was = split_last p.frames (frame.Rounds 0 body next) e;
+  is = is;
+}
+repeat_left p q (suc more) body next e none is = absurd (omega arith)
+
+pub branch_left : (p q : Place) (next : ℕ) → innermost p.frames ≡ Some (frame.Branch next)
+    → q ≡ record p { at = next; frames = take (length p.frames - 1) p.frames } → LeavesBlock p q
+branch_left p q next e is = record {
+  frame = frame.Branch next;
+  frames = take (length p.frames - 1) p.frames;
+  was = split_last p.frames (frame.Branch next) e;
+  is = is;
+}
+
+at_after : (p : Place) (f : Frame) → (place_behind_block p f).at ≡ node_after f
+at_after p (frame.Rounds zero body next) = refl
+at_after p (frame.Rounds (suc more) body next) = refl
+at_after p (frame.Branch next) = refl
+
+pub goes_on_here : (n : Node) (at : ℕ) (block : Option Frame) → (n ≡ node.Done → ⊥) → node_to_go_on n at block ≡ at
+goes_on_here node.Done at block h = absurd (h refl)
+goes_on_here (node.Line line instruction next) at block h = refl
+goes_on_here (node.Rounds rounds body next) at block h = refl
+goes_on_here (node.Choice number first second next) at block h = refl
+
+node_after_within : (count : ℕ) (f : Frame) → FrameIsWithin count f → node_after f < count
+node_after_within count (frame.Rounds zero body next) w = w.1
+node_after_within count (frame.Rounds (suc more) body next) w = w.0
+node_after_within count (frame.Branch next) w = w
+
+to_go_on_within : (count : ℕ) (n : Node) (at : ℕ) (block : Option Frame) → at < count
+    → ((f : Frame) → block ≡ Some f → FrameIsWithin count f) → node_to_go_on n at block < count
+to_go_on_within count node.Done at None h w = h
+to_go_on_within count node.Done at (Some f) h w = node_after_within count f (w f refl)
+to_go_on_within count (node.Line line instruction next) at block h w = h
+to_go_on_within count (node.Rounds rounds body next) at block h w = h
+to_go_on_within count (node.Choice number first second next) at block h w = h
+
+pub resumed_within : (nodes : List Node) (p : Place) → IsWithin (length nodes) p → resumed_node nodes p < length nodes
+resumed_within nodes p w =
+    to_go_on_within (length nodes) (node_at nodes p.at) p.at (innermost p.frames) w.at
+    (λ f e. (FramesAreWithin_pop (length nodes) (take (length p.frames - 1) p.frames) f
+    (subst (λ (xs : List Frame). FramesAreWithin (length nodes) xs) (split_last p.frames f e) w.frames)).1)
+
+module _ (nodes : List Node) where
+  first_from : (at : ℕ) (n : Node) → IsTree nodes → at < length nodes → node_at nodes at ≡ n
+      → asks_first (steps_at (trees nodes) at) ≡ asks_first (steps_from (trees nodes) n)
+  first_from at n tree h e = ap asks_first (steps_at-trees nodes at tree h ∙ ap (steps_from (trees nodes)) e)
+
+  pub first_asks : (at line : ℕ) (instruction : Instruction) (next : ℕ) → IsTree nodes → at < length nodes
+      → node_at nodes at ≡ node.Line line instruction next → is_asking instruction ≡ true
+      → asks_first (steps_at (trees nodes) at) ≡ true
+  first_asks at line instruction next tree h e asks =
+      first_from at (node.Line line instruction next) tree h e
+      ∙ asks_here (is_asking instruction) (is_print instruction) (asks_first (steps_at (trees nodes) next)) asks
+
+  pub first_prints : (at line : ℕ) (instruction : Instruction) (next : ℕ) → IsTree nodes → at < length nodes
+      → node_at nodes at ≡ node.Line line instruction next → is_asking instruction ≡ false
+      → is_print instruction ≡ true → asks_first (steps_at (trees nodes) at) ≡ false
+  first_prints at line instruction next tree h e asks prints =
+      first_from at (node.Line line instruction next) tree h e
+      ∙ prints_here (is_asking instruction) (is_print instruction) (asks_first (steps_at (trees nodes) next)) asks
+      prints
+
+  pub first_later : (at line : ℕ) (instruction : Instruction) (next : ℕ) → IsTree nodes → at < length nodes
+      → node_at nodes at ≡ node.Line line instruction next → is_asking instruction ≡ false
+      → is_print instruction ≡ false
+      → asks_first (steps_at (trees nodes) at) ≡ asks_first (steps_at (trees nodes) next)
+  first_later at line instruction next tree h e asks prints =
+      first_from at (node.Line line instruction next) tree h e
+      ∙ asks_later (is_asking instruction) (is_print instruction) (asks_first (steps_at (trees nodes) next)) asks
+      prints
+
+  pub first_no_line : (at : ℕ) (n : Node) → IsTree nodes → at < length nodes → node_at nodes at ≡ n
+      → ((line : ℕ) (instruction : Instruction) (next : ℕ) → n ≡ node.Line line instruction next → ⊥)
+      → asks_first (steps_at (trees nodes) at) ≡ false
+  first_no_line at node.Done tree h e none = first_from at node.Done tree h e
+  first_no_line at (node.Line line instruction next) tree h e none = absurd (none line instruction next refl)
+  first_no_line at (node.Rounds rounds body next) tree h e none =
+      first_from at (node.Rounds rounds body next) tree h e
+  first_no_line at (node.Choice number first second next) tree h e none =
+      first_from at (node.Choice number first second next) tree h e
+
+  -- the line after a line stands before it
+  pub next_below : (at line : ℕ) (instruction : Instruction) (next : ℕ) → IsTree nodes → at < length nodes
+      → node_at nodes at ≡ node.Line line instruction next → next < at
+  next_below at line instruction next tree h e = subst (λ (n : Node). IsBelow at n) e (tree at h)
+
+  pub no_print_here : (at line : ℕ) (instruction : Instruction) (next : ℕ) → IsTree nodes → at < length nodes
+      → node_at nodes at ≡ node.Line line instruction next → is_asking instruction ≡ false
+      → asks_first (steps_at (trees nodes) at) ≡ true → is_print instruction ≡ false
+  no_print_here at line instruction next tree h e asks first =
+      no_print (is_asking instruction) (is_print instruction) (asks_first (steps_at (trees nodes) next)) asks
+      (sym (first_from at (node.Line line instruction next) tree h e) ∙ first)
+
+  -- A place moves on through lines that print nothing.
+
+  pub line_to_op : (p : Place) (line : ℕ) (instruction : Instruction) (next : ℕ) → IsTree nodes
+      → IsWithin (length nodes) p → node_at nodes p.at ≡ node.Line line instruction next
+      → is_asking instruction ≡ false
+      → MovesOn nodes p (with_kept (record p { at = next }) (after_line instruction (kept_in p)))
+  line_to_op p line instruction next tree w e asks =
+      line_goes_on nodes p line instruction next tree w e (asked_so p.numbers instruction ∙ asks)
+
+  pub stops_at_op : (p : Place) (line : ℕ) (instruction : Instruction) (next : ℕ) → IsTree nodes
+      → IsWithin (length nodes) p → node_at nodes p.at ≡ node.Line line instruction next
+      → is_asking instruction ≡ true → HasStopped nodes p p
+  stops_at_op p line instruction next tree w e asks =
+      asks_at nodes p line instruction next tree w e (asked_so p.numbers instruction ∙ asks)
+
+  stays_to_op : (p q : Place) → IsWithin (length nodes) p
+      → asks_first (steps_at (trees nodes) p.at) ≡ true → q ≡ p → MovesToOp nodes p q
+  stays_to_op p q w first same =
+      subst (λ (x : Place). MovesToOp nodes p x) (sym same) (record { within = w; run = refl; first = first })
+
+  -- the end of a block, after which an operation comes first
+  pub left_to_op : (p q : Place) (left : Bool) → IsTree nodes → IsWithin (length nodes) p
+      → node_at nodes p.at ≡ node.Done → asks_first (steps_at (trees nodes) (resumed_node nodes p)) ≡ true
+      → (IsTrue left → LeavesBlock p q) → (left ≡ false → (p.frames ≡ []) × (q ≡ p)) → MovesToOp nodes p q
+  left_to_op p q true tree w e first leaves none =
+      let block = leaves refl in
+      let moves = end_goes_on nodes p q tree w e block in
+      let last : innermost p.frames ≡ Some block.frame =
+      ap innermost block.was ∙ innermost_push block.frames block.frame in
+      let resumed : resumed_node nodes p ≡ node_after block.frame =
+      ap (λ (n : Node). node_to_go_on n p.at (innermost p.frames)) e
+      ∙ ap (λ (o : Option Frame). node_to_go_on node.Done p.at o) last in
+      let here : q.at ≡ node_after block.frame =
+      ap (λ (x : Place). x.at) block.is ∙ at_after (record p { frames = block.frames }) block.frame in
+      record {
+        within = moves.within;
+        run = moves.run;
+        first = ap (λ (at : ℕ). asks_first (steps_at (trees nodes) at)) (here ∙ sym resumed) ∙ first;
+      }
+  left_to_op p q false tree w e first leaves none =
+      let last : innermost p.frames ≡ None = ap innermost (none refl).0 in
+      let resumed : resumed_node nodes p ≡ p.at =
+      ap (λ (n : Node). node_to_go_on n p.at (innermost p.frames)) e
+      ∙ ap (λ (o : Option Frame). node_to_go_on node.Done p.at o) last in
+      stays_to_op p q w (ap (λ (at : ℕ). asks_first (steps_at (trees nodes) at)) (sym resumed) ∙ first) (none refl).1
+
+  pub same_to_op : (p q : Place) (n : Node) → IsWithin (length nodes) p → node_at nodes p.at ≡ n
+      → (n ≡ node.Done → ⊥) → asks_first (steps_at (trees nodes) (resumed_node nodes p)) ≡ true → q ≡ p
+      → MovesToOp nodes p q
+  same_to_op p q n w e other first same =
+      let resumed : resumed_node nodes p ≡ p.at =
+      ap (λ (m : Node). node_to_go_on m p.at (innermost p.frames)) e
+      ∙ goes_on_here n p.at (innermost p.frames) other in
+      stays_to_op p q w (ap (λ (at : ℕ). asks_first (steps_at (trees nodes) at)) (sym resumed) ∙ first) same
+
+  -- A place that moves on stops where the place after it stops.
+  pub stops_after : (p q t : Place) → MovesToOp nodes p q → HasStopped nodes q t → HasStopped nodes p t
+  stops_after p q t moves stopped = record { within = stopped.within; at = stopped.at; run = stopped.run ∙ moves.run }

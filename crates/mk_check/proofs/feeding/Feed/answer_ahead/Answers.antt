@@ -1,0 +1,122 @@
+use Rattle.std.proofs.Common.{◌≡◌, ◌<◌, [], ◌∷◌, ◌++◌, true, false, ap, sym, ◌∙◌, subst, rules}
+use Rattle.std.specs.Prelude.{Option, None, is_some, OnOk, OnErr, Ok, Err}
+use Rattle.std.specs.declared.result.Result.{Result}
+use Rattle.mk_never.specs.declared.operations.Op.{Op}
+use Rattle.std.proofs.lemmas.Result.{IfOk-weaker}
+use Rattle.mk_check.specs.declared.feeding.tree.Node.{Node}
+use Rattle.mk_check.specs.declared.feeding.tree.Node.TheVariants as node
+use Rattle.mk_check.specs.Feed.{refusal_line, refusal_text}
+use Rattle.mk_check.specs.Steps.{op_asked, after_answer, stop_on_answer}
+use Rattle.mk_check.specs.Trees.{IsTree, Place, left_in, kept_in, stopped_in, node_at, with_kept}
+use Rattle.mk_check.specs.Feeding.{FeedState, StandsForSome, IsFeed, op_of_node, op_in, work_left}
+use Rattle.mk_check.specs.Feeding.{TakesAnswer}
+use Rattle.mk_check.proofs.Stands.{answer_stands, answer_stops, op_of_others, waits_for_answer}
+use Rattle.mk_check.proofs.WorkLaws.{answer_nearer}
+use Rattle.mk_check.proofs.feeding.Feed.answer_ahead.Goals as goal
+use Rattle.mk_check.proofs.feeding.Feed.answer_ahead.Goals.{After-follow}
+
+-- the node that waits is that of the line
+waits : (c : After-follow)
+    → node_at c.self.inside.tree c.self.inside.running.at
+    ≡ node.Line c.in-Line.line c.in-Line.instruction c.in-Line.next
+waits c = ap (node_at c.self.inside.tree) (sym c.at.ensures) ∙ sym c.in-Line.ensures.value
+
+-- the copy, after the text so far, stops where the script does
+stops : (c : After-follow)
+    → c.follow.new.self ≡ record c.run.new.self { text = c.self.inside.running.text ++ c.run.new.self.text }
+    → stopped_in c.self.inside.tree c.follow.new.self
+    ≡ stop_on_answer (left_in c.self.inside.tree c.self.inside.running) c.args.answer (kept_in c.self.inside.running)
+stops c e =
+    let nodes = c.self.inside.tree in
+    let p = c.self.inside.running in
+    let starts : c.take.new.self
+    ≡ with_kept (record p { at = c.in-Line.next })
+    (after_answer c.in-Line.instruction c.args.answer
+    (record { numbers = p.numbers; text = refusal_line c.in-Line.line (refusal_text c.args.answer) })) =
+    c.in_ok-take.ensures
+    ∙ ap (λ (q : Place). with_kept q (after_answer c.in-Line.instruction c.args.answer (kept_in q)))
+    (c.in_ok-print_refusal.ensures
+    ∙ ap (λ (q : Place). let later : Place = record q
+    { text = q.text ++ refusal_line c.in-Line.line (refusal_text c.args.answer) } in later) c.in_ok-copy_at.ensures)
+    in
+    answer_stops nodes p c.take.new.self c.run.new.self c.follow.new.self c.in-Line.line c.in-Line.instruction
+    c.in-Line.next c.args.answer
+    c.in-Line.ensures.tree c.self.invariant.stop.within (waits c) starts c.in_ok-run.ensures e
+
+either : {T E : Type 0} (r : Result T E) (P Q X : Type 0) → OnOk r P → OnErr r Q → (P → X) → (Q → X) → X
+either (Ok x) P Q X p q f g = f p
+either (Err e) P Q X p q f g = g q
+
+-- the state that it was in
+feed : (c : After-follow) → IsFeed c.args.self.now
+feed c = subst (λ (s : FeedState). IsFeed s) c.self.view_is c.self.invariant
+
+tree : (c : After-follow) → IsTree c.args.self.now.nodes
+tree c = subst (λ (s : FeedState). IsTree s.nodes) c.self.view_is c.in-Line.ensures.tree
+
+takes : (c : After-follow)
+    → c.follow.new.self ≡ record c.run.new.self { text = c.self.inside.running.text ++ c.run.new.self.text }
+    → TakesAnswer c.args.self.now c.args.answer (record { nodes = c.self.inside.tree; place = c.follow.new.self })
+takes c e =
+    let nodes = c.self.inside.tree in
+    let p = c.self.inside.running in
+    let before : FeedState = record { nodes = nodes; place = p } in
+    let after : FeedState = record { nodes = nodes; place = c.follow.new.self } in
+    let asks : is_some (op_asked p.numbers c.in-Line.instruction) ≡ true =
+    ap (λ (m : Node). is_some (op_of_node p.numbers m)) (sym (waits c))
+    ∙ (ap (λ (s : FeedState). is_some (op_in s)) c.self.view_is
+    ∙ waits_for_answer c.args.self.now (tree c) (feed c) c.requires) in
+    subst (λ (s : FeedState). TakesAnswer s c.args.answer after) c.self.view_is
+    (λ program k answers st. answer_stands program k answers c.args.answer before after c.in-Line.line
+    c.in-Line.instruction c.in-Line.next
+    c.in-Line.ensures.tree c.self.invariant.stop.within (waits c) asks (stops c e) st)
+
+pub unreachable-requires : goal.unreachable-requires
+unreachable-requires c =
+    let nodes = c.self.inside.tree in
+    let is = subst (λ (s : FeedState). IsFeed s) c.self.view_is c.self.invariant in
+    let tree = subst (λ (s : FeedState). IsTree s.nodes) c.self.view_is c.node.ensures.tree in
+    let none : op_in c.args.self.now ≡ None =
+    ap op_in (sym c.self.view_is)
+    ∙ (ap (op_of_node c.self.inside.running.numbers) (sym (c.node.ensures.value ∙ ap (node_at nodes) c.at.ensures))
+    ∙ op_of_others c.self.inside.running.numbers c.node.result c.in_default.not-Line) in
+    let some = waits_for_answer c.args.self.now tree is c.requires in
+    let never : false ≡ true = sym (ap (λ (o : Option Op). is_some o) none) ∙ some in
+    absurd cc
+
+pub invariant_of-self-2 : goal.invariant_of-self-2
+invariant_of-self-2 c =
+    let after : FeedState = record { nodes = c.self.inside.tree; place = c.follow.new.self } in
+    let f = feed ((goal.at.invariant_of-self-2 c).After-follow) in
+    record {
+      stop = search rules;
+      some = either c.follow.result _ _ (StandsForSome after) c.follow.ensures.ok c.follow.ensures.err
+          (λ e. record {
+            program = f.some.program;
+            k = f.some.k;
+            answers = f.some.answers ++ c.args.answer ∷ [];
+            stands = takes ((goal.at.invariant_of-self-2 c).After-follow) e f.some.program f.some.k f.some.answers
+                f.some.stands;
+          })
+          (λ e. subst (λ (p : Place). StandsForSome (record { nodes = c.self.inside.tree; place = p }))
+          (sym e) c.self.invariant.some);
+    }
+
+pub returns-clause-ok : goal.returns-clause-ok
+returns-clause-ok c =
+    IfOk-weaker c.follow.result
+    (λ _. c.follow.new.self ≡ record c.run.new.self { text = c.self.inside.running.text ++ c.run.new.self.text })
+    (λ _. TakesAnswer c.args.self.now c.args.answer (record { nodes = c.self.inside.tree; place = c.follow.new.self }))
+    (λ _ e. takes ((goal.at.returns-clause-ok c).After-follow) e) c.follow.ensures.ok
+
+pub returns-clause-nearer : goal.returns-clause-nearer
+returns-clause-nearer c =
+    let nodes = c.self.inside.tree in
+    let p = c.self.inside.running in
+    let after : FeedState = record { nodes = nodes; place = c.follow.new.self } in
+    IfOk-weaker c.follow.result
+    (λ _. c.follow.new.self ≡ record c.run.new.self { text = p.text ++ c.run.new.self.text })
+    (λ _. work_left after < work_left c.args.self.now)
+    (λ _ e. subst (λ (s : FeedState). work_left after < work_left s) c.self.view_is
+    (answer_nearer nodes p c.follow.new.self c.in-Line.line c.in-Line.instruction c.in-Line.next c.args.answer
+    c.in-Line.ensures.tree c.self.invariant.stop.within (waits c) (stops c e))) c.follow.ensures.ok

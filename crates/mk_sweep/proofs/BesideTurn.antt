@@ -1,0 +1,238 @@
+-- What others do beside a turn whose pass has the seats of all markers: they mark nothing, and take no step of a
+-- holder.
+use Rattle.std.proofs.Common.{◌≡◌, ◌≢◌, ℕ, ◌+◌, ◌<◌, Bool, true, false, List, [], ◌∷◌, ◌++◌, refl, sym, ◌∙◌, ap, subst}
+use Rattle.std.proofs.Common.{inl, inr, arith}
+use Rattle.std.specs.Prelude.{⊤, slice_index}
+use Rattle.std.specs.List.{list_any}
+use Rattle.std.proofs.lemmas.Bool.{cases_Bool, false_from_ne_true, true≢false}
+use Rattle.mk_geom.specs.declared.addresses.Cell.{Cell}
+use Rattle.mk_core.specs.declared.config.Config.{Config}
+use Rattle.mk_core.specs.declared.events.Event.{Event}
+use Rattle.mk_core.specs.declared.events.Seat.{Seat}
+use Rattle.mk_core.specs.declared.events.Seat.TheVariants.{Caller, Host, Marker}
+use Rattle.mk_core.specs.declared.events.Step.{Step}
+use Rattle.mk_core.specs.Bits.{has_bit}
+use Rattle.mk_core.specs.Cells.{is_marked}
+use Rattle.mk_core.specs.Enabled.{IsEnabled}
+use Rattle.mk_core.specs.Frames.{Steady}
+use Rattle.mk_core.specs.Growing.{is_one_of, is_same_seat}
+use Rattle.mk_core.specs.History.{AreEnabledFrom, World, left_from, world_behind}
+use Rattle.mk_core.specs.Moments.{Moment, holder_number}
+use Rattle.mk_core.specs.Readings.{Holds}
+use Rattle.mk_core.specs.Words.{Words}
+use Rattle.mk_core.proofs.Conditions.{enabled_meets}
+use Rattle.mk_protocol.proofs.Actors.{is_holders}
+use Rattle.mk_protocol.proofs.Known.{Known, holds_turn, known_behind}
+use Rattle.mk_protocol.proofs.Orderly.{same_holder, turn_of}
+use Rattle.mk_protocol.proofs.OrderlyLists.{actor_of}
+use Rattle.mk_protocol.proofs.OthersMoves.{CallLoads, CallWrite, Calls, Marks, OthersMove, Waits, WorldBehind}
+use Rattle.mk_protocol.proofs.OthersMoves.{others_move}
+use Rattle.mk_protocol.proofs.Protocols.{protocol_of}
+use Rattle.mk_protocol.proofs.TurnFrame.{turn_after}
+use Rattle.mk_protocol.proofs.Views.{HoldsTurn, view_of}
+use Rattle.mk_frames.proofs.Holders.{acts_as_holder}
+use Rattle.mk_precision.proofs.StepKinds.{both_fail}
+use Rattle.mk_precision.proofs.Stretches.{None_of}
+use Rattle.mk_words.proofs.Seats.{not_both, same_self}
+use Rattle.mk_turns.specs.Doing.{AreOwnOrOfOthers}
+use Rattle.mk_tracing.specs.Tracing.{OwnStepsKeep}
+use Rattle.mk_sweep.specs.SweepCycle.{HasMarkers}
+use Rattle.mk_sweep.specs.Unswept.{LeaveUnmarked, OthersLeaveUnmarked}
+
+-- The turn word names a seat that may hold the turn, so it does.
+
+abbrev MayHold : Config → Seat → Type 0
+MayHold c (Caller k) = k < c.callers
+MayHold c (Marker k) = ⊥
+MayHold c Host = ⊤
+
+holder_may_hold : (c : Config) (m : Moment) (s : Seat) → Holds c m s → MayHold c s
+holder_may_hold c m (Caller k) h = h.0
+holder_may_hold c m (Marker k) h = h
+holder_may_hold c m Host h = tt
+
+holds_by_name : (c : Config) (m : Moment) (s : Seat) → Known c m → MayHold c s
+    → m.words.turn ≡ 1 + holder_number c s → Holds c m s
+holds_by_name c m (Caller k) known may is = (may, ((protocol_of c m known).holder k may).0 is)
+holds_by_name c m (Marker k) known may is = absurd may
+holds_by_name c m Host known may is = is
+
+-- A step that leaves the turn word leaves the turn to its holder.
+pub holds_still : (c : Config) (s : Seat) (w v : World) → Known c w.now → Known c v.now
+    → v.now.words.turn ≡ w.now.words.turn → Holds c w.now s → Holds c v.now s
+holds_still c s w v known next same h =
+    holds_by_name c v.now s next (holder_may_hold c w.now s h)
+    (same ∙ turn_of c (view_of w.now) s known.orderly (holds_turn c w.now s known.orderly h))
+
+-- one event of another seat
+
+record IsBeside (c : Config) (w : World) (e : Event) : Type 0 where
+  marks : (world_behind c w e).now.words.marks ≡ w.now.words.marks
+  turn : (world_behind c w e).now.words.turn ≡ w.now.words.turn
+  kind : is_holders e.step ≡ false
+
+call_marks : (k : ℕ) (w x : Words) → CallWrite k w x → x.marks ≡ w.marks
+call_marks k w x CallLoads = refl
+call_marks k w x _ = refl
+
+move_marks : (c : Config) (w : World) (seat : Seat) (v : World) → OthersMove c w seat v
+    → ((k : ℕ) → seat ≡ Marker k → k < 8 → ⊥) → v.now.words.marks ≡ w.now.words.marks
+move_marks c w seat v Waits none = refl
+move_marks c w seat v (Calls {k} f {x} lt le write) none = call_marks k w.now.words x write
+move_marks c w seat v (Marks {k} y {x} lt write) none = absurd (none k refl lt)
+
+one_beside : (c : Config) (s : Seat) (seats : List Seat) (w : World) (e : Event) → HasMarkers seats → Known c w.now
+    → IsEnabled c w.now e → Holds c w.now s → is_one_of seats e.seat ≡ false → is_same_seat s e.seat ≡ false
+    → IsBeside c w e
+one_beside c s seats w e markers known on holds out other =
+    let meets = enabled_meets c w.now e on in
+    let t = holds_turn c w.now s known.orderly holds in
+    let turn = turn_of c (view_of w.now) s known.orderly t in
+    let free : HoldsTurn c (view_of w.now) e.seat → ⊥ =
+    λ h. true≢false (sym (subst (λ (x : Seat). is_same_seat s x ≡ true)
+    (sym (same_holder c (view_of w.now) e.seat s known.orderly h t)) (same_self s)) ∙ other) in
+    let move = others_move c w e.seat e.step known (λ z. absurd (omega arith)) free meets in
+    record {
+      marks = move_marks c w e.seat (WorldBehind c w e.seat e.step) move
+          (λ k is lt. not_both seats (Marker k) (subst (λ (x : Seat). is_one_of seats x ≡ false) is out)
+          (markers k lt));
+      turn = ap (λ (x : Steady). x.turn) (turn_after c w e.seat (WorldBehind c w e.seat e.step) known move).steady;
+      kind = false_from_ne_true (is_holders e.step)
+          (λ is. free (acts_as_holder c w.now e.seat e.step (actor_of c w.now e.seat e.step known.orderly meets) is));
+    }
+
+-- and of many, between steps of the holder's of some kinds
+
+unfoldable AreBeside : Config → Seat → World → List Event → Type 0
+AreBeside c s w [] = ⊤
+AreBeside c s w (e ∷ es) = (is_same_seat s e.seat ≡ false → IsBeside c w e) × AreBeside c s (world_behind c w e) es
+
+abbrev pub IsOf : (Step → Bool) → Config → Moment → Step → Type 0
+IsOf kinds c m x = kinds x ≡ true
+
+-- The holder's steps of these kinds leave the turn word.
+abbrev pub LeaveTheTurn : (Step → Bool) → Type 0
+LeaveTheTurn kinds = (c : Config) (w : World) (seat : Seat) (x : Step) → kinds x ≡ true
+    → (WorldBehind c w seat x).now.words.turn ≡ w.now.words.turn
+
+-- They leave the mark words.
+abbrev pub LeaveTheMarks : (Step → Bool) → Type 0
+LeaveTheMarks kinds = (c : Config) (w : World) (seat : Seat) (x : Step) → kinds x ≡ true
+    → (WorldBehind c w seat x).now.words.marks ≡ w.now.words.marks
+
+-- a part of the turn
+pub record PartOfTurn (kinds : Step → Bool) (c : Config) (s : Seat) (seats : List Seat) (w : World)
+    (es : List Event) : Type 0 where
+  pub markers : HasMarkers seats
+  pub known : Known c w.now
+  pub holds : Holds c w.now s
+  pub on : AreEnabledFrom c w es
+  pub of_seats : AreOwnOrOfOthers s seats es
+  pub own : OwnStepsKeep (IsOf kinds) c s w es
+
+-- what stands along it, and at its end
+record Along (c : Config) (s : Seat) (w : World) (es : List Event) : Type 0 where
+  beside : AreBeside c s w es
+  holds : Holds c (left_from c w es).now s
+
+module _ (kinds : Step → Bool) (leave : LeaveTheTurn kinds) (c : Config) (s : Seat) (seats : List Seat) where
+  along : (w : World) (es : List Event) → PartOfTurn kinds c s seats w es → Along c s w es
+  unfolding AreEnabledFrom AreOwnOrOfOthers OwnStepsKeep AreBeside left_from
+  along w [] part = record { beside = tt; holds = part.holds }
+  along w (e ∷ es) part =
+      let next = known_behind c w.now e part.known part.on.0 in
+      let other = λ (h : is_same_seat s e.seat ≡ false).
+      one_beside c s seats w e part.markers part.known part.on.0 part.holds (part.of_seats.0 ∙ h) h in
+      let turn : (world_behind c w e).now.words.turn ≡ w.now.words.turn =
+      elim (cases_Bool (is_same_seat s e.seat)) [
+        | inl own ↦ leave c w e.seat e.step (part.own.0 own)
+        | inr h ↦ (other h).turn
+      ] in
+      let rest = along (world_behind c w e) es (record {
+        markers = part.markers;
+        known = next;
+        holds = holds_still c s w (world_behind c w e) part.known next turn part.holds;
+        on = part.on.1;
+        of_seats = part.of_seats.1;
+        own = part.own.1;
+      }) in
+      record { beside = (other, rest.beside); holds = rest.holds }
+
+  pub still_holds : (w : World) (es : List Event) → PartOfTurn kinds c s seats w es
+      → Holds c (left_from c w es).now s
+  still_holds w es part = (along w es part).holds
+
+  -- A holder's kind of step that isn't one of these isn't in the part.
+  none_in : (kind : Step → Bool) → ((x : Step) → kind x ≡ true → is_holders x ≡ true)
+      → ((x : Step) → kinds x ≡ true → kind x ≡ false) → (w : World) (es : List Event) → AreBeside c s w es
+      → OwnStepsKeep (IsOf kinds) c s w es → None_of kind es
+  unfolding OwnStepsKeep AreBeside
+  none_in kind of_holders out w [] beside own = refl
+  none_in kind of_holders out w (e ∷ es) beside own =
+      both_fail (kind e.step) (list_any (λ (x : Event). kind x.step) es)
+      (elim (cases_Bool (is_same_seat s e.seat)) [
+        | inl h ↦ out e.step (own.0 h)
+        | inr h ↦ false_from_ne_true (kind e.step)
+            (λ is. true≢false (sym (of_holders e.step is) ∙ (beside.0 h).kind))
+      ])
+      (none_in kind of_holders out (world_behind c w e) es beside.1 own.1)
+
+  pub none_of_kind : (kind : Step → Bool) → ((x : Step) → kind x ≡ true → is_holders x ≡ true)
+      → ((x : Step) → kinds x ≡ true → kind x ≡ false) → (w : World) (es : List Event)
+      → PartOfTurn kinds c s seats w es → None_of kind es
+  none_of_kind kind of_holders out w es part = none_in kind of_holders out w es (along w es part).beside part.own
+
+  -- others mark no cell
+  module _ (cell : Cell) where
+    bit_of : List ℕ → Bool
+    bit_of marks = has_bit (slice_index marks cell.page) cell.index
+
+    others_leave_it : (w : World) (es : List Event) → AreBeside c s w es → OthersLeaveUnmarked c s cell w es
+    unfolding OthersLeaveUnmarked AreBeside bit_of
+    others_leave_it w [] beside = tt
+    others_leave_it w (e ∷ es) beside = (
+      λ h was. ap bit_of (beside.0 h).marks ∙ was,
+      others_leave_it (world_behind c w e) es beside.1,
+    )
+
+    pub others_mark_none : (w : World) (es : List Event) → PartOfTurn kinds c s seats w es
+        → OthersLeaveUnmarked c s cell w es
+    others_mark_none w es part = others_leave_it w es (along w es part).beside
+
+    -- nor does the holder, by steps that leave the mark words
+    all_leave_it : LeaveTheMarks kinds → (w : World) (es : List Event) → AreBeside c s w es
+        → OwnStepsKeep (IsOf kinds) c s w es → LeaveUnmarked c cell w es
+    unfolding LeaveUnmarked AreBeside OwnStepsKeep bit_of
+    all_leave_it marks w [] beside own = tt
+    all_leave_it marks w (e ∷ es) beside own = (
+      λ was. elim (cases_Bool (is_same_seat s e.seat)) [
+        | inl h ↦ ap bit_of (marks c w e.seat e.step (own.0 h)) ∙ was
+        | inr h ↦ ap bit_of (beside.0 h).marks ∙ was
+      ],
+      all_leave_it marks (world_behind c w e) es beside.1 own.1,
+    )
+
+    pub none_marks : LeaveTheMarks kinds → (w : World) (es : List Event) → PartOfTurn kinds c s seats w es
+        → LeaveUnmarked c cell w es
+    none_marks marks w es part = all_leave_it marks w es (along w es part).beside part.own
+
+-- lists that leave a cell unmarked
+
+pub leave_in_parts : (c : Config) (cell : Cell) (w : World) (xs ys : List Event) → LeaveUnmarked c cell w xs
+    → LeaveUnmarked c cell (left_from c w xs) ys → LeaveUnmarked c cell w (xs ++ ys)
+unfolding LeaveUnmarked left_from
+leave_in_parts c cell w [] ys one two = two
+leave_in_parts c cell w (e ∷ es) ys one two = (one.0, leave_in_parts c cell (world_behind c w e) es ys one.1 two)
+
+pub left_unmarked_by : (c : Config) (cell : Cell) (w : World) (es : List Event) → LeaveUnmarked c cell w es
+    → is_marked w.now.words cell ≡ false → is_marked (left_from c w es).now.words cell ≡ false
+unfolding LeaveUnmarked left_from
+left_unmarked_by c cell w [] leave was = was
+left_unmarked_by c cell w (e ∷ es) leave was =
+    left_unmarked_by c cell (world_behind c w e) es leave.1 (leave.0 was)
+
+pub leave_first : (c : Config) (cell : Cell) (w : World) (e : Event) (es : List Event)
+    → (is_marked w.now.words cell ≡ false → is_marked (world_behind c w e).now.words cell ≡ false)
+    → LeaveUnmarked c cell (world_behind c w e) es → LeaveUnmarked c cell w (e ∷ es)
+unfolding LeaveUnmarked
+leave_first c cell w e es one rest = (one, rest)

@@ -1,0 +1,500 @@
+-- A whole cycle with one sweep releases what isn't swept, where the seats of all markers are in the pass of the turn.
+use Rattle.std.proofs.Common.{◌≡◌, ℕ, Bool, true, false, List, [], ◌∷◌, ◌++◌, refl, sym, ◌∙◌, ap, subst}
+use Rattle.std.proofs.Common.{append_assoc}
+use Rattle.std.specs.Prelude.{not, slice_index}
+use Rattle.std.proofs.lemmas.Bool.{and_parts, false_from_ne_true, not-true}
+use Rattle.mk_geom.specs.declared.addresses.Cell.{Cell}
+use Rattle.mk_core.specs.declared.config.Config.{Config}
+use Rattle.mk_core.specs.declared.events.Event.{Event}
+use Rattle.mk_core.specs.declared.events.Seat.{Seat}
+use Rattle.mk_core.specs.declared.events.Step.{Step}
+use Rattle.mk_core.specs.declared.events.Step.TheVariants as step
+use Rattle.mk_core.specs.Allocations.{PlacedAllocation, cell_of_allocation, placed_at}
+use Rattle.mk_core.specs.Cells.{is_marked}
+use Rattle.mk_core.specs.Cycles.{Releasing, IsInSnapshot, before_close, before_release, is_close}
+use Rattle.mk_core.specs.Cycles.{is_release}
+use Rattle.mk_core.specs.Frames.{IsLeft, Steady, Written, written_of}
+use Rattle.mk_core.specs.Growing.{AreOfOthers}
+use Rattle.mk_core.specs.History.{IsHistory, World, left, left_from}
+use Rattle.mk_core.specs.Moments.{others_are_held}
+use Rattle.mk_core.specs.Readings.{Holds}
+use Rattle.mk_core.specs.Touched.{PointsIntoAllocation}
+use Rattle.mk_core.specs.Words.{phase_of}
+use Rattle.mk_core.proofs.Conditions.{enabled_meets}
+use Rattle.mk_core.proofs.HistoryParts.{earlier_part_is_history, enabled_in_parts, left_in_parts}
+use Rattle.mk_protocol.proofs.Actors.{is_holders}
+use Rattle.mk_protocol.proofs.Frames.{others_leave}
+use Rattle.mk_protocol.proofs.Known.{Known, known_left}
+use Rattle.mk_protocol.proofs.OrderlyLists.{actor_of}
+use Rattle.mk_protocol.proofs.OthersMoves.{WorldBehind}
+use Rattle.mk_frames.proofs.Holders.{acts_as_holder, holds_is}
+use Rattle.mk_frames.proofs.LastEvents.{ComesLast, comes_last}
+use Rattle.mk_images.proofs.KnownWorlds.{known_world}
+use Rattle.mk_precision.proofs.OneStep.{precise_begun}
+use Rattle.mk_precision.proofs.Precise.{IsPrecise}
+use Rattle.mk_precision.proofs.Stretches.{None_of, none_joined}
+use Rattle.mk_readings.specs.Releases.{allocation_behind}
+use Rattle.mk_readings.proofs.CyclePhases.{phase_moves}
+use Rattle.mk_readings.proofs.KeptPlaces.{StaysPut, keeps_cell, put_step, stays_put}
+use Rattle.mk_words.specs.Seats.{Has}
+use Rattle.mk_words.specs.States.{PassState}
+use Rattle.mk_words.specs.Steps.{IsEnabledTo}
+use Rattle.mk_words.proofs.Seats.{others_own}
+use Rattle.mk_turns.proofs.Doing.{others_are_so}
+use Rattle.mk_cycle.specs.Holding.{HoldsGates}
+use Rattle.mk_cycle.specs.Kinds.{holds_gates}
+use Rattle.mk_cycle.proofs.GivingAll.{held_phase}
+use Rattle.mk_tracing.specs.Tracing.{Untouched, is_tracing, untouched_of}
+use Rattle.mk_tracing.proofs.Parts.{kinds_keep, others_keep}
+use Rattle.mk_sweep.specs.SweepCycle.{HasMarkers}
+use Rattle.mk_sweep.specs.Swept.{InGlobal, InRegister, InWord, IsScannedWord, IsSwept, IsSweptValue}
+use Rattle.mk_sweep.specs.Sweeps.{Sweeps}
+use Rattle.mk_sweep.specs.Unswept.{LeaveUnmarked, OthersLeaveUnmarked}
+use Rattle.mk_sweep.proofs.BesideTurn.{IsOf, LeaveTheMarks, LeaveTheTurn, PartOfTurn, holds_still, leave_first}
+use Rattle.mk_sweep.proofs.BesideTurn.{leave_in_parts, left_unmarked_by, none_marks, none_of_kind, others_mark_none}
+use Rattle.mk_sweep.proofs.BesideTurn.{still_holds}
+use Rattle.mk_sweep.proofs.UnsweptReleased.{unswept_is_released}
+
+-- What is swept in one world is swept in another with the same values and allocations.
+
+value_alike : (c : Config) (w v : World) (u : ℕ) → v.now.words.registers ≡ w.now.words.registers
+    → v.now.words.globals ≡ w.now.words.globals → v.now.words.heap ≡ w.now.words.heap
+    → v.allocations ≡ w.allocations → IsSweptValue c w u → IsSweptValue c v u
+value_alike c w v u registers globals heap allocations (InRegister i is) =
+    InRegister i (ap (λ (xs : List ℕ). slice_index xs i) registers ∙ is)
+value_alike c w v u registers globals heap allocations (InGlobal g is) =
+    InGlobal g (ap (λ (xs : List ℕ). slice_index xs g) globals ∙ is)
+value_alike c w v u registers globals heap allocations (InWord n scanned is) =
+    InWord n (subst (λ (xs : List PlacedAllocation). IsScannedWord c xs n) (sym allocations) scanned)
+    (ap (λ (xs : List ℕ). slice_index xs n) heap ∙ is)
+
+swept_alike : (c : Config) (w v : World) (i : ℕ) → v.now.words.registers ≡ w.now.words.registers
+    → v.now.words.globals ≡ w.now.words.globals → v.now.words.heap ≡ w.now.words.heap
+    → v.allocations ≡ w.allocations → IsSwept c w i → IsSwept c v i
+swept_alike c w v i registers globals heap allocations x =
+    record {
+      value = x.value;
+      found = value_alike c w v x.value registers globals heap allocations x.found;
+      points = subst (λ (xs : List PlacedAllocation). PointsIntoAllocation c (record w { allocations = xs }) x.value i)
+          (sym allocations) x.points;
+    }
+
+-- the kinds of the parts of the turn
+
+abbrev no_kind : Step → Bool
+no_kind x = false
+
+holding_leaves_turn : LeaveTheTurn holds_gates
+holding_leaves_turn c w seat (step.Look x) is = refl
+holding_leaves_turn c w seat (step.Hold j) is = refl
+holding_leaves_turn c w seat _ is = cc
+
+holding_leaves_marks : LeaveTheMarks holds_gates
+holding_leaves_marks c w seat (step.Look x) is = refl
+holding_leaves_marks c w seat (step.Hold j) is = refl
+holding_leaves_marks c w seat _ is = cc
+
+tracing_leaves_turn : LeaveTheTurn is_tracing
+tracing_leaves_turn c w seat (step.Look x) is = refl
+tracing_leaves_turn c w seat step.Want is = refl
+tracing_leaves_turn c w seat (step.Mark p v) is = refl
+tracing_leaves_turn c w seat (step.Undirty p) is = refl
+tracing_leaves_turn c w seat (step.Black p v) is = refl
+tracing_leaves_turn c w seat (step.Unblack p) is = refl
+tracing_leaves_turn c w seat _ is = cc
+
+nothing_leaves_turn : LeaveTheTurn no_kind
+nothing_leaves_turn c w seat x is = cc
+
+nothing_leaves_marks : LeaveTheMarks no_kind
+nothing_leaves_marks c w seat x is = cc
+
+close_of_holder : (x : Step) → is_close x ≡ true → is_holders x ≡ true
+close_of_holder step.Close is = refl
+close_of_holder _ is = cc
+
+release_of_holder : (x : Step) → is_release x ≡ true → is_holders x ≡ true
+release_of_holder step.Release is = refl
+release_of_holder _ is = cc
+
+holding_closes_none : (x : Step) → holds_gates x ≡ true → is_close x ≡ false
+holding_closes_none step.Close is = cc
+holding_closes_none _ is = refl
+
+holding_releases_none : (x : Step) → holds_gates x ≡ true → is_release x ≡ false
+holding_releases_none step.Release is = cc
+holding_releases_none _ is = refl
+
+tracing_closes_none : (x : Step) → is_tracing x ≡ true → is_close x ≡ false
+tracing_closes_none step.Close is = cc
+tracing_closes_none _ is = refl
+
+-- What was seen up to and after each part of the cycle, by a pass with this beginning.
+pub record SweepParts (p : PassState) (looks : ℕ) (es : List Event) : Type 0 where
+  pub front : List Event
+  pub held : List Event
+  pub swept : List Event
+  pub waited : List Event
+  pub stopped : List Event
+  pub rest : List Event
+  pub holds : HoldsGates (record p { seen = front ++ record { seat = p.seat; step = step.Begin } ∷ [] })
+      (record p { seen = held })
+  pub sweeps : Sweeps (record p { seen = held }) (record p { seen = swept }) looks
+  pub may_close : IsEnabledTo (record p { seen = swept }) step.Close
+  pub while_waiting : AreOfOthers p.seats waited
+  pub while_stopped : AreOfOthers p.seats stopped
+  pub is : es ≡ swept ++ (waited ++ record { seat = p.seat; step = step.Close } ∷ (stopped
+      ++ record { seat = p.seat; step = step.Release } ∷ rest))
+
+module _ (p : PassState) (looks : ℕ) (es : List Event) (has : Has p.seats p.seat) (markers : HasMarkers p.seats)
+    (history : IsHistory p.table.config es) (k : SweepParts p looks es) where
+  abbrev c : Config
+  c = p.table.config
+
+  abbrev s : Seat
+  s = p.seat
+
+  abbrev begin : Event
+  begin = record { seat = p.seat; step = step.Begin }
+
+  abbrev close : Event
+  close = record { seat = p.seat; step = step.Close }
+
+  abbrev release : Event
+  release = record { seat = p.seat; step = step.Release }
+
+  -- after the `begin`
+  abbrev start : List Event
+  start = k.front ++ begin ∷ []
+
+  -- while the gates were held, and while it swept
+  abbrev holding : List Event
+  holding = k.holds.does.more
+
+  abbrev sweeping : List Event
+  sweeping = k.sweeps.traces.does.more
+
+  held_is : k.held ≡ start ++ holding
+  held_is = ap (λ (x : PassState). x.seen) k.holds.does.is
+
+  swept_is : k.swept ≡ k.held ++ sweeping
+  swept_is = ap (λ (x : PassState). x.seen) k.sweeps.traces.does.is
+
+  -- before the `close`, and after it
+  abbrev closing : List Event
+  closing = k.swept ++ k.waited
+
+  abbrev closed : List Event
+  closed = closing ++ close ∷ []
+
+  whole : es ≡ closed ++ (k.stopped ++ release ∷ k.rest)
+  whole =
+      k.is
+      ∙ sym (append_assoc k.swept k.waited (close ∷ (k.stopped ++ release ∷ k.rest)))
+      ∙ sym (append_assoc closing (close ∷ []) (k.stopped ++ release ∷ k.rest))
+
+  -- all of them are histories
+
+  closed_history : IsHistory c closed
+  closed_history =
+      earlier_part_is_history c closed (k.stopped ++ release ∷ k.rest)
+      (subst (λ (xs : List Event). IsHistory c xs) whole history)
+
+  stopped_history : IsHistory c (closed ++ k.stopped)
+  stopped_history =
+      earlier_part_is_history c (closed ++ k.stopped) (release ∷ k.rest)
+      (subst (λ (xs : List Event). IsHistory c xs)
+      (whole ∙ sym (append_assoc closed k.stopped (release ∷ k.rest))) history)
+
+  closing_history : IsHistory c closing
+  closing_history = earlier_part_is_history c closing (close ∷ []) closed_history
+
+  swept_history : IsHistory c k.swept
+  swept_history = earlier_part_is_history c k.swept k.waited closing_history
+
+  sweeping_history : IsHistory c (k.held ++ sweeping)
+  sweeping_history = subst (λ (xs : List Event). IsHistory c xs) swept_is swept_history
+
+  held_history : IsHistory c k.held
+  held_history = earlier_part_is_history c k.held sweeping sweeping_history
+
+  holding_history : IsHistory c (start ++ holding)
+  holding_history = subst (λ (xs : List Event). IsHistory c xs) held_is held_history
+
+  start_history : IsHistory c start
+  start_history = earlier_part_is_history c start holding holding_history
+
+  known : (xs : List Event) → IsHistory c xs → Known c (left c xs).now
+  known xs h = known_left c xs h.within_limits h.enabled
+
+  -- who has the turn
+
+  abbrev first : World
+  first = left c k.front
+
+  last_begin : ComesLast c k.front begin
+  last_begin = comes_last c k.front begin start_history
+
+  front_holds : Holds c first.now s
+  front_holds =
+      let there = known k.front last_begin.before in
+      holds_is c first.now s there.orderly
+      (acts_as_holder c first.now s step.Begin
+      (actor_of c first.now s step.Begin there.orderly last_begin.meets) refl)
+
+  start_holds : Holds c (left c start).now s
+  start_holds =
+      holds_still c s first (left c start) (known k.front last_begin.before) (known start start_history)
+      (ap (λ (w : World). w.now.words.turn) last_begin.leaves) front_holds
+
+  -- the parts of the turn
+
+  holding_part : PartOfTurn holds_gates c s p.seats (left c start) holding
+  holding_part =
+      record {
+        markers = markers;
+        known = known start start_history;
+        holds = start_holds;
+        on = ((enabled_in_parts c start holding).0 holding_history.enabled).1;
+        of_seats = k.holds.does.own_or_others;
+        own = kinds_keep holds_gates (IsOf holds_gates) c s (left c start) holding (λ m x is. is)
+            k.holds.does.of_kinds;
+      }
+
+  held_world : left c k.held ≡ left_from c (left c start) holding
+  held_world = ap (λ (xs : List Event). left c xs) held_is ∙ left_in_parts c start holding
+
+  held_holds : Holds c (left c k.held).now s
+  held_holds =
+      subst (λ (w : World). Holds c w.now s) (sym held_world)
+      (still_holds holds_gates holding_leaves_turn c s p.seats (left c start) holding holding_part)
+
+  sweeping_part : PartOfTurn is_tracing c s p.seats (left c k.held) sweeping
+  sweeping_part =
+      record {
+        markers = markers;
+        known = known k.held held_history;
+        holds = held_holds;
+        on = ((enabled_in_parts c k.held sweeping).0 sweeping_history.enabled).1;
+        of_seats = k.sweeps.traces.does.own_or_others;
+        own = kinds_keep is_tracing (IsOf is_tracing) c s (left c k.held) sweeping (λ m x is. is)
+            k.sweeps.traces.does.of_kinds;
+      }
+
+  swept_holds : Holds c (left c k.swept).now s
+  swept_holds =
+      subst (λ (w : World). Holds c w.now s)
+      (sym (ap (λ (xs : List Event). left c xs) swept_is ∙ left_in_parts c k.held sweeping))
+      (still_holds is_tracing tracing_leaves_turn c s p.seats (left c k.held) sweeping sweeping_part)
+
+  -- a part in which the holder does nothing
+  others_part : (xs more : List Event) → IsHistory c (xs ++ more) → Holds c (left c xs).now s
+      → AreOfOthers p.seats more → PartOfTurn no_kind c s p.seats (left c xs) more
+  others_part xs more h holds others =
+      record {
+        markers = markers;
+        known = known xs (earlier_part_is_history c xs more h);
+        holds = holds;
+        on = ((enabled_in_parts c xs more).0 h.enabled).1;
+        of_seats = others_are_so p.seats s more has others;
+        own = others_keep (IsOf no_kind) c s p.seats (left c xs) more has others;
+      }
+
+  waiting_part : PartOfTurn no_kind c s p.seats (left c k.swept) k.waited
+  waiting_part = others_part k.swept k.waited closing_history swept_holds k.while_waiting
+
+  closing_holds : Holds c (left c closing).now s
+  closing_holds =
+      subst (λ (w : World). Holds c w.now s) (sym (left_in_parts c k.swept k.waited))
+      (still_holds no_kind nothing_leaves_turn c s p.seats (left c k.swept) k.waited waiting_part)
+
+  last_close : ComesLast c closing close
+  last_close = comes_last c closing close closed_history
+
+  closed_holds : Holds c (left c closed).now s
+  closed_holds =
+      holds_still c s (left c closing) (left c closed) (known closing closing_history) (known closed closed_history)
+      (ap (λ (w : World). w.now.words.turn) last_close.leaves) closing_holds
+
+  stopped_part : PartOfTurn no_kind c s p.seats (left c closed) k.stopped
+  stopped_part = others_part closed k.stopped stopped_history closed_holds k.while_stopped
+
+  -- No other cycle's steps are among them.
+
+  abbrev marking : List Event
+  marking = holding ++ (sweeping ++ k.waited)
+
+  pub closes_none : None_of is_close marking
+  closes_none =
+      none_joined is_close holding (sweeping ++ k.waited)
+      (none_of_kind holds_gates holding_leaves_turn c s p.seats is_close close_of_holder holding_closes_none
+      (left c start) holding holding_part)
+      (none_joined is_close sweeping k.waited
+      (none_of_kind is_tracing tracing_leaves_turn c s p.seats is_close close_of_holder tracing_closes_none
+      (left c k.held) sweeping sweeping_part)
+      (none_of_kind no_kind nothing_leaves_turn c s p.seats is_close close_of_holder (λ x is. cc)
+      (left c k.swept) k.waited waiting_part))
+
+  pub releases_none : None_of is_release k.stopped
+  releases_none =
+      none_of_kind no_kind nothing_leaves_turn c s p.seats is_release release_of_holder (λ x is. cc)
+      (left c closed) k.stopped stopped_part
+
+  holding_keeps : None_of is_release holding
+  holding_keeps =
+      none_of_kind holds_gates holding_leaves_turn c s p.seats is_release release_of_holder holding_releases_none
+      (left c start) holding holding_part
+
+  -- the cycle
+
+  closing_is : closing ≡ start ++ marking
+  closing_is =
+      ap (λ (xs : List Event). xs ++ k.waited) (swept_is ∙ ap (λ (xs : List Event). xs ++ sweeping) held_is)
+      ∙ ap (λ (xs : List Event). xs ++ k.waited) (append_assoc start holding sweeping)
+      ∙ append_assoc start (holding ++ sweeping) k.waited
+      ∙ ap (λ (xs : List Event). start ++ xs) (append_assoc holding sweeping k.waited)
+
+  pub begin_is : es ≡ k.front ++ begin ∷ (marking ++ close ∷ (k.stopped ++ release ∷ k.rest))
+  begin_is =
+      whole
+      ∙ append_assoc closing (close ∷ []) (k.stopped ++ release ∷ k.rest)
+      ∙ ap (λ (xs : List Event). xs ++ close ∷ (k.stopped ++ release ∷ k.rest)) closing_is
+      ∙ append_assoc start marking (close ∷ (k.stopped ++ release ∷ k.rest))
+      ∙ append_assoc k.front (begin ∷ []) (marking ++ close ∷ (k.stopped ++ release ∷ k.rest))
+
+  abbrev pub cycle : Releasing es
+  cycle =
+      record {
+        marking = record {
+          begin = record {
+            before = k.front;
+            event = begin;
+            behind = marking ++ close ∷ (k.stopped ++ release ∷ k.rest);
+            is = begin_is;
+            of_kind = refl;
+          };
+          close = record {
+            at = record {
+              before = marking;
+              event = close;
+              behind = k.stopped ++ release ∷ k.rest;
+              is = refl;
+              of_kind = refl;
+            };
+            none_before = closes_none;
+          };
+        };
+        release = record {
+          at = record { before = k.stopped; event = release; behind = k.rest; is = refl; of_kind = refl };
+          none_before = releases_none;
+        };
+      }
+
+  -- what stands up to the `release`, after the sweep
+  abbrev since_sweep : List Event
+  since_sweep = k.waited ++ close ∷ k.stopped
+
+  release_is : before_release cycle ≡ k.swept ++ since_sweep
+  release_is =
+      ap (λ (xs : List Event). xs ++ close ∷ k.stopped) (sym closing_is)
+      ∙ append_assoc k.swept k.waited (close ∷ k.stopped)
+
+  -- Values and allocations are the same at the `close` as when the sweep began.
+
+  gates_held : others_are_held c.callers (left c k.swept).now.words s ≡ true
+  gates_held = (enabled_meets c (left c k.swept).now close k.may_close).gates
+
+  waited_leaves : IsLeft c s k.swept closing
+  waited_leaves =
+      others_leave c k.swept k.waited s closing_history.within_limits closing_history.enabled
+      (others_own p.seats s k.waited has k.while_waiting)
+
+  swept_at_close : (i : ℕ) → IsSwept c (left c k.held) i → IsSwept c (left c (before_close cycle.marking)) i
+  swept_at_close i x =
+      subst (λ (xs : List Event). IsSwept c (left c xs) i) closing_is
+      (swept_alike c (left c k.held) (left c closing) i
+      (ap (λ (y : Written). y.registers) written ∙ ap (λ (u : Untouched). u.registers) untouched)
+      (ap (λ (y : Written). y.globals) written ∙ ap (λ (u : Untouched). u.globals) untouched)
+      (ap (λ (y : Written). y.heap) written ∙ ap (λ (u : Untouched). u.heap) untouched)
+      (ap (λ (y : Steady). y.allocations) (waited_leaves.turn swept_holds).0.steady
+      ∙ ap (λ (u : Untouched). u.allocations) untouched) x)
+    where
+      written : written_of (left c closing) ≡ written_of (left c k.swept)
+      written = waited_leaves.stop (swept_holds, gates_held)
+
+      untouched : untouched_of (left c k.swept) ≡ untouched_of (left c k.held)
+      untouched = k.sweeps.traces.untouched
+
+  -- The allocation is unreleased as the sweep begins, and its cell is unmarked.
+  module _ (i : ℕ) (snapshot : IsInSnapshot c cycle.marking i) where
+    abbrev at_start : PlacedAllocation
+    at_start = placed_at (left c start).allocations i
+
+    abbrev at_sweep : PlacedAllocation
+    at_sweep = placed_at (left c k.held).allocations i
+
+    unreleased : at_start.released ≡ false
+    unreleased =
+        let was = not-true (placed_at first.allocations i).released
+        (and_parts (placed_at first.allocations i).freed (not (placed_at first.allocations i).released) snapshot).1 in
+        subst (λ (w : World). (placed_at w.allocations i).released ≡ false) (sym last_begin.leaves)
+        (put_step c first s step.Begin i refl was).unreleased
+
+    stays : StaysPut at_start (placed_at (left_from c (left c start) holding).allocations i)
+    stays = stays_put c (left c start) holding i holding_keeps unreleased
+
+    unreleased_there : at_sweep.released ≡ false
+    unreleased_there =
+        subst (λ (w : World). (placed_at w.allocations i).released ≡ false) (sym held_world) stays.unreleased
+
+    abbrev cell : Cell
+    cell = cell_of_allocation c at_start
+
+    same_cell : cell_of_allocation c at_sweep ≡ cell
+    same_cell =
+        ap (λ (w : World). cell_of_allocation c (placed_at w.allocations i)) held_world
+        ∙ keeps_cell c at_start (placed_at (left_from c (left c start) holding).allocations i) stays
+
+    unmarked : is_marked (left c start).now.words cell ≡ false
+    unmarked =
+        false_from_ne_true (is_marked (left c start).now.words cell)
+        (λ is. precise.marked i
+        (subst (λ (w : World). (placed_at w.allocations i).released ≡ false) last_begin.leaves unreleased)
+        (subst (λ (w : World). is_marked w.now.words (cell_of_allocation c (placed_at w.allocations i)) ≡ true)
+        last_begin.leaves is))
+      where
+        precise : IsPrecise c (WorldBehind c first s step.Begin) (λ b. ⊥)
+        precise = precise_begun c first s (λ b. ⊥)
+            (known_world c k.front last_begin.before.within_limits last_begin.before.enabled) last_begin.meets
+
+    unmarked_there : is_marked (left c k.held).now.words cell ≡ false
+    unmarked_there =
+        subst (λ (w : World). is_marked w.now.words cell ≡ false) (sym held_world)
+        (left_unmarked_by c cell (left c start) holding
+        (none_marks holds_gates holding_leaves_turn c s p.seats cell holding_leaves_marks (left c start) holding
+        holding_part) unmarked)
+
+    none_marks_since : LeaveUnmarked c cell (left c k.swept) since_sweep
+    none_marks_since =
+        leave_in_parts c cell (left c k.swept) k.waited (close ∷ k.stopped)
+        (none_marks no_kind nothing_leaves_turn c s p.seats cell nothing_leaves_marks (left c k.swept) k.waited
+        waiting_part)
+        (subst (λ (w : World). LeaveUnmarked c cell w (close ∷ k.stopped)) (left_in_parts c k.swept k.waited)
+        (leave_first c cell (left c closing) close k.stopped (λ was. was)
+        (subst (λ (w : World). LeaveUnmarked c cell w k.stopped) last_close.leaves
+        (none_marks no_kind nothing_leaves_turn c s p.seats cell nothing_leaves_marks (left c closed) k.stopped
+        stopped_part))))
+
+    pub is_released_by_it : (IsSwept c (left c (before_close cycle.marking)) i → ⊥)
+        → (allocation_behind c cycle i).released ≡ true
+    is_released_by_it out =
+        unswept_is_released (record p { seen = k.held }) (record p { seen = k.swept }) looks k.sweeps es cycle
+        since_sweep i history held_history release_is
+        (held_phase (record p { seen = start }) (record p { seen = k.held }) 1 k.holds
+        (ap (λ (w : World). phase_of w.now.words) last_begin.leaves
+        ∙ phase_moves c first.now s step.Begin last_begin.meets))
+        snapshot unreleased_there (λ x. out (swept_at_close i x))
+        (subst (λ (x : Cell). is_marked (left c k.held).now.words x ≡ false) (sym same_cell) unmarked_there)
+        (subst (λ (x : Cell). OthersLeaveUnmarked c s x (left c k.held) sweeping) (sym same_cell)
+        (others_mark_none is_tracing tracing_leaves_turn c s p.seats cell (left c k.held) sweeping sweeping_part))
+        (subst (λ (x : Cell). LeaveUnmarked c x (left c k.swept) since_sweep) (sym same_cell) none_marks_since)

@@ -1,0 +1,35 @@
+-- What a whole cycle makes with the sweep engine, where no marker may step.
+use Rattle.std.specs.Prelude.{◌≡◌, ℕ, ◌<◌, true, List, ◌++◌}
+use Rattle.mk_core.specs.declared.events.Event.{Event}
+use Rattle.mk_core.specs.declared.events.Seat.{Seat}
+use Rattle.mk_core.specs.declared.events.Seat.TheVariants.{Marker}
+use Rattle.mk_core.specs.Cycles.{Releasing, IsInSnapshot, before_begin, before_close}
+use Rattle.mk_core.specs.History.{left}
+use Rattle.mk_words.specs.Seats.{Has}
+use Rattle.mk_words.specs.States.{PassState}
+use Rattle.mk_readings.specs.Releases.{allocation_behind}
+use Rattle.mk_cycle.specs.declared.finishing.Released.{Released}
+use Rattle.mk_cycle.specs.BeginCycle.{BeginsCycle}
+use Rattle.mk_cycle.specs.FinishCycle.{FinishesCycle, HasReleased}
+use Rattle.mk_sweep.specs.Swept.{IsSwept}
+
+-- The seats of all markers stand in the list: none was made, or all are joined again.
+abbrev pub HasMarkers : List Seat → Type 0
+HasMarkers seats = (k : ℕ) → k < 8 → Has seats (Marker k)
+
+-- From what the one pass had seen to what the other has seen one cycle was begun and, directly after it, finished. It
+-- released so much.
+pub record MakesWholeCycle (p q : PassState) (released : Released) : Type 0 where
+  pub begun : PassState
+  pub begins : BeginsCycle p begun
+  pub finishes : FinishesCycle begun q
+  pub counted : HasReleased begun q released
+
+-- A cycle stands there that released each allocation of its snapshot that wasn't swept at its `close`.
+pub record ReleasesUnswept (p q : PassState) : Type 0 where
+  pub cycle : Releasing q.seen
+  pub more : List Event
+  pub since : before_begin cycle.marking ≡ p.seen ++ more
+  pub each : (i : ℕ) → IsInSnapshot p.table.config cycle.marking i
+      → (IsSwept p.table.config (left p.table.config (before_close cycle.marking)) i → ⊥)
+      → (allocation_behind p.table.config cycle i).released ≡ true

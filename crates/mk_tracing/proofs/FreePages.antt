@@ -1,0 +1,60 @@
+-- Free pages are passed over: none has a gray cell, and none is dirty.
+use Rattle.std.proofs.Common.{◌≡◌, ℕ, ◌<◌, ◌≤◌, false, refl, sym, ap, subst, inl, inr, arith}
+use Rattle.std.specs.Prelude.{not, slice_index, Option, Some, None}
+use Rattle.std.proofs.lemmas.Bool.{cases_lt}
+use Rattle.mk_geom.specs.declared.headers.Header.{Header}
+use Rattle.mk_geom.specs.declared.headers.Header.TheVariants.{Free, Block, Run, Later, LeafBlock, LeafRun}
+use Rattle.mk_geom.specs.Headers.{header_of}
+use Rattle.mk_geom.specs.PageUses.{is_free_page}
+use Rattle.mk_geom.specs.PageWords.{use_under}
+use Rattle.mk_geom.proofs.HeaderLemmas.{word_of-header_of}
+use Rattle.mk_page_map.specs.Members.{is_in_use}
+use Rattle.mk_core.specs.Cells.{cells_under, header_in}
+use Rattle.mk_core.specs.History.{IsHistory}
+use Rattle.mk_core.specs.Words.{Words, header_at, used_at}
+use Rattle.mk_readings.proofs.FreePages.{free_pages_have_nothing}
+use Rattle.mk_words.specs.States.{PassState}
+use Rattle.mk_tracing.specs.Grays.{HasNoGray}
+use Rattle.mk_tracing.specs.Stops.{still_words}
+use Rattle.mk_tracing.proofs.NoGrays.{no_gray}
+
+no_header : (h : ℕ) (x : Option Header) (u : ℕ) → header_of h ≡ x → not (is_free_page (use_under x u)) ≡ false → h ≡ 0
+no_header h (Some Free) u is free = sym (word_of-header_of h Free is).1
+no_header h None u is free = cc
+no_header h (Some (Block class)) u is free = cc
+no_header h (Some (LeafBlock class)) u is free = cc
+no_header h (Some (Run n m)) u is free = cc
+no_header h (Some (LeafRun n)) u is free = cc
+no_header h (Some (Later d m)) u is free = cc
+
+free_header : (w : Words) (p : ℕ) → is_in_use w.pages p ≡ false → header_at w p ≡ 0
+free_header w p free = no_header (header_at w p) (header_of (header_at w p)) (used_at w p) refl free
+
+free_has_no_gray : (w : Words) (p : ℕ) → is_in_use w.pages p ≡ false → HasNoGray w p
+free_has_no_gray w p free =
+    let none : cells_under (header_in w p) ≡ 0 = ap (λ (n : ℕ). cells_under (header_of n)) (free_header w p free) in
+    no_gray w p (λ k lt marked. absurd (omega arith))
+
+free_is_clean : (p : PassState) → IsHistory p.table.config p.seen → (n : ℕ)
+    → is_in_use (still_words p).pages n ≡ false → slice_index (still_words p).dirty n ≡ 0
+free_is_clean p history n free =
+    (free_pages_have_nothing p.table.config p.seen history n (free_header (still_words p) n free)).dirty
+
+-- What is known up to one page is known up to the next page in use: of pages without gray cells,
+pub none_past : (w v : Words) (from next page : ℕ) → v ≡ w → ((p : ℕ) → from ≤ p → p < next → HasNoGray w p)
+    → ((p : ℕ) → next ≤ p → p < page → is_in_use v.pages p ≡ false)
+    → (p : ℕ) → from ≤ p → p < page → HasNoGray w p
+none_past w v from next page same before free p low high = elim (cases_lt p next) [
+  | inl lt ↦ before p low lt
+  | inr past ↦ subst (λ (x : Words). HasNoGray x p) same (free_has_no_gray v p (free p past high))
+]
+
+-- and of pages that aren't dirty.
+pub clean_past : (p : PassState) → IsHistory p.table.config p.seen → (from page : ℕ)
+    → ((n : ℕ) → n < from → slice_index (still_words p).dirty n ≡ 0)
+    → ((n : ℕ) → from ≤ n → n < page → is_in_use (still_words p).pages n ≡ false)
+    → (n : ℕ) → n < page → slice_index (still_words p).dirty n ≡ 0
+clean_past p history from page before free n high = elim (cases_lt n from) [
+  | inl lt ↦ before n lt
+  | inr past ↦ free_is_clean p history n (free n past high)
+]

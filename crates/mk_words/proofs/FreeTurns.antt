@@ -1,0 +1,79 @@
+-- What a page map shows stays while nobody has the turn: no step but a `take` changes a word of a page.
+use Rattle.std.proofs.Common.{◌≡◌, ℕ, true, false, List, [], ◌∷◌, ◌++◌, refl, sym, ◌∙◌, ap, subst}
+use Rattle.mk_geom.specs.declared.pages.Page.{Page}
+use Rattle.mk_page_map.specs.KnownPages.{KnownPages, Shows}
+use Rattle.mk_core.specs.declared.config.Config.{Config}
+use Rattle.mk_core.specs.declared.events.Seat.{Seat}
+use Rattle.mk_core.specs.declared.events.Step.{Step}
+use Rattle.mk_core.specs.declared.events.Step.TheVariants as step
+use Rattle.mk_core.specs.declared.events.Event.{Event}
+use Rattle.mk_core.specs.Words.{Words}
+use Rattle.mk_core.specs.Accesses.{caller_number, register_met, reg_access}
+use Rattle.mk_core.specs.Moments.{Moment, flight_of}
+use Rattle.mk_core.specs.History.{World, first_world, left, world_behind, IsHistory}
+use Rattle.mk_core.specs.Frames.{Steady}
+use Rattle.mk_core.proofs.Conditions.{enabled_meets}
+use Rattle.mk_core.proofs.Histories.{left_more, last_enabled, enabled_parts}
+use Rattle.mk_protocol.proofs.Known.{known_left}
+use Rattle.mk_protocol.proofs.SameWords.{Behind, reg_keeps, tally_keeps}
+use Rattle.mk_protocol.proofs.NextSteps.{is_take}
+use Rattle.mk_protocol.proofs.OthersMoves.{free_move}
+use Rattle.mk_protocol.proofs.TurnFrame.{steady_out}
+use Rattle.mk_words.specs.PageMaps.{IsMapOf, is_handing}
+use Rattle.mk_words.specs.TurnSteps.{turn_stays}
+
+-- the words that a page map shows
+
+abbrev pub PageWords : Type 0
+PageWords = List Page × List ℕ × List ℕ
+
+abbrev pub page_words : Words → PageWords
+page_words w = (w.pages, w.freed, w.snapshot)
+
+abbrev pub steady_page_words : Steady → PageWords
+steady_page_words y = (y.pages, y.freed, y.snapshot)
+
+pub map_of_same : (map : KnownPages) (w v : Words) → page_words w ≡ page_words v → IsMapOf map w → IsMapOf map v
+map_of_same map w v same shows = subst (λ (x : PageWords). Shows map x.0 x.1 x.2) same shows
+
+-- A turn that goes on isn't handed over.
+pub hands_none : (s : Step) → turn_stays s ≡ true → is_handing s ≡ false
+hands_none (step.Take o) stays = cc
+hands_none step.Give stays = cc
+hands_none _ stays = refl
+
+no_take : (s : Step) → is_handing s ≡ false → is_take s ≡ false
+no_take (step.Take o) h = cc
+no_take _ h = refl
+
+-- The turn word is another only after `take` and `give`.
+pub turn_word_stays : (c : Config) (m : Moment) (seat : Seat) (s : Step) → is_handing s ≡ false
+    → (Behind c m seat s).words.turn ≡ m.words.turn
+turn_word_stays c m seat (step.Take o) h = cc
+turn_word_stays c m seat step.Give h = cc
+turn_word_stays c m seat step.Reg h =
+    (reg_keeps m.words (caller_number seat) (register_met (flight_of m seat) (flight_of m seat).stage)
+    (reg_access (flight_of m seat) (flight_of m seat).stage)).turn
+turn_word_stays c m seat (step.Tally n v) h = (tally_keeps m.words n v).turn
+turn_word_stays c m seat _ h = refl
+
+-- The event found the turn free, and left the pages as they were.
+pub record FreeStays (c : Config) (es : List Event) (e : Event) : Type 0 where
+  pub free : (left c es).now.words.turn ≡ 0
+  pub pages : page_words (left c (es ++ e ∷ [])).now.words ≡ page_words (left c es).now.words
+
+pub free_stays : (c : Config) (es : List Event) (e : Event) → IsHistory c (es ++ e ∷ []) → is_handing e.step ≡ false
+    → (left c (es ++ e ∷ [])).now.words.turn ≡ 0 → FreeStays c es e
+free_stays c es e h kind free =
+    let w : World = left c es in
+    let is : left c (es ++ e ∷ []) ≡ world_behind c w e = left_more c (first_world c) es e in
+    let was : w.now.words.turn ≡ 0 = sym (turn_word_stays c w.now e.seat e.step kind)
+    ∙ (sym (ap (λ (v : World). v.now.words.turn) is) ∙ free) in
+    let known = known_left c es h.within_limits (enabled_parts c (first_world c) es (e ∷ []) h.enabled).0 in
+    let meets = enabled_meets c w.now e (last_enabled c (first_world c) es e h.enabled) in
+    let move = free_move c w e.seat e.step known was (no_take e.step kind) meets in
+    record {
+      free = was;
+      pages = ap (λ (v : World). page_words v.now.words) is
+          ∙ ap (λ (y : Steady). steady_page_words y) (steady_out c w e.seat (world_behind c w e) move);
+    }

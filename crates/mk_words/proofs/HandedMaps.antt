@@ -1,0 +1,152 @@
+-- `take` and `give` keep the rule, and hand the page map over.
+use Rattle.std.proofs.Common.{◌≡◌, ◌≢◌, ℕ, ◌+◌, true, List, [], ◌∷◌, ◌++◌, set, refl}
+use Rattle.std.proofs.Common.{sym, ◌∙◌, ap, subst, arith}
+use Rattle.std.specs.Prelude.{slice_index, Option}
+use mathlib.Core.Option.{Option as Maybe, none as nothing, some}
+use mathlib.Core.Logic.{dite}
+use native.Mathlib.Decide.{ℕ_discrete}
+use lib.ListN.{get_elem?}
+use Rattle.atomic_table.specs.Table.{Step as TableStep, keeps, takes, gives, put_back, Allows}
+use Rattle.atomic_table.proofs.Lists.{set_here, exchanged}
+use Rattle.mk_page_map.specs.KnownPages.{KnownPages}
+use Rattle.mk_never.specs.declared.operations.Op.{Op}
+use Rattle.mk_core.specs.declared.config.Config.{Config}
+use Rattle.mk_core.specs.declared.events.Seat.{Seat}
+use Rattle.mk_core.specs.declared.events.Step.TheVariants as step
+use Rattle.mk_core.specs.declared.events.Event.{Event}
+use Rattle.mk_core.specs.Words.{becomes}
+use Rattle.mk_core.specs.Cycles.{is_give}
+use Rattle.mk_core.specs.Counts.{TalliesAreTidy}
+use Rattle.mk_core.specs.Frames.{Steady}
+use Rattle.mk_core.specs.History.{World, first_world, left, AreEnabled, IsHistory}
+use Rattle.mk_core.specs.Moments.{holder_number}
+use Rattle.mk_core.specs.Readings.{Holds}
+use Rattle.mk_core.proofs.Histories.{left_more}
+use Rattle.mk_protocol.proofs.Frames.{others_leave}
+use Rattle.mk_words.specs.declared.rule.View.{View}
+use Rattle.mk_words.specs.PageMaps.{IsMapOf}
+use Rattle.mk_words.specs.Seats.{Has, HasCallers, is_over}
+use Rattle.mk_words.specs.Rule.{IsHome, Kept, Mine, no_part, Adds, takes_map, gives_map}
+use Rattle.mk_words.proofs.FreeTurns.{PageWords, page_words, steady_page_words, map_of_same}
+use Rattle.mk_words.proofs.Keeps.{steps_at, place_there, access_there}
+use Rattle.mk_words.proofs.Seats.{others_own}
+
+-- the event of each, the turn word after a `take`, and the pages after both
+
+abbrev pub take_event : Seat → Option Op → Event
+take_event seat o = record { seat = seat; step = step.Take o }
+
+abbrev pub give_event : Seat → Event
+give_event seat = record { seat = seat; step = step.Give }
+
+taken_turn : (c : Config) (es : List Event) (seat : Seat) (o : Option Op) → (left c es).now.words.turn ≡ 0
+    → (left c (es ++ take_event seat o ∷ [])).now.words.turn ≢ 0
+taken_turn c es seat o free =
+    subst (λ (v : World). v.now.words.turn ≢ 0) (sym (left_more c (first_world c) es (take_event seat o)))
+    (exchanged (left c es).now.words.turn 0 (1 + holder_number c seat) (λ (k : ℕ). k ≢ 0) (λ z q. omega arith)
+    (λ ne. absurd (ne free)))
+
+missed_turn : (c : Config) (es : List Event) (seat : Seat) (o : Option Op) → (left c es).now.words.turn ≢ 0
+    → (left c (es ++ take_event seat o ∷ [])).now.words.turn ≢ 0
+missed_turn c es seat o held =
+    subst (λ (v : World). v.now.words.turn ≢ 0) (sym (left_more c (first_world c) es (take_event seat o)))
+    (exchanged (left c es).now.words.turn 0 (1 + holder_number c seat) (λ (k : ℕ). k ≢ 0) (λ z q. omega arith)
+    (λ ne. held))
+
+taken_pages : (c : Config) (es : List Event) (seat : Seat) (o : Option Op)
+    → page_words (left c (es ++ take_event seat o ∷ [])).now.words ≡ page_words (left c es).now.words
+taken_pages c es seat o =
+    ap (λ (v : World). page_words v.now.words) (left_more c (first_world c) es (take_event seat o))
+
+given_pages : (c : Config) (es : List Event) (seat : Seat)
+    → page_words (left c (es ++ give_event seat ∷ [])).now.words ≡ page_words (left c es).now.words
+given_pages c es seat = ap (λ (v : World). page_words v.now.words) (left_more c (first_world c) es (give_event seat))
+
+-- what a `take` says that finds the turn free, and one that doesn't
+
+says_taken : (me : Mine) (seat : Seat) (o : Option Op) (st : TableStep KnownPages) (found : ℕ) (w : View)
+    (map : KnownPages) (a : Adds (take_event seat o) me.0 found w) (es : List Event) → es ≡ me.0.own.seen ++ a.others
+    → (left me.0.config es).now.words.turn ≡ 0 → IsMapOf map (left me.0.config es).now.words
+    → takes_map (take_event seat o) st me found (w, (0, map) ∷ me.1)
+says_taken me seat o st found w map a es is free shows =
+    let c : Config = me.0.config in
+    let e : Event = take_event seat o in
+    let before : List Event = me.0.own.seen ++ a.others in
+    let none : found ≡ 0 = a.finds ∙ subst (λ (l : List Event). (left c l).now.words.turn ≡ 0) is free in
+    let shown : IsMapOf map (left c (before ++ e ∷ [])).now.words =
+    map_of_same map (left c before).now.words (left c (before ++ e ∷ [])).now.words (sym (taken_pages c before seat o))
+    (subst (λ (l : List Event). IsMapOf map (left c l).now.words) is shows) in (
+      a,
+      (λ z. (map, refl, subst (λ (v : View). IsMapOf map (left v.config v.own.seen).now.words) (sym a.is) shown)),
+      (λ some. absurd {A = (0, map) ∷ me.1 ≡ me.1} (some none)),
+    )
+
+says_missed : (me : Mine) (seat : Seat) (o : Option Op) (st : TableStep KnownPages) (found : ℕ) (w : View)
+    (a : Adds (take_event seat o) me.0 found w) (es : List Event) → es ≡ me.0.own.seen ++ a.others
+    → (left me.0.config es).now.words.turn ≢ 0
+    → takes_map (take_event seat o) st me found (w, me.1)
+says_missed me seat o st found w a es is held =
+    let other : found ≢ 0 =
+    λ z. subst (λ (l : List Event). (left me.0.config l).now.words.turn ≢ 0) is held (sym a.finds ∙ z) in (
+      a,
+      (λ z. absurd {A = (map : KnownPages) × (me.1 ≡ (0, map) ∷ me.1)
+          × IsMapOf map (left w.config w.own.seen).now.words} (other z)),
+      (λ y. refl),
+    )
+
+-- With a `take` that finds the turn free comes the map.
+pub takes_at : (slots id : ℕ) (me : Mine) (seat : Seat) (o : Option Op) (st : TableStep KnownPages)
+    → me.0.came ≡ no_part → Has me.0.own.seats seat
+    → IsHistory me.0.config (me.0.own.seen ++ take_event seat o ∷ [])
+    → Allows (Kept me.0.config) slots id me (place_there me (take_event seat o))
+    (becomes (access_there me (take_event seat o))) (λ n m. takes_map (take_event seat o) st me n m)
+takes_at slots id me seat o st alone has may s k long at small =
+    let c : Config = me.0.config in
+    let e : Event = take_event seat o in
+    let found : ℕ = slice_index s.words (place_there me e) in
+    let none_given : is_give e.step ≡ true → TalliesAreTidy c me.0.own.seen = λ g. cc in
+    let none_over : is_over e.step ≡ true → HasCallers c me.0.own.seats = λ g. cc in
+    dite (ℕ_discrete (left c k.events).now.words.turn 0)
+    (λ free.
+    let m = k.home free in
+    let t = steps_at id me e alone has may none_given none_over s k at (set s.homes 0 nothing)
+    (λ es is h z. absurd {A = IsHome (set s.homes 0 nothing) (left c (es ++ e ∷ [])).now.words}
+    (taken_turn c es seat o (subst (λ (l : List Event). (left c l).now.words.turn ≡ 0) is free) z)) in
+    (t.0, takes 0 m.0, m.1, t.1, says_taken me seat o st found t.0 m.0 t.2.0 k.events t.2.1 free m.2))
+    (λ held.
+    let t = steps_at id me e alone has may none_given none_over s k at s.homes
+    (λ es is h z. absurd {A = IsHome s.homes (left c (es ++ e ∷ [])).now.words}
+    (missed_turn c es seat o (subst (λ (l : List Event). (left c l).now.words.turn ≢ 0) is held) z)) in
+    (t.0, keeps, tt, t.1, says_missed me seat o st found t.0 t.2.0 k.events t.2.1 held))
+
+-- With a `give` the map lies in the slot again.
+pub gives_at : (id : ℕ) (me : Mine) (seat : Seat) (map : KnownPages) (st : TableStep KnownPages) → me.0.came ≡ no_part
+    → Has me.0.own.seats seat
+    → IsHistory me.0.config (me.0.own.seen ++ give_event seat ∷ [])
+    → TalliesAreTidy me.0.config me.0.own.seen
+    → Holds me.0.config (left me.0.config me.0.own.seen).now seat
+    → me.1 ≡ (0, map) ∷ [] → IsMapOf map (left me.0.config me.0.own.seen).now.words → (stored : ℕ)
+    → Allows (Kept me.0.config) 1 id me (place_there me (give_event seat))
+    (becomes (access_there me (give_event seat))) (λ n w. gives_map (give_event seat) st me stored w)
+gives_at id me seat map st alone has may tidy holds carried shows stored s k long at small =
+    let c : Config = me.0.config in
+    let e : Event = give_event seat in
+    let none_over : is_over e.step ≡ true → HasCallers c me.0.own.seats = λ g. cc in
+    let pages : List Event → PageWords = λ l. page_words (left c l).now.words in
+    let sees = (k.sees id me.0 at).0 in
+    let frame = others_leave c me.0.own.seen sees.more seat k.history.within_limits
+    (subst (AreEnabled c) sees.is k.history.enabled) (others_own me.0.own.seats seat sees.more has sees.of_others) in
+    let same : pages (me.0.own.seen ++ sees.more) ≡ pages me.0.own.seen =
+    ap (λ (y : Steady). steady_page_words y) (frame.turn holds).0.steady in
+    let homes : List (Maybe KnownPages) = put_back s.homes me.1 in
+    let there : get_elem? homes 0 ≡ some (some map) =
+    ap (λ (l : List (ℕ × KnownPages)). get_elem? (put_back s.homes l) 0) carried
+    ∙ set_here s.homes 0 (some map) (omega arith) in
+    let t = steps_at id me e alone has may (λ g. tidy) none_over s k at homes
+    (λ es is h z. (
+      map,
+      there,
+      map_of_same map (left c me.0.own.seen).now.words (left c (es ++ e ∷ [])).now.words
+          (sym same ∙ (ap pages (sym sees.is ∙ is) ∙ sym (given_pages c es seat))) shows,
+    )) in
+    (t.0, gives, tt, t.1, (refl, (slice_index s.words (place_there me e), t.2.0)))

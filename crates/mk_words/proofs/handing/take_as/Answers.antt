@@ -1,0 +1,26 @@
+use Rattle.std.proofs.Common.{refl}
+use Rattle.mk_words.specs.Passes.{state_of}
+use Rattle.mk_words.proofs.Owed.{same_id}
+use Rattle.mk_words.proofs.HandedMaps.{take_event}
+use Rattle.mk_words.proofs.HandingCalls.{take_call, takes_own}
+use Rattle.mk_words.proofs.handing.take_as.Goals as goal
+
+pub compare_exchange-requires : goal.compare_exchange-requires
+compare_exchange-requires g c =
+    let w = c.words.inside in
+    let t = c.args.token.now in
+    let r = c.requires in
+    let k = take_call c.args.words.now w.table.shared.table_id t.table_id w.config w.table.shared.key t.me c.args.seat
+    c.words.view_is r.one_table w.table.shared.table_id.words w.table.shared.table_id.slots t.id c.args.op
+    c.index_of-index.result c.args.number g.J.Making.event r.order c.words.invariant.key c.words.invariant.words
+    r.picked r.may r.access c.index_of-index.ensures in (
+      same_id c.args.words.now (state_of t.table_id t.me c.args.seat) w.table.shared.table_id t.table_id w.config
+          w.table.shared.key t.me c.args.seat c.words.view_is refl r.one_table,
+      k.0,
+      k.1,
+    )
+
+pub returns-clause-told : goal.returns-clause-told
+returns-clause-told g c =
+    takes_own c.args.token.now.me c.compare_exchange.new.seat.me c.compare_exchange.result g.J.Making.event
+    (take_event c.args.seat c.args.op) c.requires.picked c.compare_exchange.ensures.2

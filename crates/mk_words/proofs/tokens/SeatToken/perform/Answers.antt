@@ -1,0 +1,43 @@
+use Rattle.std.proofs.Common.{◌≡◌, ◌∙◌, sym, subst}
+use Rattle.mk_core.specs.Accesses.{word_accessed, access}
+use Rattle.mk_words.specs.Seats.{Has}
+use Rattle.mk_words.specs.States.{PassState, now_of, event_of}
+use Rattle.mk_words.specs.Passes.{state_of}
+use Rattle.mk_words.specs.Steps.{May, Tells}
+use Rattle.mk_words.proofs.tokens.SeatToken.perform.Goals as goal
+
+pub perform_as-requires-clause-one_table : goal.perform_as-requires-clause-one_table
+perform_as-requires-clause-one_table c =
+    subst (λ (r : PassState). r.table ≡ c.args.words.now) (sym c.self.view_is) c.requires.one_table
+
+pub perform_as-requires-clause-may : goal.perform_as-requires-clause-may
+perform_as-requires-clause-may c = subst (λ (r : PassState). May r c.args.step) (sym c.self.view_is) c.requires.may
+
+pub perform_as-requires-clause-word : goal.perform_as-requires-clause-word
+perform_as-requires-clause-word c =
+    subst (λ (r : PassState). c.args.word ≡ word_accessed r.table.config (now_of r) (event_of r c.args.step))
+    (sym c.self.view_is) c.requires.word
+
+pub perform_as-requires-clause-access : goal.perform_as-requires-clause-access
+perform_as-requires-clause-access c =
+    subst (λ (r : PassState). c.args.by ≡ access r.table.config (now_of r) (event_of r c.args.step))
+    (sym c.self.view_is) c.requires.access
+
+pub invariant_of-self : goal.invariant_of-self
+invariant_of-self c =
+    record {
+      order = c.perform_as.ensures.order;
+      no_slot = c.perform_as.ensures.slots ∙ c.self.invariant.no_slot;
+    }
+
+pub returns-clause-told : goal.returns-clause-told
+returns-clause-told c =
+    let f = c.perform_as in
+    subst (λ (r : PassState). Tells r c.args.step f.result
+    (state_of f.new.token.table_id f.new.token.me c.self.inside.seat)) c.self.view_is f.ensures.told
+
+pub returns-clause-own : goal.returns-clause-own
+returns-clause-own c = subst (λ (r : PassState). Has r.seats r.seat) c.self.view_is c.self.invariant.order.own
+
+pub returns-clause-history : goal.returns-clause-history
+returns-clause-history c = c.perform_as.ensures.order.history

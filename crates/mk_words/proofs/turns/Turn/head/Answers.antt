@@ -1,0 +1,39 @@
+use Rattle.std.proofs.Common.{refl, sym, subst}
+use Rattle.mk_core.specs.declared.events.Step.{Step}
+use Rattle.mk_core.specs.declared.events.Step.TheVariants as step
+use Rattle.mk_words.specs.States.{TurnState}
+use Rattle.mk_words.specs.Steps.{IsEnabledTo}
+use Rattle.mk_words.specs.TurnSteps.{Acts}
+use Rattle.mk_words.proofs.TurnSteps.{still_turn, acts}
+use Rattle.mk_words.proofs.TakenCells.{knows_still}
+use Rattle.mk_words.proofs.MapSteps.{head_known, shows_head}
+use Rattle.mk_words.proofs.turns.Turn.head.Goals as goal
+
+pub header_stored-requires : goal.header_stored-requires
+header_stored-requires c =
+    let t = c.self.inside in
+    head_known t.pass c.args.page c.args.v t.map
+    (subst (λ (v : TurnState). IsEnabledTo v.pass (step.Head c.args.page c.args.v)) (sym c.self.view_is)
+    c.requires.enabled) c.self.invariant.shows
+
+pub invariant_of-self : goal.invariant_of-self
+invariant_of-self c =
+    let f = c.perform in
+    let t = c.self.inside in
+    let s : Step = step.Head c.args.page c.args.v in
+    let a = acts t.pass s f.new.self f.ensures.told.makes f.ensures.own f.ensures.history c.self.invariant.turn.holds in
+    record {
+      turn = still_turn t.pass s f.new.self f.ensures.told.makes f.ensures.own f.ensures.history t.op refl
+          c.self.invariant.turn;
+      knows = knows_still t.pass s f.new.self a t.cell refl refl c.self.invariant.knows;
+      shows = shows_head t.pass c.args.page c.args.v f.new.self a t.map c.header_stored.new.self c.header_stored.ensures
+          c.self.invariant.shows;
+    }
+
+pub returns-clause-acts : goal.returns-clause-acts
+returns-clause-acts c =
+    let f = c.perform in
+    let t = c.self.inside in
+    let s : Step = step.Head c.args.page c.args.v in
+    subst (λ (v : TurnState). Acts v.pass s f.new.self) c.self.view_is
+    (acts t.pass s f.new.self f.ensures.told.makes f.ensures.own f.ensures.history c.self.invariant.turn.holds)

@@ -1,0 +1,138 @@
+//! What the turn's holder reads off the page map. Nothing of it is an access to the table, and each answer is of what
+//! is left after all that the turn's pass has seen.
+ghost use Rattle.std.specs.Prelude.{◌≡◌, ◌<◌, ◌≤◌};
+ghost use Rattle.mk_geom.specs.PageUses.{first_where, is_free_page, range_start, resident_pages};
+ghost use Rattle.mk_geom.specs.PageWords.{uses_of_pages};
+ghost use Rattle.mk_page_map.specs.Members.{IsNext, has_free_cell, has_freed_cells, has_other_cells, is_in_use};
+ghost use Rattle.mk_core.specs.Words.{page_of};
+ghost use Rattle.mk_words.specs.States.{now_of};
+
+use crate::stopped::Stopped;
+use crate::turns::Turn;
+use mk_geom::Page;
+
+impl Turn {
+    /// The lowest free page.
+    pub fn first_free(&self) -> Option<u64>
+        ensures { result ≡ first_where is_free_page (uses_of_pages (now_of self.now.pass).words.pages) }
+    {
+        self.map.first_free()
+    }
+
+    /// The lowest of this many neighbours that are free.
+    pub fn first_range(&self, count: u64) -> Option<u64>
+        requires { 1 ≤ count }
+        ensures { result ≡ range_start count (uses_of_pages (now_of self.now.pass).words.pages) }
+    {
+        self.map.first_range(count)
+    }
+
+    /// The lowest block of a class and sort that has a free cell.
+    pub fn first_block(&self, class: u64, leaf: bool) -> Option<u64>
+        requires { class < 8 }
+        ensures { result ≡ first_where (has_free_cell class leaf) (uses_of_pages (now_of self.now.pass).words.pages) }
+    {
+        self.map.first_block(class, leaf)
+    }
+
+    /// The lowest page that isn't free, of those from this one on.
+    pub fn next_in_use(&self, from: u64) -> Option<u64>
+        ensures { IsNext (is_in_use (now_of self.now.pass).words.pages) from self.now.pass.table.config.pages result }
+    {
+        self.map.next_in_use(from)
+    }
+
+    /// The lowest page that has freed cells, of those from this one on.
+    pub fn next_quarantined(&self, from: u64) -> Option<u64>
+        ensures { IsNext (has_freed_cells (now_of self.now.pass).words.freed) from self.now.pass.table.config.pages
+            result }
+    {
+        self.map.next_quarantined(from)
+    }
+
+    /// The lowest page whose freed cells aren't those of its snapshot, of those from this one on.
+    pub fn next_differing(&self, from: u64) -> Option<u64>
+        ensures { IsNext (has_other_cells (now_of self.now.pass).words.freed (now_of self.now.pass).words.snapshot) from
+            self.now.pass.table.config.pages result }
+    {
+        self.map.next_differing(from)
+    }
+
+    /// How many pages are resident.
+    pub fn resident(&self) -> u64
+        ensures { result ≡ resident_pages (uses_of_pages (now_of self.now.pass).words.pages) }
+    {
+        self.map.resident()
+    }
+
+    /// The header and used word of a page.
+    pub fn page(&self, page: u64) -> Page
+        requires { page < self.now.pass.table.config.pages }
+        ensures { result ≡ page_of (now_of self.now.pass).words page }
+    {
+        self.map.page(page)
+    }
+}
+
+impl Stopped {
+    /// The lowest free page.
+    pub fn first_free(&self) -> Option<u64>
+        ensures { result ≡ first_where is_free_page (uses_of_pages (now_of self.now.pass).words.pages) }
+    {
+        self.turn.first_free()
+    }
+
+    /// The lowest of this many neighbours that are free.
+    pub fn first_range(&self, count: u64) -> Option<u64>
+        requires { 1 ≤ count }
+        ensures { result ≡ range_start count (uses_of_pages (now_of self.now.pass).words.pages) }
+    {
+        self.turn.first_range(count)
+    }
+
+    /// The lowest block of a class and sort that has a free cell.
+    pub fn first_block(&self, class: u64, leaf: bool) -> Option<u64>
+        requires { class < 8 }
+        ensures { result ≡ first_where (has_free_cell class leaf) (uses_of_pages (now_of self.now.pass).words.pages) }
+    {
+        self.turn.first_block(class, leaf)
+    }
+
+    /// The lowest page that isn't free, of those from this one on.
+    pub fn next_in_use(&self, from: u64) -> Option<u64>
+        ensures { IsNext (is_in_use (now_of self.now.pass).words.pages) from self.now.pass.table.config.pages result }
+    {
+        self.turn.next_in_use(from)
+    }
+
+    /// The lowest page that has freed cells, of those from this one on.
+    pub fn next_quarantined(&self, from: u64) -> Option<u64>
+        ensures { IsNext (has_freed_cells (now_of self.now.pass).words.freed) from self.now.pass.table.config.pages
+            result }
+    {
+        self.turn.next_quarantined(from)
+    }
+
+    /// The lowest page whose freed cells aren't those of its snapshot, of those from this one on.
+    pub fn next_differing(&self, from: u64) -> Option<u64>
+        ensures { IsNext (has_other_cells (now_of self.now.pass).words.freed (now_of self.now.pass).words.snapshot) from
+            self.now.pass.table.config.pages result }
+    {
+        self.turn.next_differing(from)
+    }
+
+    /// How many pages are resident.
+    pub fn resident(&self) -> u64
+        ensures { result ≡ resident_pages (uses_of_pages (now_of self.now.pass).words.pages) }
+    {
+        self.turn.resident()
+    }
+
+    /// The header and used word of a page.
+    pub fn page(&self, page: u64) -> Page
+        requires { page < self.now.pass.table.config.pages }
+        ensures { result ≡ page_of (now_of self.now.pass).words page }
+    {
+        self.turn.page(page)
+    }
+}

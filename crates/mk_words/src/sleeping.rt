@@ -1,0 +1,80 @@
+//! Sleeping on a word, and waking who sleeps. None of it is an event or needs a pass, and no promise rests on it: who
+//! has slept looks again.
+ghost use Rattle.std.specs.Prelude.{◌<◌};
+ghost use Rattle.mk_core.specs.Layout.{IsOfTable};
+
+use crate::indexes::index_of;
+use crate::words::Words;
+use mk_core::{TableWord, Word};
+use std::sync::Wait;
+use std::time::Duration;
+
+/// What a gate word is while the gate is held.
+const HELD: u64 = 2;
+
+/// So many values has the half of a word that a sleep compares. What is slept on is always less.
+const HALF: u64 = 1 << 32;
+
+impl Words {
+    /// The index of a word in the table.
+    fn index_in_table(&self, word: TableWord) -> usize
+        requires named { IsOfTable self.now.config.pages word }
+        ensures within { result < self.now.id.words }
+    {
+        self.is_within_limits();
+        index_of(self.config.pages, word)
+    }
+
+    /// A word as it is now.
+    fn peek(&self, word: TableWord) -> u64
+        requires named { IsOfTable self.now.config.pages word }
+    {
+        self.table.shared.peek(self.index_in_table(word))
+    }
+
+    /// Sleeps until the word's waker wakes, for at most this long, unless the word isn't any more as it was found.
+    fn sleep_on<R: Wait>(&self, rt: &R, word: TableWord, found: u64, at_most: Duration)
+        requires named { IsOfTable self.now.config.pages word }
+    {
+        let index = self.index_in_table(word);
+        let expected = (found % HALF) as u32;
+        self.table.shared.park_timeout(rt, index, expected, at_most);
+    }
+
+    /// Sleeps for at most this long, unless the turn is free. Nobody is woken where it is given.
+    pub fn sleep_on_turn<R: Wait>(&self, rt: &R, at_most: Duration) {
+        let found = self.peek(TableWord::Turn);
+        if found != 0 {
+            self.sleep_on(rt, TableWord::Turn, found, at_most);
+        }
+    }
+
+    /// Sleeps for at most this long, unless the phase word's low bits aren't these. Who begins a cycle, wants its close
+    /// or says that all is over wakes those who sleep so.
+    pub fn sleep_on_phase<R: Wait>(&self, rt: &R, phase: u64, at_most: Duration) {
+        let word = TableWord::Named(Word::Phase);
+        let found = self.peek(word);
+        if found % 8 == phase {
+            self.sleep_on(rt, word, found, at_most);
+        }
+    }
+
+    /// Sleeps for at most this long, unless the caller's gate isn't held. Nobody is woken where it is opened.
+    pub fn sleep_on_gate<R: Wait>(&self, rt: &R, caller: u64, at_most: Duration)
+        requires { caller < self.now.config.callers }
+    {
+        self.is_within_limits();
+        let word = TableWord::Named(Word::Gate(caller));
+        if self.peek(word) == HELD {
+            self.sleep_on(rt, word, HELD, at_most);
+        }
+    }
+
+    /// Wakes those who sleep on the phase: markers, if there are any.
+    pub(crate) fn wake_markers(&self) {
+        if self.config.markers > 0 {
+            let index = self.index_in_table(TableWord::Named(Word::Phase));
+            self.table.shared.wake_all(index);
+        }
+    }
+}
