@@ -26,6 +26,7 @@ use Rattle.mk_turns.proofs.Sweeping.{other_steps_sweep}
 use Rattle.mk_alloc.specs.TurnCycles.{EndsExactly, TurnsOfAreExact, has_step, is_want, lets_go}
 use Rattle.mk_alloc.proofs.ListParts.{lacks_second, none_at}
 use Rattle.mk_alloc.proofs.OwnGives.{none_more, one_more}
+use Rattle.mk_quarantine.proofs.Bounds.{quarantine_of_one_is_bounded}
 use Rattle.mk_run.specs.Unswept.{IsUnswept}
 use Rattle.mk_run.proofs.UnsweptHistories.{unswept_is_precise}
 use Rattle.mk_trace.specs.declared.trace.TraceEvent.TheVariants.{A, W}
@@ -165,6 +166,8 @@ is_played =
       precise =
           unswept_is_precise (config_of stored_and_made) played
           (histories_keep_all_promises (config_of stored_and_made) played is_history) is_unswept;
+      bounded =
+          quarantine_of_one_is_bounded false (config_of stored_and_made) played refl is_history are_exact refl;
     }
 
 pub refused : refused_events stored_and_made.events (answered (calls (config_of stored_and_made) played)) ≡ 1
