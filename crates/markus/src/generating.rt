@@ -1,4 +1,4 @@
-//! Generated programs, and what is said of their runs.
+//! Generated programs, and the summaries of their runs.
 ghost use Rattle.std.specs.Prelude.{◌≡◌, ◌≤◌, ◌++◌, length, string_bytes, IfOk, OnOk, false};
 ghost use Rattle.mk_gen.specs.Generated.{generated_program};
 ghost use Rattle.mk_run.specs.Headline.{StandsInOneHistory};

@@ -22,7 +22,7 @@ use std::alloc::Global;
 use std::sync::Wait;
 use std::thread::Threads;
 
-/// What a command writes, whole. Where it is refused the status says why.
+/// What a command writes, whole, or the status with which it is refused.
 pub fn output_of<S: Source, P: Pace + Sync, R: Threads + Wait + Sync>(
     rt: &R,
     alloc: Global,
@@ -64,7 +64,7 @@ fn input_of<S: Source>(alloc: Global, source: &mut S) -> Result<Vec<u8>, Status>
     Ok(read_all(alloc, source)?)
 }
 
-/// What a command writes on a text, whole. A text that it refuses has the status that says why.
+/// What a command writes on a text, whole, or the status with which it refuses that.
 fn output_on<P: Pace + Sync, R: Threads + Wait + Sync>(
     rt: &R,
     alloc: Global,
@@ -105,7 +105,7 @@ fn canonical(alloc: Global, program: Program) -> Result<Vec<u8>, Status>
     Ok(print(alloc, &program)?)
 }
 
-/// The line that says that a program is well typed.
+/// The line `ok`, where a program is well typed.
 fn accept(alloc: Global, program: Program) -> Result<Vec<u8>, Status>
     ensures ok { IfOk result (λ output. IsOutputOf TextCommand.Check program output.items) }
     ensures accepted { OnOk result (status_of_program TextCommand.Check program ≡ Status.Ok) }

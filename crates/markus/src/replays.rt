@@ -1,4 +1,4 @@
-//! What a schedule makes of the scripts before it.
+//! What `replay` writes.
 ghost use Rattle.std.specs.Prelude.{◌≡◌, ◌⊎◌, IfOk, IfErr, OnOk};
 ghost use Rattle.mk_core.specs.History.{AreEnabled};
 ghost use Rattle.mk_check.specs.Declarations.{config_of};

@@ -17,15 +17,15 @@ use std::thread::Threads;
 
 /// Does all that the program does. With the word `run`, `check`, `print`, `replay` or `trace` it reads a text from the
 /// source, and writes to the sink what its scripts print, the line `ok`, its canonical text, what its scripts have
-/// printed when the schedule after it ends, or the peaks of its trace. After what the scripts print `run --why` says
+/// printed when the schedule after it ends, or the peaks of its trace. After what the scripts print `run --why` reports
 /// which freed objects are kept, and by which pointers. With `gen START COUNT` it reads nothing, runs the program that
 /// is generated, and sums up. The whole output is made before the first write.
 ///
-/// Each script runs on a thread of its own, and the pace is told of each of its memory instructions. A trace is played
-/// on the calling thread.
+/// Each script runs on a thread of its own, and the pace is called before and after each of its memory instructions. A
+/// trace is played on the calling thread.
 ///
-/// Where the source doesn't tell its bytes, or the sink what it took, the clauses on these say nothing, as with
-/// standard input and output.
+/// Where the source doesn't show its bytes to proofs, or the sink what it took, the clauses on these say nothing, as
+/// with standard input and output.
 pub fn markus<S: Source, K: Sink, P: Pace + Sync, R: Threads + Wait + Sync>(
     rt: &R,
     alloc: Global,

@@ -1,4 +1,4 @@
-//! What playing a trace comes to.
+//! What `trace` writes.
 ghost use Rattle.std.specs.Prelude.{◌≡◌, ◌⊎◌, IfOk, IfErr, OnOk};
 ghost use Rattle.markus.specs.Outputs.{IsOutputOnTrace, TellsOfPlay, status_on};
 ghost use Rattle.markus.specs.Statuses.{IsOfText};

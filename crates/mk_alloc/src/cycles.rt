@@ -37,8 +37,8 @@ fn finish_older<E: Engine, R: Threads + Wait + Sync>(
     }
 }
 
-/// Begins a cycle, after one that is on, and finishes it unless the engine keeps on. It stands by itself: what it moves
-/// about costs nothing where no cycle is due.
+/// Begins a cycle, after one that is on, and finishes it unless the engine keeps on. It isn't inlined, so what it moves
+/// costs nothing where no cycle is due.
 #[inline(never)]
 fn run_cycle<E: Engine, R: Threads + Wait + Sync>(
     rt: &R,

@@ -142,8 +142,8 @@ fn place_behind_cycle<E: Engine, R: Threads + Wait + Sync>(
     (turn, placed)
 }
 
-/// Makes room for the object, which fits nowhere, and grants it if it can be made to fit. It stands by itself: what it
-/// moves about costs nothing where the object fits.
+/// Makes room for the object, which fits nowhere, and grants it if it can be made to fit. It isn't inlined, so what it
+/// moves costs nothing where the object fits.
 #[cold]
 #[inline(never)]
 pub(crate) fn make_room<E: Engine, R: Threads + Wait + Sync>(

@@ -105,7 +105,7 @@ impl Feed {
     }
 
     /// The same where the next operation comes before anything is printed, with at most one block left and none begun.
-    /// Says whether it comes so.
+    /// Returns whether it does.
     #[inline(always)]
     fn answer_quietly(&mut self, answer: Answer) -> bool
         requires { IsWaiting self.old }

@@ -4,7 +4,7 @@ ghost use Rattle.mk_check.specs.Feed as feed;
 
 use mk_core::Answer;
 
-/// A script's text, and the counts of its operations that were answered and of those that were refused.
+/// A script's text, and the counts of its operations that were answered and, of these, of those that were refused.
 #[derive(Drop)]
 pub struct Text {
     pub bytes: Vec<u8>,

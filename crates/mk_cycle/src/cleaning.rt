@@ -1,5 +1,5 @@
 //! What comes before a cycle's `begin`: the marks of the cycle before are cleared, and the snapshot is taken. A word
-//! that is as it is to be isn't stored to.
+//! that has the right value already isn't stored to.
 ghost use Rattle.std.specs.Prelude.{◌≡◌, ◌<◌, ℕ, true, false};
 ghost use Rattle.mk_core.specs.Ranges.{is_word};
 ghost use Rattle.mk_core.specs.Words.{named_word};
@@ -103,8 +103,8 @@ fn are_zero(marks: u64, blacks: u64, dirty: u64, quarantine: u64) -> bool
     marks | blacks | dirty | quarantine == 0
 }
 
-/// Whether nothing of a page is marked, scanned, dirty or quarantined: so a `begin` wants it. Each of these words is
-/// looked at.
+/// Whether nothing of a page is marked, scanned, dirty or quarantined, so that nothing has to be stored before a
+/// `begin`. Each of these words is looked at.
 #[inline(always)]
 fn is_ready(turn: &mut Turn, words: &Words, pages: u64, page: u64) -> bool
     requires one_table { turn.old.pass.table ≡ words.now }
@@ -124,7 +124,7 @@ fn is_ready(turn: &mut Turn, words: &Words, pages: u64, page: u64) -> bool
     are_zero(marks, blacks, dirty, quarantine)
 }
 
-/// Makes a page ready, word by word. It stands by itself, since few pages need it.
+/// Makes a page ready, word by word. It isn't inlined, since few pages need it.
 #[inline(never)]
 fn clean_words(turn: &mut Turn, words: &Words, page: u64)
     requires one_table { turn.old.pass.table ≡ words.now }

@@ -35,8 +35,7 @@ fn released_cells(snapshot: u64, marks: u64, header: u64) -> Released
     }
 }
 
-/// Looks at a word that is no register, in a table of this many pages, while nothing is given
-/// back.
+/// Looks at a word that is no register, in a table of this many pages, while nothing is given back.
 #[inline(always)]
 pub(crate) fn look_among(turn: &mut Turn, words: &Words, pages: u64, x: Word) -> u64
     requires one_table { turn.old.pass.table ≡ words.now }

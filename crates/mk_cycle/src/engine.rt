@@ -16,9 +16,10 @@ use std::alloc::Global;
 use std::sync::Wait;
 use std::thread::Threads;
 
-/// What makes the marks of a cycle, for a heap of this many pages. What it answers to `keeps_on` is the same for all
-/// values of its type, and so are whether it makes sweeping marks, and what it does as a cycle begins. Of the marks
-/// that it closed last it tells something, and how it came to close them.
+/// What makes the marks of a cycle, for a heap of this many pages (`made_for`). All values of its type are alike in
+/// what `keeps_on` returns (`on`), in whether they make sweeping marks (`sweeps`), and in what they do as a cycle
+/// begins (`begins`). `tells` is what a value promises of the world in which it closed marks last, and `closes` what it
+/// did in that stop.
 pub trait Engine: Drop {
     ghost on: { Bool };
 

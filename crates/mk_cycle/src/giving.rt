@@ -35,7 +35,7 @@ fn open_gates(words: &Words, stop: Stopped) -> Turn
 }
 
 /// Stops all other callers, closes the marks, releases what is unmarked, opens the gates, and gives back what was
-/// released, with the count of it, and of what is held then.
+/// released. Returns the counts of it, and how many words are held then.
 pub(crate) fn give_all_back<E: Engine, R: Threads + Wait + Sync>(
     rt: &R,
     words: &Words,

@@ -37,7 +37,7 @@ fn set(turn: &mut Turn, words: &Words, n: Tally, v: u64)
     turn_steps::tally(turn, words, n, v);
 }
 
-/// Raises a tally. It stands still at the end of its type.
+/// Raises a tally, to 2^64 - 1 at most.
 fn raise(turn: &mut Turn, words: &Words, n: Tally, word: Word, by: u64)
     requires one_table { turn.old.pass.table ≡ words.now }
     requires free { IsFreeForCycle turn.old.pass }

@@ -161,7 +161,7 @@ pub(crate) fn begin(turn: &mut Turn, words: &Words)
     turn.is_in_order();
 }
 
-/// Tries to hold the gate of another caller, which isn't held yet.
+/// Tries to hold the gate of another caller, which isn't held yet. Where it returns true the gate is held.
 pub(crate) fn try_hold(turn: &mut Turn, words: &Words, caller: u64) -> bool
     requires one_table { turn.old.pass.table ≡ words.now }
     requires free { IsFreeForCycle turn.old.pass }

@@ -12,7 +12,7 @@ use crate::turn_steps::{look, wipe};
 use mk_core::{Word, has_bit, is_unmapped, words_under};
 use mk_words::{Turn, Words};
 
-/// Makes a word of no mapped allocation 0.
+/// Sets a word of no mapped allocation to 0.
 fn wipe_word(turn: &mut Turn, words: &Words, word: u64)
     requires one_table { turn.old.pass.table ≡ words.now }
     requires free { IsFreeForCycle turn.old.pass }
@@ -27,7 +27,7 @@ fn wipe_word(turn: &mut Turn, words: &Words, word: u64)
     }
 }
 
-/// Makes this many words from a first one on 0.
+/// Sets this many words, from a first one on, to 0.
 fn wipe_cell(turn: &mut Turn, words: &Words, first: u64, count: u64)
     requires one_table { turn.old.pass.table ≡ words.now }
     requires free { IsFreeForCycle turn.old.pass }
@@ -43,7 +43,7 @@ fn wipe_cell(turn: &mut Turn, words: &Words, first: u64, count: u64)
     }
 }
 
-/// Makes the words of a cell of a page 0, if it has its bit here.
+/// Sets the words of a page's cell to 0, if the cell's bit is set.
 fn wipe_chosen(turn: &mut Turn, words: &Words, page: u64, cells: u64, size: u64, k: u64)
     requires one_table { turn.old.pass.table ≡ words.now }
     requires free { IsFreeForCycle turn.old.pass }
@@ -64,7 +64,7 @@ fn wipe_chosen(turn: &mut Turn, words: &Words, page: u64, cells: u64, size: u64,
     }
 }
 
-/// Makes the words of a page's cells that have their bits here 0.
+/// Sets the words of those cells of a page to 0 whose bits are set.
 fn wipe_cells(turn: &mut Turn, words: &Words, page: u64, cells: u64, size: u64)
     requires one_table { turn.old.pass.table ≡ words.now }
     requires free { IsFreeForCycle turn.old.pass }
@@ -83,7 +83,8 @@ fn wipe_cells(turn: &mut Turn, words: &Words, page: u64, cells: u64, size: u64)
     }
 }
 
-/// Makes the words of these released cells of a page 0. Those of an unmapped run aren't looked at: its Free wiped them.
+/// Sets the words of these released cells of a page to 0. Those of an unmapped run aren't looked at: its Free wiped
+/// them.
 pub(crate) fn wipe_released(turn: &mut Turn, words: &Words, page: u64, header: u64, cells: u64)
     requires one_table { turn.old.pass.table ≡ words.now }
     requires free { IsFreeForCycle turn.old.pass }

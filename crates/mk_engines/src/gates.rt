@@ -34,7 +34,7 @@ fn wait_and_hold<R: Wait>(rt: &R, words: &Words, turn: &mut Turn, caller: u64)
     unreachable!()
 }
 
-/// Holds the gate of another caller. Answers whether it wasn't held before.
+/// Holds the gate of another caller. Returns whether it wasn't held before.
 pub(crate) fn hold_gate<R: Wait>(rt: &R, words: &Words, turn: &mut Turn, caller: u64) -> bool
     requires one_table { turn.old.pass.table ≡ words.now }
     requires beside { IsBeside turn.old.pass }

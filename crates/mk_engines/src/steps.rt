@@ -63,7 +63,7 @@ pub(crate) fn mark_cell(words: &Words, turn: &mut Turn, cell: Cell)
     turn.is_in_order();
 }
 
-/// Tries to hold the gate of another caller, which isn't held yet.
+/// Tries to hold the gate of another caller, which isn't held yet. Returns whether it is held then.
 pub(crate) fn try_hold(words: &Words, turn: &mut Turn, caller: u64) -> bool
     requires one_table { turn.old.pass.table ≡ words.now }
     requires beside { IsBeside turn.old.pass }

@@ -1,4 +1,4 @@
-//! Draws.
+//! The numbers that the generator draws.
 ghost use Rattle.std.specs.Prelude.{◌≡◌, ◌<◌};
 ghost use Rattle.mk_gen.specs.Draws.{next_state, draw};
 

@@ -8,8 +8,7 @@ use mk_never::NoMemory;
 use mk_script::{TextStop, parse};
 use std::alloc::Global;
 
-/// The program that the draws of START make, with as many turns as COUNT has 48s. It is refused only
-/// where memory runs out.
+/// The program that the draws of START make, of COUNT / 48 turns a script. Its only refusal is NoMemory.
 pub fn generate(alloc: Global, start: u64, count: u64) -> Result<Checked, NoMemory>
     requires { count ≤ 3000000 }
     ensures { IfOk result (λ checked. checked ≡ generated_program start count) }

@@ -57,7 +57,7 @@ fn push_script(
     )?)
 }
 
-/// The text that the draws of START make, with as many turns as COUNT has 48s.
+/// The text that the draws of START make, of COUNT / 48 turns a script.
 pub fn generated_text(alloc: Global, start: u64, count: u64) -> Result<String, NoMemory>
     ensures { IfOk result (λ text. string_bytes text ≡ generated_text start count) }
 {

@@ -44,7 +44,7 @@ pub(crate) fn two_callers(alloc: Global, config: &Config) -> Result<Report, NoMe
     Ok(heap.close(host))
 }
 
-/// A caller makes a call, a cycle is made beside it, and it makes another; when it is joined, all is over.
+/// A caller makes a call, the host runs a cycle, and the caller makes another call; when it is joined, all is over.
 pub(crate) fn cycle_beside_a_caller<E: Engine, R: Threads + Wait + Sync>(
     rt: &R,
     alloc: Global,

@@ -20,8 +20,8 @@ use std::sync::Wait;
 use std::thread::Threads;
 
 impl Host {
-    /// Finishes a cycle that is on, and says to the markers that all is over. No caller is made after it. The bench
-    /// stays as it was where no cycle is on.
+    /// Finishes a cycle that is on, and announces to the markers that all is over. No caller is created after it. The
+    /// bench stays as it was where no cycle is on.
     pub fn over<E: Engine, R: Threads + Wait + Sync>(
         &mut self,
         rt: &R,
@@ -53,7 +53,7 @@ impl Host {
         self.pass = Some(back);
     }
 
-    /// Makes one cycle, when a cycle that is on is finished. No cycle is on after it. Directly after its `begin` the
+    /// Runs one whole cycle, after one that is on is finished. No cycle is on after it. Directly after its `begin` the
     /// engine does its part.
     pub fn cycle<E: Engine, R: Threads + Wait + Sync>(
         &mut self,

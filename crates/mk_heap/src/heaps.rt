@@ -44,7 +44,7 @@ impl Heap {
         ))
     }
 
-    /// Its words, for callers and markers that are made of the passes that the host handed out.
+    /// Its words, for callers and markers that are created with passes of the host.
     pub fn words(&self) -> &Words
         ensures { result.now ≡ self.now }
     {

@@ -1,4 +1,4 @@
-//! The host: it makes callers and markers, and joins them.
+//! The host: it creates callers and markers, and joins them.
 ghost use Rattle.std.specs.Prelude.{◌≡◌, ◌<◌, [], ◌∷◌, true, false};
 ghost use Rattle.mk_core.specs.Counts.{IsTidy};
 ghost use Rattle.mk_core.specs.Growing.{Grows};
@@ -22,7 +22,7 @@ use mk_words::{Pass, Words};
 use std::marker::Model;
 use std::sync::Wait;
 
-/// Who makes the callers and markers of a heap, and joins them.
+/// Creates the callers and markers of a heap, and joins them.
 #[derive(Drop)]
 pub struct Host {
     pub(crate) pass: Option<Pass>,
@@ -53,7 +53,7 @@ impl Host {
         }
     }
 
-    /// The next caller. None is made after an `over`.
+    /// The next caller. None is created after an `over`.
     pub fn caller<'h>(&mut self, heap: &'h Heap) -> Caller<'h>
         requires one_table { self.old.pass.table ≡ heap.now }
         requires more { self.old.callers < heap.now.config.callers }
@@ -92,7 +92,7 @@ impl Host {
         }
     }
 
-    /// Takes the pass of a caller back, as its `finish` handed it back.
+    /// Takes the pass of a caller back, as its `finish` returned it.
     pub fn join_caller(&mut self, heap: &Heap, pass: Pass)
         requires one_table { self.old.pass.table ≡ heap.now }
         requires of_table { pass.table ≡ heap.now }
@@ -133,7 +133,7 @@ impl Host {
         }
     }
 
-    /// Takes the pass of a marker back, as its `finish` handed it back.
+    /// Takes the pass of a marker back, as its `finish` returned it.
     pub fn join_marker(&mut self, heap: &Heap, pass: Pass)
         requires one_table { self.old.pass.table ≡ heap.now }
         requires of_table { pass.table ≡ heap.now }
@@ -157,7 +157,7 @@ impl Host {
         }
     }
 
-    /// Takes the turn, looks at one word, and gives the turn back.
+    /// Takes the turn, looks at one word, gives the turn back, and returns the word.
     pub fn tell<R: Wait>(&mut self, rt: &R, heap: &Heap, x: Word) -> u64
         requires one_table { self.old.pass.table ≡ heap.now }
         requires word { is_word heap.now.config x ≡ true }

@@ -1,4 +1,4 @@
-//! A heap, and its host: who makes callers and markers, joins them, and closes the heap.
+//! A heap, and its host, which creates callers and markers, joins them, and closes the heap.
 #![tactic(auto)]
 
 mod clients;

@@ -1,4 +1,4 @@
-//! What is said of a heap that is closed.
+//! What is reported of a heap that is closed.
 
 use mk_words::Final;
 

@@ -25,7 +25,7 @@ fn without(word: u64, other: u64) -> u64
     word - (word & other)
 }
 
-/// The place of the lowest bit.
+/// The place of the lowest bit that is 1.
 fn lowest_bit(word: u64) -> u64
     requires { word ≢ 0 }
     ensures { has_bit word result ≡ true }
@@ -79,7 +79,7 @@ fn find_between(words: &Words, pass: &mut Pass, first: u64, end: u64) -> Option<
     None
 }
 
-/// Looks for such a cell on all pages, round the heap from this one on.
+/// Looks for such a cell on all pages, from this one on and then from page 0 on.
 pub(crate) fn find_cell(words: &Words, pass: &mut Pass, first: u64) -> Option<MarkedCell>
     requires marker { IsOf words.now pass.old }
     requires between { IsBetweenScans pass.old }

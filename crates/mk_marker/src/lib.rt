@@ -1,4 +1,4 @@
-//! One marker thread's end of a heap.
+//! What one marker's thread does on a heap.
 #![tactic(auto)]
 
 mod cells;

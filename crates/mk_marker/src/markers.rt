@@ -122,7 +122,7 @@ impl<'h> Marker<'h> {
         quit(self.words, &mut self.pass);
     }
 
-    /// Hands the pass back, which attends nowhere.
+    /// Returns the pass, whose marker is out.
     pub fn finish(self) -> Pass
         requires out { attends self ≡ false }
         ensures pass { result ≡ self.entry }

@@ -18,7 +18,7 @@ use crate::cells::MarkedCell;
 use mk_core::Word;
 use mk_words::{Pass, Words};
 
-/// Comes in, and answers the phase word as it was.
+/// Comes in, and returns the phase word as it was.
 #[inline(always)]
 pub(crate) fn attend(words: &Words, pass: &mut Pass) -> u64
     requires marker { IsOf words.now pass.old }

@@ -25,7 +25,7 @@ use mk_words::{Turn, Words};
 use std::sync::Wait;
 use std::thread::Threads;
 
-/// What a free says: whether a cycle is due.
+/// What a free reports: whether a cycle is due.
 #[derive(Clone, Copy, Debug, PartialEq, Eq)]
 pub struct Freed {
     pub due: bool,
@@ -47,7 +47,7 @@ fn set_tally(words: &Words, turn: &mut Turn, tally: Tally, value: u64)
     turn.is_in_order();
 }
 
-/// Frees an object that takes a cell of a block, of this many words, and says whether that is due.
+/// Frees an object that takes a cell of a block, of this many words, and returns whether that is due.
 fn free_small(
     words: &Words,
     turn: &mut Turn,
@@ -76,8 +76,8 @@ fn free_small(
     due(fresh, held)
 }
 
-/// Frees a large object, whose run has this many pages, while the gates of all other callers are held. They are opened
-/// after it. Says whether that is due.
+/// Frees a large object, whose run has this many pages, while the gates of all other callers are held, and opens them.
+/// Returns whether that is due.
 fn free_stopped(
     words: &Words,
     turn: &mut Turn,
@@ -114,8 +114,8 @@ fn free_stopped(
     due(fresh, held)
 }
 
-/// Frees a large object, whose run has this many pages, once all other callers are in no call. Says whether that
-/// is due.
+/// Frees a large object, whose run has this many pages, once all other callers are in no call. Returns whether that is
+/// due.
 fn free_run<R: Wait>(
     rt: &R,
     words: &Words,
@@ -150,7 +150,7 @@ fn run_under(header: u64) -> Option<u64>
     }
 }
 
-/// Frees the object whose cell was found, and says whether that is due.
+/// Frees the object whose cell was found, and returns whether that is due.
 fn free_found<R: Wait>(
     rt: &R,
     words: &Words,
@@ -180,7 +180,8 @@ fn free_found<R: Wait>(
 }
 
 /// Frees the object that a register points to: it is quarantined, and where it is large its pages are unmapped and its
-/// words wiped while all other callers are in no call. Nothing happens where the register is null.
+/// words wiped while all other callers are in no call. Where the register is null nothing is freed. An object that is
+/// freed already is refused as `Double`.
 pub fn retire_object<R: Threads + Wait + Sync>(
     rt: &R,
     words: &Words,

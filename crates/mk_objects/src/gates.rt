@@ -24,7 +24,7 @@ fn is_own(seat: Seat, caller: u64) -> bool
     }
 }
 
-/// Tries to hold a caller's gate, and says whether it is held.
+/// Tries to hold a caller's gate, and returns whether it is held.
 fn try_hold(words: &Words, turn: &mut Turn, caller: u64) -> bool
     requires one_table { turn.old.pass.table ≡ words.now }
     requires acting { is_acting (call_of turn.old.pass).stage ≡ true }

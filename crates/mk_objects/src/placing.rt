@@ -108,7 +108,7 @@ fn serve(
     turn.is_in_order();
 }
 
-/// Gives the object its place, with what two looks more say.
+/// Gives the object its place, after a look at the tally of held words and one at the phase.
 fn serve_now(words: &Words, turn: &mut Turn, shape: Shape, place: Place, page: Page)
     requires one_table { turn.old.pass.table ≡ words.now }
     requires shape { object_shaped shape ≡ object_for turn.old.pass }
@@ -153,7 +153,7 @@ fn shape_asked(words: &Words, op: Option<Op>) -> Shape
     }
 }
 
-/// Grants the object of a New at its place, or answers false where nothing fits. The book shows the pages then.
+/// Grants the object of a New at its place. Returns false where nothing fits; the book then has the words of all pages.
 pub fn place_object(words: &Words, turn: &mut Turn, book: &mut Book) -> bool
     requires one_table { turn.old.pass.table ≡ words.now }
     requires unplaced { IsUnplaced turn.old.pass }

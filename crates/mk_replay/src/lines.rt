@@ -132,7 +132,7 @@ fn forms(
     }
 }
 
-/// Adds a piece's form after those so far, or makes of its fault and theirs the one to be named.
+/// Adds a piece's form after those so far. Where there is a fault, it returns the one to be named.
 fn add_form(
     forms: &mut Vec<Form>,
     fault: Option<TextKind>,

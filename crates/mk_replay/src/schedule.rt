@@ -4,7 +4,7 @@ ghost use Rattle.std.specs.Prelude.{◌≡◌};
 use mk_core::{Seat, Tally, Word};
 use std::marker::Model;
 
-/// A kind of step, with the numbers of its event. What a caller's `Enter` and `Take` carry its script says.
+/// A kind of step, with the numbers of its event. The operations of a caller's `Enter` and `Take` are its script's.
 #[derive(Clone, Copy)]
 pub enum Form {
     Enter,

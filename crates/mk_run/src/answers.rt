@@ -133,7 +133,7 @@ fn call_at_once<R: Wait>(rt: &R, caller: &mut Caller, op: Op) -> Answer
     }
 }
 
-/// Carries out an operation, and tells its answer. Which pointer was loaded isn't said.
+/// Carries out an operation, and returns its answer. Which pointer was loaded isn't reported.
 pub fn answer_to<E: Engine, R: Threads + Wait + Sync>(
     rt: &R,
     caller: &mut Caller,

@@ -22,7 +22,7 @@ use std::sync::Wait;
 use std::thread;
 use std::thread::Threads;
 
-/// What the thread of a script hands back.
+/// What the thread of a script returns.
 #[derive(Drop)]
 struct Ran {
     pass: Pass,

@@ -13,7 +13,7 @@ use mk_heap::{Heap, Host};
 use std::sync::Wait;
 use std::thread::Threads;
 
-/// Makes a last cycle, and says to the markers that all is over. The bench is as the cycle left it.
+/// Runs a last cycle, and announces to the markers that all is over. The bench is as the cycle left it.
 fn cycle_and_over<E: Engine, R: Threads + Wait + Sync>(
     rt: &R,
     heap: &Heap,
@@ -40,7 +40,7 @@ fn cycle_and_over<E: Engine, R: Threads + Wait + Sync>(
     host.is_in_order();
 }
 
-/// Says to the markers that all is over, where asked after a last cycle.
+/// Announces to the markers that all is over; where one is asked for, a last cycle comes before that.
 pub(crate) fn take_last_turns<E: Engine, R: Threads + Wait + Sync>(
     rt: &R,
     heap: &Heap,

@@ -81,7 +81,8 @@ pub(crate) struct Ended<E: Engine> {
     pub(crate) bench: Bench<E>,
 }
 
-/// Runs all scripts and joins them, and says to the markers that all is over, where asked after a last cycle.
+/// Runs all scripts and joins them, runs a last cycle where one is asked for, and announces to the markers that all is
+/// over.
 fn run_scripts<E: Engine + Send, P: Pace + Sync, R: Threads + Wait + Sync>(
     rt: &R,
     alloc: Global,

@@ -1,9 +1,9 @@
-//! What a run comes to.
+//! The outcome of a run.
 
 use mk_check::Text;
 use mk_heap::Report;
 
-/// The scripts' texts, in the order of the program, and what is said of the heap, which is closed.
+/// The scripts' texts, in the order of the program, and the report on the heap, which is closed.
 #[derive(Drop)]
 pub struct Outcome {
     pub texts: Vec<Text>,

@@ -1,7 +1,7 @@
-//! What is called round the instructions of scripts: tests hold threads back by it.
+//! What is called before and after the instructions of scripts: tests hold threads back by it.
 
-/// Is called round each memory instruction of a script, counted from 0 in its script, and after each cell that a
-/// marker scanned.
+/// Is called before and after each memory instruction of a script, counted from 0 in its script, and after each cell
+/// that a marker scanned.
 pub trait Pace {
     /// Before the instruction is carried out.
     fn before(&self, script: u64, instruction: u64);

@@ -32,8 +32,8 @@ fn benches<E: Engine>(alloc: Global, count: u64, pages: u64) -> Result<Vec<Bench
     Ok(benches)
 }
 
-/// Runs all and closes the heap. Where asked, the host makes a last cycle when the scripts are joined, of which its
-/// bench says.
+/// Runs all and closes the heap. Where a last cycle is asked for, the host runs it when the scripts are joined, with
+/// the bench that is returned.
 fn run<E: Engine + Send, P: Pace + Sync, R: Threads + Wait + Sync>(
     rt: &R,
     alloc: Global,
@@ -90,8 +90,8 @@ pub fn run_all<E: Engine + Send, P: Pace + Sync, R: Threads + Wait + Sync>(
     Ok(ran.0)
 }
 
-/// The same, with a last cycle: the host makes it when the scripts are joined, before it says that all is over. The
-/// engine of the bench has closed the marks of that cycle last.
+/// The same, with a last cycle: the host runs it when the scripts are joined, before it announces that all is over.
+/// The engine of the bench closed the marks of that cycle.
 pub fn run_with_cycle<E: Engine + Send, P: Pace + Sync, R: Threads + Wait + Sync>(
     rt: &R,
     alloc: Global,

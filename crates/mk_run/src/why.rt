@@ -19,8 +19,8 @@ use std::alloc::Global;
 use std::sync::Wait;
 use std::thread::Threads;
 
-/// Runs as `run_all` does, with a last cycle when the scripts are joined, and reports what that cycle keeps and why. Of
-/// the engine's answers only that to `keeps_on` is left to it: the marks are those of the engine inside.
+/// Runs as `run_all` does, with a last cycle when the scripts are joined, and reports what that cycle keeps and why.
+/// The engine is `Why` around `E`, which makes the marks.
 pub fn run_why<E: Engine + Send, P: Pace + Sync, R: Threads + Wait + Sync>(
     rt: &R,
     alloc: Global,

@@ -92,7 +92,7 @@ pub fn word_count(fields: &[&[u8]]) -> Option<u64>
     Some(count)
 }
 
-/// The words of the fields, one by one. Their number is to be looked at before.
+/// The words of the fields, one by one. Whoever calls it checks their number first.
 pub fn type_words(alloc: Global, fields: &[&[u8]]) -> Result<TypeWords, AllocError>
     ensures { IfOk result (λ words. words ≡ fields_of (texts_of fields.now)) }
 {

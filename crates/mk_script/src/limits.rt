@@ -4,7 +4,7 @@ ghost use Rattle.mk_script.specs.Lines as spec;
 
 use crate::faults::{LineFault, Which};
 
-/// The limit that a quantity passes upwards.
+/// The fault of a quantity that is above its limit.
 pub fn at_most(found: u64, greatest: u64, which: Which) -> Option<LineFault>
     ensures { result ≡ spec.at_most found greatest which }
 {
@@ -15,7 +15,7 @@ pub fn at_most(found: u64, greatest: u64, which: Which) -> Option<LineFault>
     }
 }
 
-/// The limit that a quantity passes upwards or downwards.
+/// The fault of a quantity that is above or below its limits.
 pub fn within(least: u64, found: u64, greatest: u64, which: Which) -> Option<LineFault>
     ensures { result ≡ spec.within least found greatest which }
 {
@@ -26,7 +26,7 @@ pub fn within(least: u64, found: u64, greatest: u64, which: Which) -> Option<Lin
     }
 }
 
-/// The limit that a heap of this many pages passes, this many of which may be resident.
+/// The fault of a heap of this many pages, this many of which may be resident, where one is outside its limits.
 pub fn heap_limit(pages: u64, resident: u64) -> Option<LineFault>
     ensures { result ≡ spec.heap_limit pages resident }
 {

@@ -11,9 +11,8 @@ use crate::splitting::{split_lines, split_words};
 use crate::{Item, Program, line};
 use std::alloc::Global;
 
-/// The program of a text, or the fault of the first line that has one. Of a line's faults the first is
-/// meant, in the order header, word, number or name, twice, limit, end. `NoMemory` says nothing of the
-/// text.
+/// The program of a text, or the fault of the first line that has one. Of a line's faults the first counts, in the
+/// order header, word, number or name, twice, limit, end. `NoMemory` says nothing of the text.
 pub fn parse(alloc: Global, bytes: &[u8]) -> Result<Program, TextStop>
     ensures program { IfOk result (λ program. program_of bytes.now ≡ Ok program) }
     ensures fault { IfErr result (λ stop. stop ≢ TextStop.NoMemory → program_of bytes.now ≡ Err stop) }

@@ -324,7 +324,7 @@ impl Printer {
 }
 
 /// The canonical text of a program: the words of each line with a space between them, and a newline
-/// after it. It is refused only where memory runs out.
+/// after it. Its only refusal is NoMemory.
 pub fn print(alloc: Global, program: &Program) -> Result<Vec<u8>, NoMemory>
     ensures { IfOk result (λ text. text.items ≡ canonical_text program.now) }
 {

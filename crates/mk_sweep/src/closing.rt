@@ -1,4 +1,4 @@
-//! What the engine does from the wish to close on, until the marks may be closed.
+//! What the engine does in the stop: it wants the close, and sweeps until the marks may be closed.
 ghost use Rattle.std.specs.Prelude.{◌≡◌, ℕ, ◌<◌, length, slice_index};
 ghost use Rattle.mk_cycle.specs.EngineLaw.{ClosesMarks, IsAtPhase, IsFreeForCycle};
 ghost use Rattle.mk_guard.specs.Guard.{CellsAreClosed};
@@ -14,7 +14,7 @@ use mk_tracing::want_and_wait;
 use mk_words::{Stopped, Words};
 use std::sync::Wait;
 
-/// Marks whatever the roots and the words of the allocations point into, and blackens all that is marked. Answers how
+/// Marks whatever the roots and the words of the allocations point into, and blackens all that is marked. Returns how
 /// many heap words it looked at.
 fn sweep_in_stop(words: &Words, stop: &mut Stopped) -> u64
     requires one_table { stop.old.pass.table ≡ words.now }
@@ -36,7 +36,7 @@ fn sweep_in_stop(words: &Words, stop: &mut Stopped) -> u64
     looks
 }
 
-/// Wants the close, waits for the markers, and sweeps. Answers how many heap words it looked at.
+/// Wants the close, waits for the markers, and sweeps. Returns how many heap words it looked at.
 pub(crate) fn close_by_sweeping<R: Wait>(rt: &R, words: &Words, stop: &mut Stopped) -> u64
     requires one_table { stop.old.pass.table ≡ words.now }
     requires marking { IsAtPhase stop.old.pass 1 }

@@ -9,7 +9,8 @@ use mk_words::{Turn, Words};
 use std::sync::Wait;
 use std::thread::Threads;
 
-/// Begins a cycle, and finishes it directly after that. No marker may be out, so nothing is marked but by the sweep.
+/// Begins a cycle, and finishes it directly after that. The turn's pass has the seats of all markers, so nothing is
+/// marked but by the sweep.
 pub fn sweep_cycle<R: Threads + Wait + Sync>(
     rt: &R,
     words: &Words,

@@ -14,7 +14,7 @@ use std::thread::Threads;
 
 /// Marks nothing before the stop. In the stop it marks whatever a register points into, or a global, or a word of a
 /// mapped allocation that isn't leaf, whether that allocation is reached or not. It follows nothing, so it needs no
-/// memory; it keeps what tracing keeps, and more.
+/// memory; and freed small objects that point to each other keep each other.
 #[derive(Drop)]
 pub struct SweepEngine {
     pages: u64,

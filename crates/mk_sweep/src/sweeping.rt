@@ -33,7 +33,7 @@ fn sweep_words(words: &Words, stop: &mut Stopped, first: u64, size: u64)
     }
 }
 
-/// Sweeps a cell, if it is used. Answers how many words it looked at.
+/// Sweeps a cell, if it is used. Returns how many words it looked at.
 fn sweep_if_used(words: &Words, stop: &mut Stopped, used: bool, first: u64, size: u64) -> u64
     requires one_table { stop.old.pass.table ≡ words.now }
     requires sweeping { IsSweeping stop.old.pass }
@@ -53,7 +53,7 @@ fn sweep_if_used(words: &Words, stop: &mut Stopped, used: bool, first: u64, size
     size
 }
 
-/// Sweeps the used cells of a page. Answers how many words it looked at.
+/// Sweeps the used cells of a page. Returns how many words it looked at.
 fn sweep_cells(words: &Words, stop: &mut Stopped, page: u64, header: u64, used: u64) -> u64
     requires one_table { stop.old.pass.table ≡ words.now }
     requires sweeping { IsSweeping stop.old.pass }
@@ -79,7 +79,7 @@ fn sweep_cells(words: &Words, stop: &mut Stopped, page: u64, header: u64, used: 
     looks
 }
 
-/// Sweeps a page, if its cells may have pointers. Answers how many words it looked at.
+/// Sweeps a page, if its cells may have pointers. Returns how many words it looked at.
 fn sweep_page(words: &Words, stop: &mut Stopped, page: u64) -> u64
     requires one_table { stop.old.pass.table ≡ words.now }
     requires sweeping { IsSweeping stop.old.pass }
@@ -99,7 +99,7 @@ fn sweep_page(words: &Words, stop: &mut Stopped, page: u64) -> u64
     sweep_cells(words, stop, page, header, used)
 }
 
-/// Sweeps all pages, upward. Answers how many words it looked at.
+/// Sweeps all pages, upward. Returns how many words it looked at.
 pub(crate) fn sweep_pages(words: &Words, stop: &mut Stopped) -> u64
     requires one_table { stop.old.pass.table ≡ words.now }
     requires sweeping { IsSweeping stop.old.pass }

@@ -25,7 +25,7 @@ use std::alloc::Global;
 use std::sync::Wait;
 use std::thread::Threads;
 
-/// Carries out an operation of the caller, and tells its answer.
+/// Carries out an operation of the caller, and returns its answer.
 fn call<E: Engine, R: Threads + Wait + Sync>(
     rt: &R,
     heap: &Heap,
@@ -59,8 +59,8 @@ fn call<E: Engine, R: Threads + Wait + Sync>(
     answer
 }
 
-/// Carries out an operation of the caller, tells its answer, and writes down what is held and quarantined then. A
-/// Free's register points to what the slot points to.
+/// Carries out an operation of the caller, returns its answer, and notes what is held and quarantined then. A Free's
+/// register points to what the slot points to.
 fn answer<E: Engine, R: Threads + Wait + Sync>(
     rt: &R,
     alloc: Global,

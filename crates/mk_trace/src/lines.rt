@@ -27,11 +27,11 @@ pub enum Action {
     New,
     /// `k`: a new object that points to the old one.
     Link,
-    /// `f`
+    /// `f`: the slot's object is freed.
     Free,
-    /// `c`
+    /// `c`: the slot becomes null.
     Clear,
-    /// `w`
+    /// `w`: a number is stored in a word of the slot's object.
     Write { index: u64, value: u64 },
 }
 

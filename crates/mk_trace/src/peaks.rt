@@ -10,7 +10,7 @@ use mk_heap::Report;
 use mk_never::NoMemory;
 use std::alloc::Global;
 
-/// What playing a trace came to. Storage is counted in words. A number above 2^64 - 1 stands as 2^64 - 1.
+/// What playing a trace shows. Storage is counted in words. A number above 2^64 - 1 stands as 2^64 - 1.
 #[derive(Drop)]
 pub struct Peaks {
     pub events: u64,

@@ -15,7 +15,7 @@ use std::alloc::Global;
 use std::mem;
 use std::sync::Wait;
 
-/// Keeps an object that is quarantined yet, and counts the age of another.
+/// Keeps an object that is still quarantined, and counts the age of another.
 fn keep_or_count(
     kept: &mut Vec<FreedObject>,
     ages: &mut Vec<(u64, u64)>,
@@ -33,7 +33,7 @@ fn keep_or_count(
     }
 }
 
-/// Those of the objects that are quarantined yet, after one more end. The others' ages are counted.
+/// Those of the objects that are still quarantined, after one more end. The others' ages are counted.
 fn keep_quarantined<R: Wait>(
     rt: &R,
     alloc: Global,

@@ -1,4 +1,4 @@
-//! What an engine does from the wish to close on, until the marks may be closed.
+//! What an engine does in the stop: it wants the close, and marks until the marks may be closed.
 ghost use Rattle.std.specs.Prelude.{◌≡◌, ℕ, ◌<◌, slice_index};
 ghost use Rattle.mk_core.specs.declared.events.Step.TheVariants as step;
 ghost use Rattle.mk_core.specs.ClosedMarks.{MarksAreClosed};
@@ -31,8 +31,8 @@ fn mark_in_stop(words: &Words, stop: &mut Stopped, work: &mut Worklist)
     trace(words, stop, work);
 }
 
-/// Wants the close, waits for the markers, and marks in the stop until the marks may be closed. It serves every engine:
-/// where nothing is marked before the stop, no page has a black cell.
+/// Wants the close, waits for the markers, and marks in the stop until the marks may be closed. Every engine may call
+/// it: where nothing is marked before the stop, no page has a black cell.
 pub fn close_marks<R: Wait>(rt: &R, words: &Words, stop: &mut Stopped, work: &mut Worklist)
     requires one_table { stop.old.pass.table ≡ words.now }
     requires ready { HolderIsLoaded stop.old.pass }

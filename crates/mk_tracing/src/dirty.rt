@@ -1,5 +1,5 @@
-//! Dirty pages: their cells are made unscanned again, and then their dirty words are cleared. A word that is 0 isn't
-//! stored to.
+//! Dirty pages: their black words are cleared, so that their cells are scanned again, and then their dirty words. A
+//! word that is 0 isn't stored to.
 ghost use Rattle.std.specs.Prelude.{◌≡◌, ◌≢◌, ℕ, ◌<◌, true, false, slice_index};
 ghost use Rattle.mk_tracing.specs.Grays.{BlacksFewer, HasDirtyPart, IsCleaner, DirtyIsUnscanned, MarksOn};
 ghost use Rattle.mk_tracing.specs.Grays.{without_blacks};
@@ -10,7 +10,7 @@ use mk_core::Word;
 use mk_geom::head_page_under;
 use mk_words::{Stopped, Words};
 
-/// Makes the cells of a page unscanned again, of which a part is dirty.
+/// Clears the black word of a page of which a part is dirty, so that its cells are scanned again.
 fn unblack_page(words: &Words, stop: &mut Stopped, page: u64)
     requires one_table { stop.old.pass.table ≡ words.now }
     requires wanted { IsWanted stop.old.pass }
@@ -24,7 +24,7 @@ fn unblack_page(words: &Words, stop: &mut Stopped, page: u64)
     }
 }
 
-/// Clears the black word of a page that is dirty, and that of the head of its run. Says whether it is dirty.
+/// Clears the black word of a page that is dirty, and that of the head of its run. Returns whether it is dirty.
 fn unblack_if_dirty(words: &Words, stop: &mut Stopped, pages: u64, page: u64) -> bool
     requires one_table { stop.old.pass.table ≡ words.now }
     requires pages { pages ≡ words.now.config.pages }
@@ -64,8 +64,8 @@ fn clean_if_dirty(words: &Words, stop: &mut Stopped, pages: u64, page: u64)
     }
 }
 
-/// Clears all dirty words. The cells of dirty pages, and the runs with such a page, are scanned again. It goes from page
-/// in use to page in use: no free page is dirty.
+/// Clears all dirty words. The cells of dirty pages, and the runs with such a page, are scanned again. It goes from
+/// page in use to page in use: no free page is dirty.
 pub(crate) fn clean_dirty(words: &Words, stop: &mut Stopped)
     requires one_table { stop.old.pass.table ≡ words.now }
     requires wanted { IsWanted stop.old.pass }

@@ -38,7 +38,7 @@ fn is_marked(words: &Words, stop: &mut Stopped, cell: Cell) -> bool
     has_bit(marks, cell.index)
 }
 
-/// Marks what the hand points into, if that isn't marked yet. Answers the cell that it marked.
+/// Marks what the hand points into, if that isn't marked yet. Returns the cell that it marked.
 #[inline(always)]
 pub(crate) fn mark_value(words: &Words, stop: &mut Stopped, value: u64) -> Option<Cell>
     requires one_table { stop.old.pass.table ≡ words.now }

@@ -1,4 +1,4 @@
-//! The wish to close the marks, and the wait for the markers.
+//! Wanting the close, and waiting for the markers.
 ghost use Rattle.std.specs.Prelude.{◌≡◌, ◌<◌};
 ghost use Rattle.mk_core.specs.Words.{phase_of};
 ghost use Rattle.mk_words.specs.States.{now_of};

@@ -1,4 +1,4 @@
-//! Waiting for the turn, and how whoever waits for long pauses.
+//! Waiting for the turn, and how one who waits for long pauses.
 #![tactic(auto)]
 
 mod patience;

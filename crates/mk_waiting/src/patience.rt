@@ -9,7 +9,7 @@ use std::marker::Model;
 use std::sync::Wait;
 use std::time::Duration;
 
-/// The first sleep, in microseconds. Linux ends a sleep up to so much late, so none is shorter.
+/// The first sleep, in microseconds. Linux ends a sleep up to 50 microseconds late, so none is shorter.
 const FIRST: u64 = 50;
 
 /// The longest sleep: less than a scheduler lets a thread run, so one who sleeps loses little by it.
@@ -46,7 +46,7 @@ impl Patience {
         }
     }
 
-    /// What was waited for came, so the next wait begins anew.
+    /// What was waited for came, so the next wait begins as the first one.
     pub fn reset(&mut self)
         ensures { self.new ≡ first_sleep }
     {
@@ -54,7 +54,7 @@ impl Patience {
         self.micros = FIRST;
     }
 
-    /// Spins or yields once, or says how long to sleep.
+    /// Spins or yields once, or returns how long to sleep.
     fn pause(&mut self) -> Option<Duration>
         ensures awake { IfNone result (self.new ≡ self.old) }
         ensures sleep { IfSome result (λ sleep. as_nanos sleep ≡ 1000 * self.old) }

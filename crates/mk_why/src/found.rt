@@ -2,7 +2,7 @@
 
 use crate::kept::Root;
 
-/// How the search came to an allocation first.
+/// How the search first found an allocation.
 #[derive(Clone, Copy, Debug, PartialEq, Eq)]
 pub(crate) enum Way {
     Start(Root),

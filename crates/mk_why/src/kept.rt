@@ -15,8 +15,8 @@ pub struct Kept {
     pub address: u64,
     /// The words of its storage.
     pub words: u64,
-    /// Where the chain begins. None: no chain leads to the object. By tracing its mark is left from a word that is gone
-    /// by now. By a sweep a word of an object to which nothing leads may point to it as well.
+    /// Where the chain begins, or None where no chain leads to the object. With tracing it was then marked by a word
+    /// that is gone now; with a sweep perhaps by a word of an object to which nothing leads.
     pub root: Option<Root>,
     /// The addresses of the heap words through which the chain leads. The root's word points into the object that has
     /// the first of them, each of them points into the object that has the next, and the last into the kept object.

@@ -1,4 +1,4 @@
-//! An engine that says why freed objects are kept: which root holds each, and through which words.
+//! An engine that reports why freed objects are kept: which root leads to each, and through which words.
 #![tactic(auto)]
 
 mod entries;

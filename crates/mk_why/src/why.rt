@@ -1,4 +1,4 @@
-//! The engine that says why.
+//! The engine that reports why.
 ghost use Rattle.std.specs.Prelude.{◌≡◌, [], IfOk, false, length};
 ghost use Rattle.mk_core.specs.declared.config.Config.{Config};
 ghost use Rattle.mk_core.specs.History.{World};
@@ -27,8 +27,8 @@ use std::thread::Threads;
 /// A heap has no more pages.
 const MOST_PAGES: u64 = 4096;
 
-/// An engine round another, which makes the marks. After them, still in the stop, it searches from the roots, breadth
-/// first, and notes what the cycle keeps of its snapshot, and through which words it is held.
+/// An engine around another one, which makes the marks. After them, still in the stop, it searches from the roots,
+/// breadth first, and notes what the cycle keeps of its snapshot, and which words lead to it.
 #[derive(Drop)]
 pub struct Why<E: Engine> {
     inner: E,

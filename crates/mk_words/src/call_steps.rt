@@ -135,7 +135,7 @@ impl Pass {
         self.perform(words, Step::Write, heap, Access::Store(v));
     }
 
-    /// Stores to the word that the call accesses where it finds the expected value, and says whether it did.
+    /// Stores to the word that the call accesses where it finds the expected value, and returns whether it did.
     pub fn cas(&mut self, words: &Words, word: u64, expected: u64, new: u64) -> bool
         requires one_table { self.old.table ≡ words.now }
         requires enabled { IsEnabledTo self.old step.Cas }

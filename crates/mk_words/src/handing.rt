@@ -85,7 +85,7 @@ impl SeatToken {
         }
     }
 
-    /// Takes the turn and the page map, or says what the turn word is where another has them.
+    /// Takes the turn and the page map, or returns what the turn word is where another has them.
     pub(crate) fn take(
         self,
         words: &Words,

@@ -11,7 +11,7 @@ pub fn calls_go_on()
     ensures { CallsGoOn }
 {}
 
-/// The phase says that all is over only after an `over`, which no caller's pass of its own has seen.
+/// The phase word says that all is over only after an `over`.
 pub fn the_end_is_behind_an_over()
     ensures { EndIsBehindOver }
 {}

@@ -19,7 +19,7 @@ impl Turn {
         self.map.first_free()
     }
 
-    /// The lowest of this many neighbours that are free.
+    /// The first page of the lowest range of this many free pages.
     pub fn first_range(&self, count: u64) -> Option<u64>
         requires { 1 ≤ count }
         ensures { result ≡ range_start count (uses_of_pages (now_of self.now.pass).words.pages) }
@@ -82,7 +82,7 @@ impl Stopped {
         self.turn.first_free()
     }
 
-    /// The lowest of this many neighbours that are free.
+    /// The first page of the lowest range of this many free pages.
     pub fn first_range(&self, count: u64) -> Option<u64>
         requires { 1 ≤ count }
         ensures { result ≡ range_start count (uses_of_pages (now_of self.now.pass).words.pages) }

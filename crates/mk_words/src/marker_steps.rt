@@ -44,7 +44,7 @@ fn seen_bit(cell: Option<Cell>) -> u64
 }
 
 impl Pass {
-    /// Comes in, and answers the phase word as it was: where it is marking, the marker attends.
+    /// Comes in, and returns the phase word as it was: where that is marking, the marker attends.
     pub fn attend(&mut self, words: &Words) -> u64
         requires one_table { self.old.table ≡ words.now }
         requires enabled { IsEnabledTo self.old step.Attend }

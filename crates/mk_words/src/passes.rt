@@ -16,7 +16,7 @@ use crate::words::Words;
 use mk_core::{Access, Marker, Presence, Seat, Step, TableWord};
 use std::marker::Model;
 
-/// What a marker is at that is out, and another seat.
+/// What a marker that is out is in the middle of, and a seat that is no marker's.
 pub(crate) const OUTSIDE: Marker = Marker {
     presence: Presence::Out,
     scan: None,
@@ -63,7 +63,7 @@ impl Pass {
         self.own.is_in_order();
     }
 
-    /// The number of a caller, and 0 of another.
+    /// The caller's number, and 0 where the seat is no caller's.
     #[inline(always)]
     pub(crate) fn caller(&self) -> u64
         ensures { result ≡ caller_number self.now.seat }
@@ -87,7 +87,7 @@ impl Pass {
         self.own.perform(words, step, word, by)
     }
 
-    /// What its seat is at as a marker.
+    /// What its seat is in the middle of as a marker.
     #[inline(always)]
     pub(crate) fn marker(&self) -> Marker
         ensures { result ≡ marker_in self.now }

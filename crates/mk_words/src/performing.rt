@@ -11,7 +11,7 @@ use atomic_table::{Seat as Token, Shared};
 use mk_core::{Access, Config};
 use mk_page_map::PageMap;
 
-/// Makes the access, of whatever event. Answers what was found, and what was stored at a store.
+/// Makes the access of an event. Returns what it found; at a store, what it stored.
 #[inline(always)]
 pub(crate) fn access_as<J: Making>(
     table: &Shared<PageMap, View, Config, OneHistory>,
@@ -42,7 +42,7 @@ pub(crate) fn access_as<J: Making>(
     }
 }
 
-/// Makes a store that answers what it found.
+/// Makes a store, and returns what it found.
 #[inline(always)]
 pub(crate) fn swap_as<J: Making>(
     table: &Shared<PageMap, View, Config, OneHistory>,

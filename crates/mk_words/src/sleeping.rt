@@ -12,7 +12,7 @@ use std::time::Duration;
 /// What a gate word is while the gate is held.
 const HELD: u64 = 2;
 
-/// So many values has the half of a word that a sleep compares. What is slept on is always less.
+/// How many values there are of the half of a word that a sleep compares. What is slept on is always less.
 const HALF: u64 = 1 << 32;
 
 impl Words {
@@ -32,7 +32,7 @@ impl Words {
         self.table.shared.peek(self.index_in_table(word))
     }
 
-    /// Sleeps until the word's waker wakes, for at most this long, unless the word isn't any more as it was found.
+    /// Sleeps until it is woken, for at most this long, unless the word is no longer as it was found.
     fn sleep_on<R: Wait>(&self, rt: &R, word: TableWord, found: u64, at_most: Duration)
         requires named { IsOfTable self.now.config.pages word }
     {
@@ -41,7 +41,7 @@ impl Words {
         self.table.shared.park_timeout(rt, index, expected, at_most);
     }
 
-    /// Sleeps for at most this long, unless the turn is free. Nobody is woken where it is given.
+    /// Sleeps for at most this long, unless the turn is free. A `give` wakes nobody.
     pub fn sleep_on_turn<R: Wait>(&self, rt: &R, at_most: Duration) {
         let found = self.peek(TableWord::Turn);
         if found != 0 {
@@ -49,8 +49,8 @@ impl Words {
         }
     }
 
-    /// Sleeps for at most this long, unless the phase word's low bits aren't these. Who begins a cycle, wants its close
-    /// or says that all is over wakes those who sleep so.
+    /// Sleeps for at most this long, unless the phase word's low bits aren't these. A `begin`, a `want` and an `over`
+    /// wake those who sleep so.
     pub fn sleep_on_phase<R: Wait>(&self, rt: &R, phase: u64, at_most: Duration) {
         let word = TableWord::Named(Word::Phase);
         let found = self.peek(word);
@@ -59,7 +59,7 @@ impl Words {
         }
     }
 
-    /// Sleeps for at most this long, unless the caller's gate isn't held. Nobody is woken where it is opened.
+    /// Sleeps for at most this long, unless the caller's gate isn't held. An `open` wakes nobody.
     pub fn sleep_on_gate<R: Wait>(&self, rt: &R, caller: u64, at_most: Duration)
         requires { caller < self.now.config.callers }
     {

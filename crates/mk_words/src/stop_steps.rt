@@ -79,7 +79,7 @@ impl Turn {
         words.wake_markers();
     }
 
-    /// Says that all is over, where the host has the seats of all callers.
+    /// Announces that all is over, where the host has the seats of all callers.
     pub fn over(&mut self, words: &Words)
         requires one_table { self.old.pass.table ≡ words.now }
         requires enabled { IsEnabledTo self.old.pass step.Over }

@@ -91,7 +91,7 @@ fn perform_as<J: Making>(
     access_as::<J>(shared, token, index, by)
 }
 
-/// Makes a step that stores, and answers what the store found.
+/// Makes a step that stores, and returns what the store found.
 #[inline(always)]
 fn replace_as<J: Making>(
     words: &Words,
@@ -140,7 +140,7 @@ impl SeatToken {
         let _seat = &self.seat;
     }
 
-    /// The number of a caller, and 0 of another.
+    /// The caller's number, and 0 where the seat is no caller's.
     #[inline(always)]
     pub(crate) fn caller(&self) -> u64
         ensures { result ≡ caller_number self.now.seat }
@@ -188,7 +188,7 @@ impl TurnToken {
         let _seat = &self.seat;
     }
 
-    /// The number of a caller, and 0 of another.
+    /// The caller's number, and 0 where the seat is no caller's.
     #[inline(always)]
     pub(crate) fn caller(&self) -> u64
         ensures { result ≡ caller_number self.now.seat }
@@ -238,7 +238,7 @@ impl TurnToken {
         self.perform_among(words, words.config.pages, step, word, by)
     }
 
-    /// Makes a step that stores, and answers what the store found.
+    /// Makes a step that stores, and returns what the store found.
     #[inline(always)]
     pub(crate) fn replace(&mut self, words: &Words, step: Step, word: TableWord, value: u64) -> u64
         requires one_table { self.old.table ≡ words.now }

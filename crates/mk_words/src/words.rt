@@ -186,8 +186,8 @@ impl Words {
         shared.load::<Settle>(own, 0);
     }
 
-    /// Whether the turn looks free. It is no event, and promises nothing of the answer: who waits for the turn asks
-    /// it between two tries.
+    /// Whether the turn looks free. It is no event, and promises nothing of the answer: who waits for the turn looks
+    /// so between two tries.
     pub fn is_turn_free(&self, pass: &mut Pass) -> bool
         ensures { pass.new ≡ pass.old }
     {

@@ -14,7 +14,7 @@ use std::thread::{Threads, yield_now};
 /// How often one waits for a moment that doesn't come.
 const MOST_YIELDS: u64 = 10_000_000;
 
-/// What a pace is told of: an instruction that is about to run, or is answered, or a marker that scanned a cell.
+/// When a pace is called: an instruction is about to run, or is answered, or a marker scanned a cell.
 #[derive(Clone, Copy, PartialEq, Eq)]
 enum Moment {
     Before,
@@ -41,7 +41,7 @@ struct Hold {
     in_vain: AtomicBool,
 }
 
-/// Whether it comes to be set.
+/// Waits for it to be set, and returns whether it was.
 fn is_awaited(came: &AtomicBool) -> bool {
     for _yield in 0..MOST_YIELDS {
         if came.load(Ordering::SeqCst) {

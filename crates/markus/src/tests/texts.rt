@@ -1,4 +1,4 @@
-//! Texts, and the line that is said of each: the first fault, or none.
+//! Texts, and the line that is reported for each: the first fault, or none.
 
 use super::{ample, run};
 use std::alloc::{AllocError, Global};

@@ -46,7 +46,7 @@ fn names_among(alloc: Global, sort: Sort, items: &[Item]) -> Result<Vec<&Name>, 
     Ok(names)
 }
 
-/// The place of a name; after all of them, where it isn't among them.
+/// The place of a name among these; their count, where it isn't among them.
 fn number_of_name(names: &[&Name], name: &Name) -> usize
     ensures value { result ≡ number_of_name name.now (now_of names.now) }
     ensures within { result ≤ length names.now }

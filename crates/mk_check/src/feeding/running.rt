@@ -405,7 +405,7 @@ impl Running {
         self.at = at;
     }
 
-    /// The node where the script goes on that is at this one: after the end of a block it has left that.
+    /// The node where a script at this one goes on: at the end of a block, where it goes on after that.
     fn resumed_node(&self, tree: &Tree, at: usize) -> usize
         requires { at < length tree.now }
         ensures { result ≡ resumed_node tree.now (record self.now { at = at }) }
@@ -467,7 +467,7 @@ impl Running {
     }
 
     /// Takes an answer at which nothing is printed and runs on from the node after it to the next operation, if that
-    /// comes before anything is printed, with at most one block left and none begun. Says whether it comes so. No
+    /// comes before anything is printed, with at most one block left and none begun. Returns whether it does. No
     /// memory is taken.
     #[inline(always)]
     pub fn take_quietly(
