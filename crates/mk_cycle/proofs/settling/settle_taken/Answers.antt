@@ -3,7 +3,7 @@ use Rattle.mk_geom.specs.Addresses.{head_page_under}
 use Rattle.mk_geom.specs.Headers.{header_of}
 use Rattle.mk_cycle.proofs.FreeingSteps.{freed_free}
 use Rattle.mk_cycle.proofs.PageSteps.{page_at_once, page_then, same_header}
-use Rattle.mk_cycle.proofs.SettledPages.{free_cells_stay, head_before, none_at, settled_alike}
+use Rattle.mk_cycle.proofs.SettledPages.{free_cells_stay, head_before, none_at}
 use Rattle.mk_cycle.proofs.settling.settle_taken.Goals as goal
 
 pub release_cells-requires-clause-free : goal.release_cells-requires-clause-free
@@ -43,18 +43,7 @@ free_unused-requires-clause-none_at_head c =
     (head_before (header_of c.args.header) c.args.page))
     c.requires.settled
 
-pub held_on-held-requires-clause-free : goal.held_on-held-requires-clause-free
-held_on-held-requires-clause-free c =
-    freed_free _ _ c.free_unused.ensures.frees.frees
-    (freed_free _ _ c.release_cells.ensures.gives.frees.frees
-    (freed_free _ _ c.released_on-released.ensures.frees.frees c.requires.free))
-
 pub returns-clause-frees : goal.returns-clause-frees
 returns-clause-frees c =
     page_then c.args.page _ _ _ (page_at_once c.args.page _ _ c.released_on-released.ensures.frees)
-    (page_then c.args.page _ _ _ c.release_cells.ensures.gives.frees
-    (page_then c.args.page _ _ _ c.free_unused.ensures.frees
-    (page_at_once c.args.page _ _ c.held_on-held.ensures.frees)))
-
-pub returns-clause-settled : goal.returns-clause-settled
-returns-clause-settled c = settled_alike _ _ c.args.page c.held_on-held.ensures.frees c.free_unused.ensures.settled
+    (page_then c.args.page _ _ _ c.release_cells.ensures.gives.frees c.free_unused.ensures.frees)
