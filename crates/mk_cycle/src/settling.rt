@@ -61,7 +61,7 @@ fn settle_taken(turn: &mut Turn, words: &Words, page: u64, header: u64) -> Settl
     ensures few { result.held ≤ 64 }
 {
     let released = released_on(turn, words, page);
-    release_cells(turn, words, page, header);
+    release_cells(turn, words, page, header, released.count);
     free_unused(turn, words, page, head_page_under(header, page));
     let held = held_on(turn, page);
     Settled { released, held }

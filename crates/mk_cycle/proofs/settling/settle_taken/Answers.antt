@@ -1,6 +1,8 @@
 use Rattle.std.proofs.Common.{ℕ, ◌≤◌, sym, subst, ap, ◌∙◌}
 use Rattle.mk_geom.specs.Addresses.{head_page_under}
 use Rattle.mk_geom.specs.Headers.{header_of}
+use Rattle.mk_cycle.specs.declared.finishing.Released.{Released}
+use Rattle.mk_cycle.proofs.CountedPages.{told_alike}
 use Rattle.mk_cycle.proofs.FreeingSteps.{freed_free}
 use Rattle.mk_cycle.proofs.PageSteps.{page_at_once, page_then, same_header}
 use Rattle.mk_cycle.proofs.SettledPages.{free_cells_stay, head_before, none_at}
@@ -14,6 +16,13 @@ release_cells-requires-clause-header c =
     let first = c.released_on-released.ensures.frees in
     c.requires.header ∙ sym
     (same_header c.args.turn.now.pass c.released_on-released.new.turn.pass c.args.page (first.same c.args.page))
+
+pub release_cells-requires-clause-count : goal.release_cells-requires-clause-count
+release_cells-requires-clause-count c =
+    let first = c.released_on-released.ensures in
+    ap (λ (r : Released). r.count)
+    (first.exact
+    ∙ sym (told_alike c.args.turn.now.pass c.released_on-released.new.turn.pass c.args.page first.frees))
 
 pub release_cells-requires-clause-cells : goal.release_cells-requires-clause-cells
 release_cells-requires-clause-cells c =
