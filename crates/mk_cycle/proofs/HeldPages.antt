@@ -16,11 +16,10 @@ use Rattle.mk_geom.specs.PageUses.{PageUse, held_by_uses, held_by_use}
 use Rattle.mk_geom.specs.PageWords.{bits_of, use_of_page, use_under, uses_of_pages}
 use Rattle.mk_geom.specs.Storages.{free_page}
 use Rattle.mk_books.proofs.UsedBitLemmas.{length-bits_of}
-use Rattle.mk_words.specs.States.{PassState, now_of}
-use Rattle.mk_cycle.specs.Freeing.{GivesNothingBack, FreesPage, PageState}
+use Rattle.mk_words.specs.States.{PassState}
+use Rattle.mk_cycle.specs.Freeing.{FreesPage, PageState}
 use Rattle.mk_cycle.specs.HeldPages.{held_at}
 use Rattle.mk_cycle.specs.ReleasedPages.{sum_below}
-use Rattle.mk_cycle.proofs.PageSteps.{same_header}
 use Rattle.mk_cycle.proofs.SumsBelow.{sum_same}
 
 -- No page holds more than its words.
@@ -57,15 +56,6 @@ pub held_next : (pages : List Page) (n : ℕ) → n < length pages
 held_next pages n within =
     at_drop_more (λ rest. held_by_uses (uses_of_pages rest)) pages n free_page within
     ∙ sum_by-cons held_by_use (use_of_page (slice_index_or pages n free_page)) (uses_of_pages (drop (n + 1) pages))
-
--- What two looks say of a page.
-pub page_seen : (a b : PassState) (page header used : ℕ) → GivesNothingBack a b
-    → header ≡ header_at (now_of a).words page
-    → used ≡ used_at (now_of b).words page
-    → ◌≡◌ {A = Page} (record { header = header; used = used }) (page_of (now_of b).words page)
-page_seen a b page header used k head use_word =
-    ap (λ n. record { header = n; used = used }) (head ∙ sym (same_header a b page (k.same page)))
-    ∙ ap (λ n. record { header = header_at (now_of b).words page; used = n }) use_word
 
 -- what the first pages hold, where one more is settled
 pub held_more : (p q : PassState) (page all here : ℕ) → FreesPage page p q → all ≡ sum_below page (held_at p)

@@ -177,10 +177,6 @@ still_settled p q page r k lt h =
     (same_used p q (head_page (now_of p).words r) head_same)
     ∙ h
 
--- and while nothing is given back
-pub settled_alike : (p q : PassState) (page : ℕ) → GivesNothingBack p q → IsSettledPage p page → IsSettledPage q page
-settled_alike p q page k h = still_settled p q (page + 1) page (page_at_once (page + 1) p q k) (omega arith) h
-
 -- what two looks say of the released cells
 pub marked_gone : (a b : PassState) (page quarantine marks : ℕ) → InTurn a → GivesNothingBack a b
     → quarantine ≡ quarantine_word (slice_index (now_of a).words.freed page)

@@ -16,7 +16,7 @@ ghost use Rattle.mk_cycle.specs.TurnKeeps.{InTurn};
 use crate::bits::FREED_END;
 use crate::finishing::Released;
 use crate::turn_steps;
-use mk_books::{Page, held_by_pages};
+use mk_books::held_by_pages;
 use mk_core::{Word, without, words_under};
 use mk_words::{Turn, Words};
 
@@ -35,24 +35,6 @@ fn released_cells(snapshot: u64, marks: u64, header: u64) -> Released
     }
 }
 
-/// Looks at a word that is no register, in a table of this many pages, while nothing is given
-/// back.
-#[inline(always)]
-pub(crate) fn look_among(turn: &mut Turn, words: &Words, pages: u64, x: Word) -> u64
-    requires one_table { turn.old.pass.table ≡ words.now }
-    requires pages { pages ≡ words.now.config.pages }
-    requires free { IsFreeForCycle turn.old.pass }
-    requires phase { IsAtPhase turn.old.pass 4 }
-    requires in_range { is_word words.now.config x ≡ true }
-    requires no_register { is_register x ≡ false }
-    ensures op { turn.new.op ≡ turn.old.op }
-    ensures frees { GivesNothingBack turn.old.pass turn.new.pass }
-    ensures is { InTurn turn.new.pass }
-    ensures reads { result ≡ named_word (now_of turn.new.pass).words x }
-{
-    turn_steps::look_among(turn, words, pages, x)
-}
-
 /// Looks at a word that is no register, while nothing is given back.
 pub(crate) fn look(turn: &mut Turn, words: &Words, x: Word) -> u64
     requires one_table { turn.old.pass.table ≡ words.now }
@@ -65,7 +47,7 @@ pub(crate) fn look(turn: &mut Turn, words: &Words, x: Word) -> u64
     ensures is { InTurn turn.new.pass }
     ensures reads { result ≡ named_word (now_of turn.new.pass).words x }
 {
-    look_among(turn, words, words.pages(), x)
+    turn_steps::look(turn, words, x)
 }
 
 /// What was released on a page with this snapshot.
@@ -107,22 +89,12 @@ pub(crate) fn released_on(turn: &mut Turn, words: &Words, page: u64) -> Released
     released_of(turn, words, page, snapshot)
 }
 
-/// How many words a page holds. The used word of a free page isn't looked at.
-pub(crate) fn held_on(turn: &mut Turn, words: &Words, page: u64) -> u64
-    requires one_table { turn.old.pass.table ≡ words.now }
-    requires free { IsFreeForCycle turn.old.pass }
-    requires phase { IsAtPhase turn.old.pass 4 }
-    requires within { page < words.now.config.pages }
-    ensures op { turn.new.op ≡ turn.old.op }
-    ensures frees { GivesNothingBack turn.old.pass turn.new.pass }
-    ensures exact { result ≡ held_at turn.new.pass page }
+/// How many words a page holds. The page map knows it.
+pub(crate) fn held_on(turn: &Turn, page: u64) -> u64
+    requires within { page < turn.now.pass.table.config.pages }
+    ensures exact { result ≡ held_at turn.now.pass page }
     ensures few { result ≤ 64 }
 {
-    let header = look(turn, words, Word::Head(page));
-    if header == 0 {
-        return 0;
-    }
-    let used = look(turn, words, Word::Used(page));
-    let held = held_by_pages(&[Page { header, used }]);
+    let held = held_by_pages(&[turn.page(page)]);
     held as u64
 }

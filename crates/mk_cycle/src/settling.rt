@@ -13,8 +13,7 @@ ghost use Rattle.mk_cycle.specs.ReleasedPages.{IsOfOnePage, released_below, rele
 use crate::counting::{held_on, released_on};
 use crate::finishing::Released;
 use crate::freeing::release_cells;
-use crate::turn_steps::{self, free_head};
-use mk_core::Word;
+use crate::turn_steps::{free_head, known_page, next_in_use};
 use mk_geom::head_page_under;
 use mk_words::{Turn, Words};
 
@@ -39,7 +38,7 @@ fn free_unused(turn: &mut Turn, words: &Words, page: u64, head: u64)
     ensures frees { FreesPage page turn.old.pass turn.new.pass }
     ensures settled { IsSettledPage turn.new.pass page }
 {
-    if turn_steps::look(turn, words, Word::Used(head)) == 0 {
+    if known_page(turn, head).used == 0 {
         free_head(turn, words, page);
     }
 }
@@ -62,9 +61,9 @@ fn settle_taken(turn: &mut Turn, words: &Words, page: u64, header: u64) -> Settl
     ensures few { result.held ≤ 64 }
 {
     let released = released_on(turn, words, page);
-    release_cells(turn, words, page, header);
+    release_cells(turn, words, page, header, released.count);
     free_unused(turn, words, page, head_page_under(header, page));
-    let held = held_on(turn, words, page);
+    let held = held_on(turn, page);
     Settled { released, held }
 }
 
@@ -89,8 +88,8 @@ pub(crate) fn settle_pages(turn: &mut Turn, words: &Words) -> Settled
     };
     let mut held: u64 = 0;
     let mut from = 0;
-    while let Some(page) = turn_steps::next_in_use(turn, from) {
-        let header = turn.page(page).header;
+    while let Some(page) = next_in_use(turn, from) {
+        let header = known_page(turn, page).header;
         let here = settle_taken(turn, words, page, header);
         all.count += here.released.count;
         all.words += here.released.words;

@@ -7,7 +7,7 @@ ghost use Rattle.mk_core.specs.Cells.{is_released_cell, pointed_cell};
 ghost use Rattle.mk_core.specs.TurnConditions.{gives_back, drops, empties};
 ghost use Rattle.mk_core.specs.Moments.{is_held, is_number_of};
 ghost use Rattle.mk_core.specs.Ranges.{is_word};
-ghost use Rattle.mk_core.specs.Words.{named_word, quarantine_word};
+ghost use Rattle.mk_core.specs.Words.{named_word, page_of, quarantine_word};
 ghost use Rattle.mk_page_map.specs.Members.{IsNext, is_in_use};
 ghost use Rattle.mk_words.specs.States.{now_of};
 ghost use Rattle.mk_words.specs.TurnSteps.{Acts};
@@ -17,6 +17,7 @@ ghost use Rattle.mk_cycle.specs.Freeing.{IsSettledPage};
 ghost use Rattle.mk_cycle.specs.TurnKeeps.{InTurn};
 
 use mk_core::{Tally, Word};
+use mk_geom::Page;
 use mk_words::{Turn, Words};
 
 /// Looks at a word that is no register, in a table of this many pages.
@@ -62,6 +63,17 @@ pub(crate) fn next_in_use(turn: &Turn, from: u64) -> Option<u64>
 {
     turn.is_in_order();
     turn.next_in_use(from)
+}
+
+/// The header and used word of a page. The page map knows them.
+#[inline(always)]
+pub(crate) fn known_page(turn: &Turn, page: u64) -> Page
+    requires within { page < turn.now.pass.table.config.pages }
+    ensures is { InTurn turn.now.pass }
+    ensures page { result ≡ page_of (now_of turn.now.pass).words page }
+{
+    turn.is_in_order();
+    turn.page(page)
 }
 
 /// Clears a page's marks.

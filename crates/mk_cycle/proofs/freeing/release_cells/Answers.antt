@@ -1,6 +1,7 @@
 use Rattle.std.proofs.Common.{sym, ◌∙◌}
+use Rattle.std.proofs.lemmas.Nat.{zero_from_ones}
 use Rattle.mk_cycle.proofs.FreeingSteps.{freed_free, freed_phase}
-use Rattle.mk_cycle.proofs.GivingSteps.{look_frees, none_then}
+use Rattle.mk_cycle.proofs.GivingSteps.{look_frees, none_at_once, none_then}
 use Rattle.mk_cycle.proofs.PageSteps.{same_header}
 use Rattle.mk_cycle.proofs.SettledPages.{free_cells_stay, gives_none, gives_then, marked_gone}
 use Rattle.mk_cycle.proofs.freeing.release_cells.Goals as goal
@@ -53,24 +54,16 @@ give_back-requires-clause-cells c =
     let both = none_then _ _ _ first next in
     free_cells_stay _ _ c.args.page both.frees (both.same c.args.page) c.requires.cells
 
-pub returns-then-gone-ne0-clause-gives : goal.returns-then-gone-ne0-clause-gives
-returns-then-gone-ne0-clause-gives c =
+pub returns-then-count-eq0-clause-gives : goal.returns-then-count-eq0-clause-gives
+returns-then-count-eq0-clause-gives c =
+    gives_none c.args.page _ _ (none_at_once c.args.turn.now.pass)
+    (zero_from_ones _ (sym c.requires.count ∙ c.if-count-eq0.true))
+
+pub returns-clause-gives : goal.returns-clause-gives
+returns-clause-gives c =
     let first = look_frees _ _ c.look-quarantine.ensures.was c.look-quarantine.ensures.is c.requires.free
     c.requires.phase _ c.look-quarantine.ensures.acts in
     let free = freed_free _ _ first.frees c.requires.free in
     let next = look_frees _ _ c.look-marks.ensures.was c.look-marks.ensures.is free
     (freed_phase _ _ first.frees c.requires.phase) _ c.look-marks.ensures.acts in
     gives_then c.args.page _ _ _ (none_then _ _ _ first next) c.give_back.ensures.gives
-
-pub returns-else-gone-ne0-clause-gives : goal.returns-else-gone-ne0-clause-gives
-returns-else-gone-ne0-clause-gives c =
-    let first = look_frees _ _ c.look-quarantine.ensures.was c.look-quarantine.ensures.is c.requires.free
-    c.requires.phase _ c.look-quarantine.ensures.acts in
-    let free = freed_free _ _ first.frees c.requires.free in
-    let next = look_frees _ _ c.look-marks.ensures.was c.look-marks.ensures.is free
-    (freed_phase _ _ first.frees c.requires.phase) _ c.look-marks.ensures.acts in
-    gives_none c.args.page _ _ (none_then _ _ _ first next)
-    (sym (c.without-gone.ensures
-    ∙ marked_gone c.look-quarantine.new.turn.pass c.look-marks.new.turn.pass c.args.page c.look-quarantine.result
-    c.look-marks.result
-    c.look-quarantine.ensures.is next c.look-quarantine.ensures.reads c.look-marks.ensures.reads) ∙ c.if-gone-ne0.false)

@@ -8,7 +8,7 @@ use Rattle.mk_cycle.proofs.FreeingSteps.{freed_table}
 use Rattle.mk_cycle.proofs.HeldPages.{held_all}
 use Rattle.mk_cycle.proofs.PageByPage.{AreSettledBelow, settled_more, settled_none, settled_to}
 use Rattle.mk_cycle.proofs.settling.settle_pages.Goals as goal
-use Rattle.mk_cycle.proofs.settling.settle_pages.Goals.{After-page-header, In_default}
+use Rattle.mk_cycle.proofs.settling.settle_pages.Goals.{After-known_page-header, In_default}
 
 pub loop-page-init : goal.loop-page-init
 loop-page-init c =
@@ -23,7 +23,7 @@ loop-page-init c =
     }
 
 -- up to the next page in use
-to_next : (c : After-page-header)
+to_next : (c : After-known_page-header)
     → AreSettledBelow c.args.turn.now.pass c.loop-page.turn.pass c.args.words.now.config.pages c.in-Some.page
     c.loop-page.all c.loop-page.held
 to_next c =
@@ -33,7 +33,7 @@ to_next c =
 
 pub settle_taken-here-requires-clause-settled : goal.settle_taken-here-requires-clause-settled
 settle_taken-here-requires-clause-settled c =
-    (to_next (goal.at.settle_taken-here-requires-clause-settled c).After-page-header).settled
+    (to_next (goal.at.settle_taken-here-requires-clause-settled c).After-known_page-header).settled
 
 pub loop-page-preserved : goal.loop-page-preserved
 loop-page-preserved c =
@@ -43,7 +43,7 @@ loop-page-preserved c =
     let q : PassState = c.loop-page.turn.pass in
     let n : ℕ = c.in-Some.page in
     let pages : ℕ = c.args.words.now.config.pages in
-    let before = to_next (goal.at.loop-page-preserved c).After-page-header in
+    let before = to_next (goal.at.loop-page-preserved c).After-known_page-header in
     let after = c.in-Some.ensures.next.0 in
     let same_pages : q.table.config.pages ≡ pages =
     ap (λ (w : WordsState). w.config.pages) (freed_table p q c.args.words.now i.settled.frees c.requires.one_table) in

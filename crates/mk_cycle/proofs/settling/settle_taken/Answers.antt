@@ -1,9 +1,11 @@
 use Rattle.std.proofs.Common.{ℕ, ◌≤◌, sym, subst, ap, ◌∙◌}
 use Rattle.mk_geom.specs.Addresses.{head_page_under}
 use Rattle.mk_geom.specs.Headers.{header_of}
+use Rattle.mk_cycle.specs.declared.finishing.Released.{Released}
+use Rattle.mk_cycle.proofs.CountedPages.{told_alike}
 use Rattle.mk_cycle.proofs.FreeingSteps.{freed_free}
 use Rattle.mk_cycle.proofs.PageSteps.{page_at_once, page_then, same_header}
-use Rattle.mk_cycle.proofs.SettledPages.{free_cells_stay, head_before, none_at, settled_alike}
+use Rattle.mk_cycle.proofs.SettledPages.{free_cells_stay, head_before, none_at}
 use Rattle.mk_cycle.proofs.settling.settle_taken.Goals as goal
 
 pub release_cells-requires-clause-free : goal.release_cells-requires-clause-free
@@ -14,6 +16,13 @@ release_cells-requires-clause-header c =
     let first = c.released_on-released.ensures.frees in
     c.requires.header ∙ sym
     (same_header c.args.turn.now.pass c.released_on-released.new.turn.pass c.args.page (first.same c.args.page))
+
+pub release_cells-requires-clause-count : goal.release_cells-requires-clause-count
+release_cells-requires-clause-count c =
+    let first = c.released_on-released.ensures in
+    ap (λ (r : Released). r.count)
+    (first.exact
+    ∙ sym (told_alike c.args.turn.now.pass c.released_on-released.new.turn.pass c.args.page first.frees))
 
 pub release_cells-requires-clause-cells : goal.release_cells-requires-clause-cells
 release_cells-requires-clause-cells c =
@@ -43,18 +52,7 @@ free_unused-requires-clause-none_at_head c =
     (head_before (header_of c.args.header) c.args.page))
     c.requires.settled
 
-pub held_on-held-requires-clause-free : goal.held_on-held-requires-clause-free
-held_on-held-requires-clause-free c =
-    freed_free _ _ c.free_unused.ensures.frees.frees
-    (freed_free _ _ c.release_cells.ensures.gives.frees.frees
-    (freed_free _ _ c.released_on-released.ensures.frees.frees c.requires.free))
-
 pub returns-clause-frees : goal.returns-clause-frees
 returns-clause-frees c =
     page_then c.args.page _ _ _ (page_at_once c.args.page _ _ c.released_on-released.ensures.frees)
-    (page_then c.args.page _ _ _ c.release_cells.ensures.gives.frees
-    (page_then c.args.page _ _ _ c.free_unused.ensures.frees
-    (page_at_once c.args.page _ _ c.held_on-held.ensures.frees)))
-
-pub returns-clause-settled : goal.returns-clause-settled
-returns-clause-settled c = settled_alike _ _ c.args.page c.held_on-held.ensures.frees c.free_unused.ensures.settled
+    (page_then c.args.page _ _ _ c.release_cells.ensures.gives.frees c.free_unused.ensures.frees)
