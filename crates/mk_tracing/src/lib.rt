@@ -6,6 +6,7 @@ mod closing;
 mod dirty;
 mod grays;
 mod laws;
+mod noting;
 mod roots;
 mod stepping;
 mod tracing;

@@ -6,8 +6,8 @@ ghost use Rattle.mk_core.specs.Words.{named_word, register_word};
 ghost use Rattle.mk_tracing.specs.Grays.{GlobalIsWell, RegistersAreWell, MarksMore, MarksOn, RootsPointWell};
 ghost use Rattle.mk_tracing.specs.Stops.{IsWanted, is_root, still_words};
 
+use crate::noting::mark_and_note;
 use crate::stepping::look_at_root;
-use crate::values::mark_value;
 use crate::worklist::Worklist;
 use mk_core::Word;
 use mk_words::{Stopped, Words};
@@ -17,10 +17,11 @@ const REGISTERS: u64 = 8;
 
 const GLOBALS: u64 = 64;
 
-/// Looks at a root, and marks what its value points into.
+/// Looks at a root, and marks what its value points into. The table is of this many pages.
 #[inline(always)]
-fn mark_root(words: &Words, stop: &mut Stopped, work: &mut Worklist, x: Word)
+fn mark_root(words: &Words, stop: &mut Stopped, work: &mut Worklist, pages: u64, x: Word)
     requires one_table { stop.old.pass.table ≡ words.now }
+    requires pages { pages ≡ words.now.config.pages }
     requires wanted { IsWanted stop.old.pass }
     requires word { is_word words.now.config x ≡ true }
     requires root { is_root x ≡ true }
@@ -29,11 +30,8 @@ fn mark_root(words: &Words, stop: &mut Stopped, work: &mut Worklist, x: Word)
     ensures well { points_well words.now.config.pages (still_words stop.new.pass)
         (named_word (still_words stop.old.pass) x) ≡ true }
 {
-    let value = look_at_root(words, stop, x);
-    let marked = mark_value(words, stop, value);
-    if let Some(cell) = marked {
-        work.push(cell);
-    }
+    let value = look_at_root(words, stop, pages, x);
+    mark_and_note(words, stop, work, pages, value);
 }
 
 /// Marks what a caller's registers point into.
@@ -45,8 +43,9 @@ fn mark_registers_of(words: &Words, stop: &mut Stopped, work: &mut Worklist, cal
     ensures more { MarksMore (still_words stop.old.pass) (still_words stop.new.pass) }
     ensures well { RegistersAreWell words.now.config stop.old.pass stop.new.pass caller }
 {
+    let pages = words.pages();
     for register in 0..REGISTERS {
-        mark_root(words, stop, work, Word::Reg { caller, register });
+        mark_root(words, stop, work, pages, Word::Reg { caller, register });
     }
 }
 
@@ -72,8 +71,9 @@ fn mark_globals(words: &Words, stop: &mut Stopped, work: &mut Worklist)
     ensures more { MarksMore (still_words stop.old.pass) (still_words stop.new.pass) }
     ensures well { (g : ℕ) → g < 64 → GlobalIsWell words.now.config stop.old.pass stop.new.pass g }
 {
+    let pages = words.pages();
     for global in 0..GLOBALS {
-        mark_root(words, stop, work, Word::Global(global));
+        mark_root(words, stop, work, pages, Word::Global(global));
     }
 }
 

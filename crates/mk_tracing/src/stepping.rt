@@ -55,9 +55,11 @@ pub(crate) fn next_in_use(stop: &Stopped, from: u64) -> Option<u64>
     stop.next_in_use(from)
 }
 
-/// Looks at a register or a global, whose value is then the hand.
-pub(crate) fn look_at_root(words: &Words, stop: &mut Stopped, x: Word) -> u64
+/// Looks at a register or a global, whose value is then the hand, in a table of this many pages.
+#[inline(always)]
+pub(crate) fn look_at_root(words: &Words, stop: &mut Stopped, pages: u64, x: Word) -> u64
     requires one_table { stop.old.pass.table ≡ words.now }
+    requires pages { pages ≡ words.now.config.pages }
     requires wanted { IsWanted stop.old.pass }
     requires word { is_word words.now.config x ≡ true }
     requires root { is_root x ≡ true }
@@ -67,12 +69,22 @@ pub(crate) fn look_at_root(words: &Words, stop: &mut Stopped, x: Word) -> u64
     ensures found { result ≡ named_word (still_words stop.old.pass) x }
 {
     stop.is_in_order();
-    stop.look(words, x)
+    stop.look_among(words, pages, x)
 }
 
-/// Looks at a word of a gray cell of this many words, whose value is then the hand, if it isn't 0.
-pub(crate) fn look_at_word(words: &Words, stop: &mut Stopped, cell: Cell, size: u64, i: u64) -> u64
+/// Looks at a word of a gray cell of this many words, whose value is then the hand, if it isn't 0. The table is of this
+/// many pages.
+#[inline(always)]
+pub(crate) fn look_at_word(
+    words: &Words,
+    stop: &mut Stopped,
+    pages: u64,
+    cell: Cell,
+    size: u64,
+    i: u64,
+) -> u64
     requires one_table { stop.old.pass.table ≡ words.now }
+    requires pages { pages ≡ words.now.config.pages }
     requires wanted { IsWanted stop.old.pass }
     requires gray { IsGray words.now.config.pages (still_words stop.old.pass) cell }
     requires scanned { has_no_pointers (header_in (still_words stop.old.pass) cell.page) ≡ false }
@@ -86,7 +98,7 @@ pub(crate) fn look_at_word(words: &Words, stop: &mut Stopped, cell: Cell, size: 
 {
     stop.is_in_order();
     let word = PAGE_WORDS * cell.page + cell.index * size + i;
-    stop.look(words, Word::Heap(word))
+    stop.look_among(words, pages, Word::Heap(word))
 }
 
 /// Marks the cell into which the hand points.

@@ -6,8 +6,8 @@ ghost use Rattle.mk_tracing.specs.Grays.{BlackensOne, ColoursMore, HasNoGray, Is
 ghost use Rattle.mk_tracing.specs.Stops.{IsWanted, still_words};
 
 use crate::grays::next_gray;
+use crate::noting::mark_and_note;
 use crate::stepping::{blacken_cell, look_at, look_at_word};
-use crate::values::mark_value;
 use crate::worklist::Worklist;
 use mk_core::{Word, has_no_pointers, words_under};
 use mk_geom::Cell;
@@ -24,12 +24,10 @@ fn scan(words: &Words, stop: &mut Stopped, work: &mut Worklist, cell: Cell, size
     ensures more { MarksMore (still_words stop.old.pass) (still_words stop.new.pass) }
     ensures well { words_point_well words.now.config.pages (still_words stop.new.pass) cell ≡ true }
 {
+    let pages = words.pages();
     for i in 0..size {
-        let value = look_at_word(words, stop, cell, size, i);
-        let marked = mark_value(words, stop, value);
-        if let Some(found) = marked {
-            work.push(found);
-        }
+        let value = look_at_word(words, stop, pages, cell, size, i);
+        mark_and_note(words, stop, work, pages, value);
     }
 }
 

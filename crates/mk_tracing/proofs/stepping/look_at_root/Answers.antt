@@ -6,20 +6,20 @@ use Rattle.mk_tracing.proofs.Stilled.{root_hand}
 use Rattle.mk_tracing.proofs.StopSteps.{on_root}
 use Rattle.mk_tracing.proofs.stepping.look_at_root.Goals as goal
 
-pub look-requires-clause-enabled : goal.look-requires-clause-enabled
-look-requires-clause-enabled c =
+pub look_among-requires-clause-enabled : goal.look_among-requires-clause-enabled
+look_among-requires-clause-enabled c =
     may_look c.args.stop.now.pass c.requires.wanted (c.is_in_order.ensures.turn.holds, c.is_in_order.ensures.gates)
     c.args.x
     (subst (λ (t : WordsState). is_word t.config c.args.x ≡ true) (sym c.requires.one_table) c.requires.word)
 
 pub returns-clause-on : goal.returns-clause-on
 returns-clause-on c =
-    on_root c.args.stop.now c.look.new.self c.requires.wanted
-    (c.is_in_order.ensures.turn.holds, c.is_in_order.ensures.gates) c.is_in_order.ensures.own c.look.ensures.op c.args.x
-    c.look.ensures.acts c.requires.root
+    on_root c.args.stop.now c.look_among.new.self c.requires.wanted
+    (c.is_in_order.ensures.turn.holds, c.is_in_order.ensures.gates) c.is_in_order.ensures.own c.look_among.ensures.op c.args.x
+    c.look_among.ensures.acts c.requires.root
 
 pub returns-clause-hand : goal.returns-clause-hand
 returns-clause-hand c =
-    root_hand c.args.stop.now.pass c.look.new.self.pass c.requires.wanted
-    (c.is_in_order.ensures.turn.holds, c.is_in_order.ensures.gates) c.args.x c.look.ensures.acts c.look.result
-    c.look.ensures.finds c.requires.root
+    root_hand c.args.stop.now.pass c.look_among.new.self.pass c.requires.wanted
+    (c.is_in_order.ensures.turn.holds, c.is_in_order.ensures.gates) c.args.x c.look_among.ensures.acts c.look_among.result
+    c.look_among.ensures.finds c.requires.root

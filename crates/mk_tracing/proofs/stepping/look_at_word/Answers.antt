@@ -12,8 +12,8 @@ use Rattle.mk_tracing.proofs.Stilled.{look_finds}
 use Rattle.mk_tracing.proofs.StopSteps.{on_word, gray_word, word_named, word_hand, word_near}
 use Rattle.mk_tracing.proofs.stepping.look_at_word.Goals as goal
 
-pub look-requires-clause-enabled : goal.look-requires-clause-enabled
-look-requires-clause-enabled c =
+pub look_among-requires-clause-enabled : goal.look_among-requires-clause-enabled
+look_among-requires-clause-enabled c =
     let p = c.args.stop.now.pass in
     let gray : IsGray p.table.config.pages (still_words p) c.args.cell =
     subst (λ (t : WordsState). IsGray t.config.pages (still_words p) c.args.cell)
@@ -61,42 +61,42 @@ returns-clause-on c =
     let gray : IsGray p.table.config.pages (still_words p) c.args.cell =
     subst (λ (t : WordsState). IsGray t.config.pages (still_words p) c.args.cell)
     (sym c.requires.one_table) c.requires.gray in
-    on_word c.args.stop.now c.look.new.self c.requires.wanted
-    (c.is_in_order.ensures.turn.holds, c.is_in_order.ensures.gates) c.is_in_order.ensures.own c.look.ensures.op
+    on_word c.args.stop.now c.look_among.new.self c.requires.wanted
+    (c.is_in_order.ensures.turn.holds, c.is_in_order.ensures.gates) c.is_in_order.ensures.own c.look_among.ensures.op
     (first_word (still_words p) c.args.cell + c.args.i)
     (subst (λ k. Acts p (step.Look (word.Heap (64 * c.args.cell.page + c.args.cell.index * k + c.args.i)))
-    c.look.new.self.pass) c.requires.size c.look.ensures.acts)
+    c.look_among.new.self.pass) c.requires.size c.look_among.ensures.acts)
     (gray_word p.table.config.pages (still_words p) c.args.cell c.args.i gray
     (subst (λ k. c.args.i < k) c.requires.size c.requires.within))
 
 pub returns-clause-found : goal.returns-clause-found
 returns-clause-found c =
     let p = c.args.stop.now.pass in
-    look_finds p c.look.new.self.pass c.requires.wanted (c.is_in_order.ensures.turn.holds, c.is_in_order.ensures.gates)
+    look_finds p c.look_among.new.self.pass c.requires.wanted (c.is_in_order.ensures.turn.holds, c.is_in_order.ensures.gates)
     (word.Heap (first_word (still_words p) c.args.cell + c.args.i))
     (subst (λ k. Acts p (step.Look (word.Heap (64 * c.args.cell.page + c.args.cell.index * k + c.args.i)))
-    c.look.new.self.pass) c.requires.size c.look.ensures.acts)
-    c.look.result
+    c.look_among.new.self.pass) c.requires.size c.look_among.ensures.acts)
+    c.look_among.result
     (subst (λ k. Finds p (step.Look (word.Heap (64 * c.args.cell.page + c.args.cell.index * k + c.args.i)))
-    c.look.result c.look.new.self.pass) c.requires.size c.look.ensures.finds)
+    c.look_among.result c.look_among.new.self.pass) c.requires.size c.look_among.ensures.finds)
     refl refl
 
 pub returns-clause-hand : goal.returns-clause-hand
 returns-clause-hand c =
     let p = c.args.stop.now.pass in
-    let q = c.look.new.self.pass in
+    let q = c.look_among.new.self.pass in
     let n : ℕ = first_word (still_words p) c.args.cell + c.args.i in
     let gray : IsGray p.table.config.pages (still_words p) c.args.cell =
     subst (λ (t : WordsState). IsGray t.config.pages (still_words p) c.args.cell)
     (sym c.requires.one_table) c.requires.gray in
     let a : Acts p (step.Look (word.Heap n)) q =
     subst (λ k. Acts p (step.Look (word.Heap (64 * c.args.cell.page + c.args.cell.index * k + c.args.i))) q)
-    c.requires.size c.look.ensures.acts in
-    let f : Finds p (step.Look (word.Heap n)) c.look.result q =
-    subst (λ k. Finds p (step.Look (word.Heap (64 * c.args.cell.page + c.args.cell.index * k + c.args.i))) c.look.result
-    q) c.requires.size c.look.ensures.finds in
+    c.requires.size c.look_among.ensures.acts in
+    let f : Finds p (step.Look (word.Heap n)) c.look_among.result q =
+    subst (λ k. Finds p (step.Look (word.Heap (64 * c.args.cell.page + c.args.cell.index * k + c.args.i))) c.look_among.result
+    q) c.requires.size c.look_among.ensures.finds in
     word_hand p c.is_in_order.ensures.history c.args.cell c.args.i gray c.requires.scanned
     (subst (λ k. c.args.i < k) c.requires.size c.requires.within)
-    q c.requires.wanted (c.is_in_order.ensures.turn.holds, c.is_in_order.ensures.gates) c.look.result a f
+    q c.requires.wanted (c.is_in_order.ensures.turn.holds, c.is_in_order.ensures.gates) c.look_among.result a f
     (look_finds p q c.requires.wanted (c.is_in_order.ensures.turn.holds, c.is_in_order.ensures.gates)
-    (word.Heap n) a c.look.result f refl refl)
+    (word.Heap n) a c.look_among.result f refl refl)

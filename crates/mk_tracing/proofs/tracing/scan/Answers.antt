@@ -35,20 +35,20 @@ loop-i-preserved c =
     let pages : ℕ = c.args.words.now.config.pages in
     let w = still_words c.args.stop.now.pass in
     let v = still_words c.loop-i.stop.pass in
-    let x = still_words c.mark_value-marked.new.stop.pass in
+    let x = still_words c.mark_and_note.new.stop.pass in
     let more : MarksMore v x = subst (λ (y : Words). MarksMore y x) c.look_at_word-value.ensures.words
-    c.mark_value-marked.ensures.more in
+    c.mark_and_note.ensures.more in
     record {
-      on = on_then c.args.stop.now c.look_at_word-value.new.stop c.mark_value-marked.new.stop
+      on = on_then c.args.stop.now c.look_at_word-value.new.stop c.mark_and_note.new.stop
           (on_then c.args.stop.now c.loop-i.stop c.look_at_word-value.new.stop c.loop-i.invariant.on
           c.look_at_word-value.ensures.on)
-          c.mark_value-marked.ensures.on;
+          c.mark_and_note.ensures.on;
       more = more_then w v x c.loop-i.invariant.more more;
       well = values_then pages v x (λ j. slice_index w.heap (first_word w c.args.cell + j)) c.loop-i.i more
           c.loop-i.invariant.well
           (subst (λ n. points_well pages x n ≡ true) (c.look_at_word-value.ensures.found
           ∙ cell_kept w v c.args.cell c.loop-i.i c.loop-i.invariant.more)
-          c.mark_value-marked.ensures.well);
+          c.mark_and_note.ensures.well);
     }
 
 pub returns-clause-well : goal.returns-clause-well
