@@ -26,8 +26,15 @@ invariant_of-self c =
       turn = still_turn t.pass s f.new.self f.ensures.told.makes f.ensures.own f.ensures.history t.op refl
           c.self.invariant.turn;
       knows = knows_still t.pass s f.new.self a t.cell refl refl c.self.invariant.knows;
-      shows = shows_head t.pass c.args.page c.args.v f.new.self a t.map c.header_stored.new.self c.header_stored.ensures
-          c.self.invariant.shows;
+      shows = shows_head t.pass c.args.page c.args.v f.new.self
+          (record { acts = a; own = f.ensures.own; history = f.ensures.history; holds = c.self.invariant.turn.holds })
+          t.map c.header_stored.new.self
+          (record {
+            shows = c.header_stored.ensures.shows;
+            freed = c.header_stored.ensures.freed;
+            others = c.header_stored.ensures.others;
+          })
+          c.header_stored.requires c.self.invariant.shows;
     }
 
 pub returns-clause-acts : goal.returns-clause-acts
