@@ -74,7 +74,7 @@ pub record Turns (p : PassState) (s : Step) (q : PassState) : Type 0 where
   pub holds : Holds p.table.config (now_of p) p.seat
 
 module _ (p : PassState) (s : Step) (q : PassState) (t : Turns p s q) where
-  a : Acts p s q
+  abbrev a : Acts p s q
   a = t.acts
 
   history : IsHistory p.table.config (p.seen ++ a.makes.others ++ event_of p s ∷ [])
@@ -87,7 +87,7 @@ module _ (p : PassState) (s : Step) (q : PassState) (t : Turns p s q) where
       (earlier_part_is_history p.table.config (p.seen ++ a.makes.others) (event_of p s ∷ []) history)
       (others_own p.seats p.seat a.makes.others t.own a.makes.of_others) t.holds m
 
-  after : Words
+  abbrev after : Words
   after = (Behind p.table.config (world_at a.makes).now p.seat s).words
 
   map_now : (map : KnownPages) → IsMapOf map after → IsMapOf map (now_of q).words

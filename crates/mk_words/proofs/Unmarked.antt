@@ -3,7 +3,7 @@ use Rattle.std.proofs.Common.{◌≡◌, ◌≢◌, ℕ, zero, suc, ◌-◌, ◌
 use Rattle.std.proofs.Common.{ap, subst, inl, inr, arith}
 use Rattle.std.specs.Prelude.{◌^◌, ◌&&◌, ◌==◌, Option, Some, None, is_some, is_none, nat_lt, not, slice_index, slice_set}
 use Rattle.std.specs.Prelude.{if◌then◌else◌}
-use Rattle.std.proofs.lemmas.Bool.{cases_Bool, cases_eq, cases_lt, and_parts, eqb-true, true≢false, not-true}
+use Rattle.std.proofs.lemmas.Bool.{cases_Bool, cases_eq, cases_lt, and_parts, eqb-true, ltb-true, true≢false, not-true}
 use Rattle.std.proofs.lemmas.List.{get_or-set_other, get_or-set_same, set_past}
 use Rattle.mk_geom.specs.declared.addresses.Cell.{Cell}
 use Rattle.mk_geom.specs.declared.headers.Header.{Header}
@@ -32,7 +32,6 @@ use Rattle.mk_core.specs.Order.{group_of}
 use Rattle.mk_core.specs.Readings.{WordsTellWhatStands}
 use Rattle.mk_core.specs.StopConditions.{blackens, is_attending, may_black, may_turn_black, none_attends}
 use Rattle.mk_core.specs.Words.{Words, header_at, phase_of}
-use Rattle.mk_core.proofs.AllBelow.{all_below_more_is, all_below_zero_is}
 use Rattle.mk_core.proofs.Conditions.{enabled_meets}
 use Rattle.mk_core.proofs.Histories.{last_enabled}
 use Rattle.mk_core.proofs.HistoryParts.{earlier_part_is_history}
@@ -114,12 +113,14 @@ black_none c w p v k bare = elim (cases_Bool (blackens c.pages w p v k)) [
       let turns = (and_parts (v == 2 ^ k) (may_turn_black c.pages w (record { page = p; index = k })) some).1 in
       let within = (and_parts _ _ (and_parts _ _ turns).0).0 in
       let none : cells_under (header_in w p) ≡ 0 = ap (λ h. cells_under (header_of h)) bare in
-      absurd (true≢false (sym within ∙ ap (λ n. nat_lt k n) none))
+      let lt = ltb-true k (cells_under (header_in w p)) within in
+      absurd (omega arith)
 ]
 
 none_below : (n : ℕ) (test : ℕ → Bool) → ((k : ℕ) → test k ≡ true) → all_below n test ≡ true
-none_below zero test all = all_below_zero_is test
-none_below (suc n) test all = all_below_more_is n test (none_below n test all) (all n)
+unfolding all_below
+none_below zero test all = refl
+none_below (suc n) test all = ap (λ b. b && test n) (none_below n test all) ∙ all n
 
 black_has_header : (c : Config) (m : Moment) (p v : ℕ) → may_black c m p v ≡ true → header_at m.words p ≢ 0
 black_has_header c m p v may bare =
@@ -195,7 +196,7 @@ seen_where c (Some s) None is = cc
 seen_where c None hand is = cc
 
 module _ (c : Config) (es : List Event) (h : IsHistory c es) where
-  m : Moment
+  abbrev pub m : Moment
   m = (left c es).now
 
   known : Known c m

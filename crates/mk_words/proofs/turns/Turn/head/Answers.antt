@@ -34,7 +34,10 @@ invariant_of-self c =
             freed = c.header_stored.ensures.freed;
             others = c.header_stored.ensures.others;
           })
-          c.header_stored.requires c.self.invariant.shows;
+          (head_known t.pass c.args.page c.args.v t.map
+          (subst (λ (v : TurnState). IsEnabledTo v.pass (step.Head c.args.page c.args.v)) (sym c.self.view_is)
+          c.requires.enabled) c.self.invariant.shows)
+          c.self.invariant.shows;
     }
 
 pub returns-clause-acts : goal.returns-clause-acts

@@ -37,7 +37,10 @@ invariant_of-self c =
           })
           t.map c.used_stored.new.self
           (record { shows = c.used_stored.ensures.shows; uncleaned = c.used_stored.ensures.uncleaned })
-          c.used_stored.requires c.self.invariant.shows;
+          (used_known t.pass c.args.page c.args.v t.map
+          (subst (λ (v : TurnState). IsEnabledTo v.pass (step.Used c.args.page c.args.v)) (sym c.self.view_is)
+          c.requires.enabled) c.self.invariant.shows)
+          c.self.invariant.shows;
     }
 
 pub returns-clause-acts : goal.returns-clause-acts
