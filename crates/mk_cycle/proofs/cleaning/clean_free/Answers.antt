@@ -14,12 +14,12 @@ cleaned-requires-clause-none c =
 
 pub returns-clause-cleans : goal.returns-clause-cleans
 returns-clause-cleans c =
-    subst (λ (t : TurnState). Cleans c.args.turn.now.pass t.pass) (sym c.cleaned.ensures)
+    subst (λ (t : TurnState). Cleans c.args.turn.now.pass t.pass) (sym c.cleaned.ensures.same)
     (cleans_then _ _ _ c.clear_marks.ensures.cleans c.clear_black.ensures.cleans)
 
 pub returns-clause-bare : goal.returns-clause-bare
 returns-clause-bare c =
-    subst (λ (t : TurnState). HasNoMarks (now_of t.pass).words c.args.page) (sym c.cleaned.ensures)
+    subst (λ (t : TurnState). HasNoMarks (now_of t.pass).words c.args.page) (sym c.cleaned.ensures.same)
     (record {
       unmarked = c.clear_black.ensures.cleans.unmarked c.args.page c.clear_marks.ensures.unmarked;
       unscanned = c.clear_black.ensures.unscanned;
