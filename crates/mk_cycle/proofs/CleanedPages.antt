@@ -3,7 +3,6 @@ use Rattle.std.proofs.Common.{◌≡◌, ℕ, ◌+◌, ◌<◌, ◌≤◌, false
 use Rattle.std.specs.Prelude.{◌==◌, not, slice_index}
 use Rattle.std.proofs.lemmas.Bool.{cases_Bool, cases_lt, eqb-true, true≢false}
 use Rattle.mk_page_map.specs.Members.{has_other_cells, is_in_use, page_at}
-use Rattle.mk_geom.specs.declared.pages.Page.{Page}
 use Rattle.mk_core.specs.Frames.{Steady}
 use Rattle.mk_core.specs.Words.{header_at}
 use Rattle.mk_readings.proofs.FreePages.{free_pages_have_nothing}

@@ -12,8 +12,10 @@ ghost use Rattle.mk_cycle.specs.EngineLaw.{IsFreeForCycle, IsAtPhase, is_registe
 ghost use Rattle.mk_cycle.specs.TurnKeeps.{InTurn};
 
 use crate::bits::FREED_END;
-use crate::turn_steps::{clear, look, look_among, take_snapshot, unblack, undirty};
-use crate::turn_steps::{next_differing, next_in_use, next_uncleaned};
+use crate::turn_steps::{
+    clear, look, look_among, next_differing, next_in_use, next_uncleaned, take_snapshot, unblack,
+    undirty,
+};
 use mk_core::Word;
 use mk_words::{Turn, Words};
 

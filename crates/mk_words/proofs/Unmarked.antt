@@ -1,9 +1,9 @@
 -- A page without a header gets no marks, but by a `mark` of the turn's holder, which comes before its header.
-use Rattle.std.proofs.Common.{◌≡◌, ◌≢◌, ℕ, zero, suc, ◌-◌, ◌<◌, Bool, true, false, List, [], ◌∷◌, ◌++◌, length, refl, sym, ◌∙◌}
+use Rattle.std.proofs.Common.{◌≡◌, ◌≢◌, ℕ, zero, suc, ◌-◌, Bool, true, false, List, [], ◌∷◌, ◌++◌, length, refl, sym, ◌∙◌}
 use Rattle.std.proofs.Common.{ap, subst, inl, inr, arith}
-use Rattle.std.specs.Prelude.{◌^◌, ◌&&◌, ◌==◌, Option, Some, None, is_some, is_none, nat_lt, not, slice_index, slice_set}
+use Rattle.std.specs.Prelude.{◌^◌, ◌&&◌, ◌==◌, Option, Some, None, is_some, is_none, not, slice_index, slice_set}
 use Rattle.std.specs.Prelude.{if◌then◌else◌}
-use Rattle.std.proofs.lemmas.Bool.{cases_Bool, cases_eq, cases_lt, and_parts, eqb-true, ltb-true, true≢false, not-true}
+use Rattle.std.proofs.lemmas.Bool.{cases_Bool, cases_eq, cases_lt, and_parts, eqb-true, ltb-true, true≢false}
 use Rattle.std.proofs.lemmas.List.{get_or-set_other, get_or-set_same, set_past}
 use Rattle.mk_geom.specs.declared.addresses.Cell.{Cell}
 use Rattle.mk_geom.specs.declared.headers.Header.{Header}
@@ -12,7 +12,6 @@ use Rattle.mk_geom.specs.Addresses.{cell_at, cell_under, page_at_address, word_a
 use Rattle.mk_geom.specs.Headers.{header_of}
 use Rattle.mk_core.specs.declared.config.Config.{Config}
 use Rattle.mk_core.specs.declared.events.Event.{Event}
-use Rattle.mk_core.specs.declared.events.Group.{Group}
 use Rattle.mk_core.specs.declared.events.Group.TheVariants as group
 use Rattle.mk_core.specs.declared.events.Seat.{Seat}
 use Rattle.mk_core.specs.declared.events.Seat.TheVariants.{Caller, Host, Marker}
@@ -42,7 +41,7 @@ use Rattle.mk_protocol.proofs.Known.{Known, known_left}
 use Rattle.mk_protocol.proofs.OrderlyLists.{actor_of}
 use Rattle.mk_protocol.proofs.SameWords.{Behind}
 use Rattle.mk_protocol.proofs.Views.{HoldsTurn, view_of}
-use Rattle.mk_guard.specs.Guard.{Guard, IsMarking, MarkerStands}
+use Rattle.mk_guard.specs.Guard.{IsMarking, MarkerStands}
 use Rattle.mk_guard.proofs.Changes.{Table, reg_table, tally_table}
 use Rattle.mk_invariant.proofs.Histories.{histories_keep_the_invariant}
 use Rattle.mk_readings.proofs.Stands.{headers_and_quarantine_tell}

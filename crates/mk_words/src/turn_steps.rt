@@ -107,7 +107,8 @@ impl Turn {
         ensures acts { Acts self.old.pass (step.Mark page v) self.new.pass }
     {
         let mark = TableWord::Named(Word::Mark(page));
-        self.pass.perform(words, Step::Mark { page, value: v }, mark, Access::Or(v));
+        self.pass
+            .perform(words, Step::Mark { page, value: v }, mark, Access::Or(v));
         self.map.marked(page);
     }
 

@@ -1,6 +1,6 @@
-use Rattle.std.proofs.Common.{◌∙◌, ap, subst, sym}
+use Rattle.std.proofs.Common.{subst, sym}
 use Rattle.mk_words.specs.PageMaps.{HasNoMarks}
-use Rattle.mk_words.specs.States.{PassState, TurnState, now_of}
+use Rattle.mk_words.specs.States.{TurnState, now_of}
 use Rattle.mk_cycle.specs.Cleaning.{Cleans}
 use Rattle.mk_cycle.proofs.CleaningSteps.{cleans_then}
 use Rattle.mk_cycle.proofs.cleaning.clean_free.Goals as goal

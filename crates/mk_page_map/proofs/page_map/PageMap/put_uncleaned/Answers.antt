@@ -1,4 +1,4 @@
-use Rattle.std.proofs.Common.{◌≡◌, ℕ, ◌<◌, List, ◌++◌, take, drop, arith, length}
+use Rattle.std.proofs.Common.{◌≡◌, ◌<◌, ◌++◌, take, drop, arith, length}
 use Rattle.mk_page_map.proofs.FreeSets.{written}
 use Rattle.mk_page_map.proofs.Storing.{page_within}
 use Rattle.mk_page_map.proofs.Uncleaned.{ChangesUncleaned, others_uncleaned, still_fits, still_shows, this_uncleaned}
