@@ -32,3 +32,4 @@ pub mod PageByPage
 pub mod InParts
 pub mod Begun
 pub mod Undirty
+pub mod CleanedPages

@@ -86,7 +86,7 @@ free_header h (Some (Run n m)) u is free = cc
 free_header h (Some (LeafRun n)) u is free = cc
 free_header h (Some (Later d m)) u is free = cc
 
-no_header : (w : Words) (n : ℕ) → is_in_use w.pages n ≡ false → header_at w n ≡ 0
+pub no_header : (w : Words) (n : ℕ) → is_in_use w.pages n ≡ false → header_at w n ≡ 0
 no_header w n free = free_header (header_at w n) (header_of (header_at w n)) (used_at w n) refl free
 
 -- so it is settled, nothing was released on it, and it holds nothing.

@@ -2,6 +2,7 @@
 use Rattle.std.specs.Prelude.{◌≡◌, ℕ, List, ◌++◌, slice_index}
 use Rattle.mk_core.specs.declared.events.Event.{Event}
 use Rattle.mk_core.specs.History.{left}
+use Rattle.mk_words.specs.PageMaps.{HasNoMarks}
 use Rattle.mk_words.specs.States.{PassState, now_of}
 use Rattle.mk_turns.specs.Doing.{Does}
 use Rattle.mk_cycle.specs.Kinds.{clears}
@@ -24,6 +25,11 @@ pub record WasUndirty (page : ℕ) (p q : PassState) : Type 0 where
   pub behind : List Event
   pub is : q.seen ≡ p.seen ++ (before ++ behind)
   pub zero : slice_index (left p.table.config (p.seen ++ before)).now.words.dirty page ≡ 0
+
+-- From one to the other pages were cleaned: no mark is left on this one, and its dirty word was 0.
+pub record IsReady (page : ℕ) (p q : PassState) : Type 0 where
+  pub bare : HasNoMarks (now_of q).words page
+  pub undirty : WasUndirty page p q
 
 pub record IsClean (p : PassState) (page : ℕ) : Type 0 where
   pub unmarked : IsUnmarked p page

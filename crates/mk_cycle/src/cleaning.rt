@@ -1,15 +1,21 @@
-//! What comes before a cycle's `begin`: the marks of the cycle before are cleared, and the snapshot is taken. A word
-//! that has the right value already isn't stored to.
+//! What comes before a cycle's `begin`: the marks of the cycle before are cleared, and the snapshot is taken. Pages in
+//! use are looked at, free pages that may be marked, and pages whose freed cells aren't their snapshot. A word that has
+//! the right value already isn't stored to.
 ghost use Rattle.std.specs.Prelude.{◌≡◌, ◌<◌, ℕ, true, false};
 ghost use Rattle.mk_core.specs.Ranges.{is_word};
-ghost use Rattle.mk_core.specs.Words.{named_word};
+ghost use Rattle.mk_core.specs.Words.{header_at, named_word};
+ghost use Rattle.mk_words.specs.PageMaps.{HasNoMarks};
 ghost use Rattle.mk_words.specs.States.{now_of};
-ghost use Rattle.mk_cycle.specs.Cleaning.{Cleans, IsUnmarked, IsUnscanned, HasTakenSnapshot, IsClean, WasUndirty};
+ghost use Rattle.mk_cycle.specs.Cleaning.{Cleans, IsUnmarked, IsUnscanned, HasTakenSnapshot, IsClean, IsReady};
+ghost use Rattle.mk_cycle.specs.Cleaning.{WasUndirty};
 ghost use Rattle.mk_cycle.specs.EngineLaw.{IsFreeForCycle, IsAtPhase, is_register};
 ghost use Rattle.mk_cycle.specs.TurnKeeps.{InTurn};
 
 use crate::bits::FREED_END;
-use crate::turn_steps::{clear, look, look_among, take_snapshot, unblack, undirty};
+use crate::turn_steps::{
+    clear, look, look_among, next_differing, next_in_use, next_uncleaned, take_snapshot, unblack,
+    undirty,
+};
 use mk_core::Word;
 use mk_words::{Turn, Words};
 
@@ -94,17 +100,15 @@ fn look_before(turn: &mut Turn, words: &Words, pages: u64, x: Word) -> u64
 
 /// Whether all these words are 0.
 #[inline(always)]
-fn are_zero(marks: u64, blacks: u64, dirty: u64, quarantine: u64) -> bool
+fn are_zero(marks: u64, blacks: u64, dirty: u64) -> bool
     ensures marks { result ≡ true → marks ≡ 0 }
     ensures blacks { result ≡ true → blacks ≡ 0 }
     ensures dirty { result ≡ true → dirty ≡ 0 }
-    ensures quarantine { result ≡ true → quarantine ≡ 0 }
 {
-    marks | blacks | dirty | quarantine == 0
+    marks | blacks | dirty == 0
 }
 
-/// Whether nothing of a page is marked, scanned, dirty or quarantined, so that nothing has to be stored before a
-/// `begin`. Each of these words is looked at.
+/// Whether nothing of a page is marked, black or dirty. Each of these words is looked at.
 #[inline(always)]
 fn is_ready(turn: &mut Turn, words: &Words, pages: u64, page: u64) -> bool
     requires one_table { turn.old.pass.table ≡ words.now }
@@ -114,17 +118,17 @@ fn is_ready(turn: &mut Turn, words: &Words, pages: u64, page: u64) -> bool
     requires within { page < words.now.config.pages }
     ensures op { turn.new.op ≡ turn.old.op }
     ensures cleans { Cleans turn.old.pass turn.new.pass }
-    ensures clean { result ≡ true → IsClean turn.new.pass page }
+    ensures bare { result ≡ true → HasNoMarks (now_of turn.new.pass).words page }
     ensures undirty { result ≡ true → WasUndirty page turn.old.pass turn.new.pass }
 {
     let marks = look_before(turn, words, pages, Word::Mark(page));
     let blacks = look_before(turn, words, pages, Word::Black(page));
     let dirty = look_before(turn, words, pages, Word::Dirty(page));
-    let quarantine = look_before(turn, words, pages, Word::Quar(page));
-    are_zero(marks, blacks, dirty, quarantine)
+    are_zero(marks, blacks, dirty)
 }
 
-/// Makes a page ready, word by word. It isn't inlined, since few pages need it.
+/// Clears what is left of the cycle before on a page, word by word. It isn't inlined, since few pages
+/// need it.
 #[inline(never)]
 fn clean_words(turn: &mut Turn, words: &Words, page: u64)
     requires one_table { turn.old.pass.table ≡ words.now }
@@ -133,16 +137,15 @@ fn clean_words(turn: &mut Turn, words: &Words, page: u64)
     requires within { page < words.now.config.pages }
     ensures op { turn.new.op ≡ turn.old.op }
     ensures cleans { Cleans turn.old.pass turn.new.pass }
-    ensures clean { IsClean turn.new.pass page }
+    ensures bare { HasNoMarks (now_of turn.new.pass).words page }
     ensures undirty { WasUndirty page turn.old.pass turn.new.pass }
 {
     clear_marks(turn, words, page);
     clear_black(turn, words, page);
     clear_dirty(turn, words, page);
-    copy_freed(turn, words, page);
 }
 
-/// Makes a page ready, if it isn't.
+/// Clears what is left of the cycle before on a page, if anything is.
 #[inline(always)]
 fn clean_page(turn: &mut Turn, words: &Words, pages: u64, page: u64)
     requires one_table { turn.old.pass.table ≡ words.now }
@@ -152,13 +155,84 @@ fn clean_page(turn: &mut Turn, words: &Words, pages: u64, page: u64)
     requires within { page < words.now.config.pages }
     ensures op { turn.new.op ≡ turn.old.op }
     ensures cleans { Cleans turn.old.pass turn.new.pass }
-    ensures clean { IsClean turn.new.pass page }
+    ensures bare { HasNoMarks (now_of turn.new.pass).words page }
     ensures undirty { WasUndirty page turn.old.pass turn.new.pass }
 {
     if is_ready(turn, words, pages, page) {
         return;
     }
     clean_words(turn, words, page);
+}
+
+/// Clears the marks of a free page, and tells the page map.
+fn clean_free(turn: &mut Turn, words: &Words, page: u64)
+    requires one_table { turn.old.pass.table ≡ words.now }
+    requires free { IsFreeForCycle turn.old.pass }
+    requires phase { IsAtPhase turn.old.pass 0 }
+    requires within { page < words.now.config.pages }
+    ensures op { turn.new.op ≡ turn.old.op }
+    ensures cleans { Cleans turn.old.pass turn.new.pass }
+    ensures bare { HasNoMarks (now_of turn.new.pass).words page }
+{
+    clear_marks(turn, words, page);
+    clear_black(turn, words, page);
+    turn.cleaned(page);
+}
+
+/// Clears the marks of free pages. Few free pages have any: those that a cycle freed, on which a number pointed at a
+/// cell that nobody had.
+fn clean_free_pages(turn: &mut Turn, words: &Words)
+    requires one_table { turn.old.pass.table ≡ words.now }
+    requires free { IsFreeForCycle turn.old.pass }
+    requires phase { IsAtPhase turn.old.pass 0 }
+    ensures op { turn.new.op ≡ turn.old.op }
+    ensures cleans { Cleans turn.old.pass turn.new.pass }
+    ensures bare { (page : ℕ) → page < words.now.config.pages → header_at (now_of turn.new.pass).words page ≡ 0
+        → HasNoMarks (now_of turn.new.pass).words page }
+{
+    words.is_within_limits();
+    let mut from = 0;
+    while let Some(page) = next_uncleaned(turn, from) {
+        clean_free(turn, words, page);
+        from = page + 1;
+    }
+}
+
+/// Clears what is left of the cycle before on pages in use. Nothing is on the others.
+fn clean_pages_in_use(turn: &mut Turn, words: &Words)
+    requires one_table { turn.old.pass.table ≡ words.now }
+    requires free { IsFreeForCycle turn.old.pass }
+    requires phase { IsAtPhase turn.old.pass 0 }
+    requires bare { (page : ℕ) → page < words.now.config.pages → header_at (now_of turn.old.pass).words page ≡ 0
+        → HasNoMarks (now_of turn.old.pass).words page }
+    ensures op { turn.new.op ≡ turn.old.op }
+    ensures cleans { Cleans turn.old.pass turn.new.pass }
+    ensures ready { (page : ℕ) → page < words.now.config.pages → IsReady page turn.old.pass turn.new.pass }
+{
+    words.is_within_limits();
+    let pages = words.pages();
+    let mut from = 0;
+    while let Some(page) = next_in_use(turn, from) {
+        clean_page(turn, words, pages, page);
+        from = page + 1;
+    }
+}
+
+/// Makes the freed cells of all pages their snapshots. Those of most are so already.
+fn take_snapshots(turn: &mut Turn, words: &Words)
+    requires one_table { turn.old.pass.table ≡ words.now }
+    requires free { IsFreeForCycle turn.old.pass }
+    requires phase { IsAtPhase turn.old.pass 0 }
+    ensures op { turn.new.op ≡ turn.old.op }
+    ensures cleans { Cleans turn.old.pass turn.new.pass }
+    ensures snapshot { (page : ℕ) → page < words.now.config.pages → HasTakenSnapshot turn.new.pass page }
+{
+    words.is_within_limits();
+    let mut from = 0;
+    while let Some(page) = next_differing(turn, from) {
+        copy_freed(turn, words, page);
+        from = page + 1;
+    }
 }
 
 /// Makes all pages ready for a `begin`. Most of them are.
@@ -171,8 +245,7 @@ pub(crate) fn clean_pages(turn: &mut Turn, words: &Words)
     ensures clean { (page : ℕ) → page < words.now.config.pages → IsClean turn.new.pass page }
     ensures undirty { (page : ℕ) → page < words.now.config.pages → WasUndirty page turn.old.pass turn.new.pass }
 {
-    let pages = words.pages();
-    for page in 0..pages {
-        clean_page(turn, words, pages, page);
-    }
+    clean_free_pages(turn, words);
+    clean_pages_in_use(turn, words);
+    take_snapshots(turn, words);
 }

@@ -9,3 +9,4 @@ pub mod Reading
 pub mod Storing
 pub mod FreeRanges
 pub mod FirstFit
+pub mod Uncleaned

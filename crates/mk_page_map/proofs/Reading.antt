@@ -25,7 +25,7 @@ pub record Shown (known : KnownPages) (held pages : List Page) (sets slice freed
   pub shows : Shows known pages freed snapshot
 
 pub no_others_there : (known : KnownPages) (held : List Page) (sets slice : List ℕ) (resident count set : ℕ)
-    → Reads known held sets slice resident count → set < 20 → (number : ℕ) → count ≤ number → number < 4096
+    → Reads known held sets slice resident count → set < 21 → (number : ℕ) → count ≤ number → number < 4096
     → is_member slice set number ≡ false
 no_others_there known held sets slice resident count set reads is_set number past few =
     ap (λ xs. is_member xs set number) reads.is_slice

@@ -14,6 +14,7 @@ known_by pages sets =
       pages = pages;
       quarantined = members sets 18 (length pages);
       differing = members sets 19 (length pages);
+      uncleaned = members sets 20 (length pages);
     }
 
 pub member_at : (sets : List ℕ) (s count number : ℕ) → number < count
@@ -49,7 +50,7 @@ changed_shows held pages sets after freed snapshot page now few others same_sets
     → is_member after s number ≡ is_member sets s number
     = λ s number quarantine is_set within. elim (cases_eq number page) [
       | inl same ↦ ap (is_member after s) same ∙ same_sets s quarantine is_set ∙ ap (is_member sets s) (sym same)
-      | inr differ ↦ others s number is_set (omega arith) differ
+      | inr differ ↦ others s number (omega arith) (omega arith) differ
     ] in
     record {
       page_by_page = ap (λ ps. set ps page now) shows.page_by_page;

@@ -3,12 +3,17 @@ use Rattle.std.specs.Prelude.{◌≡◌, ℕ, ◌<◌, Bool, false, List, length
 use Rattle.mk_geom.specs.declared.pages.Page.{Page}
 use Rattle.mk_page_map.specs.Members.{page_at, has_freed_cells, has_other_cells}
 
--- The header and used word of each page; of each whether it has freed cells, and whether they are others than those
--- of its snapshot.
+-- The header and used word of each page; of each whether it has freed cells, whether they are others than those of its
+-- snapshot, and whether it is a free page that may be marked.
 pub record KnownPages : Type 0 where
   pub pages : List Page
   pub quarantined : List Bool
   pub differing : List Bool
+  pub uncleaned : List Bool
+
+-- Since it was freed, or marked as a free page, nobody has said that no mark is left on it.
+abbrev pub is_uncleaned : KnownPages → ℕ → Bool
+is_uncleaned known number = slice_index_or known.uncleaned number false
 
 -- It is right about a heap that has these pages, freed cells and snapshot.
 pub record Shows (known : KnownPages) (pages : List Page) (freed snapshot : List ℕ) : Type 0 where

@@ -1,19 +1,24 @@
-//! What a page map is told of: each word of a page that is stored.
-ghost use Rattle.std.specs.Prelude.{◌≡◌, ℕ, ◌<◌, List, length, slice_set};
+//! What a page map is told of: each word of a page that is stored, and which free pages may be marked.
+ghost use Rattle.std.specs.Prelude.{◌≡◌, ℕ, ◌<◌, true, List, length, slice_set};
 ghost use Rattle.mk_geom.specs.declared.pages.Page.{Page};
-ghost use Rattle.mk_page_map.specs.KnownPages.{Shows, with_header, with_used};
+ghost use Rattle.mk_page_map.specs.KnownPages.{Shows, is_uncleaned, with_header, with_used};
+ghost use Rattle.mk_page_map.specs.Members.{page_at};
 
 use crate::kinds::kind_of;
 use crate::page_map::PageMap;
-use crate::sorting::{sort_by_header, sort_by_quarantine, sort_by_used};
+use crate::sets::put;
+use crate::sorting::{UNCLEANED, sort_by_header, sort_by_quarantine, sort_by_used};
 use mk_geom::Page;
 
 impl PageMap {
-    /// A header word was stored.
+    /// A header word was stored. A page that is freed may be marked.
     pub fn header_stored(&mut self, page: u64, header: u64)
         requires { page < length self.old.pages }
-        ensures { (pages : List Page) (freed snapshot : List ℕ) → Shows self.old pages freed snapshot
+        ensures shows { (pages : List Page) (freed snapshot : List ℕ) → Shows self.old pages freed snapshot
             → Shows self.new (with_header pages page header) freed snapshot }
+        ensures freed { header ≡ 0 → is_uncleaned self.new page ≡ true }
+        ensures others { (number : ℕ) → (number ≡ page → ⊥)
+            → is_uncleaned self.new number ≡ is_uncleaned self.old number }
     {
         let place = page as usize;
         let used = self.pages[place].used;
@@ -28,8 +33,9 @@ impl PageMap {
     /// A used word was stored.
     pub fn used_stored(&mut self, page: u64, used: u64)
         requires { page < length self.old.pages }
-        ensures { (pages : List Page) (freed snapshot : List ℕ) → Shows self.old pages freed snapshot
+        ensures shows { (pages : List Page) (freed snapshot : List ℕ) → Shows self.old pages freed snapshot
             → Shows self.new (with_used pages page used) freed snapshot }
+        ensures uncleaned { (number : ℕ) → is_uncleaned self.new number ≡ is_uncleaned self.old number }
     {
         let place = page as usize;
         let header = self.pages[place].header;
@@ -40,9 +46,48 @@ impl PageMap {
     /// A quarantine word was stored, which has these freed cells and this snapshot.
     pub fn quarantine_stored(&mut self, page: u64, freed: u64, snapshot: u64)
         requires { page < length self.old.pages }
-        ensures { (pages : List Page) (freed_words snapshots : List ℕ) → Shows self.old pages freed_words snapshots
+        ensures shows { (pages : List Page) (freed_words snapshots : List ℕ) → Shows self.old pages freed_words snapshots
             → Shows self.new pages (slice_set freed_words page freed) (slice_set snapshots page snapshot) }
+        ensures uncleaned { (number : ℕ) → is_uncleaned self.new number ≡ is_uncleaned self.old number }
     {
         sort_by_quarantine(&mut self.sets, page, freed, snapshot);
+    }
+
+    /// Puts a page among those that are to be cleaned, or takes it out.
+    fn put_uncleaned(&mut self, page: u64, inside: bool)
+        requires { page < length self.old.pages }
+        ensures shows { (pages : List Page) (freed snapshot : List ℕ) → Shows self.old pages freed snapshot
+            → Shows self.new pages freed snapshot }
+        ensures this { is_uncleaned self.new page ≡ inside }
+        ensures others { (number : ℕ) → (number ≡ page → ⊥)
+            → is_uncleaned self.new number ≡ is_uncleaned self.old number }
+    {
+        put(&mut self.sets, UNCLEANED, page, inside);
+    }
+
+    /// A page was marked. If it is free, it is to be cleaned.
+    #[inline(always)]
+    pub fn marked(&mut self, page: u64)
+        requires { page < length self.old.pages }
+        ensures shows { (pages : List Page) (freed snapshot : List ℕ) → Shows self.old pages freed snapshot
+            → Shows self.new pages freed snapshot }
+        ensures marked { (page_at self.old.pages page).header ≡ 0 → is_uncleaned self.new page ≡ true }
+        ensures others { (number : ℕ) → (number ≡ page → ⊥)
+            → is_uncleaned self.new number ≡ is_uncleaned self.old number }
+    {
+        if self.pages[page as usize].header == 0 {
+            self.put_uncleaned(page, true);
+        }
+    }
+
+    /// Nothing of a page is marked or black.
+    pub fn cleaned(&mut self, page: u64)
+        requires { page < length self.old.pages }
+        ensures shows { (pages : List Page) (freed snapshot : List ℕ) → Shows self.old pages freed snapshot
+            → Shows self.new pages freed snapshot }
+        ensures others { (number : ℕ) → (number ≡ page → ⊥)
+            → is_uncleaned self.new number ≡ is_uncleaned self.old number }
+    {
+        self.put_uncleaned(page, false);
     }
 }

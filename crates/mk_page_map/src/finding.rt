@@ -3,20 +3,20 @@ ghost use Rattle.std.specs.Prelude.{◌≡◌, ℕ, ◌<◌, ◌≤◌, List, le
 ghost use Rattle.mk_geom.specs.declared.pages.Page.{Page};
 ghost use Rattle.mk_geom.specs.PageUses.{first_where, is_free_page, range_start, resident_pages};
 ghost use Rattle.mk_geom.specs.PageWords.{uses_of_pages};
-ghost use Rattle.mk_page_map.specs.KnownPages.{Shows};
+ghost use Rattle.mk_page_map.specs.KnownPages.{Shows, is_uncleaned};
 ghost use Rattle.mk_page_map.specs.Members.{IsNext, has_free_cell, has_freed_cells, has_other_cells, is_in_use};
 ghost use Rattle.mk_page_map.specs.Members.{page_at};
 ghost use Rattle.mk_page_map.specs.PageSets.{AreSets, is_member};
 
 use crate::page_map::PageMap;
 use crate::sets::next_in;
-use crate::sorting::{DIFFERING, FREE, IN_USE, QUARANTINED, block_set};
+use crate::sorting::{DIFFERING, FREE, IN_USE, QUARANTINED, UNCLEANED, block_set};
 use mk_geom::Page;
 
 /// The lowest page of a set that isn't below this one, of a map of this many pages.
 fn next_page(count: usize, sets: &[u64], set: usize, from: u64) -> Option<u64>
     requires sets { 0 < count → AreSets sets.now }
-    requires set { set < 20 }
+    requires set { set < 21 }
     requires few { count ≤ 4096 }
     requires no_others { (number : ℕ) → count ≤ number → number < 4096 → is_member sets.now set number ≡ false }
     ensures { IsNext (is_member sets.now set) from count result }
@@ -67,6 +67,13 @@ impl PageMap {
             → IsNext (has_other_cells freed snapshot) from (length pages) result }
     {
         next_page(self.pages.len(), &self.sets, DIFFERING, from)
+    }
+
+    /// The lowest free page that may be marked, of those from this one on.
+    pub fn next_uncleaned(&self, from: u64) -> Option<u64>
+        ensures { IsNext (is_uncleaned self.now) from (length self.now.pages) result }
+    {
+        next_page(self.pages.len(), &self.sets, UNCLEANED, from)
     }
 
     /// The lowest of this many neighbours that are free. It goes from one range of free pages to the next.

@@ -29,6 +29,7 @@ impl Model for PageMap {
       pages = m.pages.items;
       quarantined = members m.sets.items 18 (length m.pages.items);
       differing = members m.sets.items 19 (length m.pages.items);
+      uncleaned = members m.sets.items 20 (length m.pages.items);
     } };
 
     ghost invariant = { λ m. FitPages m.pages.items m.sets.items m.resident };

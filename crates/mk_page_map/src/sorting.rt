@@ -1,6 +1,7 @@
 //! The sets that a page is in by what stands on it.
 ghost use Rattle.std.specs.Prelude.{◌≡◌, ℕ, ◌<◌, ◌≤◌, ◌==◌, ◌&&◌, IfOk, false, nat_lt, not};
 ghost use Rattle.mk_books.specs.FreeCells.{class_place};
+ghost use Rattle.mk_geom.specs.PageUses.{is_free_page};
 ghost use Rattle.mk_page_map.specs.PageSets.{AreSets, HasClass, IsInItsSets, OthersStay, is_member, is_of_set};
 ghost use Rattle.mk_page_map.specs.PageSets.{use_of_kind};
 
@@ -20,8 +21,11 @@ pub(crate) const QUARANTINED: usize = 18;
 /// The set of the pages whose freed cells aren't those of their snapshot.
 pub(crate) const DIFFERING: usize = 19;
 
+/// The set of the free pages that may be marked.
+pub(crate) const UNCLEANED: usize = 20;
+
 /// The number of sets.
-pub(crate) const SETS: usize = 20;
+pub(crate) const SETS: usize = 21;
 
 /// The set of the blocks of a class and sort that have a free cell.
 pub(crate) fn block_set(class: u64, leaf: bool) -> usize
@@ -41,7 +45,7 @@ fn leave_blocks(sets: &mut [u64], page: u64, kind: PageKind)
     requires sorted { (used : ℕ) × IsInItsSets sets.old page (use_of_kind kind used) }
     ensures sets { AreSets sets.new }
     ensures left { (set : ℕ) → set < 16 → is_member sets.new set page ≡ false }
-    ensures other_sets { (set : ℕ) → 16 ≤ set → set < 20 → is_member sets.new set page ≡ is_member sets.old set page }
+    ensures other_sets { (set : ℕ) → 16 ≤ set → set < 21 → is_member sets.new set page ≡ is_member sets.old set page }
     ensures other_pages { OthersStay sets.old sets.new page }
 {
     if let PageKind::Block { class, leaf } = kind {
@@ -57,7 +61,7 @@ fn join_blocks(sets: &mut [u64], page: u64, kind: PageKind, used: u64)
     requires left { (set : ℕ) → set < 16 → is_member sets.old set page ≡ false }
     ensures sets { AreSets sets.new }
     ensures joined { (set : ℕ) → set < 16 → is_member sets.new set page ≡ is_of_set set (use_of_kind kind used) }
-    ensures other_sets { (set : ℕ) → 16 ≤ set → set < 20 → is_member sets.new set page ≡ is_member sets.old set page }
+    ensures other_sets { (set : ℕ) → 16 ≤ set → set < 21 → is_member sets.new set page ≡ is_member sets.old set page }
     ensures other_pages { OthersStay sets.old sets.new page }
 {
     if let PageKind::Block { class, leaf } = kind {
@@ -85,6 +89,7 @@ pub(crate) fn sort_by_header(
     requires sorted { IsInItsSets sets.old page (use_of_kind before used) }
     ensures sets { AreSets sets.new }
     ensures sorted { IsInItsSets sets.new page (use_of_kind after used) }
+    ensures uncleaned { is_member sets.new 20 page ≡ is_free_page (use_of_kind after used) }
     ensures other_sets { (set : ℕ) → 18 ≤ set → set < 20 → is_member sets.new set page ≡ is_member sets.old set page }
     ensures other_pages { OthersStay sets.old sets.new page }
 {
@@ -93,6 +98,7 @@ pub(crate) fn sort_by_header(
     let is_free = after.is_free();
     put(sets, FREE, page, is_free);
     put(sets, IN_USE, page, !is_free);
+    put(sets, UNCLEANED, page, is_free);
 }
 
 /// Sorts a page anew whose used word has changed.
@@ -103,7 +109,7 @@ pub(crate) fn sort_by_used(sets: &mut [u64], page: u64, kind: PageKind, used: u6
     requires sorted { (before : ℕ) × IsInItsSets sets.old page (use_of_kind kind before) }
     ensures sets { AreSets sets.new }
     ensures sorted { IsInItsSets sets.new page (use_of_kind kind used) }
-    ensures other_sets { (set : ℕ) → 18 ≤ set → set < 20 → is_member sets.new set page ≡ is_member sets.old set page }
+    ensures other_sets { (set : ℕ) → 18 ≤ set → set < 21 → is_member sets.new set page ≡ is_member sets.old set page }
     ensures other_pages { OthersStay sets.old sets.new page }
 {
     if let PageKind::Block { class, leaf } = kind {
@@ -124,6 +130,7 @@ pub(crate) fn sort_by_quarantine(sets: &mut [u64], page: u64, freed: u64, snapsh
     ensures quarantined { is_member sets.new 18 page ≡ not (freed == 0) }
     ensures differing { is_member sets.new 19 page ≡ not (freed == snapshot) }
     ensures other_sets { (set : ℕ) → set < 18 → is_member sets.new set page ≡ is_member sets.old set page }
+    ensures uncleaned { is_member sets.new 20 page ≡ is_member sets.old 20 page }
     ensures other_pages { OthersStay sets.old sets.new page }
 {
     put(sets, QUARANTINED, page, freed != 0);
@@ -134,7 +141,7 @@ pub(crate) fn sort_by_quarantine(sets: &mut [u64], page: u64, freed: u64, snapsh
 pub(crate) fn free_sets(alloc: Global, pages: u64) -> Result<Vec<u64>, AllocError>
     requires { pages ≤ 4096 }
     ensures sets { IfOk result (λ sets. AreSets sets.items) }
-    ensures members { IfOk result (λ sets. (set number : ℕ) → set < 20 → number < 4096
+    ensures members { IfOk result (λ sets. (set number : ℕ) → set < 21 → number < 4096
         → is_member sets.items set number ≡ (set == 16) && nat_lt number pages) }
 {
     let mut sets = vec![in alloc; 0; SETS * SET_WORDS]?;

@@ -1,26 +1,36 @@
 -- What a page map shows stays while nobody has the turn: no step but a `take` changes a word of a page.
-use Rattle.std.proofs.Common.{◌≡◌, ℕ, true, false, List, [], ◌∷◌, ◌++◌, refl, sym, ◌∙◌, ap, subst}
+use Rattle.std.proofs.Common.{◌≡◌, ℕ, true, false, List, [], ◌∷◌, ◌++◌, refl, sym, ◌∙◌, ap, subst, arith}
+use Rattle.std.proofs.Common.{append-nil}
+use Rattle.std.proofs.lemmas.List.{append_assoc}
 use Rattle.mk_geom.specs.declared.pages.Page.{Page}
 use Rattle.mk_page_map.specs.KnownPages.{KnownPages, Shows}
+use Rattle.mk_page_map.specs.Members.{page_at}
 use Rattle.mk_core.specs.declared.config.Config.{Config}
 use Rattle.mk_core.specs.declared.events.Seat.{Seat}
 use Rattle.mk_core.specs.declared.events.Step.{Step}
 use Rattle.mk_core.specs.declared.events.Step.TheVariants as step
 use Rattle.mk_core.specs.declared.events.Event.{Event}
-use Rattle.mk_core.specs.Words.{Words}
+use Rattle.mk_core.specs.Words.{Words, header_at}
 use Rattle.mk_core.specs.Accesses.{caller_number, register_met, reg_access}
 use Rattle.mk_core.specs.Moments.{Moment, flight_of}
 use Rattle.mk_core.specs.History.{World, first_world, left, world_behind, IsHistory}
 use Rattle.mk_core.specs.Frames.{Steady}
+use Rattle.mk_core.specs.Growing.{AreOfOthers}
+use Rattle.mk_core.specs.Readings.{Holds}
 use Rattle.mk_core.proofs.Conditions.{enabled_meets}
 use Rattle.mk_core.proofs.Histories.{left_more, last_enabled, enabled_parts}
-use Rattle.mk_protocol.proofs.Known.{known_left}
+use Rattle.mk_core.proofs.HistoryParts.{earlier_part_is_history}
+use Rattle.mk_protocol.proofs.Frames.{left_after, other_seat}
+use Rattle.mk_protocol.proofs.Known.{holds_turn, known_left}
+use Rattle.mk_protocol.proofs.Orderly.{same_holder, turn_of}
+use Rattle.mk_protocol.proofs.Views.{view_of}
 use Rattle.mk_protocol.proofs.SameWords.{Behind, reg_keeps, tally_keeps}
 use Rattle.mk_protocol.proofs.NextSteps.{is_take}
 use Rattle.mk_protocol.proofs.OthersMoves.{free_move}
 use Rattle.mk_protocol.proofs.TurnFrame.{steady_out}
 use Rattle.mk_words.specs.PageMaps.{IsMapOf, is_handing}
 use Rattle.mk_words.specs.TurnSteps.{turn_stays}
+use Rattle.mk_words.proofs.Unmarked.{is_mark, others_unmark, stays_bare}
 
 -- the words that a page map shows
 
@@ -33,8 +43,58 @@ page_words w = (w.pages, w.freed, w.snapshot)
 abbrev pub steady_page_words : Steady → PageWords
 steady_page_words y = (y.pages, y.freed, y.snapshot)
 
-pub map_of_same : (map : KnownPages) (w v : Words) → page_words w ≡ page_words v → IsMapOf map w → IsMapOf map v
-map_of_same map w v same shows = subst (λ (x : PageWords). Shows map x.0 x.1 x.2) same shows
+pub shows_same : (map : KnownPages) (w v : Words) → page_words w ≡ page_words v → Shows map w.pages w.freed w.snapshot
+    → Shows map v.pages v.freed v.snapshot
+shows_same map w v same shows = subst (λ (x : PageWords). Shows map x.0 x.1 x.2) same shows
+
+-- Over an event that is no `mark` and leaves the pages a map shows what it showed.
+pub map_stays : (c : Config) (es : List Event) (e : Event) (map : KnownPages) → IsHistory c (es ++ e ∷ [])
+    → is_mark e.step ≡ false
+    → page_words (Behind c (left c es).now e.seat e.step).words ≡ page_words (left c es).now.words
+    → IsMapOf map (left c es).now.words → IsMapOf map (Behind c (left c es).now e.seat e.step).words
+map_stays c es e map h unmarks pages m =
+    record {
+      words = shows_same map (left c es).now.words (Behind c (left c es).now e.seat e.step).words (sym pages) m.words;
+      unmarked = λ page bare cleaned.
+          let was : header_at (left c es).now.words page ≡ 0 =
+          ap (λ (x : PageWords). (page_at x.0 page).header) (sym pages) ∙ bare in
+          stays_bare c es e h unmarks page was (m.unmarked page was cleaned);
+    }
+
+pub map_there : (c : Config) (es : List Event) (e : Event) (map : KnownPages) → IsHistory c (es ++ e ∷ [])
+    → is_mark e.step ≡ false
+    → page_words (left c (es ++ e ∷ [])).now.words ≡ page_words (left c es).now.words
+    → IsMapOf map (left c es).now.words → IsMapOf map (left c (es ++ e ∷ [])).now.words
+map_there c es e map h unmarks pages m =
+    let is : left c (es ++ e ∷ []) ≡ world_behind c (left c es) e = left_more c (first_world c) es e in
+    subst (λ (w : World). IsMapOf map w.now.words) (sym is)
+    (map_stays c es e map h unmarks (ap (λ (w : World). page_words w.now.words) (sym is) ∙ pages) m)
+
+-- The events of others leave the turn's holder its map.
+pub map_left : (c : Config) (es more : List Event) (s : Seat) (map : KnownPages) → IsHistory c (es ++ more)
+    → AreOfOthers (s ∷ []) more → Holds c (left c es).now s → IsMapOf map (left c es).now.words
+    → IsMapOf map (left c (es ++ more)).now.words
+unfolding AreOfOthers
+map_left c es [] s map h others holds m =
+    subst (λ (l : List Event). IsMapOf map (left c l).now.words) (sym (append-nil es)) m
+map_left c es (e ∷ more) s map h others holds m =
+    let together : es ++ (e ∷ more) ≡ (es ++ e ∷ []) ++ more = sym (append_assoc es (e ∷ []) more) in
+    let both = subst (λ (l : List Event). IsHistory c l) together h in
+    let one = earlier_part_is_history c (es ++ e ∷ []) more both in
+    let before = earlier_part_is_history c es (e ∷ []) one in
+    let w : World = left c es in
+    let known = known_left c es before.within_limits before.enabled in
+    let meets = enabled_meets c w.now e (last_enabled c (first_world c) es e one.enabled) in
+    let ne = other_seat s e.seat others.0 in
+    let unmarks = others_unmark c w.now e.seat e.step known meets
+    (λ t. ne (same_holder c (view_of w.now) e.seat s known.orderly t (holds_turn c w.now s known.orderly holds))) in
+    let after = left_after c w e.seat s e.step known meets ne in
+    let is : left c (es ++ e ∷ []) ≡ world_behind c w e = left_more c (first_world c) es e in
+    let there = subst (λ (v : World). IsMapOf map v.now.words) (sym is)
+    (map_stays c es e map one unmarks (ap (λ (y : Steady). steady_page_words y) (after.turn holds).steady) m) in
+    let still = subst (λ (v : World). Holds c v.now s) (sym is) (after.own.holding holds).0 in
+    subst (λ (l : List Event). IsMapOf map (left c l).now.words) (sym together)
+    (map_left c (es ++ e ∷ []) more s map both others.1 still there)
 
 -- A turn that goes on isn't handed over.
 pub hands_none : (s : Step) → turn_stays s ≡ true → is_handing s ≡ false
@@ -57,10 +117,11 @@ turn_word_stays c m seat step.Reg h =
 turn_word_stays c m seat (step.Tally n v) h = (tally_keeps m.words n v).turn
 turn_word_stays c m seat _ h = refl
 
--- The event found the turn free, and left the pages as they were.
+-- The event found the turn free, left the pages as they were, and is no `mark`.
 pub record FreeStays (c : Config) (es : List Event) (e : Event) : Type 0 where
   pub free : (left c es).now.words.turn ≡ 0
   pub pages : page_words (left c (es ++ e ∷ [])).now.words ≡ page_words (left c es).now.words
+  pub unmarks : is_mark e.step ≡ false
 
 pub free_stays : (c : Config) (es : List Event) (e : Event) → IsHistory c (es ++ e ∷ []) → is_handing e.step ≡ false
     → (left c (es ++ e ∷ [])).now.words.turn ≡ 0 → FreeStays c es e
@@ -76,4 +137,6 @@ free_stays c es e h kind free =
       free = was;
       pages = ap (λ (v : World). page_words v.now.words) is
           ∙ ap (λ (y : Steady). steady_page_words y) (steady_out c w e.seat (world_behind c w e) move);
+      unmarks = others_unmark c w.now e.seat e.step known meets
+          (λ t. let is = turn_of c (view_of w.now) e.seat known.orderly t in absurd (omega arith));
     }

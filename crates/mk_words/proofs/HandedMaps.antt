@@ -17,17 +17,15 @@ use Rattle.mk_core.specs.declared.events.Event.{Event}
 use Rattle.mk_core.specs.Words.{becomes}
 use Rattle.mk_core.specs.Cycles.{is_give}
 use Rattle.mk_core.specs.Counts.{TalliesAreTidy}
-use Rattle.mk_core.specs.Frames.{Steady}
-use Rattle.mk_core.specs.History.{World, first_world, left, AreEnabled, IsHistory}
+use Rattle.mk_core.specs.History.{World, first_world, left, IsHistory}
 use Rattle.mk_core.specs.Moments.{holder_number}
 use Rattle.mk_core.specs.Readings.{Holds}
 use Rattle.mk_core.proofs.Histories.{left_more}
-use Rattle.mk_protocol.proofs.Frames.{others_leave}
 use Rattle.mk_words.specs.declared.rule.View.{View}
 use Rattle.mk_words.specs.PageMaps.{IsMapOf}
 use Rattle.mk_words.specs.Seats.{Has, HasCallers, is_over}
 use Rattle.mk_words.specs.Rule.{IsHome, Kept, Mine, no_part, Adds, takes_map, gives_map}
-use Rattle.mk_words.proofs.FreeTurns.{PageWords, page_words, steady_page_words, map_of_same}
+use Rattle.mk_words.proofs.FreeTurns.{map_left, map_there, page_words}
 use Rattle.mk_words.proofs.Keeps.{steps_at, place_there, access_there}
 use Rattle.mk_words.proofs.Seats.{others_own}
 
@@ -74,7 +72,7 @@ says_taken me seat o st found w map a es is free shows =
     let before : List Event = me.0.own.seen ++ a.others in
     let none : found ≡ 0 = a.finds ∙ subst (λ (l : List Event). (left c l).now.words.turn ≡ 0) is free in
     let shown : IsMapOf map (left c (before ++ e ∷ [])).now.words =
-    map_of_same map (left c before).now.words (left c (before ++ e ∷ [])).now.words (sym (taken_pages c before seat o))
+    map_there c before e map a.history refl (taken_pages c before seat o)
     (subst (λ (l : List Event). IsMapOf map (left c l).now.words) is shows) in (
       a,
       (λ z. (map, refl, subst (λ (v : View). IsMapOf map (left v.config v.own.seen).now.words) (sym a.is) shown)),
@@ -132,12 +130,10 @@ gives_at id me seat map st alone has may tidy holds carried shows stored s k lon
     let c : Config = me.0.config in
     let e : Event = give_event seat in
     let none_over : is_over e.step ≡ true → HasCallers c me.0.own.seats = λ g. cc in
-    let pages : List Event → PageWords = λ l. page_words (left c l).now.words in
     let sees = (k.sees id me.0 at).0 in
-    let frame = others_leave c me.0.own.seen sees.more seat k.history.within_limits
-    (subst (AreEnabled c) sees.is k.history.enabled) (others_own me.0.own.seats seat sees.more has sees.of_others) in
-    let same : pages (me.0.own.seen ++ sees.more) ≡ pages me.0.own.seen =
-    ap (λ (y : Steady). steady_page_words y) (frame.turn holds).0.steady in
+    let others = others_own me.0.own.seats seat sees.more has sees.of_others in
+    let still = map_left c me.0.own.seen sees.more seat map
+    (subst (λ (l : List Event). IsHistory c l) sees.is k.history) others holds shows in
     let homes : List (Maybe KnownPages) = put_back s.homes me.1 in
     let there : get_elem? homes 0 ≡ some (some map) =
     ap (λ (l : List (ℕ × KnownPages)). get_elem? (put_back s.homes l) 0) carried
@@ -146,7 +142,7 @@ gives_at id me seat map st alone has may tidy holds carried shows stored s k lon
     (λ es is h z. (
       map,
       there,
-      map_of_same map (left c me.0.own.seen).now.words (left c (es ++ e ∷ [])).now.words
-          (sym same ∙ (ap pages (sym sees.is ∙ is) ∙ sym (given_pages c es seat))) shows,
+      map_there c es e map h refl (given_pages c es seat)
+          (subst (λ (l : List Event). IsMapOf map (left c l).now.words) (sym sees.is ∙ is) still),
     )) in
     (t.0, gives, tt, t.1, (refl, (slice_index s.words (place_there me e), t.2.0)))

@@ -36,7 +36,7 @@ use Rattle.mk_words.specs.Rule.{part, no_part, view, seats_of, Sees, Kept, Mine,
 use Rattle.mk_words.proofs.Seats.{has_left, has_right, has_either, others_append, others_none, others_one, others_own}
 use Rattle.mk_words.proofs.Seats.{others_fewer, others_nobody}
 use Rattle.mk_words.proofs.Seats.{not_both}
-use Rattle.mk_words.proofs.FreeTurns.{map_of_same, page_words, free_stays}
+use Rattle.mk_words.proofs.FreeTurns.{free_stays, map_there}
 use Rattle.mk_words.proofs.Tidy.{tidy_part, tidy_more, none_tidy}
 use Rattle.mk_words.proofs.LongerLists.{longer_lists}
 use Rattle.mk_words.proofs.Overs.{overs_later, overs_with, set_there}
@@ -228,8 +228,8 @@ performs_at slots id me e st alone has may give home kind s k long at small =
     let m = k.home (ap (λ (l : List Event). (left c l).now.words.turn) is ∙ f.free) in (
       m.0,
       m.1,
-      map_of_same m.0 (left c k.events).now.words (left c (es ++ e ∷ [])).now.words
-          (ap (λ (l : List Event). page_words (left c l).now.words) is ∙ sym f.pages) m.2,
+      map_there c es e m.0 h f.unmarks f.pages
+          (subst (λ (l : List Event). IsMapOf m.0 (left c l).now.words) is m.2),
     )) in
     (t.0, keeps, tt, t.1, (refl, t.2.0))
 

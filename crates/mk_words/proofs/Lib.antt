@@ -3,6 +3,7 @@ pub mod Tidy
 pub mod LongerLists
 pub mod Overs
 pub mod OverPhases
+pub mod Unmarked
 pub mod FreeTurns
 pub mod Keeps
 pub mod Cuts

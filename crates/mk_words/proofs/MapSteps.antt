@@ -1,10 +1,13 @@
 -- The page map of a turn is kept in step with what its holder stores.
-use Rattle.std.proofs.Common.{◌≡◌, ℕ, ◌<◌, Bool, false, Option, List, length, refl, sym, ◌∙◌, ap, subst, arith}
-use Rattle.std.specs.Prelude.{◌/◌, ◌%◌, ◌^◌, slice_set}
-use Rattle.std.proofs.lemmas.Bool.{ltb-true}
+use Rattle.std.proofs.Common.{◌≡◌, ℕ, ◌<◌, Bool, true, false, Option, Some, None, List, [], ◌∷◌, ◌++◌, length, refl}
+use Rattle.std.proofs.Common.{sym, ◌∙◌, ap, subst, inl, inr, arith}
+use Rattle.std.specs.Prelude.{◌/◌, ◌%◌, ◌^◌, slice_index, slice_set}
+use Rattle.std.proofs.lemmas.Bool.{cases_eq, ltb-true}
+use Rattle.std.proofs.lemmas.List.{get_or-set_other, get_or-set_same}
 use Rattle.mk_geom.specs.declared.pages.Page.{Page}
-use Rattle.mk_page_map.specs.KnownPages.{KnownPages, Shows, with_header, with_used}
-use Rattle.mk_page_map.specs.Members.{IsNext}
+use Rattle.mk_geom.specs.Storages.{free_page}
+use Rattle.mk_page_map.specs.KnownPages.{KnownPages, Shows, is_uncleaned, with_header, with_used}
+use Rattle.mk_page_map.specs.Members.{IsNext, page_at}
 use Rattle.mk_core.specs.declared.config.Config.{Config}
 use Rattle.mk_core.specs.declared.accesses.Access.{Access}
 use Rattle.mk_core.specs.declared.accesses.Access.TheVariants.{Load, Store}
@@ -17,22 +20,30 @@ use Rattle.mk_core.specs.declared.events.Tally.TheVariants as tally
 use Rattle.mk_core.specs.declared.events.Word.TheVariants as word
 use Rattle.mk_core.specs.Words.{Words, accessed}
 use Rattle.mk_core.specs.Accesses.{caller_number, register_met, reg_access, tally_word}
-use Rattle.mk_core.specs.Frames.{Steady}
-use Rattle.mk_core.specs.History.{World}
+use Rattle.mk_core.specs.History.{IsHistory, World}
+use Rattle.mk_core.specs.Readings.{Holds}
 use Rattle.mk_core.specs.Moments.{Moment, flight_of}
 use Rattle.mk_core.proofs.Conditions.{enabled_meets}
+use Rattle.mk_core.proofs.HistoryParts.{earlier_part_is_history}
 use Rattle.mk_core.proofs.Lengths.{histories_keep_lengths}
 use Rattle.mk_protocol.proofs.SameWords.{Behind}
-use Rattle.mk_words.specs.PageMaps.{IsMapOf, stores_page_word}
+use Rattle.mk_words.specs.PageMaps.{HasNoMarks, IsMapOf, IsNextUncleaned, is_told}
+use Rattle.mk_words.specs.Seats.{Has}
 use Rattle.mk_words.specs.States.{PassState, now_of, event_of}
 use Rattle.mk_words.specs.Steps.{IsEnabledTo}
 use Rattle.mk_words.specs.TurnSteps.{world_at, Acts}
-use Rattle.mk_words.proofs.FreeTurns.{PageWords, page_words, steady_page_words, map_of_same}
+use Rattle.mk_words.proofs.FreeTurns.{map_left, map_stays, page_words}
+use Rattle.mk_words.proofs.Seats.{others_own}
 use Rattle.mk_words.proofs.TakenCells.{may_take_cell}
+use Rattle.mk_words.proofs.Unmarked.{is_mark, stays_unmarked}
 
-pub takes_none : (s : Step) → stores_page_word s ≡ false → may_take_cell s ≡ false
+pub takes_none : (s : Step) → is_told s ≡ false → may_take_cell s ≡ false
 takes_none (step.Used p v) leaves = cc
 takes_none _ leaves = refl
+
+no_mark : (s : Step) → is_told s ≡ false → is_mark s ≡ false
+no_mark (step.Mark p v) untold = cc
+no_mark _ untold = refl
 
 -- All steps but three leave the pages.
 
@@ -44,7 +55,7 @@ tally_pages : (w : Words) (n : Tally) (v : ℕ) → page_words (accessed w (Name
 tally_pages w tally.Held v = refl
 tally_pages w _ v = refl
 
-pages_stay : (c : Config) (m : Moment) (seat : Seat) (s : Step) → stores_page_word s ≡ false
+pages_stay : (c : Config) (m : Moment) (seat : Seat) (s : Step) → is_told s ≡ false
     → page_words (Behind c m seat s).words ≡ page_words m.words
 pages_stay c m seat (step.Head p v) leaves = cc
 pages_stay c m seat (step.Used p v) leaves = cc
@@ -55,66 +66,192 @@ pages_stay c m seat step.Reg leaves =
 pages_stay c m seat (step.Tally n v) leaves = tally_pages m.words n v
 pages_stay c m seat _ leaves = refl
 
-module _ (p : PassState) (s : Step) (q : PassState) (a : Acts p s q) where
-  -- the pages where the step is made, and after it
+-- a step of a turn, with what is known of its pass
+pub record Turns (p : PassState) (s : Step) (q : PassState) : Type 0 where
+  pub acts : Acts p s q
+  pub own : Has p.seats p.seat
+  pub history : IsHistory q.table.config q.seen
+  pub holds : Holds p.table.config (now_of p) p.seat
 
-  pages_then : page_words (world_at a.makes).now.words ≡ page_words (now_of p).words
-  pages_then = ap (λ (y : Steady). steady_page_words y) a.turn.steady
+module _ (p : PassState) (s : Step) (q : PassState) (t : Turns p s q) where
+  abbrev a : Acts p s q
+  a = t.acts
 
-  pages_now : page_words (now_of q).words ≡ page_words (Behind p.table.config (world_at a.makes).now p.seat s).words
-  pages_now = ap (λ (w : World). page_words w.now.words) a.world
+  history : IsHistory p.table.config (p.seen ++ a.makes.others ++ event_of p s ∷ [])
+  history = subst (λ (r : PassState). IsHistory r.table.config r.seen) a.makes.is t.history
 
-  pub shows_still : (map : KnownPages) → stores_page_word s ≡ false → IsMapOf map (now_of p).words
+  -- Others have left the map, up to when the step is made.
+  map_then : (map : KnownPages) → IsMapOf map (now_of p).words → IsMapOf map (world_at a.makes).now.words
+  map_then map m =
+      map_left p.table.config p.seen a.makes.others p.seat map
+      (earlier_part_is_history p.table.config (p.seen ++ a.makes.others) (event_of p s ∷ []) history)
+      (others_own p.seats p.seat a.makes.others t.own a.makes.of_others) t.holds m
+
+  abbrev after : Words
+  after = (Behind p.table.config (world_at a.makes).now p.seat s).words
+
+  map_now : (map : KnownPages) → IsMapOf map after → IsMapOf map (now_of q).words
+  map_now map m = subst (λ (w : World). IsMapOf map w.now.words) (sym a.world) m
+
+  pub shows_still : (map : KnownPages) → is_told s ≡ false → IsMapOf map (now_of p).words
       → IsMapOf map (now_of q).words
-  shows_still map leaves =
-      map_of_same map (now_of p).words (now_of q).words
-      (sym (pages_now ∙ pages_stay p.table.config (world_at a.makes).now p.seat s leaves ∙ pages_then))
+  shows_still map untold m =
+      map_now map
+      (map_stays p.table.config (p.seen ++ a.makes.others) (event_of p s) map history (no_mark s untold)
+      (pages_stay p.table.config (world_at a.makes).now p.seat s untold) (map_then map m))
 
--- What a map shows after the three steps, by what it is told of each.
+-- What a map shows after the four steps, by what it is told of each.
 
-abbrev pub HeaderIsTold : KnownPages → ℕ → ℕ → KnownPages → Type 0
-HeaderIsTold old page header new =
-    (pages : List Page) (freed snapshot : List ℕ) → Shows old pages freed snapshot
-    → Shows new (with_header pages page header) freed snapshot
+pub record HeaderIsTold (old : KnownPages) (page header : ℕ) (new : KnownPages) : Type 0 where
+  pub shows : (pages : List Page) (freed snapshot : List ℕ) → Shows old pages freed snapshot
+      → Shows new (with_header pages page header) freed snapshot
+  pub freed : header ≡ 0 → is_uncleaned new page ≡ true
+  pub others : (number : ℕ) → (number ≡ page → ⊥) → is_uncleaned new number ≡ is_uncleaned old number
 
-abbrev pub UsedIsTold : KnownPages → ℕ → ℕ → KnownPages → Type 0
-UsedIsTold old page used new =
-    (pages : List Page) (freed snapshot : List ℕ) → Shows old pages freed snapshot
-    → Shows new (with_used pages page used) freed snapshot
+pub record UsedIsTold (old : KnownPages) (page used : ℕ) (new : KnownPages) : Type 0 where
+  pub shows : (pages : List Page) (freed snapshot : List ℕ) → Shows old pages freed snapshot
+      → Shows new (with_used pages page used) freed snapshot
+  pub uncleaned : (number : ℕ) → is_uncleaned new number ≡ is_uncleaned old number
 
-abbrev pub QuarantineIsTold : KnownPages → ℕ → ℕ → ℕ → KnownPages → Type 0
-QuarantineIsTold old page now_freed now_snapshot new =
-    (pages : List Page) (freed snapshot : List ℕ) → Shows old pages freed snapshot
-    → Shows new pages (slice_set freed page now_freed) (slice_set snapshot page now_snapshot)
+pub record QuarantineIsTold (old : KnownPages) (page now_freed now_snapshot : ℕ) (new : KnownPages) : Type 0 where
+  pub shows : (pages : List Page) (freed snapshot : List ℕ) → Shows old pages freed snapshot
+      → Shows new pages (slice_set freed page now_freed) (slice_set snapshot page now_snapshot)
+  pub uncleaned : (number : ℕ) → is_uncleaned new number ≡ is_uncleaned old number
 
-abbrev shows_words : KnownPages → PageWords → Type 0
-shows_words map x = Shows map x.0 x.1 x.2
+pub record MarkIsTold (old : KnownPages) (page : ℕ) (new : KnownPages) : Type 0 where
+  pub shows : (pages : List Page) (freed snapshot : List ℕ) → Shows old pages freed snapshot
+      → Shows new pages freed snapshot
+  pub marked : (page_at old.pages page).header ≡ 0 → is_uncleaned new page ≡ true
+  pub others : (number : ℕ) → (number ≡ page → ⊥) → is_uncleaned new number ≡ is_uncleaned old number
 
-pub shows_head : (p : PassState) (page v : ℕ) (q : PassState) (a : Acts p (step.Head page v) q) (old new : KnownPages)
-    → HeaderIsTold old page v new → IsMapOf old (now_of p).words → IsMapOf new (now_of q).words
-shows_head p page v q a old new told shows =
-    subst (shows_words new)
-    (sym (pages_now p (step.Head page v) q a
-    ∙ ap (λ (x : PageWords). (with_header x.0 page v, x.1, x.2)) (pages_then p (step.Head page v) q a)))
-    (told (now_of p).words.pages (now_of p).words.freed (now_of p).words.snapshot shows)
+both : {A : Type 0} (b : Bool) → b ≡ true → b ≡ false → A
+both true t f = cc
+both false t f = cc
 
-pub shows_used : (p : PassState) (page v : ℕ) (q : PassState) (a : Acts p (step.Used page v) q) (old new : KnownPages)
-    → UsedIsTold old page v new → IsMapOf old (now_of p).words → IsMapOf new (now_of q).words
-shows_used p page v q a old new told shows =
-    subst (shows_words new)
-    (sym (pages_now p (step.Used page v) q a
-    ∙ ap (λ (x : PageWords). (with_used x.0 page v, x.1, x.2)) (pages_then p (step.Used page v) q a)))
-    (told (now_of p).words.pages (now_of p).words.freed (now_of p).words.snapshot shows)
+same_marks : (w v : Words) (page : ℕ) → v.marks ≡ w.marks → v.blacks ≡ w.blacks → HasNoMarks w page → HasNoMarks v page
+same_marks w v page marks blacks h =
+    record {
+      unmarked = ap (λ (xs : List ℕ). slice_index xs page) marks ∙ h.unmarked;
+      unscanned = ap (λ (xs : List ℕ). slice_index xs page) blacks ∙ h.unscanned;
+    }
 
-pub shows_quar : (p : PassState) (page v : ℕ) (q : PassState) (a : Acts p (step.Quar page v) q) (old new : KnownPages)
-    → QuarantineIsTold old page (v % 2 ^ 32) (v / 2 ^ 32) new → IsMapOf old (now_of p).words
+-- over plain words
+
+told_header : (w : Words) (page v : ℕ) (old new : KnownPages) → HeaderIsTold old page v new → page < length old.pages
+    → IsMapOf old w → IsMapOf new (record w { pages = with_header w.pages page v })
+told_header w page v old new told within m =
+    record {
+      words = told.shows w.pages w.freed w.snapshot m.words;
+      unmarked = λ number bare cleaned. elim (cases_eq number page) [
+        | inl here ↦
+            let lt : page < length w.pages =
+            subst (λ (ps : List Page). page < length ps) m.words.page_by_page within in
+            let now : Page = record { header = v; used = (page_at w.pages page).used } in
+            let free : v ≡ 0 =
+            sym (ap (λ (x : Page). x.header) (get_or-set_same w.pages page now free_page lt))
+            ∙ ap (λ i. (page_at (with_header w.pages page v) i).header) (sym here) ∙ bare in
+            both (is_uncleaned new page) (told.freed free) (ap (is_uncleaned new) (sym here) ∙ cleaned)
+        | inr ne ↦
+            let now : Page = record { header = v; used = (page_at w.pages page).used } in
+            same_marks w (record w { pages = with_header w.pages page v }) number refl refl
+            (m.unmarked number
+            (sym (ap (λ (x : Page). x.header) (get_or-set_other w.pages page number now free_page ne)) ∙ bare)
+            (sym (told.others number ne) ∙ cleaned))
+      ];
+    }
+
+told_used : (w : Words) (page v : ℕ) (old new : KnownPages) → UsedIsTold old page v new → page < length old.pages
+    → IsMapOf old w → IsMapOf new (record w { pages = with_used w.pages page v })
+told_used w page v old new told within m =
+    record {
+      words = told.shows w.pages w.freed w.snapshot m.words;
+      unmarked = λ number bare cleaned.
+          let lt : page < length w.pages =
+          subst (λ (ps : List Page). page < length ps) m.words.page_by_page within in
+          let now : Page = record { header = (page_at w.pages page).header; used = v } in
+          let same : (page_at (with_used w.pages page v) number).header ≡ (page_at w.pages number).header =
+          elim (cases_eq number page) [
+            | inl here ↦
+                ap (λ i. (page_at (with_used w.pages page v) i).header) here
+                ∙ ap (λ (x : Page). x.header) (get_or-set_same w.pages page now free_page lt)
+                ∙ ap (λ i. (page_at w.pages i).header) (sym here)
+            | inr ne ↦ ap (λ (x : Page). x.header) (get_or-set_other w.pages page number now free_page ne)
+          ] in
+          same_marks w (record w { pages = with_used w.pages page v }) number refl refl
+          (m.unmarked number (sym same ∙ bare) (sym (told.uncleaned number) ∙ cleaned));
+    }
+
+told_mark : (c : Config) (m : Moment) (seat : Seat) (page v : ℕ) (old new : KnownPages) → MarkIsTold old page new
+    → IsMapOf old m.words → IsMapOf new (Behind c m seat (step.Mark page v)).words
+told_mark c m seat page v old new told shows =
+    record {
+      words = told.shows m.words.pages m.words.freed m.words.snapshot shows.words;
+      unmarked = λ number bare cleaned. elim (cases_eq number page) [
+        | inl here ↦
+            let free : (page_at old.pages page).header ≡ 0 =
+            ap (λ (ps : List Page). (page_at ps page).header) shows.words.page_by_page
+            ∙ ap (λ i. (page_at m.words.pages i).header) (sym here) ∙ bare in
+            both (is_uncleaned new page) (told.marked free) (ap (is_uncleaned new) (sym here) ∙ cleaned)
+        | inr ne ↦
+            stays_unmarked c m seat (step.Mark page v) number
+            (λ p is same. (let e : page ≡ p = cc in ne (same ∙ sym e)))
+            (shows.unmarked number bare (sym (told.others number ne) ∙ cleaned))
+      ];
+    }
+
+-- A page that has no marks may be cleaned.
+pub map_cleaned : (w : Words) (page : ℕ) (old new : KnownPages)
+    → ((pages : List Page) (freed snapshot : List ℕ) → Shows old pages freed snapshot → Shows new pages freed snapshot)
+    → ((number : ℕ) → (number ≡ page → ⊥) → is_uncleaned new number ≡ is_uncleaned old number)
+    → HasNoMarks w page → IsMapOf old w → IsMapOf new w
+map_cleaned w page old new shows others none m =
+    record {
+      words = shows w.pages w.freed w.snapshot m.words;
+      unmarked = λ number bare cleaned. elim (cases_eq number page) [
+        | inl here ↦ subst (λ q. HasNoMarks w q) (sym here) none
+        | inr ne ↦ m.unmarked number bare (sym (others number ne) ∙ cleaned)
+      ];
+    }
+
+-- the steps
+
+pub shows_head : (p : PassState) (page v : ℕ) (q : PassState) (t : Turns p (step.Head page v) q)
+    (old new : KnownPages) → HeaderIsTold old page v new → page < length old.pages → IsMapOf old (now_of p).words
     → IsMapOf new (now_of q).words
-shows_quar p page v q a old new told shows =
-    subst (shows_words new)
-    (sym (pages_now p (step.Quar page v) q a
-    ∙ ap (λ (x : PageWords). (x.0, slice_set x.1 page (v % 2 ^ 32), slice_set x.2 page (v / 2 ^ 32)))
-    (pages_then p (step.Quar page v) q a)))
-    (told (now_of p).words.pages (now_of p).words.freed (now_of p).words.snapshot shows)
+shows_head p page v q t old new told within shows =
+    let s : Step = step.Head page v in
+    map_now p s q t new
+    (told_header (world_at t.acts.makes).now.words page v old new told within (map_then p s q t old shows))
+
+pub shows_used : (p : PassState) (page v : ℕ) (q : PassState) (t : Turns p (step.Used page v) q)
+    (old new : KnownPages) → UsedIsTold old page v new → page < length old.pages → IsMapOf old (now_of p).words
+    → IsMapOf new (now_of q).words
+shows_used p page v q t old new told within shows =
+    let s : Step = step.Used page v in
+    map_now p s q t new
+    (told_used (world_at t.acts.makes).now.words page v old new told within (map_then p s q t old shows))
+
+pub shows_quar : (p : PassState) (page v : ℕ) (q : PassState) (t : Turns p (step.Quar page v) q)
+    (old new : KnownPages) → QuarantineIsTold old page (v % 2 ^ 32) (v / 2 ^ 32) new → IsMapOf old (now_of p).words
+    → IsMapOf new (now_of q).words
+shows_quar p page v q t old new told shows =
+    let s : Step = step.Quar page v in
+    let w : Words = (world_at t.acts.makes).now.words in
+    let m = map_then p s q t old shows in
+    map_now p s q t new
+    (record {
+      words = told.shows w.pages w.freed w.snapshot m.words;
+      unmarked = λ number bare cleaned.
+          same_marks w (after p s q t) number refl refl
+          (m.unmarked number bare (sym (told.uncleaned number) ∙ cleaned));
+    })
+
+pub shows_mark : (p : PassState) (page v : ℕ) (q : PassState) (t : Turns p (step.Mark page v) q)
+    (old new : KnownPages) → MarkIsTold old page new → IsMapOf old (now_of p).words → IsMapOf new (now_of q).words
+shows_mark p page v q t old new told shows =
+    let s : Step = step.Mark page v in
+    map_now p s q t new
+    (told_mark p.table.config (world_at t.acts.makes).now p.seat page v old new told (map_then p s q t old shows))
 
 -- The map has all pages of the heap.
 
@@ -124,7 +261,7 @@ page_known p page map lt shows =
     let long : length (now_of p).words.pages ≡ p.table.config.pages =
     (histories_keep_lengths p.table.config p.seen).pages in
     let same : length map.pages ≡ length (now_of p).words.pages =
-    ap (λ (l : List Page). length l) shows.page_by_page in
+    ap (λ (l : List Page). length l) shows.words.page_by_page in
     omega arith
 
 pub head_known : (p : PassState) (page v : ℕ) (map : KnownPages) → IsEnabledTo p (step.Head page v)
@@ -145,8 +282,27 @@ quar_known p page v map on = page_known p page map
     (ltb-true page p.table.config.pages
     (enabled_meets p.table.config (now_of p) (event_of p (step.Quar page v)) on).range)
 
+pub mark_known : (p : PassState) (page v : ℕ) (map : KnownPages) → IsEnabledTo p (step.Mark page v)
+    → IsMapOf map (now_of p).words → page < length map.pages
+mark_known p page v map on = page_known p page map
+    (ltb-true page p.table.config.pages
+    (enabled_meets p.table.config (now_of p) (event_of p (step.Mark page v)) on).range)
+
 -- The next page of those that the map has is the next of the heap's.
 pub next_known : (p : PassState) (passes : ℕ → Bool) (from : ℕ) (next : Option ℕ)
     → IsNext passes from (length (now_of p).words.pages) next → IsNext passes from p.table.config.pages next
 next_known p passes from next is =
     subst (λ (count : ℕ). IsNext passes from count next) (histories_keep_lengths p.table.config p.seen).pages is
+
+pub next_is_uncleaned : (p : PassState) (map : KnownPages) (from : ℕ) (next : Option ℕ) → IsMapOf map (now_of p).words
+    → IsNext (is_uncleaned map) from (length map.pages) next
+    → IsNextUncleaned (now_of p).words from p.table.config.pages next
+next_is_uncleaned p map from next m is =
+    by next
+    (subst (λ (count : ℕ). IsNext (is_uncleaned map) from count next)
+    (ap (λ (l : List Page). length l) m.words.page_by_page ∙ (histories_keep_lengths p.table.config p.seen).pages) is)
+  where
+    by : (next : Option ℕ) → IsNext (is_uncleaned map) from p.table.config.pages next
+        → IsNextUncleaned (now_of p).words from p.table.config.pages next
+    by (Some page) is = (is.0, is.1, λ between low high bare. m.unmarked between bare (is.3 between low high))
+    by None is = λ page low high bare. m.unmarked page bare (is page low high)

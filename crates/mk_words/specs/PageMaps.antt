@@ -1,13 +1,29 @@
 -- The page map of a heap: what it shows of the words, and the steps by which it changes hands or has to follow.
-use Rattle.std.specs.Prelude.{Bool, true, false}
-use Rattle.mk_page_map.specs.KnownPages.{KnownPages, Shows}
+use Rattle.std.specs.Prelude.{◌≡◌, ℕ, ◌<◌, ◌≤◌, Bool, true, false, slice_index, Option, Some, None}
+use Rattle.mk_page_map.specs.KnownPages.{KnownPages, Shows, is_uncleaned}
 use Rattle.mk_core.specs.declared.events.Step.{Step}
 use Rattle.mk_core.specs.declared.events.Step.TheVariants as step
-use Rattle.mk_core.specs.Words.{Words}
+use Rattle.mk_core.specs.Words.{Words, header_at}
 
--- The map shows the headers, used, freed and snapshot words of all pages.
-abbrev pub IsMapOf : KnownPages → Words → Type 0
-IsMapOf map w = Shows map w.pages w.freed w.snapshot
+-- No mark is on the page, and nothing of it is black.
+pub record HasNoMarks (w : Words) (page : ℕ) : Type 0 where
+  pub unmarked : slice_index w.marks page ≡ 0
+  pub unscanned : slice_index w.blacks page ≡ 0
+
+-- The map shows the headers, used, freed and snapshot words of all pages. A page without a header has no marks, unless
+-- the map has it as uncleaned.
+pub record IsMapOf (map : KnownPages) (w : Words) : Type 0 where
+  pub words : Shows map w.pages w.freed w.snapshot
+  pub unmarked : (page : ℕ) → header_at w page ≡ 0 → is_uncleaned map page ≡ false → HasNoMarks w page
+
+-- The next page that may be marked, though it has no header, of those from one on and below a count: no other of them
+-- below it is.
+abbrev pub IsNextUncleaned : Words → ℕ → ℕ → Option ℕ → Type 0
+IsNextUncleaned w from count (Some page) =
+    (from ≤ page) × (page < count)
+    × ((between : ℕ) → from ≤ between → between < page → header_at w between ≡ 0 → HasNoMarks w between)
+IsNextUncleaned w from count None =
+    (page : ℕ) → from ≤ page → page < count → header_at w page ≡ 0 → HasNoMarks w page
 
 -- the steps by which the turn, and the map with it, changes hands
 abbrev pub is_handing : Step → Bool
@@ -15,9 +31,10 @@ is_handing (step.Take o) = true
 is_handing step.Give = true
 is_handing _ = false
 
--- the steps that change what a map shows
-abbrev pub stores_page_word : Step → Bool
-stores_page_word (step.Head p v) = true
-stores_page_word (step.Used p v) = true
-stores_page_word (step.Quar p v) = true
-stores_page_word _ = false
+-- the steps that a map is told of
+abbrev pub is_told : Step → Bool
+is_told (step.Head p v) = true
+is_told (step.Used p v) = true
+is_told (step.Quar p v) = true
+is_told (step.Mark p v) = true
+is_told _ = false

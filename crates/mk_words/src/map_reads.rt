@@ -5,6 +5,7 @@ ghost use Rattle.mk_geom.specs.PageUses.{first_where, is_free_page, range_start,
 ghost use Rattle.mk_geom.specs.PageWords.{uses_of_pages};
 ghost use Rattle.mk_page_map.specs.Members.{IsNext, has_free_cell, has_freed_cells, has_other_cells, is_in_use};
 ghost use Rattle.mk_core.specs.Words.{page_of};
+ghost use Rattle.mk_words.specs.PageMaps.{HasNoMarks, IsNextUncleaned};
 ghost use Rattle.mk_words.specs.States.{now_of};
 
 use crate::stopped::Stopped;
@@ -56,6 +57,22 @@ impl Turn {
             self.now.pass.table.config.pages result }
     {
         self.map.next_differing(from)
+    }
+
+    /// The next page, from this one on, that may be marked, though it has no header.
+    pub fn next_uncleaned(&self, from: u64) -> Option<u64>
+        ensures { IsNextUncleaned (now_of self.now.pass).words from self.now.pass.table.config.pages result }
+    {
+        self.map.next_uncleaned(from)
+    }
+
+    /// Nothing of this page is marked or black. The map knows it from now on, so that `next_uncleaned` leaves it out.
+    pub fn cleaned(&mut self, page: u64)
+        requires within { page < self.old.pass.table.config.pages }
+        requires none { HasNoMarks (now_of self.old.pass).words page }
+        ensures same { self.new ≡ self.old }
+    {
+        self.map.cleaned(page);
     }
 
     /// How many pages are resident.

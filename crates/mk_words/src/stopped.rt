@@ -5,7 +5,7 @@ ghost use Rattle.mk_core.specs.Accesses.{word_accessed, access};
 ghost use Rattle.mk_core.specs.History.{IsHistory};
 ghost use Rattle.mk_core.specs.Moments.{others_are_held, none_is_held, is_number_of};
 ghost use Rattle.mk_words.specs.Opening.{OthersMayOpen, Opens};
-ghost use Rattle.mk_words.specs.PageMaps.{stores_page_word};
+ghost use Rattle.mk_words.specs.PageMaps.{is_told};
 ghost use Rattle.mk_words.specs.Steps.{IsEnabledTo, IsAdmittedTo, Finds, may_decide};
 ghost use Rattle.mk_words.specs.TurnSteps.{Acts};
 ghost use Rattle.mk_words.specs.Seats.{CallersAreBeforeOver, Has};
@@ -67,12 +67,12 @@ impl Stopped {
         turn.is_in_order();
     }
 
-    /// Makes a step that opens no gate, and stores no word that the page map shows.
+    /// Makes a step that opens no gate, and of which the page map isn't told.
     #[inline(always)]
     pub(crate) fn perform(&mut self, words: &Words, step: Step, word: TableWord, by: Access) -> u64
         requires one_table { self.old.pass.table ≡ words.now }
         requires stays { gates_stay step ≡ true }
-        requires leaves_pages { stores_page_word step ≡ false }
+        requires untold { is_told step ≡ false }
         requires may { May self.old.pass step }
         requires word { word ≡ word_accessed self.old.pass.table.config (now_of self.old.pass)
             (event_of self.old.pass step) }
@@ -170,12 +170,8 @@ impl Stopped {
         ensures op { self.new.op ≡ self.old.op }
         ensures acts { Acts self.old.pass (step.Mark page v) self.new.pass }
     {
-        self.perform(
-            words,
-            Step::Mark { page, value: v },
-            TableWord::Named(Word::Mark(page)),
-            Access::Or(v),
-        );
+        self.turn.is_in_order();
+        self.turn.mark(words, page, v);
     }
 
     /// Wipes a heap word.

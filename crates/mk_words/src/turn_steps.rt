@@ -106,12 +106,10 @@ impl Turn {
         ensures op { self.new.op ≡ self.old.op }
         ensures acts { Acts self.old.pass (step.Mark page v) self.new.pass }
     {
-        self.perform(
-            words,
-            Step::Mark { page, value: v },
-            TableWord::Named(Word::Mark(page)),
-            Access::Or(v),
-        );
+        let mark = TableWord::Named(Word::Mark(page));
+        self.pass
+            .perform(words, Step::Mark { page, value: v }, mark, Access::Or(v));
+        self.map.marked(page);
     }
 
     /// Wipes a heap word.

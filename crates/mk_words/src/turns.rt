@@ -5,7 +5,7 @@ ghost use Rattle.mk_core.specs.Accesses.{word_accessed, access};
 ghost use Rattle.mk_core.specs.Calls.{at_rest};
 ghost use Rattle.mk_core.specs.Counts.{TalliesAreExact, TalliesAreTidy, IsTidy};
 ghost use Rattle.mk_core.specs.History.{IsHistory};
-ghost use Rattle.mk_words.specs.PageMaps.{stores_page_word};
+ghost use Rattle.mk_words.specs.PageMaps.{is_told};
 ghost use Rattle.mk_words.specs.Seats.{CallersAreBeforeOver, Has};
 ghost use Rattle.mk_words.specs.States.{now_of, call_of, event_of};
 ghost use Rattle.mk_words.specs.Steps.{IsEnabledTo, May, Makes, Finds, Tells};
@@ -113,12 +113,12 @@ impl Turn {
         self.pass.is_in_order();
     }
 
-    /// Makes a step after which the turn goes on, and which stores no word that the map shows.
+    /// Makes a step after which the turn goes on, and of which the map isn't told.
     #[inline(always)]
     pub(crate) fn perform(&mut self, words: &Words, step: Step, word: TableWord, by: Access) -> u64
         requires one_table { self.old.pass.table ≡ words.now }
         requires stays { turn_stays step ≡ true }
-        requires leaves_pages { stores_page_word step ≡ false }
+        requires untold { is_told step ≡ false }
         requires may { May self.old.pass step }
         requires word { word ≡ word_accessed self.old.pass.table.config (now_of self.old.pass)
             (event_of self.old.pass step) }

@@ -10,15 +10,10 @@ right_none : (a b : ℕ) → bit_or a b ≡ 0 → b ≡ 0
 right_none a b none = let most = le_or_r a b in omega (arith, most, none)
 
 pub returns-clause-marks : goal.returns-clause-marks
-returns-clause-marks c zero =
-    left_none c.args.marks c.args.blacks (left_none _ c.args.dirty (left_none _ c.args.quarantine (eqb-true _ 0 zero)))
+returns-clause-marks c zero = left_none c.args.marks c.args.blacks (left_none _ c.args.dirty (eqb-true _ 0 zero))
 
 pub returns-clause-blacks : goal.returns-clause-blacks
-returns-clause-blacks c zero =
-    right_none c.args.marks c.args.blacks (left_none _ c.args.dirty (left_none _ c.args.quarantine (eqb-true _ 0 zero)))
-
-pub returns-clause-quarantine : goal.returns-clause-quarantine
-returns-clause-quarantine c zero = right_none _ c.args.quarantine (eqb-true _ 0 zero)
+returns-clause-blacks c zero = right_none c.args.marks c.args.blacks (left_none _ c.args.dirty (eqb-true _ 0 zero))
 
 pub returns-clause-dirty : goal.returns-clause-dirty
-returns-clause-dirty c zero = right_none _ c.args.dirty (left_none _ c.args.quarantine (eqb-true _ 0 zero))
+returns-clause-dirty c zero = right_none _ c.args.dirty (eqb-true _ 0 zero)

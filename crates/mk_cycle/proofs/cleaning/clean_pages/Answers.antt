@@ -1,27 +1,19 @@
-use Rattle.std.proofs.Common.{refl, ◌∙◌, arith, below_more}
-use Rattle.mk_cycle.proofs.CleaningSteps.{clean_stays, cleans_nothing, cleans_then}
+use Rattle.mk_cycle.proofs.CleanedPages.{clean_ready}
+use Rattle.mk_cycle.proofs.CleaningSteps.{cleans_then}
 use Rattle.mk_cycle.proofs.Undirty.{undirty_earlier, undirty_later}
 use Rattle.mk_cycle.proofs.cleaning.clean_pages.Goals as goal
 
-pub loop-page-init : goal.loop-page-init
-loop-page-init c = record {
-  op = refl;
-  cleans = cleans_nothing c.args.turn.now.pass;
-  clean = λ page lt. absurd (omega arith);
-  undirty = λ page lt. absurd (omega arith);
-}
+pub returns-clause-cleans : goal.returns-clause-cleans
+returns-clause-cleans c =
+    cleans_then _ _ _ c.clean_free_pages.ensures.cleans
+    (cleans_then _ _ _ c.clean_pages_in_use.ensures.cleans c.take_snapshots.ensures.cleans)
 
-pub loop-page-preserved : goal.loop-page-preserved
-loop-page-preserved c =
-    record {
-      op = c.clean_page.ensures.op ∙ c.loop-page.invariant.op;
-      cleans = cleans_then _ _ _ c.loop-page.invariant.cleans c.clean_page.ensures.cleans;
-      clean =
-          below_more _ _
-          (λ page lt. clean_stays _ _ page c.clean_page.ensures.cleans (c.loop-page.invariant.clean page lt))
-          c.clean_page.ensures.clean;
-      undirty =
-          below_more _ _
-          (λ page lt. undirty_later _ _ _ page (c.loop-page.invariant.undirty page lt) c.clean_page.ensures.cleans)
-          (undirty_earlier _ _ _ _ c.loop-page.invariant.cleans c.clean_page.ensures.undirty);
-    }
+pub returns-clause-clean : goal.returns-clause-clean
+returns-clause-clean c page lt =
+    clean_ready _ _ _ page (c.clean_pages_in_use.ensures.ready page lt) c.take_snapshots.ensures.cleans
+    (c.take_snapshots.ensures.snapshot page lt)
+
+pub returns-clause-undirty : goal.returns-clause-undirty
+returns-clause-undirty c page lt =
+    undirty_earlier _ _ _ page c.clean_free_pages.ensures.cleans
+    (undirty_later _ _ _ page (c.clean_pages_in_use.ensures.ready page lt).undirty c.take_snapshots.ensures.cleans)

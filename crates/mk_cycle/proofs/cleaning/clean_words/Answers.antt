@@ -1,15 +1,22 @@
 use Rattle.mk_cycle.proofs.CleaningSteps.{cleans_then}
-use Rattle.mk_cycle.proofs.Undirty.{undirty_earlier, undirty_later}
+use Rattle.mk_cycle.proofs.Undirty.{undirty_earlier}
 use Rattle.mk_cycle.proofs.cleaning.clean_words.Goals as goal
 
 pub returns-clause-cleans : goal.returns-clause-cleans
 returns-clause-cleans c =
     cleans_then _ _ _ c.clear_marks.ensures.cleans
-    (cleans_then _ _ _ c.clear_black.ensures.cleans
-    (cleans_then _ _ _ c.clear_dirty.ensures.cleans c.copy_freed.ensures.cleans))
+    (cleans_then _ _ _ c.clear_black.ensures.cleans c.clear_dirty.ensures.cleans)
+
+pub returns-clause-bare : goal.returns-clause-bare
+returns-clause-bare c =
+    record {
+      unmarked = (cleans_then _ _ _ c.clear_black.ensures.cleans c.clear_dirty.ensures.cleans).unmarked c.args.page
+          c.clear_marks.ensures.unmarked;
+      unscanned = c.clear_dirty.ensures.cleans.unscanned c.args.page c.clear_black.ensures.unscanned;
+    }
 
 pub returns-clause-undirty : goal.returns-clause-undirty
 returns-clause-undirty c =
     undirty_earlier _ _ _ c.args.page
     (cleans_then _ _ _ c.clear_marks.ensures.cleans c.clear_black.ensures.cleans)
-    (undirty_later _ _ _ c.args.page c.clear_dirty.ensures.undirty c.copy_freed.ensures.cleans)
+    c.clear_dirty.ensures.undirty

@@ -5,26 +5,35 @@ use Rattle.mk_page_map.proofs.sorting.sort_by_header.Goals as goal
 
 pub returns-clause-sorted : goal.returns-clause-sorted
 returns-clause-sorted c =
-    each_set (λ s. is_member c.put-2.new.sets s c.args.page ≡ is_of_set s (use_of_kind c.args.after c.args.used))
+    each_set (λ s. is_member c.put-3.new.sets s c.args.page ≡ is_of_set s (use_of_kind c.args.after c.args.used))
     (λ s block.
-    c.put-2.ensures.other_sets s (omega arith) (λ same. absurd (omega arith))
+    c.put-3.ensures.other_sets s (omega arith) (λ same. absurd (omega arith))
+    ∙ c.put-2.ensures.other_sets s (omega arith) (λ same. absurd (omega arith))
     ∙ c.put.ensures.other_sets s (omega arith) (λ same. absurd (omega arith))
     ∙ c.join_blocks.ensures.joined s block)
-    (c.put-2.ensures.other_sets 16 (omega arith) (λ same. absurd (omega arith))
+    (c.put-3.ensures.other_sets 16 (omega arith) (λ same. absurd (omega arith))
+    ∙ c.put-2.ensures.other_sets 16 (omega arith) (λ same. absurd (omega arith))
     ∙ c.put.ensures.this
     ∙ sym (c.is_free-is_free.ensures c.args.used))
-    (c.put-2.ensures.this ∙ ap not (sym (c.is_free-is_free.ensures c.args.used)))
+    (c.put-3.ensures.other_sets 17 (omega arith) (λ same. absurd (omega arith))
+    ∙ c.put-2.ensures.this
+    ∙ ap not (sym (c.is_free-is_free.ensures c.args.used)))
 
 pub returns-clause-other_sets : goal.returns-clause-other_sets
 returns-clause-other_sets c s above is_set =
-    c.put-2.ensures.other_sets s is_set (λ same. absurd (omega arith))
-    ∙ c.put.ensures.other_sets s is_set (λ same. absurd (omega arith))
-    ∙ c.join_blocks.ensures.other_sets s (omega arith) is_set
-    ∙ c.leave_blocks.ensures.other_sets s (omega arith) is_set
+    c.put-3.ensures.other_sets s (omega arith) (λ same. absurd (omega arith))
+    ∙ c.put-2.ensures.other_sets s (omega arith) (λ same. absurd (omega arith))
+    ∙ c.put.ensures.other_sets s (omega arith) (λ same. absurd (omega arith))
+    ∙ c.join_blocks.ensures.other_sets s (omega arith) (omega arith)
+    ∙ c.leave_blocks.ensures.other_sets s (omega arith) (omega arith)
 
 pub returns-clause-other_pages : goal.returns-clause-other_pages
 returns-clause-other_pages c s number is_set few differ =
-    c.put-2.ensures.other_pages s number is_set few differ
+    c.put-3.ensures.other_pages s number is_set few differ
+    ∙ c.put-2.ensures.other_pages s number is_set few differ
     ∙ c.put.ensures.other_pages s number is_set few differ
     ∙ c.join_blocks.ensures.other_pages s number is_set few differ
     ∙ c.leave_blocks.ensures.other_pages s number is_set few differ
+
+pub returns-clause-uncleaned : goal.returns-clause-uncleaned
+returns-clause-uncleaned c = c.put-3.ensures.this ∙ sym (c.is_free-is_free.ensures c.args.used)

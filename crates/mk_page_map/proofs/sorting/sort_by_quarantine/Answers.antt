@@ -17,3 +17,8 @@ pub returns-clause-other_pages : goal.returns-clause-other_pages
 returns-clause-other_pages c s number is_set few differ =
     c.put-2.ensures.other_pages s number is_set few differ
     ∙ c.put.ensures.other_pages s number is_set few differ
+
+pub returns-clause-uncleaned : goal.returns-clause-uncleaned
+returns-clause-uncleaned c =
+    c.put-2.ensures.other_sets 20 (omega arith) (λ same. absurd (omega arith))
+    ∙ c.put.ensures.other_sets 20 (omega arith) (λ same. absurd (omega arith))

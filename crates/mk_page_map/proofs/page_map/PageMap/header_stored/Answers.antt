@@ -1,11 +1,16 @@
-use Rattle.std.proofs.Common.{◌≡◌, ℕ, ◌+◌, ◌<◌, ◌≤◌, List, ◌++◌, take, drop, ◌∙◌, ap, arith, length, sym}
+use Rattle.std.proofs.Common.{◌≡◌, ℕ, ◌+◌, ◌<◌, ◌≤◌, true, List, ◌++◌, set, take, drop, ◌∙◌, ap, arith, length}
+use Rattle.std.proofs.Common.{length-set, sym}
 use Rattle.mk_geom.specs.declared.pages.Page.{Page}
+use Rattle.mk_geom.specs.Headers.{header_of}
+use Rattle.mk_geom.specs.PageUses.{is_free_page}
+use Rattle.mk_geom.specs.PageWords.{use_under}
 use Rattle.mk_page_map.specs.Members.{page_at}
 use Rattle.mk_page_map.specs.PageSets.{is_of_set}
 use Rattle.mk_page_map.proofs.Fitting.{resident_one}
 use Rattle.mk_page_map.proofs.FreeSets.{written}
 use Rattle.mk_page_map.proofs.Storing.{Stores, counted_anew, page_read, page_within, resident_byte, store_fits}
 use Rattle.mk_page_map.proofs.Storing.{store_shows}
+use Rattle.mk_page_map.proofs.Uncleaned.{others_kept, this_uncleaned}
 use Rattle.mk_page_map.proofs.page_map.PageMap.header_stored.Goals as goal
 use Rattle.mk_page_map.proofs.page_map.PageMap.header_stored.Goals.{After-from-2}
 
@@ -72,9 +77,9 @@ invariant_of-self c =
     c.self.inside.resident _ c.args.page (now x) (stores x) (same_sets x)
     (omega (arith, was_counted x, is_counted x, enough x))
 
-pub returns : goal.returns
-returns c pages freed snapshot shows =
-    let x = (goal.at.returns c).After-from-2 in
+pub returns-clause-shows : goal.returns-clause-shows
+returns-clause-shows c pages freed snapshot shows =
+    let x = (goal.at.returns-clause-shows c).After-from-2 in
     store_shows c.args.self.now c.self.inside.pages.items pages c.self.inside.sets.items c.deref_mut.result.now
     c.sort_by_header.new.sets _ freed snapshot c.self.inside.resident c.args.page (now x) _ (stores x) (same_sets x)
     c.self.view_is
@@ -83,3 +88,20 @@ returns c pages freed snapshot shows =
     (page_read c.self.inside.pages.items c.args.page c.index.result.now (within x) c.index.ensures)
     ∙ ap (λ (ps : List Page). (page_at ps c.args.page).used) same))
     shows
+
+pub returns-clause-freed : goal.returns-clause-freed
+returns-clause-freed c free =
+    let x = (goal.at.returns-clause-freed c).After-from-2 in
+    this_uncleaned (set c.self.inside.pages.items c.args.page (now x)) c.sort_by_header.new.sets _ c.args.page true
+    (omega (arith, within x, length-set c.self.inside.pages.items c.args.page (now x))) (same_sets x)
+    (c.sort_by_header.ensures.uncleaned
+    ∙ ap is_free_page (sym (c.kind_of-after.ensures.kind c.index.result.now.used))
+    ∙ ap (λ (n : ℕ). is_free_page (use_under (header_of n) c.index.result.now.used)) free)
+
+pub returns-clause-others : goal.returns-clause-others
+returns-clause-others c number differ =
+    let x = (goal.at.returns-clause-others c).After-from-2 in
+    others_kept c.args.self.now c.self.inside.pages.items (set c.self.inside.pages.items c.args.page (now x))
+    c.self.inside.sets.items c.deref_mut.result.now c.sort_by_header.new.sets _ c.args.page number c.self.view_is
+    c.deref_mut.ensures.value (same_sets x) (length-set c.self.inside.pages.items c.args.page (now x))
+    c.self.invariant.few c.sort_by_header.ensures.other_pages differ

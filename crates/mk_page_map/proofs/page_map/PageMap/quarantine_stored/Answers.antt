@@ -1,10 +1,11 @@
-use Rattle.std.proofs.Common.{◌≡◌, ℕ, ◌<◌, List, ◌++◌, set, take, drop, ◌∙◌, ap, arith, length, subst, sym}
+use Rattle.std.proofs.Common.{◌≡◌, ℕ, ◌<◌, List, ◌++◌, set, take, drop, ◌∙◌, ap, arith, length, refl, subst, sym}
 use Rattle.mk_page_map.specs.KnownPages.{KnownPages, Shows}
 use Rattle.mk_page_map.specs.PageSets.{FitPages, OthersStay, is_member}
 use Rattle.mk_page_map.proofs.Fitting.{fit_again}
 use Rattle.mk_page_map.proofs.FreeSets.{written}
 use Rattle.mk_page_map.proofs.Showing.{known_by, quarantine_shows}
 use Rattle.mk_page_map.proofs.Storing.{page_within}
+use Rattle.mk_page_map.proofs.Uncleaned.{all_kept}
 use Rattle.mk_page_map.proofs.page_map.PageMap.quarantine_stored.Goals as goal
 use Rattle.mk_page_map.proofs.page_map.PageMap.quarantine_stored.Goals.{After-sort_by_quarantine}
 
@@ -42,12 +43,20 @@ invariant_of-self c =
     ∙ ap (λ xs. is_member xs s c.args.page) c.deref_mut.ensures.value)
     (others x))
 
-pub returns : goal.returns
-returns c pages freed_words snapshots shows =
-    let x = (goal.at.returns c).After-sort_by_quarantine in
+pub returns-clause-shows : goal.returns-clause-shows
+returns-clause-shows c pages freed_words snapshots shows =
+    let x = (goal.at.returns-clause-shows c).After-sort_by_quarantine in
     let before = subst (λ (k : KnownPages). Shows k pages freed_words snapshots) (sym c.self.view_is) shows in
     subst (λ (xs : List ℕ). Shows (known_by c.self.inside.pages.items xs) pages
     (set freed_words c.args.page c.args.freed) (set snapshots c.args.page c.args.snapshot)) (sym (same_sets x))
     (quarantine_shows c.self.inside.pages.items pages c.self.inside.sets.items c.sort_by_quarantine.new.sets
     freed_words snapshots c.args.page c.args.freed c.args.snapshot c.self.invariant.few (within x) (others x)
     c.sort_by_quarantine.ensures.quarantined c.sort_by_quarantine.ensures.differing before)
+
+pub returns-clause-uncleaned : goal.returns-clause-uncleaned
+returns-clause-uncleaned c number =
+    let x = (goal.at.returns-clause-uncleaned c).After-sort_by_quarantine in
+    all_kept c.args.self.now c.self.inside.pages.items c.self.inside.pages.items c.self.inside.sets.items
+    c.deref_mut.result.now c.sort_by_quarantine.new.sets _ c.args.page number c.self.view_is c.deref_mut.ensures.value
+    (same_sets x) refl c.self.invariant.few c.sort_by_quarantine.ensures.other_pages
+    c.sort_by_quarantine.ensures.uncleaned

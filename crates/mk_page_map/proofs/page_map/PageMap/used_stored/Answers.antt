@@ -1,9 +1,10 @@
-use Rattle.std.proofs.Common.{◌≡◌, ℕ, ◌<◌, List, ◌++◌, take, drop, ◌∙◌, ap, arith, length, sym}
+use Rattle.std.proofs.Common.{◌≡◌, ℕ, ◌<◌, List, ◌++◌, set, take, drop, ◌∙◌, ap, arith, length, length-set, sym}
 use Rattle.mk_geom.specs.declared.pages.Page.{Page}
 use Rattle.mk_geom.specs.PageWords.{use_of_page}
 use Rattle.mk_page_map.specs.Members.{page_at}
 use Rattle.mk_page_map.specs.PageSets.{is_member, is_of_set}
 use Rattle.mk_page_map.proofs.FreeSets.{written}
+use Rattle.mk_page_map.proofs.Uncleaned.{all_kept}
 use Rattle.mk_page_map.proofs.Storing.{Stores, page_read, page_within, same_count, store_fits, store_shows}
 use Rattle.mk_page_map.proofs.page_map.PageMap.used_stored.Goals as goal
 use Rattle.mk_page_map.proofs.page_map.PageMap.used_stored.Goals.{After-sort_by_used}
@@ -43,7 +44,7 @@ stores c =
       sorted = λ s is_set.
           c.sort_by_used.ensures.sorted s is_set
           ∙ ap (is_of_set s) (sym (c.kind_of.ensures.kind c.args.used));
-      quarantine = c.sort_by_used.ensures.other_sets;
+      quarantine = λ s low high. c.sort_by_used.ensures.other_sets s low (omega arith);
       others = c.sort_by_used.ensures.other_pages;
     }
 
@@ -68,9 +69,9 @@ invariant_of-self c =
     (same_count c.self.inside.pages.items c.self.inside.resident c.args.page c.index.result.now c.args.used
     c.kind_of.result (read x) c.kind_of.ensures.kind)
 
-pub returns : goal.returns
-returns c pages freed snapshot shows =
-    let x = (goal.at.returns c).After-sort_by_used in
+pub returns-clause-shows : goal.returns-clause-shows
+returns-clause-shows c pages freed snapshot shows =
+    let x = (goal.at.returns-clause-shows c).After-sort_by_used in
     store_shows c.args.self.now c.self.inside.pages.items pages c.self.inside.sets.items c.deref_mut.result.now
     c.sort_by_used.new.sets _ freed snapshot c.self.inside.resident c.args.page (now x) _ (stores x)
     (same_sets x) c.self.view_is
@@ -78,3 +79,12 @@ returns c pages freed snapshot shows =
     (ap (λ (p : Page). p.header) (read x)
     ∙ ap (λ (ps : List Page). (page_at ps c.args.page).header) same))
     shows
+
+pub returns-clause-uncleaned : goal.returns-clause-uncleaned
+returns-clause-uncleaned c number =
+    let x = (goal.at.returns-clause-uncleaned c).After-sort_by_used in
+    all_kept c.args.self.now c.self.inside.pages.items (set c.self.inside.pages.items c.args.page (now x))
+    c.self.inside.sets.items c.deref_mut.result.now c.sort_by_used.new.sets _ c.args.page number c.self.view_is
+    c.deref_mut.ensures.value (same_sets x) (length-set c.self.inside.pages.items c.args.page (now x))
+    c.self.invariant.few c.sort_by_used.ensures.other_pages
+    (c.sort_by_used.ensures.other_sets 20 (omega arith) (omega arith))

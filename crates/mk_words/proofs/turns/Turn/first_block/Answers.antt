@@ -8,4 +8,4 @@ use Rattle.mk_words.proofs.turns.Turn.first_block.Goals as goal
 pub returns : goal.returns
 returns c =
     subst (λ (t : TurnState). c.first_block.result ≡ first_where (has_free_cell c.args.class c.args.leaf) (uses_of_pages (now_of t.pass).words.pages)) c.self.view_is
-    (c.first_block.ensures _ _ _ c.self.invariant.shows)
+    (c.first_block.ensures _ _ _ c.self.invariant.shows.words)

@@ -7,4 +7,4 @@ use Rattle.mk_words.proofs.turns.Turn.first_free.Goals as goal
 pub returns : goal.returns
 returns c =
     subst (λ (t : TurnState). c.first_free.result ≡ first_where is_free_page (uses_of_pages (now_of t.pass).words.pages)) c.self.view_is
-    (c.first_free.ensures _ _ _ c.self.invariant.shows)
+    (c.first_free.ensures _ _ _ c.self.invariant.shows.words)

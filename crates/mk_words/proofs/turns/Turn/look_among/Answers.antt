@@ -19,7 +19,9 @@ invariant_of-self c =
       turn = still_turn t.pass s f.new.self f.ensures.told.makes f.ensures.own f.ensures.history t.op refl
           c.self.invariant.turn;
       knows = knows_still t.pass s f.new.self a t.cell refl refl c.self.invariant.knows;
-      shows = shows_still t.pass s f.new.self a t.map refl c.self.invariant.shows;
+      shows = shows_still t.pass s f.new.self
+          (record { acts = a; own = f.ensures.own; history = f.ensures.history; holds = c.self.invariant.turn.holds })
+          t.map refl c.self.invariant.shows;
     }
 
 pub returns-clause-acts : goal.returns-clause-acts

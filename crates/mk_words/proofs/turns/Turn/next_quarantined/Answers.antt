@@ -8,4 +8,4 @@ pub returns : goal.returns
 returns c =
     subst (λ (t : TurnState). IsNext (has_freed_cells (now_of t.pass).words.freed) c.args.from t.pass.table.config.pages c.next_quarantined.result) c.self.view_is
     (next_known c.self.inside.pass (has_freed_cells (now_of c.self.inside.pass).words.freed) c.args.from c.next_quarantined.result
-    (c.next_quarantined.ensures _ _ _ c.self.invariant.shows))
+    (c.next_quarantined.ensures _ _ _ c.self.invariant.shows.words))

@@ -20,8 +20,10 @@ invariant_of-self c =
       turn = still_turn t.pass c.args.step f.new.self f.ensures.told.makes f.ensures.own f.ensures.history t.op
           c.requires.stays c.self.invariant.turn;
       knows = knows_still t.pass c.args.step f.new.self a t.cell c.requires.stays
-          (takes_none c.args.step c.requires.leaves_pages) c.self.invariant.knows;
-      shows = shows_still t.pass c.args.step f.new.self a t.map c.requires.leaves_pages c.self.invariant.shows;
+          (takes_none c.args.step c.requires.untold) c.self.invariant.knows;
+      shows = shows_still t.pass c.args.step f.new.self
+          (record { acts = a; own = f.ensures.own; history = f.ensures.history; holds = c.self.invariant.turn.holds })
+          t.map c.requires.untold c.self.invariant.shows;
     }
 
 pub returns-clause-acts : goal.returns-clause-acts

@@ -26,7 +26,13 @@ invariant_of-self c =
       turn = still_turn t.pass s f.new.self f.ensures.told.makes f.ensures.own f.ensures.history t.op refl
           c.self.invariant.turn;
       knows = knows_still t.pass s f.new.self a t.cell refl refl c.self.invariant.knows;
-      shows = shows_quar t.pass c.args.page c.args.v f.new.self a t.map c.quarantine_stored.new.self c.quarantine_stored.ensures
+      shows = shows_quar t.pass c.args.page c.args.v f.new.self
+          (record { acts = a; own = f.ensures.own; history = f.ensures.history; holds = c.self.invariant.turn.holds })
+          t.map c.quarantine_stored.new.self
+          (record {
+            shows = c.quarantine_stored.ensures.shows;
+            uncleaned = c.quarantine_stored.ensures.uncleaned;
+          })
           c.self.invariant.shows;
     }
 

@@ -7,4 +7,4 @@ use Rattle.mk_words.proofs.turns.Turn.resident.Goals as goal
 pub returns : goal.returns
 returns c =
     subst (λ (t : TurnState). c.resident.result ≡ resident_pages (uses_of_pages (now_of t.pass).words.pages)) c.self.view_is
-    (c.resident.ensures _ _ _ c.self.invariant.shows)
+    (c.resident.ensures _ _ _ c.self.invariant.shows.words)

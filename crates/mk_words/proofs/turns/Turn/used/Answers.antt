@@ -29,8 +29,18 @@ invariant_of-self c =
           c.self.invariant.turn.holds f.ensures.finds.finds c.ranges.v.fits
           c.self.invariant.knows);
       shows = shows_used t.pass c.args.page c.args.v f.new.self
-          (acts t.pass s f.new.self makes f.ensures.own f.ensures.history c.self.invariant.turn.holds) t.map
-          c.used_stored.new.self c.used_stored.ensures c.self.invariant.shows;
+          (record {
+            acts = acts t.pass s f.new.self makes f.ensures.own f.ensures.history c.self.invariant.turn.holds;
+            own = f.ensures.own;
+            history = f.ensures.history;
+            holds = c.self.invariant.turn.holds;
+          })
+          t.map c.used_stored.new.self
+          (record { shows = c.used_stored.ensures.shows; uncleaned = c.used_stored.ensures.uncleaned })
+          (used_known t.pass c.args.page c.args.v t.map
+          (subst (λ (v : TurnState). IsEnabledTo v.pass (step.Used c.args.page c.args.v)) (sym c.self.view_is)
+          c.requires.enabled) c.self.invariant.shows)
+          c.self.invariant.shows;
     }
 
 pub returns-clause-acts : goal.returns-clause-acts

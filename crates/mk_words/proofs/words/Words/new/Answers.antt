@@ -1,5 +1,6 @@
 use Rattle.std.proofs.Common.{◌≡◌, ℕ, [], ◌∷◌, ◌∙◌, ap, rules}
 use Rattle.std.specs.Prelude.{replicate}
+use Rattle.mk_protocol.proofs.OrderlyLists.{at_first}
 use Rattle.mk_words.specs.Rule.{Mine}
 use Rattle.mk_words.proofs.Owed.{first_call, first_in_order}
 use Rattle.mk_words.proofs.words.Words.new.Goals as goal
@@ -9,7 +10,14 @@ new-requires-2 c =
     let one : c.push.new.self.items ≡ c.in_ok-map.map ∷ [] = search rules in
     first_call c.args.config.now c.as_slice.result.now c.push.new.self.items c.in_ok-map.map c.requires
     (c.as_slice.ensures.value ∙ c.in_ok-zeros.ensures ∙ ap (λ (n : ℕ). replicate {A = ℕ} n 0) c.count_of_words.ensures)
-    one c.in_ok-map.ensures
+    one
+    (record {
+      words = c.in_ok-map.ensures;
+      unmarked = λ page bare cleaned. record {
+        unmarked = at_first c.args.config.now.pages page 0;
+        unscanned = at_first c.args.config.now.pages page 0;
+      };
+    })
 
 pub invariant_of-result : goal.invariant_of-result
 invariant_of-result c = record {

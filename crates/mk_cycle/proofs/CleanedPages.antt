@@ -1,0 +1,104 @@
+-- Pages are cleaned one by one, and others are passed over: what is known of those before goes on.
+use Rattle.std.proofs.Common.{◌≡◌, ℕ, ◌+◌, ◌<◌, ◌≤◌, false, sym, ◌∙◌, ap, below_more, inl, inr, arith}
+use Rattle.std.specs.Prelude.{◌==◌, not, slice_index}
+use Rattle.std.proofs.lemmas.Bool.{cases_Bool, cases_lt, eqb-true, true≢false}
+use Rattle.mk_page_map.specs.Members.{has_other_cells, is_in_use, page_at}
+use Rattle.mk_core.specs.Frames.{Steady}
+use Rattle.mk_core.specs.Words.{header_at}
+use Rattle.mk_readings.proofs.FreePages.{free_pages_have_nothing}
+use Rattle.mk_words.specs.PageMaps.{HasNoMarks}
+use Rattle.mk_words.specs.States.{PassState, now_of}
+use Rattle.mk_cycle.specs.Cleaning.{Cleans, HasTakenSnapshot, IsClean, IsReady, WasUndirty}
+use Rattle.mk_cycle.specs.TurnKeeps.{InTurn}
+use Rattle.mk_cycle.proofs.PageByPage.{no_header}
+use Rattle.mk_cycle.proofs.Undirty.{undirty_earlier, undirty_later, undirty_now}
+
+pub bare_stays : (p q : PassState) (page : ℕ) → Cleans p q → HasNoMarks (now_of p).words page
+    → HasNoMarks (now_of q).words page
+bare_stays p q page k h =
+    record { unmarked = k.unmarked page h.unmarked; unscanned = k.unscanned page h.unscanned }
+
+-- The headers stay.
+same_header : (p q : PassState) (page : ℕ) → Cleans p q
+    → header_at (now_of q).words page ≡ header_at (now_of p).words page
+same_header p q page k = ap (λ (y : Steady). (page_at y.pages page).header) k.keeps.steady
+
+-- Free pages below this one have no marks.
+abbrev pub FreeAreBare : PassState → ℕ → Type 0
+FreeAreBare p n = (page : ℕ) → page < n → header_at (now_of p).words page ≡ 0 → HasNoMarks (now_of p).words page
+
+pub free_stay_bare : (p q : PassState) (n : ℕ) → Cleans p q → FreeAreBare p n → FreeAreBare q n
+free_stay_bare p q n k h page lt bare = bare_stays p q page k (h page lt (sym (same_header p q page k) ∙ bare))
+
+pub free_bare_past : (p : PassState) (from n : ℕ) → FreeAreBare p from
+    → ((page : ℕ) → from ≤ page → page < n → header_at (now_of p).words page ≡ 0 → HasNoMarks (now_of p).words page)
+    → FreeAreBare p n
+free_bare_past p from n before more page lt bare = elim (cases_lt page from) [
+  | inl low ↦ before page low bare
+  | inr high ↦ more page high lt bare
+]
+
+pub free_bare_more : (p q : PassState) (n : ℕ) → Cleans p q → FreeAreBare p n → HasNoMarks (now_of q).words n
+    → FreeAreBare q (n + 1)
+free_bare_more p q n k before here =
+    below_more _ _ (free_stay_bare p q n k before) (λ bare. here)
+
+-- Pages below this one are ready.
+abbrev pub AreReady : PassState → PassState → ℕ → Type 0
+AreReady o p n = (page : ℕ) → page < n → IsReady page o p
+
+pub ready_stays : (o p q : PassState) (page : ℕ) → Cleans p q → IsReady page o p → IsReady page o q
+ready_stays o p q page k h =
+    record { bare = bare_stays p q page k h.bare; undirty = undirty_later o p q page h.undirty k }
+
+pub ready_more : (o p q : PassState) (n : ℕ) → Cleans o p → Cleans p q → AreReady o p n
+    → HasNoMarks (now_of q).words n → WasUndirty n p q → AreReady o q (n + 1)
+ready_more o p q n first k before bare undirty =
+    below_more _ _ (λ page lt. ready_stays o p q page k (before page lt))
+    (record { bare = bare; undirty = undirty_earlier o p q n first undirty })
+
+pub ready_past : (o p : PassState) (from n pages : ℕ) → InTurn p → Cleans o p → FreeAreBare o pages → n ≤ pages
+    → AreReady o p from
+    → ((page : ℕ) → from ≤ page → page < n → is_in_use (now_of p).words.pages page ≡ false) → AreReady o p n
+ready_past o p from n pages t k free few before more page lt = elim (cases_lt page from) [
+  | inl low ↦ before page low
+  | inr high ↦
+      let bare = no_header (now_of p).words page (more page high lt) in
+      record {
+        bare = free_stay_bare o p pages k free page (omega arith) bare;
+        undirty = undirty_now o p page k
+            (free_pages_have_nothing p.table.config p.seen t.history page bare).dirty;
+      }
+]
+
+-- The snapshots below this one are taken.
+abbrev pub AreTaken : PassState → ℕ → Type 0
+AreTaken p n = (page : ℕ) → page < n → HasTakenSnapshot p page
+
+pub taken_more : (p q : PassState) (n : ℕ) → Cleans p q → AreTaken p n → HasTakenSnapshot q n → AreTaken q (n + 1)
+taken_more p q n k before here = below_more _ _ (λ page lt. k.snapshot page (before page lt)) here
+
+pub taken_past : (p : PassState) (from n : ℕ) → AreTaken p from
+    → ((page : ℕ) → from ≤ page → page < n
+    → has_other_cells (now_of p).words.freed (now_of p).words.snapshot page ≡ false)
+    → AreTaken p n
+taken_past p from n before more page lt = elim (cases_lt page from) [
+  | inl low ↦ before page low
+  | inr high ↦ same_cells (slice_index (now_of p).words.freed page) (slice_index (now_of p).words.snapshot page)
+      (more page high lt)
+]
+  where
+    same_cells : (f s : ℕ) → not (f == s) ≡ false → s ≡ f
+    same_cells f s h = elim (cases_Bool (f == s)) [
+      | inl is ↦ sym (eqb-true f s is)
+      | inr none ↦ absurd (true≢false (sym (ap not none) ∙ h))
+    ]
+
+pub clean_ready : (o p q : PassState) (page : ℕ) → IsReady page o p → Cleans p q → HasTakenSnapshot q page
+    → IsClean q page
+clean_ready o p q page h k taken =
+    record {
+      unmarked = k.unmarked page h.bare.unmarked;
+      unscanned = k.unscanned page h.bare.unscanned;
+      snapshot = taken;
+    }

@@ -1,0 +1,16 @@
+use Rattle.std.proofs.Common.{◌≡◌, ◌≤◌, ◌-◌}
+use Rattle.mk_cycle.specs.Cleaning.{Cleans}
+use Rattle.mk_cycle.proofs.CleanedPages.{FreeAreBare}
+use Rattle.mk_cycle.proofs.cleaning.clean_free_pages.Given as goal
+
+abbrev pub invariant-loop-page : goal.invariant-loop-page
+invariant-loop-page l =
+    record {
+      op : l.turn.op ≡ l.fn.turn.op;
+      begun : l.from ≤ l.words.config.pages;
+      cleans : Cleans l.fn.turn.pass l.turn.pass;
+      below : FreeAreBare l.turn.pass l.from;
+    }
+
+abbrev pub decreases-loop-page : goal.decreases-loop-page
+decreases-loop-page l = l.words.config.pages - l.from

@@ -1,0 +1,28 @@
+use Rattle.std.proofs.Common.{arith}
+use Rattle.mk_page_map.proofs.Reading.{no_others_there}
+use Rattle.mk_page_map.proofs.Uncleaned.{next_of_uncleaned}
+use Rattle.mk_page_map.proofs.page_map.PageMap.next_uncleaned.Goals as goal
+
+pub next_page-requires-clause-no_others : goal.next_page-requires-clause-no_others
+next_page-requires-clause-no_others c =
+    no_others_there c.args.self.now c.self.inside.pages.items c.self.inside.sets.items c.deref.result.now
+    c.self.inside.resident c.len.result 20
+    (record {
+      view = c.self.view_is;
+      fit = c.self.invariant;
+      is_slice = c.deref.ensures.value;
+      is_count = omega (arith, c.len.ensures, c.self.inside.pages.ok.0);
+    })
+    (omega arith)
+
+pub returns : goal.returns
+returns c =
+    next_of_uncleaned c.args.self.now c.self.inside.pages.items c.self.inside.sets.items c.deref.result.now
+    c.self.inside.resident c.len.result c.args.from c.next_page.result
+    (record {
+      view = c.self.view_is;
+      fit = c.self.invariant;
+      is_slice = c.deref.ensures.value;
+      is_count = omega (arith, c.len.ensures, c.self.inside.pages.ok.0);
+    })
+    c.next_page.ensures

@@ -1,0 +1,59 @@
+use Rattle.std.proofs.Common.{◌≡◌, ◌<◌, ◌++◌, take, drop, arith, length}
+use Rattle.mk_page_map.proofs.FreeSets.{written}
+use Rattle.mk_page_map.proofs.Storing.{page_within}
+use Rattle.mk_page_map.proofs.Uncleaned.{ChangesUncleaned, others_uncleaned, still_fits, still_shows, this_uncleaned}
+use Rattle.mk_page_map.proofs.page_map.PageMap.put_uncleaned.Goals as goal
+use Rattle.mk_page_map.proofs.page_map.PageMap.put_uncleaned.Goals.{After-put}
+
+within : (c : After-put) → c.args.page < length c.self.inside.pages.items
+within c = page_within c.args.self.now c.self.inside.pages.items c.self.inside.sets.items c.args.page c.self.view_is
+    c.requires
+
+changes : (c : After-put)
+    → ChangesUncleaned c.self.inside.pages.items c.self.inside.sets.items c.deref_mut.result.now c.put.new.sets
+    c.self.inside.resident c.args.page
+changes c =
+    record {
+      fit = c.self.invariant;
+      within = within c;
+      is_slice = c.deref_mut.ensures.value;
+      are_sets = c.put.ensures.sets;
+      other_sets = c.put.ensures.other_sets;
+      others = c.put.ensures.other_pages;
+    }
+
+same_sets : (c : After-put)
+    → take c.self.inside.sets.len (c.put.new.sets ++ drop (length c.put.new.sets) c.self.inside.sets.items)
+    ≡ c.put.new.sets
+same_sets c =
+    written c.put.new.sets c.self.inside.sets.items c.self.inside.sets.len
+    (omega (
+      arith,
+      c.put.ensures.sets.long,
+      (c.self.invariant.are_sets (omega (arith, within c))).long,
+      c.self.inside.sets.ok.0,
+    ))
+
+pub invariant_of-self : goal.invariant_of-self
+invariant_of-self c =
+    let x = (goal.at.invariant_of-self c).After-put in
+    still_fits c.self.inside.pages.items c.self.inside.sets.items c.deref_mut.result.now c.put.new.sets _
+    c.self.inside.resident c.args.page (changes x) (same_sets x)
+
+pub returns-clause-shows : goal.returns-clause-shows
+returns-clause-shows c pages freed snapshot shows =
+    let x = (goal.at.returns-clause-shows c).After-put in
+    still_shows c.args.self.now c.self.inside.pages.items pages c.self.inside.sets.items c.deref_mut.result.now
+    c.put.new.sets _ freed snapshot c.self.inside.resident c.args.page (changes x) (same_sets x) c.self.view_is shows
+
+pub returns-clause-this : goal.returns-clause-this
+returns-clause-this c =
+    let x = (goal.at.returns-clause-this c).After-put in
+    this_uncleaned c.self.inside.pages.items c.put.new.sets _ c.args.page c.args.inside (within x) (same_sets x)
+    c.put.ensures.this
+
+pub returns-clause-others : goal.returns-clause-others
+returns-clause-others c number differ =
+    let x = (goal.at.returns-clause-others c).After-put in
+    others_uncleaned c.args.self.now c.self.inside.pages.items c.self.inside.sets.items c.deref_mut.result.now
+    c.put.new.sets _ c.self.inside.resident c.args.page number (changes x) (same_sets x) c.self.view_is differ

@@ -1,0 +1,292 @@
+-- A page without a header gets no marks, but by a `mark` of the turn's holder, which comes before its header.
+use Rattle.std.proofs.Common.{◌≡◌, ◌≢◌, ℕ, zero, suc, ◌-◌, Bool, true, false, List, [], ◌∷◌, ◌++◌, length, refl, sym, ◌∙◌}
+use Rattle.std.proofs.Common.{ap, subst, inl, inr, arith}
+use Rattle.std.specs.Prelude.{◌^◌, ◌&&◌, ◌==◌, Option, Some, None, is_some, is_none, not, slice_index, slice_set}
+use Rattle.std.specs.Prelude.{if◌then◌else◌}
+use Rattle.std.proofs.lemmas.Bool.{cases_Bool, cases_eq, cases_lt, and_parts, eqb-true, ltb-true, true≢false}
+use Rattle.std.proofs.lemmas.List.{get_or-set_other, get_or-set_same, set_past}
+use Rattle.mk_geom.specs.declared.addresses.Cell.{Cell}
+use Rattle.mk_geom.specs.declared.headers.Header.{Header}
+use Rattle.mk_geom.specs.declared.headers.Header.TheVariants.{Free, Block, Run, Later, LeafBlock, LeafRun}
+use Rattle.mk_geom.specs.Addresses.{cell_at, cell_under, page_at_address, word_at_address}
+use Rattle.mk_geom.specs.Headers.{header_of}
+use Rattle.mk_core.specs.declared.config.Config.{Config}
+use Rattle.mk_core.specs.declared.events.Event.{Event}
+use Rattle.mk_core.specs.declared.events.Group.TheVariants as group
+use Rattle.mk_core.specs.declared.events.Seat.{Seat}
+use Rattle.mk_core.specs.declared.events.Seat.TheVariants.{Caller, Host, Marker}
+use Rattle.mk_core.specs.declared.events.Step.{Step}
+use Rattle.mk_core.specs.declared.events.Step.TheVariants as step
+use Rattle.mk_core.specs.declared.seats.RunPages.{RunPages}
+use Rattle.mk_core.specs.declared.seats.Scan.{Scan}
+use Rattle.mk_core.specs.declared.seats.SeenHeader.{SeenHeader}
+use Rattle.mk_core.specs.declared.seats.Marker.{Marker as MarkerState}
+use Rattle.mk_core.specs.Accesses.{scan_page, seen_page}
+use Rattle.mk_core.specs.Bounded.{all_below}
+use Rattle.mk_core.specs.Cells.{cells_under, header_in, run_headed}
+use Rattle.mk_core.specs.History.{IsHistory, left, first_world}
+use Rattle.mk_core.specs.MarkerConditions.{cell_seen, is_scanned}
+use Rattle.mk_core.specs.Moments.{Moment, marker_at, marker_of}
+use Rattle.mk_core.specs.Order.{group_of}
+use Rattle.mk_core.specs.Readings.{WordsTellWhatStands}
+use Rattle.mk_core.specs.StopConditions.{blackens, is_attending, may_black, may_turn_black, none_attends}
+use Rattle.mk_core.specs.Words.{Words, header_at, phase_of}
+use Rattle.mk_core.proofs.Conditions.{enabled_meets}
+use Rattle.mk_core.proofs.Histories.{last_enabled}
+use Rattle.mk_core.proofs.HistoryParts.{earlier_part_is_history}
+use Rattle.mk_core.proofs.PointedPages.{found_under, lies_under}
+use Rattle.mk_protocol.proofs.Actors.{Actor, AsHolder, AsMarker, CallTakes, HostTakes, InCallOf, Meets}
+use Rattle.mk_protocol.proofs.IdleMarkers.{work_attends}
+use Rattle.mk_protocol.proofs.Known.{Known, known_left}
+use Rattle.mk_protocol.proofs.OrderlyLists.{actor_of}
+use Rattle.mk_protocol.proofs.SameWords.{Behind}
+use Rattle.mk_protocol.proofs.Views.{HoldsTurn, view_of}
+use Rattle.mk_guard.specs.Guard.{IsMarking, MarkerStands}
+use Rattle.mk_guard.proofs.Changes.{Table, reg_table, tally_table}
+use Rattle.mk_invariant.proofs.Histories.{histories_keep_the_invariant}
+use Rattle.mk_readings.proofs.Stands.{headers_and_quarantine_tell}
+use Rattle.mk_words.specs.PageMaps.{HasNoMarks}
+
+-- a `mark` of the turn's holder
+abbrev pub is_mark : Step → Bool
+is_mark (step.Mark p v) = true
+is_mark _ = false
+
+-- the page on which a step marks or blackens cells
+abbrev pub page_coloured : Config → Moment → Seat → Step → Option ℕ
+page_coloured c m seat (step.Mark p v) = Some p
+page_coloured c m seat (step.Black p v) = Some p
+page_coloured c m seat step.Mmark = Some (seen_page (cell_seen c (marker_at m seat).seen (marker_at m seat).hand))
+page_coloured c m seat step.Mblack = Some (scan_page (marker_at m seat).scan)
+page_coloured c m seat _ = None
+
+-- All other pages stay unmarked.
+
+cleared : (ws : List ℕ) (p q : ℕ) → slice_index ws q ≡ 0 → slice_index (slice_set ws p 0) q ≡ 0
+cleared ws p q z = elim (cases_eq q p) [
+  | inr ne ↦ get_or-set_other ws p q 0 0 ne ∙ z
+  | inl e ↦ elim (cases_lt p (length ws)) [
+    | inl lt ↦ ap (λ i. slice_index (slice_set ws p 0) i) e ∙ get_or-set_same ws p 0 0 lt
+    | inr past ↦ ap (λ (ys : List ℕ). slice_index ys q) (set_past ws p 0 past) ∙ z
+  ]
+]
+
+elsewhere : (ws : List ℕ) (p q v : ℕ) → q ≢ p → slice_index ws q ≡ 0 → slice_index (slice_set ws p v) q ≡ 0
+elsewhere ws p q v ne z = get_or-set_other ws p q v 0 ne ∙ z
+
+pub stays_unmarked : (c : Config) (m : Moment) (seat : Seat) (s : Step) (q : ℕ)
+    → ((p : ℕ) → page_coloured c m seat s ≡ Some p → q ≢ p) → HasNoMarks m.words q
+    → HasNoMarks (Behind c m seat s).words q
+stays_unmarked c m seat (step.Mark p v) q other h =
+    record { unmarked = elsewhere m.words.marks p q _ (other p refl) h.unmarked; unscanned = h.unscanned }
+stays_unmarked c m seat (step.Black p v) q other h =
+    record { unmarked = h.unmarked; unscanned = elsewhere m.words.blacks p q _ (other p refl) h.unscanned }
+stays_unmarked c m seat step.Mmark q other h =
+    record { unmarked = elsewhere m.words.marks _ q _ (other _ refl) h.unmarked; unscanned = h.unscanned }
+stays_unmarked c m seat step.Mblack q other h =
+    record { unmarked = h.unmarked; unscanned = elsewhere m.words.blacks _ q _ (other _ refl) h.unscanned }
+stays_unmarked c m seat (step.Clear p) q other h =
+    record { unmarked = cleared m.words.marks p q h.unmarked; unscanned = h.unscanned }
+stays_unmarked c m seat (step.Unblack p) q other h =
+    record { unmarked = h.unmarked; unscanned = cleared m.words.blacks p q h.unscanned }
+stays_unmarked c m seat step.Reg q other h =
+    record {
+      unmarked = ap (λ (t : Table). slice_index t.marks q) (reg_table c m seat) ∙ h.unmarked;
+      unscanned = ap (λ (t : Table). slice_index t.blacks q) (reg_table c m seat) ∙ h.unscanned;
+    }
+stays_unmarked c m seat (step.Tally n v) q other h =
+    record {
+      unmarked = ap (λ (t : Table). slice_index t.marks q) (tally_table m.words n v) ∙ h.unmarked;
+      unscanned = ap (λ (t : Table). slice_index t.blacks q) (tally_table m.words n v) ∙ h.unscanned;
+    }
+stays_unmarked c m seat _ q other h = record { unmarked = h.unmarked; unscanned = h.unscanned }
+
+-- A page on which cells are marked or blackened has a header.
+
+-- what the holder blackens
+black_none : (c : Config) (w : Words) (p v k : ℕ) → header_at w p ≡ 0 → not (blackens c.pages w p v k) ≡ true
+unfolding may_turn_black
+black_none c w p v k bare = elim (cases_Bool (blackens c.pages w p v k)) [
+  | inr none ↦ ap not none
+  | inl some ↦
+      let turns = (and_parts (v == 2 ^ k) (may_turn_black c.pages w (record { page = p; index = k })) some).1 in
+      let within = (and_parts _ _ (and_parts _ _ turns).0).0 in
+      let none : cells_under (header_in w p) ≡ 0 = ap (λ h. cells_under (header_of h)) bare in
+      let lt = ltb-true k (cells_under (header_in w p)) within in
+      absurd (omega arith)
+]
+
+none_below : (n : ℕ) (test : ℕ → Bool) → ((k : ℕ) → test k ≡ true) → all_below n test ≡ true
+unfolding all_below
+none_below zero test all = refl
+none_below (suc n) test all = ap (λ b. b && test n) (none_below n test all) ∙ all n
+
+black_has_header : (c : Config) (m : Moment) (p v : ℕ) → may_black c m p v ≡ true → header_at m.words p ≢ 0
+black_has_header c m p v may bare =
+    let some = (and_parts (none_attends m.seats.markers)
+    (not (all_below 32 (λ k. not (blackens c.pages m.words p v k)))) may).1 in
+    let none : all_below 32 (λ k. not (blackens c.pages m.words p v k)) ≡ true =
+    none_below 32 (λ k. not (blackens c.pages m.words p v k)) (λ k. black_none c m.words p v k bare) in
+    true≢false (sym some ∙ ap not none)
+
+-- the page of the cell that a header shows
+free_there : (w : Words) (page : ℕ) (cell : Cell) (h : Header) → header_in w page ≡ Some h → cell.page ≡ page
+    → header_at w cell.page ≡ 0
+    → Some Free ≡ Some h
+free_there w page cell h shown same bare =
+    sym (ap (λ n. header_of n) bare) ∙ ap (λ q. header_in w q) same ∙ shown
+
+cell_has_header : (w : Words) (page word : ℕ) (cell : Cell) (h : Header)
+    → ((distance : ℕ) (mapped : Bool) → header_in w page ≡ Some (Later distance mapped)
+    → (run : RunPages) × (run_headed (header_in w (page - distance)) (page - distance) ≡ Some run))
+    → header_in w page ≡ Some h → cell_under h page word ≡ Some cell → header_at w cell.page ≢ 0
+cell_has_header w page word cell Free later shown is bare = cc
+cell_has_header w page word cell (Later distance mapped) later shown is bare =
+    let lies = lies_under (Later distance mapped) page word cell is in
+    let run = later distance mapped shown in
+    let free : header_in w (page - distance) ≡ Some Free =
+    ap (λ q. header_in w q) (sym lies.head) ∙ ap (λ n. header_of n) bare in
+    let none : None ≡ Some run.0 =
+    ap (λ o. run_headed o (page - distance)) (sym free) ∙ run.1 in
+    cc
+cell_has_header w page word cell (Block class) later shown is bare =
+    let e : Some Free ≡ Some (Block class) =
+    free_there w page cell (Block class) shown (lies_under (Block class) page word cell is).head bare in
+    cc
+cell_has_header w page word cell (LeafBlock class) later shown is bare =
+    let e : Some Free ≡ Some (LeafBlock class) =
+    free_there w page cell (LeafBlock class) shown (lies_under (LeafBlock class) page word cell is).head bare in
+    cc
+cell_has_header w page word cell (Run pages mapped) later shown is bare =
+    let e : Some Free ≡ Some (Run pages mapped) =
+    free_there w page cell (Run pages mapped) shown (lies_under (Run pages mapped) page word cell is).head bare in
+    cc
+cell_has_header w page word cell (LeafRun pages) later shown is bare =
+    let e : Some Free ≡ Some (LeafRun pages) =
+    free_there w page cell (LeafRun pages) shown (lies_under (LeafRun pages) page word cell is).head bare in
+    cc
+
+seen_where : (c : Config) (seen : Option SeenHeader) (hand : Option ℕ) → is_some (cell_seen c seen hand) ≡ true
+    → (s : SeenHeader) × (v : ℕ) × (cell : Cell) × (seen ≡ Some s) × (s.page ≡ page_at_address v)
+    × (cell_at c.pages s.header v ≡ Some cell) × (cell_seen c seen hand ≡ Some cell)
+seen_where c (Some s) (Some v) is = by (s.page == page_at_address v) refl is
+  where
+    by : (b : Bool) → (s.page == page_at_address v) ≡ b
+        → is_some (if b then cell_at c.pages s.header v else None) ≡ true
+        → (t : SeenHeader) × (u : ℕ) × (cell : Cell) × (Some s ≡ Some t) × (t.page ≡ page_at_address u)
+        × (cell_at c.pages t.header u ≡ Some cell) × (cell_seen c (Some s) (Some v) ≡ Some cell)
+    by false at some = cc
+    by true at some = found (cell_at c.pages s.header v) refl some
+      where
+        found : (o : Option Cell) → cell_at c.pages s.header v ≡ o → is_some o ≡ true
+            → (t : SeenHeader) × (u : ℕ) × (cell : Cell) × (Some s ≡ Some t) × (t.page ≡ page_at_address u)
+            × (cell_at c.pages t.header u ≡ Some cell) × (cell_seen c (Some s) (Some v) ≡ Some cell)
+        found None shows some = cc
+        found (Some cell) shows some = (
+          s,
+          v,
+          cell,
+          refl,
+          eqb-true s.page (page_at_address v) at,
+          shows,
+          ap (λ b. if b then cell_at c.pages s.header v else None) at ∙ shows,
+        )
+seen_where c (Some s) None is = cc
+seen_where c None hand is = cc
+
+module _ (c : Config) (es : List Event) (h : IsHistory c es) where
+  abbrev pub m : Moment
+  m = (left c es).now
+
+  known : Known c m
+  known = known_left c es h.within_limits h.enabled
+
+  -- A marker that attends stands on what it has seen.
+  stands : (k : ℕ) → is_attending (marker_of m k).presence ≡ true → IsMarking m.words × MarkerStands c m (marker_of m k)
+  stands k attends =
+      let marking : IsMarking m.words = known.orderly.attends k attends in
+      (marking, ((histories_keep_the_invariant c es h).marks.guarded marking).markers k attends)
+
+  not_releasing : IsMarking m.words → phase_of m.words ≢ 4
+  not_releasing (inl one) four = absurd (omega arith)
+  not_releasing (inr two) four = absurd (omega arith)
+
+  mark_has_header : (k : ℕ) → Meets c m (Marker k) step.Mmark
+      → header_at m.words (seen_page (cell_seen c (marker_of m k).seen (marker_of m k).hand)) ≢ 0
+  mark_has_header k meets =
+      let x : MarkerState = marker_of m k in
+      let st = stands k (work_attends c x step.Mmark (known.orderly.idle k) meets.marker refl) in
+      let at = seen_where c x.seen x.hand meets.marker in
+      let s : SeenHeader = at.0 in
+      let v : ℕ = at.1 in
+      let cell : Cell = at.2 in
+      let shown = (st.1.seen s at.3).cell v cell at.5 in
+      let under = found_under c.pages (header_at m.words s.page) v cell shown in
+      let tell : WordsTellWhatStands (left c es) = headers_and_quarantine_tell c es h in
+      subst (λ (o : Option Cell). header_at m.words (seen_page o) ≢ 0) (sym at.6)
+      (cell_has_header m.words s.page (word_at_address v) cell under.0
+      (λ distance mapped later.
+      let run = tell.later (not_releasing st.0) s.page distance mapped later in
+      (run.0, run.1))
+      under.1
+      (subst (λ (q : ℕ). cell_under under.0 q (word_at_address v) ≡ Some cell) (sym at.4) under.2))
+
+  scan_has_header : (x : MarkerState) (s : Option Scan) → x.scan ≡ s → is_scanned s ≡ true → MarkerStands c m x
+      → header_at m.words (scan_page s) ≢ 0
+  scan_has_header x (Some s) is scanned st bare =
+      let index = (st.scan s is).index in
+      let none : cells_under (header_in m.words s.page) ≡ 0 = ap (λ n. cells_under (header_of n)) bare in
+      absurd (omega arith)
+  scan_has_header x None is scanned st bare = cc
+
+  pub coloured_has_header : (seat : Seat) (s : Step) (p : ℕ) → Meets c m seat s → is_mark s ≡ false
+      → page_coloured c m seat s ≡ Some p → header_at m.words p ≢ 0
+  coloured_has_header seat (step.Mark q v) p meets unmarks is = cc
+  coloured_has_header seat (step.Black q v) p meets unmarks is =
+      let e : q ≡ p = cc in
+      subst (λ r. header_at m.words r ≢ 0) e (black_has_header c m q v meets.holder)
+  coloured_has_header (Marker k) step.Mmark p meets unmarks is =
+      let e : seen_page (cell_seen c (marker_of m k).seen (marker_of m k).hand) ≡ p = cc in
+      subst (λ r. header_at m.words r ≢ 0) e (mark_has_header k meets)
+  coloured_has_header (Marker k) step.Mblack p meets unmarks is =
+      let x : MarkerState = marker_of m k in
+      let e : scan_page x.scan ≡ p = cc in
+      let st = stands k (work_attends c x step.Mblack (known.orderly.idle k) meets.marker refl) in
+      subst (λ r. header_at m.words r ≢ 0) e
+      (scan_has_header x x.scan refl (and_parts (is_scanned x.scan) (is_none x.hand) meets.marker).0 st.1)
+  coloured_has_header (Caller k) step.Mmark p meets unmarks is = let kind = meets.kind in cc
+  coloured_has_header Host step.Mmark p meets unmarks is = let kind = meets.kind in cc
+  coloured_has_header (Caller k) step.Mblack p meets unmarks is = let kind = meets.kind in cc
+  coloured_has_header Host step.Mblack p meets unmarks is = let kind = meets.kind in cc
+  coloured_has_header seat _ p meets unmarks is = cc
+
+-- Nobody but the turn's holder makes a `mark`.
+of_callers : (s : Step) → group_of s ≡ group.Callers → is_mark s ≡ false
+of_callers (step.Mark p v) is = cc
+of_callers _ is = refl
+
+of_markers : (s : Step) → group_of s ≡ group.Markers → is_mark s ≡ false
+of_markers (step.Mark p v) is = cc
+of_markers _ is = refl
+
+pub others_unmark : (c : Config) (m : Moment) (seat : Seat) (s : Step) → Known c m → Meets c m seat s
+    → (HoldsTurn c (view_of m) seat → ⊥) → is_mark s ≡ false
+others_unmark c m seat s known meets out = by seat s (actor_of c m seat s known.orderly meets) out
+  where
+    by : (seat : Seat) (s : Step) → Actor c m seat s → (HoldsTurn c (view_of m) seat → ⊥) → is_mark s ≡ false
+    by seat s (InCallOf k _ lt g) out = of_callers s g
+    by seat s (AsMarker k _ lt g) out = of_markers s g
+    by seat s (CallTakes k o lt idle is) out = refl
+    by seat s (HostTakes free) out = refl
+    by seat s (AsHolder _ _ t n) out = absurd (out t)
+
+-- A page without a header stays unmarked over an event of a history that is no `mark`.
+pub stays_bare : (c : Config) (es : List Event) (e : Event) → IsHistory c (es ++ e ∷ []) → is_mark e.step ≡ false
+    → (q : ℕ) → header_at (left c es).now.words q ≡ 0 → HasNoMarks (left c es).now.words q
+    → HasNoMarks (Behind c (left c es).now e.seat e.step).words q
+stays_bare c es e h unmarks q bare none =
+    let before = earlier_part_is_history c es (e ∷ []) h in
+    let meets = enabled_meets c (left c es).now e (last_enabled c (first_world c) es e h.enabled) in
+    stays_unmarked c (left c es).now e.seat e.step q
+    (λ p is same. coloured_has_header c es before e.seat e.step p meets unmarks is
+    (ap (λ r. header_at (left c es).now.words r) (sym same) ∙ bare)) none

@@ -1,0 +1,46 @@
+use Rattle.std.proofs.Common.{refl, sym, subst}
+use Rattle.mk_core.specs.declared.events.Step.{Step}
+use Rattle.mk_core.specs.declared.events.Step.TheVariants as step
+use Rattle.mk_words.specs.States.{TurnState}
+use Rattle.mk_words.specs.Steps.{IsEnabledTo}
+use Rattle.mk_words.specs.TurnSteps.{Acts}
+use Rattle.mk_words.proofs.TurnSteps.{still_turn, acts}
+use Rattle.mk_words.proofs.TakenCells.{knows_still}
+use Rattle.mk_words.proofs.MapSteps.{mark_known, shows_mark}
+use Rattle.mk_words.proofs.turns.Turn.mark.Goals as goal
+
+pub marked-requires : goal.marked-requires
+marked-requires c =
+    let t = c.self.inside in
+    mark_known t.pass c.args.page c.args.v t.map
+    (subst (λ (v : TurnState). IsEnabledTo v.pass (step.Mark c.args.page c.args.v)) (sym c.self.view_is)
+    c.requires.enabled) c.self.invariant.shows
+
+pub invariant_of-self : goal.invariant_of-self
+invariant_of-self c =
+    let f = c.perform in
+    let t = c.self.inside in
+    let s : Step = step.Mark c.args.page c.args.v in
+    let a = acts t.pass s f.new.self f.ensures.told.makes f.ensures.own f.ensures.history c.self.invariant.turn.holds in
+    record {
+      turn = still_turn t.pass s f.new.self f.ensures.told.makes f.ensures.own f.ensures.history t.op refl
+          c.self.invariant.turn;
+      knows = knows_still t.pass s f.new.self a t.cell refl refl c.self.invariant.knows;
+      shows = shows_mark t.pass c.args.page c.args.v f.new.self
+          (record { acts = a; own = f.ensures.own; history = f.ensures.history; holds = c.self.invariant.turn.holds })
+          t.map c.marked.new.self
+          (record {
+            shows = c.marked.ensures.shows;
+            marked = c.marked.ensures.marked;
+            others = c.marked.ensures.others;
+          })
+          c.self.invariant.shows;
+    }
+
+pub returns-clause-acts : goal.returns-clause-acts
+returns-clause-acts c =
+    let f = c.perform in
+    let t = c.self.inside in
+    let s : Step = step.Mark c.args.page c.args.v in
+    subst (λ (v : TurnState). Acts v.pass s f.new.self) c.self.view_is
+    (acts t.pass s f.new.self f.ensures.told.makes f.ensures.own f.ensures.history c.self.invariant.turn.holds)
