@@ -45,9 +45,10 @@ fn cell_at<R: Wait>(rt: &R, heap: &Heap, host: &mut Host, address: u64) -> Optio
     ensures finds { result
         ≡ pointed_cell heap.now.config.pages (left heap.now.config host.old.pass.seen).now.words.pages address }
 {
-    let page = heap_page(heap.words().pages(), address)?;
+    let pages = heap.words().pages();
+    let page = heap_page(pages, address)?;
     let header = look(rt, heap, host, Word::Head(page));
-    lookup(heap.words().pages(), header, address)
+    lookup(pages, header, address)
 }
 
 /// Whether the cell's object is freed and not released.
