@@ -9,7 +9,7 @@ use Rattle.mk_trace.proofs.looking.cell_at.Goals as goal
 pub returns-in_err-page-clause-finds : goal.returns-in_err-page-clause-finds
 returns-in_err-page-clause-finds g c =
     let w = (left c.args.heap.now.config c.args.host.now.pass.seen).now.words in
-    let pages = c.pages-pages.ensures ∙ ap (λ (x : WordsState). x.config.pages) c.words-pages.ensures in
+    let pages = c.pages-pages.ensures ∙ ap (λ (x : WordsState). x.config.pages) c.words.ensures in
     c.from_residual.ensures
     ∙ nothing_found c.args.heap.now.config.pages w c.args.address
     (subst (λ (n : ℕ). is_heap_address n c.args.address ≡ false) pages c.in_err-page.ensures.outside)
@@ -17,7 +17,7 @@ returns-in_err-page-clause-finds g c =
 pub returns-clause-finds : goal.returns-clause-finds
 returns-clause-finds g c =
     let w = (left c.args.heap.now.config c.args.host.now.pass.seen).now.words in
-    let pages = c.pages-pages.ensures ∙ ap (λ (x : WordsState). x.config.pages) c.words-pages.ensures in
+    let pages = c.pages-pages.ensures ∙ ap (λ (x : WordsState). x.config.pages) c.words.ensures in
     cell_found c.args.heap.now.config.pages w c.args.address c.look-header.result c.lookup.result
     (c.look-header.ensures.tells ∙ ap (λ (n : ℕ). header_at w n) c.in_ok-page.ensures.page)
     (c.lookup.ensures ∙ ap (λ (n : ℕ). cell_at n c.look-header.result c.args.address) pages)
