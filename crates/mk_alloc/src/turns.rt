@@ -11,7 +11,7 @@ ghost use Rattle.mk_caller.specs.States.{IsIdleCaller, number_of};
 ghost use Rattle.mk_waiting.specs.Taking.{TakesTurn};
 ghost use Rattle.mk_alloc.specs.Underway.{BeginsTurn, IsQuiet, Looks};
 
-use mk_core::Word;
+use mk_core::{Phase, Word};
 use mk_never::Op;
 use mk_waiting::take_turn;
 use mk_words::{Pass, Turn, Words};
@@ -47,7 +47,7 @@ pub(crate) fn is_cycle_on(words: &Words, turn: &mut Turn) -> bool
     turn.is_in_order();
     let found = turn.look(words, Word::Phase);
     turn.is_in_order();
-    found % 8 == 1
+    Phase::Marking.is_in(found)
 }
 
 /// Gives the turn of a call that is decided back.

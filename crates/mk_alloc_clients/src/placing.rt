@@ -11,7 +11,7 @@ ghost use Rattle.mk_objects.specs.Placing.{FitsNowhere, GoesTo, HasCarved, HeldI
 ghost use Rattle.mk_objects.specs.Placing.{IsUnplaced, MayTake, OnlyLooks, object_for};
 ghost use Rattle.mk_alloc_clients.specs.Making.{one_number};
 
-use mk_core::{Tally, Word};
+use mk_core::{Phase, Tally, Word};
 use mk_geom::{Header, Page, Place, encode};
 use mk_words::{Turn, Words};
 
@@ -60,7 +60,7 @@ fn is_marking(words: &Words, turn: &mut Turn) -> bool
     turn.is_in_order();
     let found = turn.look(words, Word::Phase);
     turn.is_in_order();
-    found % 8 == 1
+    Phase::Marking.is_in(found)
 }
 
 /// Looks round.

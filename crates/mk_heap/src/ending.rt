@@ -12,7 +12,7 @@ ghost use Rattle.mk_heap.specs.Hosts.{with_seen};
 
 use crate::heaps::Heap;
 use crate::hosts::Host;
-use mk_core::Word;
+use mk_core::{Phase, Word};
 use mk_cycle::{Bench, Engine, begin_cycle, finish_cycle};
 use mk_waiting::take_turn;
 use mk_words::{Pass, Turn, Words};
@@ -115,7 +115,7 @@ fn take_idle_turn<E: Engine, R: Threads + Wait + Sync>(
     turn.is_in_order();
     let found = turn.look(words, Word::Phase);
     turn.is_in_order();
-    if found % 8 == 1 {
+    if Phase::Marking.is_in(found) {
         finish_cycle(rt, words, turn, bench).0
     } else {
         turn

@@ -6,7 +6,7 @@ ghost use Rattle.mk_heap_tests.specs.Passes.{IsFirstPass, IsHostsPass, IsMarkerO
 
 use crate::objects::make;
 use mk_caller::Caller;
-use mk_core::{Config, Seat, Word};
+use mk_core::{Config, Phase, Seat, Word};
 use mk_cycle::{Bench, Engine, begin_cycle};
 use mk_heap::{Heap, Report};
 use mk_marker::{Marker, Work};
@@ -18,14 +18,14 @@ use std::sync::Wait;
 use std::thread::Threads;
 
 /// Whether the marker comes while no cycle is on, and finds this phase.
-fn finds_phase(marker: &mut Marker, phase: u64) -> bool
+fn finds_phase(marker: &mut Marker, phase: Phase) -> bool
     requires out { attends marker.old ≡ false }
     ensures out { result ≡ true → attends marker.new ≡ false }
     ensures pass { marker.new ≡ record marker.old { seen = marker.new.seen } }
 {
     match marker.attend() {
         Ok(()) => false,
-        Err(found) => found.phase == phase,
+        Err(found) => found.phase.number() == phase.number(),
     }
 }
 
@@ -59,7 +59,7 @@ fn begin<E: Engine, R: Threads + Wait + Sync>(
     turn.is_in_order();
     let found = turn.look(words, Word::Phase);
     turn.is_in_order();
-    if found % 8 == 1 {
+    if Phase::Marking.is_in(found) {
         return None;
     }
     begin_cycle(rt, words, &mut turn, bench);
@@ -105,7 +105,7 @@ fn mark_beside<E: Engine, R: Threads + Wait + Sync>(
     requires book { length bench.old.book ≡ words.now.config.pages }
 {
     let mut marker = Marker::new(words, marker);
-    if !finds_phase(&mut marker, 0) {
+    if !finds_phase(&mut marker, Phase::None) {
         return None;
     }
     let mut caller = Caller::new(words, caller);
@@ -153,7 +153,7 @@ pub(crate) fn come_when_over<E: Engine, R: Threads + Wait + Sync>(
     caller.is_idle();
     host.join_caller(&heap, caller.finish());
     host.over(rt, &heap, &mut bench);
-    if !finds_phase(&mut marker, 5) {
+    if !finds_phase(&mut marker, Phase::Over) {
         return Ok(None);
     }
     host.join_marker(&heap, marker.finish());

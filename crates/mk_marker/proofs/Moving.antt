@@ -1,6 +1,6 @@
 -- One step of a marker: what it leaves.
-use Rattle.std.proofs.Common.{◌≡◌, ℕ, ◌+◌, ◌-◌, ◌*◌, ◌<◌, Bool, true, List, [], ◌∷◌, ◌++◌, refl, sym, ◌∙◌, ap, subst}
-use Rattle.std.proofs.Common.{append_assoc, arith}
+use Rattle.std.proofs.Common.{◌≡◌, ℕ, ◌+◌, ◌-◌, ◌*◌, ◌%◌, ◌<◌, ◌≤◌, Bool, true, List, [], ◌∷◌, ◌++◌}
+use Rattle.std.proofs.Common.{refl, sym, ◌∙◌, ap, subst, append_assoc, arith}
 use Rattle.std.specs.Prelude.{slice_index, if◌then◌else◌, Some, None, ◌&&◌, nat_lt, slice_set, bit_or}
 use Rattle.std.proofs.lemmas.Bool.{lt-ltb, eq-eqb}
 use Rattle.mk_geom.specs.Headers.{header_of}
@@ -97,6 +97,13 @@ pub moves : (p : PassState) (s : Step) (n : ℕ) (q : PassState) → Has p.seats
     → Marks p s n q → MovesMarker p s n q
 moves p s n q has history m =
     record { did = did_step p s n q has m.finds; marker = m.marker; marks = marks_grow p s q has history m.finds.makes }
+
+-- Who comes in finds one of the six phases.
+pub known_phase : (p : PassState) (n : ℕ) (q : PassState) → Has p.seats p.seat → IsHistory q.table.config q.seen
+    → Finds p step.Attend n q → n % 8 ≤ 5
+known_phase p n q has history f =
+    let d = made p step.Attend q f.makes has history in
+    subst (λ (i : ℕ). i % 8 ≤ 5) (sym f.finds) d.protocol.low
 
 -- a look shows the word as it is then
 pub look_shows : (p : PassState) (x : Word) (n : ℕ) (q : PassState) → Has p.seats p.seat

@@ -1,10 +1,12 @@
 -- What a call did, from its parts.
-use Rattle.std.proofs.Common.{◌≡◌, ◌≢◌, ℕ, ◌%◌, [], ◌∷◌, ◌++◌, refl, ◌∙◌, ap, subst, arith}
+use Rattle.std.proofs.Common.{◌≡◌, ◌≢◌, ℕ, ◌%◌, [], ◌∷◌, ◌++◌, sym, ◌∙◌, ap, subst, arith}
 use Rattle.mk_core.specs.declared.events.Seat.{Seat}
 use Rattle.mk_core.specs.declared.events.Word.TheVariants as word
 use Rattle.mk_core.specs.declared.events.Step.TheVariants as step
+use Rattle.mk_core.specs.declared.phases.Phase.{Phase}
 use Rattle.mk_core.specs.declared.seats.Marker.{Marker as MarkerState}
 use Rattle.mk_core.specs.MarkerConditions.{is_out}
+use Rattle.mk_core.specs.Phases.{phase_number}
 use Rattle.mk_words.specs.States.{PassState}
 use Rattle.mk_marker.specs.declared.cells.MarkedCell.{MarkedCell}
 use Rattle.mk_marker.specs.Doing.{finding, looking}
@@ -14,15 +16,15 @@ use Rattle.mk_marker.specs.Steps.{MovesMarker, Moved, LooksInVain, SeesCell, Sca
 use Rattle.mk_marker.proofs.Did.{did_then, seat_kept}
 use Rattle.mk_marker.proofs.Looking.{did_more}
 
-pub finds_phase : (p : PassState) (n : ℕ) (a q : PassState) → MovesMarker p step.Attend n a → Moved a step.Quit q
-    → n % 8 ≢ 1 → FindsPhase p (n % 8) q
-finds_phase p n a q comes goes other =
+pub finds_phase : (p : PassState) (n : ℕ) (phase : Phase) (a q : PassState) → MovesMarker p step.Attend n a
+    → Moved a step.Quit q → phase_number phase ≡ n % 8 → n % 8 ≢ 1 → FindsPhase p phase q
+finds_phase p n phase a q comes goes is other =
     record {
       found = n;
       left = goes.0;
       did = did_more p (finding p.seat step.Attend n ∷ []) a step.Quit goes.0 q comes.did goes.1;
-      low_bits = refl;
-      other = other;
+      low_bits = is;
+      other = λ one. other (sym is ∙ one);
       out = ap (λ (x : MarkerState). is_out x.presence) goes.1.marker;
     }
 

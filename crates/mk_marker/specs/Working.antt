@@ -4,6 +4,8 @@ use Rattle.mk_geom.specs.Headers.{header_of}
 use Rattle.mk_core.specs.declared.events.Seat.{Seat}
 use Rattle.mk_core.specs.declared.events.Word.TheVariants as word
 use Rattle.mk_core.specs.declared.events.Step.TheVariants as step
+use Rattle.mk_core.specs.declared.phases.Phase.{Phase}
+use Rattle.mk_core.specs.Phases.{phase_number}
 use Rattle.mk_core.specs.Bits.{has_bit, without}
 use Rattle.mk_core.specs.Cells.{cells_under}
 use Rattle.mk_core.specs.Growing.{Finding}
@@ -22,13 +24,13 @@ pub record ComesIn (p q : PassState) : Type 0 where
   pub marking : found % 8 ≡ 1
   pub attends : attends q ≡ true
 
--- `attend` found another phase, and the marker is out again.
-pub record FindsPhase (p : PassState) (phase : ℕ) (q : PassState) : Type 0 where
+-- `attend` found this phase, which isn't marking, and the marker is out again.
+pub record FindsPhase (p : PassState) (phase : Phase) (q : PassState) : Type 0 where
   pub found : ℕ
   pub left : ℕ
   pub did : Did p (finding p.seat step.Attend found ∷ finding p.seat step.Quit left ∷ []) q
-  pub low_bits : phase ≡ found % 8
-  pub other : phase ≢ 1
+  pub low_bits : phase_number phase ≡ found % 8
+  pub other : phase_number phase ≢ 1
   pub out : IsOut q
 
 -- Loads of a page's mark and black word show no cell that is marked and not black; or a load of its header after them

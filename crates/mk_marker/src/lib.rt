@@ -5,6 +5,7 @@ mod cells;
 mod clients;
 mod headers;
 mod markers;
+mod phases;
 mod scans;
 mod steps;
 

@@ -3,16 +3,17 @@ ghost use Rattle.std.specs.Prelude.{◌≡◌, ◌<◌, ◌≤◌, true, false, 
 ghost use Rattle.mk_marker.specs.Markers.{IsMarkers, IsOut, attends};
 
 use crate::cells::find_cell;
+use crate::phases::phase_in;
 use crate::scans::scan_cell;
 use crate::steps::{attend, look, quit};
-use mk_core::{Phase, Seat, Word, phase_bits};
+use mk_core::{Phase, Seat, Word};
 use mk_words::{Pass, Words};
 use std::marker::Model;
 
-/// The low bits of a phase word that `attend` found, which aren't those of marking.
-#[derive(Clone, Copy, Debug, PartialEq, Eq)]
+/// The phase that `attend` found, which isn't marking.
+#[derive(Clone, Copy)]
 pub struct NotMarking {
-    pub phase: u64,
+    pub phase: Phase,
 }
 
 /// What a marker found to do.
@@ -87,7 +88,7 @@ impl<'h> Marker<'h> {
         } else {
             quit(self.words, &mut self.pass);
             Err(NotMarking {
-                phase: phase_bits(found),
+                phase: phase_in(found),
             })
         }
     }

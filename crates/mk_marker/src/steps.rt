@@ -1,5 +1,5 @@
 //! The steps of a marker, each with what it leaves.
-ghost use Rattle.std.specs.Prelude.{◌≡◌, ◌<◌, ◌&&◌, true, false, Some};
+ghost use Rattle.std.specs.Prelude.{◌≡◌, ◌<◌, ◌≤◌, ◌%◌, ◌&&◌, true, false, Some};
 ghost use Rattle.mk_geom.specs.Headers.{header_of};
 ghost use Rattle.mk_core.specs.declared.events.Step.TheVariants as step;
 ghost use Rattle.mk_core.specs.Words.{named_word};
@@ -18,12 +18,13 @@ use crate::cells::MarkedCell;
 use mk_core::Word;
 use mk_words::{Pass, Words};
 
-/// Comes in, and returns the phase word as it was.
+/// Comes in, and returns the phase word as it was, which has one of the six phases.
 #[inline(always)]
 pub(crate) fn attend(words: &Words, pass: &mut Pass) -> u64
     requires marker { IsOf words.now pass.old }
     requires out { IsOut pass.old }
-    ensures { MovesMarker pass.old step.Attend result pass.new }
+    ensures moves { MovesMarker pass.old step.Attend result pass.new }
+    ensures phase { result % 8 ≤ 5 }
 {
     pass.is_in_order();
     let found = pass.attend(words);

@@ -1,13 +1,11 @@
 -- What looks between calls say of cells and of the objects in them.
-use Rattle.std.proofs.Common.{◌≡◌, ◌≢◌, ℕ, ◌+◌, ◌-◌, ◌*◌, ◌/◌, ◌%◌, ◌<◌, ◌≤◌, Bool, true, false, List, refl, sym}
+use Rattle.std.proofs.Common.{◌≡◌, ◌≢◌, ℕ, ◌+◌, ◌*◌, ◌%◌, ◌<◌, ◌≤◌, Bool, true, false, List, refl, sym}
 use Rattle.std.proofs.Common.{◌∙◌, ap, arith}
 use Rattle.std.specs.Prelude.{not, nat_le, Option, Some, None, option_map, slice_index, if◌then◌else◌}
-use Rattle.std.proofs.lemmas.Bool.{and_parts, false_from_ne_true}
-use Rattle.std.proofs.lemmas.Bool.Decides.{nat_tests}
 use Rattle.std.proofs.lemmas.List.{get_or_past}
 use Rattle.mk_never.specs.NeverHeap.{global_at}
 use Rattle.mk_geom.specs.declared.addresses.Cell.{Cell}
-use Rattle.mk_geom.specs.Addresses.{cell_at, is_heap_address}
+use Rattle.mk_geom.specs.Addresses.{cell_at, is_heap_address, page_at_address}
 use Rattle.mk_core.specs.declared.config.Config.{Config}
 use Rattle.mk_core.specs.declared.events.Event.{Event}
 use Rattle.mk_core.specs.declared.events.Word.TheVariants as word
@@ -62,27 +60,19 @@ header_looked c es fs looks p = ap (λ (w : Words). header_at w p) looks.table.w
 
 -- what an address points into
 
-pub cell_found : (pages : ℕ) (w : Words) (u header : ℕ) (found : Option Cell) → header ≡ header_at w ((u - 65536) / 512)
+pub cell_found : (pages : ℕ) (w : Words) (u header : ℕ) (found : Option Cell) → header ≡ header_at w (page_at_address u)
     → found ≡ cell_at pages header u → found ≡ pointed_cell pages w.pages u
 unfolding pointed_cell
 cell_found pages w u header found is same = same ∙ ap (λ (h : ℕ). cell_at pages h u) is
-
-outside : (pages u : ℕ) → pages ≤ (u - 65536) / 512 → is_heap_address pages u ≡ false
-outside pages u past =
-    false_from_ne_true (is_heap_address pages u) (λ is.
-    (let parts = and_parts (nat_le 65536 u) _ is in
-    let least : 65536 ≤ u = grind (arith, nat_tests, parts.0) in
-    let below : u < 65536 + 512 * pages = grind (arith, nat_tests, parts.1) in
-    omega (arith, least, below, past)))
 
 none_if : (b : Bool) (x : Option Cell) → b ≡ false → None ≡ (if b then x else None)
 none_if true x is = absurd cc
 none_if false x is = refl
 
-pub nothing_found : (pages : ℕ) (w : Words) (u : ℕ) → pages ≤ (u - 65536) / 512 → None ≡ pointed_cell pages w.pages u
+pub nothing_found : (pages : ℕ) (w : Words) (u : ℕ) → is_heap_address pages u ≡ false
+    → None ≡ pointed_cell pages w.pages u
 unfolding pointed_cell
-nothing_found pages w u past =
-    none_if (is_heap_address pages u) _ (outside pages u past)
+nothing_found pages w u outside = none_if (is_heap_address pages u) _ outside
 
 -- whether a cell is freed
 

@@ -15,7 +15,7 @@ ghost use Rattle.mk_trace.specs.Looking.{OnlyLooks, word_behind};
 
 use crate::ledger::FreedObject;
 use mk_core::{Word, has_bit, words_under};
-use mk_geom::{Cell, lookup};
+use mk_geom::{Cell, heap_page, lookup};
 use mk_heap::{Heap, Host};
 use mk_never::Op;
 use std::sync::Wait;
@@ -45,13 +45,10 @@ fn cell_at<R: Wait>(rt: &R, heap: &Heap, host: &mut Host, address: u64) -> Optio
     ensures finds { result
         ≡ pointed_cell heap.now.config.pages (left heap.now.config host.old.pass.seen).now.words.pages address }
 {
-    let page = address.saturating_sub(65536) / 512;
-    if page < heap.words().pages() {
-        let header = look(rt, heap, host, Word::Head(page));
-        lookup(heap.words().pages(), header, address)
-    } else {
-        None
-    }
+    let pages = heap.words().pages();
+    let page = heap_page(pages, address)?;
+    let header = look(rt, heap, host, Word::Head(page));
+    lookup(pages, header, address)
 }
 
 /// Whether the cell's object is freed and not released.

@@ -1,4 +1,4 @@
-use Rattle.std.proofs.Common.{ap}
+use Rattle.std.proofs.Common.{◌∙◌, ap}
 use Rattle.std.specs.Prelude.{◌==◌}
 use Rattle.mk_core.specs.declared.events.Word.TheVariants as word
 use Rattle.mk_words.specs.States.{call_of}
@@ -23,5 +23,6 @@ returns-clause-looks c =
 pub returns-clause-finds : goal.returns-clause-finds
 returns-clause-finds c =
     let t = c.args.turn.now in
-    ap (λ n. n == 1) (found_phase t.pass c.look-found.new.self.pass t.op c.look-found.result c.is_in_order.ensures.turn
+    c.is_in.ensures ∙ ap (λ n. n == 1)
+    (found_phase t.pass c.look-found.new.self.pass t.op c.look-found.result c.is_in_order.ensures.turn
     c.look-found.ensures.finds c.is_in_order.ensures.own c.is_in_order-2.ensures.history)

@@ -1,6 +1,7 @@
 use Rattle.std.proofs.Common.{◌≡◌, ◌%◌, refl, sym, ◌∙◌, ap, subst, arith}
 use Rattle.mk_core.specs.declared.events.Seat.{Seat}
 use Rattle.mk_core.specs.declared.events.Seat.TheVariants.{Host}
+use Rattle.mk_core.proofs.PhaseTests.{in_word, not_in_word}
 use Rattle.mk_words.specs.Seats.{Has}
 use Rattle.mk_words.specs.States.{PassState}
 use Rattle.mk_cycle.specs.TurnKeeps.{but_phase, whole}
@@ -25,23 +26,24 @@ use Rattle.mk_turns.proofs.Sweeping.{other_step_sweeps, step_then_sweeps}
 use Rattle.mk_heap.proofs.UnsweptHosts.{taken_then_sweeps}
 use Rattle.mk_heap.proofs.ending.take_idle_turn.Goals as goal
 
-pub returns-then-found-eq1-clause-takes : goal.returns-then-found-eq1-clause-takes
-returns-then-found-eq1-clause-takes g c =
+pub returns-then-is_in-clause-takes : goal.returns-then-is_in-clause-takes
+returns-then-is_in-clause-takes g c =
     let t = c.take_turn-turn in
     let o = c.is_in_order-2.ensures in
     let p : PassState = t.result.pass in
     let q : PassState = c.look-found.new.self.pass in
     let turn = in_turn p t.result.op o.own o.turn o.history in
     let f = c.look-found.ensures.finds in
-    let on = sym (phase_found p q c.look-found.result turn c.is_in_order-3.ensures.history f) ∙ c.if-found-eq1.true in
+    let on = sym (phase_found p q c.look-found.result turn c.is_in_order-3.ensures.history f)
+    ∙ in_word c.look-found.result 1 c.is_in.result c.is_in.ensures c.if-is_in.true in
     record {
       taken = p;
       takes = t.ensures.takes;
       ends = ends_one p q c.finish_cycle.result.0.pass c.look-found.result f on c.finish_cycle.ensures.law;
     }
 
-pub returns-then-found-eq1-clause-bench : goal.returns-then-found-eq1-clause-bench
-returns-then-found-eq1-clause-bench g c callers none =
+pub returns-then-is_in-clause-bench : goal.returns-then-is_in-clause-bench
+returns-then-is_in-clause-bench g c callers none =
     let t = c.take_turn-turn in
     let o = c.is_in_order-2.ensures in
     let p : PassState = t.result.pass in
@@ -52,10 +54,10 @@ returns-then-found-eq1-clause-bench g c callers none =
     c.look-found.ensures.finds in
     let zero : c.look-found.result % 8 ≡ 0 =
     found ∙ taken_phase c.args.home p t.ensures.takes host callers o.history ∙ none in
-    absurd (omega (arith, c.if-found-eq1.true))
+    absurd (omega (arith, in_word c.look-found.result 1 c.is_in.result c.is_in.ensures c.if-is_in.true))
 
-pub returns-then-found-eq1-clause-idle : goal.returns-then-found-eq1-clause-idle
-returns-then-found-eq1-clause-idle g c =
+pub returns-then-is_in-clause-idle : goal.returns-then-is_in-clause-idle
+returns-then-is_in-clause-idle g c =
     let t = c.take_turn-turn in
     let o = c.is_in_order-2.ensures in
     let p : PassState = t.result.pass in
@@ -70,8 +72,8 @@ returns-then-found-eq1-clause-idle g c =
     (free_then p q keeps.call free) c.finish_cycle.ensures.law
     (exact_kept p q less t.ensures.exact) (tidy_kept p q less t.ensures.tidy)
 
-pub returns-else-found-eq1-clause-takes : goal.returns-else-found-eq1-clause-takes
-returns-else-found-eq1-clause-takes g c =
+pub returns-else-is_in-clause-takes : goal.returns-else-is_in-clause-takes
+returns-else-is_in-clause-takes g c =
     let t = c.take_turn-turn in
     let o = c.is_in_order-2.ensures in
     let p : PassState = t.result.pass in
@@ -82,11 +84,11 @@ returns-else-found-eq1-clause-takes g c =
     let before = taken_overs c.args.home p t.ensures.takes host o.history ∙ c.requires.before_over in
     let none =
     none_is_on p q c.look-found.result turn t.ensures.fresh before c.is_in_order-3.ensures.history f
-    c.if-found-eq1.false in
+    (not_in_word c.look-found.result 1 c.is_in.result c.is_in.ensures c.if-is_in.false) in
     record { taken = p; takes = t.ensures.takes; ends = ends_none p q c.look-found.result f none }
 
-pub returns-else-found-eq1-clause-idle : goal.returns-else-found-eq1-clause-idle
-returns-else-found-eq1-clause-idle g c =
+pub returns-else-is_in-clause-idle : goal.returns-else-is_in-clause-idle
+returns-else-is_in-clause-idle g c =
     let t = c.take_turn-turn in
     let o = c.is_in_order-2.ensures in
     let p : PassState = t.result.pass in
@@ -97,13 +99,13 @@ returns-else-found-eq1-clause-idle g c =
     let before = taken_overs c.args.home p t.ensures.takes host o.history ∙ c.requires.before_over in
     let none =
     none_is_on p q c.look-found.result turn t.ensures.fresh before history c.look-found.ensures.finds
-    c.if-found-eq1.false in
+    (not_in_word c.look-found.result 1 c.is_in.result c.is_in.ensures c.if-is_in.false) in
     let seat : p.seat ≡ Host =
     ap (λ (r : PassState). r.seat) (turn_moves c.args.home p t.ensures.takes).is ∙ c.requires.seat in
     looked_idle p q seat turn t.ensures.fresh history c.look-found.ensures.acts none t.ensures.exact t.ensures.tidy
 
-pub returns-then-found-eq1-clause-reached : goal.returns-then-found-eq1-clause-reached
-returns-then-found-eq1-clause-reached g c =
+pub returns-then-is_in-clause-reached : goal.returns-then-is_in-clause-reached
+returns-then-is_in-clause-reached g c =
     let p : PassState = c.take_turn-turn.result.pass in
     let q : PassState = c.look-found.new.self.pass in
     let r : PassState = c.finish_cycle.result.0.pass in
@@ -112,8 +114,8 @@ returns-then-found-eq1-clause-reached g c =
     (step_then_sweeps p q r _ c.look-found.ensures.acts.makes c.is_in_order-2.ensures.own refl
     (c.finish_cycle.ensures.reached none))
 
-pub returns-else-found-eq1-clause-reached : goal.returns-else-found-eq1-clause-reached
-returns-else-found-eq1-clause-reached g c =
+pub returns-else-is_in-clause-reached : goal.returns-else-is_in-clause-reached
+returns-else-is_in-clause-reached g c =
     let p : PassState = c.take_turn-turn.result.pass in
     let q : PassState = c.look-found.new.self.pass in
     λ none.

@@ -1,3 +1,4 @@
+use Rattle.mk_core.proofs.PhaseTests.{not_in_word}
 use Rattle.mk_words.specs.States.{PassState}
 use Rattle.mk_cycle.specs.TurnKeeps.{InTurn}
 use Rattle.mk_cycle.proofs.Allowed.{in_turn}
@@ -27,7 +28,8 @@ begin_cycle-requires-clause-phase g c κs within =
     let turn : InTurn p = in_turn p t.result.op o.own o.turn o.history in
     (idle c.args.words.now c.args.host p q c.requires.host c.is_in_order.ensures.own t.ensures.takes
     t.ensures.fresh t.ensures.exact t.ensures.tidy turn c.look-found.result c.look-found.ensures.finds
-    c.look-found.ensures.acts c.is_in_order-3.ensures.history c.if-found-eq1.false).phase
+    c.look-found.ensures.acts c.is_in_order-3.ensures.history
+    (not_in_word c.look-found.result 1 c.is_in.result c.is_in.ensures c.if-is_in.false)).phase
 
 pub begin_cycle-requires-clause-free : goal.begin_cycle-requires-clause-free
 begin_cycle-requires-clause-free g c κs within =
@@ -38,7 +40,8 @@ begin_cycle-requires-clause-free g c κs within =
     let turn : InTurn p = in_turn p t.result.op o.own o.turn o.history in
     (idle c.args.words.now c.args.host p q c.requires.host c.is_in_order.ensures.own t.ensures.takes
     t.ensures.fresh t.ensures.exact t.ensures.tidy turn c.look-found.result c.look-found.ensures.finds
-    c.look-found.ensures.acts c.is_in_order-3.ensures.history c.if-found-eq1.false).free
+    c.look-found.ensures.acts c.is_in_order-3.ensures.history
+    (not_in_word c.look-found.result 1 c.is_in.result c.is_in.ensures c.if-is_in.false)).free
 
 pub returns : goal.returns
 returns g c =
@@ -49,5 +52,6 @@ returns g c =
     let turn : InTurn p = in_turn p t.result.op o.own o.turn o.history in
     marking c.args.words.now c.args.host p q c.requires.host c.is_in_order.ensures.own t.ensures.takes
     t.ensures.fresh t.ensures.exact t.ensures.tidy turn c.look-found.result c.look-found.ensures.finds
-    c.look-found.ensures.acts c.is_in_order-3.ensures.history c.if-found-eq1.false c.begin_cycle.new.turn.pass
+    c.look-found.ensures.acts c.is_in_order-3.ensures.history
+    (not_in_word c.look-found.result 1 c.is_in.result c.is_in.ensures c.if-is_in.false) c.begin_cycle.new.turn.pass
     c.begin_cycle.ensures.law

@@ -1,7 +1,13 @@
 use Rattle.mk_core.specs.declared.events.Step.TheVariants as step
-use Rattle.mk_marker.proofs.Moving.{moves}
+use Rattle.mk_marker.proofs.Moving.{known_phase, moves}
 use Rattle.mk_marker.proofs.steps.attend.Goals as goal
 
-pub returns : goal.returns
-returns c = moves c.args.pass.now step.Attend c.attend-found.result c.attend-found.new.self c.is_in_order.ensures.own
+pub returns-clause-moves : goal.returns-clause-moves
+returns-clause-moves c =
+    moves c.args.pass.now step.Attend c.attend-found.result c.attend-found.new.self c.is_in_order.ensures.own
     c.is_in_order-2.ensures.history c.attend-found.ensures
+
+pub returns-clause-phase : goal.returns-clause-phase
+returns-clause-phase c =
+    known_phase c.args.pass.now c.attend-found.result c.attend-found.new.self c.is_in_order.ensures.own
+    c.is_in_order-2.ensures.history c.attend-found.ensures.finds
