@@ -13,6 +13,7 @@ mod Converted
 mod Digits
 mod Ends
 mod FirstPlace
+mod KeywordLengths
 mod LastPiece
 mod NamesSoFar
 mod NoForm
