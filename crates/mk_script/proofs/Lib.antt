@@ -17,6 +17,7 @@ mod KeywordLengths
 mod LastPiece
 mod NamesSoFar
 mod NoForm
+mod PaddedNames
 mod Placed
 mod Pushed
 mod PutName
