@@ -3,11 +3,10 @@ use Rattle.std.proofs.Common.{◌≡◌, ℕ, Bool, true, false, cond, List, [],
 use Rattle.std.proofs.Common.{sym, ◌∙◌, subst, ⊎_elim}
 use Rattle.std.specs.Prelude.{if◌then◌else◌, ◌||◌, is_some, OnOk, Result, Ok, Err}
 use Rattle.std.specs.Cmp.Lexicographic.{nat_list_eq_equiv}
-use Rattle.std.specs.List.{list_any}
 use Rattle.std.specs.Option.{option_or, option_copied}
 use Rattle.std.specs.Str.{bytes_eq}
 use Rattle.std.proofs.lemmas.Bool.{cases_Bool, false≢true}
-use Rattle.std.proofs.lemmas.List.Folds.{list_any-append}
+use Rattle.std.proofs.lemmas.List.{append-nil}
 use Rattle.std.proofs.lemmas.List.Sums.{fold-append}
 use Rattle.std.proofs.lemmas.Slice.Eq.{bytes_eq-Decides}
 use Rattle.mk_script.specs.declared.items.At.{At}
@@ -16,7 +15,8 @@ use Rattle.mk_script.specs.declared.items.Item.{Item}
 use Rattle.mk_script.specs.declared.items.Item.TheVariants.{TypeLine, Global, Script, Ptr, Num}
 use Rattle.mk_script.specs.Scopes.{is_script, number_names, this_script}
 use Rattle.mk_check.specs.Typing.{type_words, global_type, pointer_at}
-use Rattle.mk_check.specs.Lookups.{lines_behind}
+use Rattle.mk_check.specs.declared.lookups.PointerRegister.{PointerRegister}
+use Rattle.mk_check.specs.Lookups.{lines_behind, first_at}
 
 -- no value, by its test
 pub None-from_is_some : {X : Type 0} (o : Option X) → is_some o ≡ false → o ≡ None
@@ -79,6 +79,13 @@ type_words-append name (TypeLine other words ∷ items) behind =
     (if-or (bytes_eq name other) words (type_words name items) (type_words name behind))
 type_words-append name (item ∷ items) behind = type_words-append name items behind
 
+pub first_at-append : (name : List ℕ) (registers behind : List PointerRegister)
+    → first_at (registers ++ behind) name ≡ option_or (first_at registers name) (first_at behind name)
+first_at-append name [] behind = refl
+first_at-append name (register ∷ registers) behind =
+    rw (first_at-append name registers behind)
+    (if-or (bytes_eq name register.name.now) register.at.now (first_at registers name) (first_at behind name))
+
 pub global_type-append : (name : List ℕ) (items behind : List Item)
     → global_type name (items ++ behind) ≡ option_or (global_type name items) (global_type name behind)
 global_type-append name [] behind = refl
@@ -95,41 +102,11 @@ pointer_at-append name (Ptr other at ∷ items) behind =
     (if-or (bytes_eq name other) at (pointer_at name items) (pointer_at name behind))
 pointer_at-append name (item ∷ items) behind = pointer_at-append name items behind
 
-number_names-append : (items behind : List Item)
+pub number_names-append : (items behind : List Item)
     → number_names (items ++ behind) ≡ number_names items ++ number_names behind
 number_names-append [] behind = refl
 number_names-append (Num name ∷ items) behind = ap (λ names. name ∷ names) (number_names-append items behind)
 number_names-append (item ∷ items) behind = number_names-append items behind
-
-abbrev pub is_number : List ℕ → List Item → Bool
-is_number name items = list_any (bytes_eq name) (number_names items)
-
-is_number-append : (name : List ℕ) (items behind : List Item)
-    → is_number name (items ++ behind) ≡ (is_number name items || is_number name behind)
-is_number-append name items behind =
-    ap (list_any (bytes_eq name)) (number_names-append items behind)
-    ∙ list_any-append (bytes_eq name) (number_names items) (number_names behind)
-
-or-false : (b : Bool) → (b || false) ≡ b
-or-false true = refl
-or-false false = refl
-
-or-number : (b c : Bool) → (b || (c || false)) ≡ cond c true b
-or-number true true = refl
-or-number true false = refl
-or-number false true = refl
-or-number false false = refl
-
-pub is_number-push : (name : List ℕ) (items : List Item) (other : List ℕ)
-    → is_number name (items ++ Num other ∷ []) ≡ cond (bytes_eq other name) true (is_number name items)
-is_number-push name items other =
-    is_number-append name items (Num other ∷ []) ∙ or-number (is_number name items) (bytes_eq name other)
-    ∙ ap (λ same. cond same true (is_number name items)) (nat_list_eq_equiv.symm name other)
-
-pub is_number-push_pointer : (name : List ℕ) (items : List Item) (other : List ℕ) (at : At)
-    → is_number name (items ++ Ptr other at ∷ []) ≡ is_number name items
-is_number-push_pointer name items other at = is_number-append name items (Ptr other at ∷ [])
-    ∙ or-false (is_number name items)
 
 -- Other lines declare no such name.
 
@@ -169,16 +146,15 @@ pub pointer_at-push_other : (name : List ℕ) (items : List Item) (item : Item)
 pointer_at-push_other name items item differs =
     none-of _ _ _ (pointer_at-append name items (item ∷ [])) (pointer_at-other name item differs)
 
-is_number-other : (name : List ℕ) (item : Item) → ((other : List ℕ) → item ≡ Num other → ⊥)
-    → is_number name (item ∷ []) ≡ false
-is_number-other name (Num other) differs = absurd (differs other refl)
-is_number-other name item differs = refl
+number_names-other : (item : Item) → ((other : List ℕ) → item ≡ Num other → ⊥) → number_names (item ∷ []) ≡ []
+number_names-other (Num other) differs = absurd (differs other refl)
+number_names-other item differs = refl
 
-pub is_number-push_other : (name : List ℕ) (items : List Item) (item : Item) → ((other : List ℕ) → item ≡ Num other → ⊥)
-    → is_number name (items ++ item ∷ []) ≡ is_number name items
-is_number-push_other name items item differs =
-    is_number-append name items (item ∷ []) ∙ ap (λ b. is_number name items || b) (is_number-other name item differs)
-    ∙ or-false (is_number name items)
+pub number_names-push_other : (items : List Item) (item : Item) → ((other : List ℕ) → item ≡ Num other → ⊥)
+    → number_names (items ++ item ∷ []) ≡ number_names items
+number_names-push_other items item differs =
+    number_names-append items (item ∷ [])
+    ∙ ap (λ names. number_names items ++ names) (number_names-other item differs) ∙ append-nil (number_names items)
 
 pub is_script-other : (item : Item) → ((name : List ℕ) → item ≡ Script name → ⊥) → is_script item ≡ false
 is_script-other (Script name) differs = absurd (differs name refl)

@@ -1,15 +1,15 @@
 -- What look-ups by name know of a program.
 -- Private functions alone cite these words.
-use Rattle.std.specs.Prelude.{◌≡◌, ℕ, if◌then◌else◌, List, [], ◌∷◌, ◌++◌, take, Option, Some, None}
+use Rattle.std.specs.Prelude.{◌≡◌, ℕ, if◌then◌else◌, List, [], ◌∷◌, ◌++◌, map, take, Option, Some, None}
 use Rattle.std.specs.Borrow.{Bor}
 use Rattle.std.specs.HashMap.{HashMap, get_by}
-use Rattle.std.specs.HashSet.{contains_by}
-use Rattle.std.specs.List.{list_any}
 use Rattle.std.specs.Option.{option_copied, option_or}
 use Rattle.std.specs.Str.{bytes_eq}
+use Rattle.mk_script.specs.declared.items.At.{At}
 use Rattle.mk_script.specs.declared.items.Item.{Item}
 use Rattle.mk_script.specs.Scopes.{is_script, number_names, this_script}
 use Rattle.mk_check.specs.declared.lookups.Declarations.{Declarations}
+use Rattle.mk_check.specs.declared.lookups.PointerRegister.{PointerRegister}
 use Rattle.mk_check.specs.declared.lookups.Registers.{Registers}
 use Rattle.mk_check.specs.Typing.{Around, type_words, global_type, pointer_at}
 
@@ -43,9 +43,13 @@ pub record AreDeclared (declarations : Declarations) (program : List Item) : Typ
   pub types : (name : List ℕ) → option_copied (value_of declarations.types name) ≡ type_words name program
   pub globals : (name : List ℕ) → option_copied (value_of declarations.globals name) ≡ global_type name program
 
+-- where the first register of a name is declared to point
+abbrev pub first_at : List PointerRegister → List ℕ → Option At
+first_at [] name = None
+first_at (register ∷ registers) name =
+    if bytes_eq name register.name.now then Some register.at.now else first_at registers name
+
 -- they are those of a script's lines
 pub record AreRegisters (registers : Registers) (lines : List Item) : Type 0 where
-  pub pointers : (name : List ℕ) → option_copied (value_of registers.pointers name) ≡ pointer_at name lines
-  pub numbers :
-      (name : List ℕ) → contains_by (λ key. bytes_eq name key.now) registers.numbers
-      ≡ list_any (bytes_eq name) (number_names lines)
+  pub pointers : (name : List ℕ) → first_at registers.pointers.items name ≡ pointer_at name lines
+  pub numbers : map (λ number. number.now) registers.numbers.items ≡ number_names lines

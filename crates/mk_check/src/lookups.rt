@@ -1,5 +1,5 @@
 //! What names stand for, as the lines of a program are read.
-ghost use Rattle.std.specs.Prelude.{◌≡◌, ◌+◌, ◌<◌, List, [], ◌∷◌, ◌++◌, length, IfOk, OnOk, OnErr};
+ghost use Rattle.std.specs.Prelude.{◌≡◌, ◌+◌, ◌<◌, List, [], ◌∷◌, ◌++◌, length, map, IfOk, OnOk, OnErr};
 ghost use Rattle.std.specs.List.{list_any};
 ghost use Rattle.std.specs.Option.{option_copied};
 ghost use Rattle.std.specs.Str.{bytes_eq};
@@ -11,7 +11,7 @@ ghost use Rattle.mk_check.specs.Lookups.{around, AddsFirst, KeepsValues};
 use mk_never::NoMemory;
 use mk_script::{At, Item, Name, TypeWord};
 use std::alloc::Global;
-use std::collections::{HashMap, HashSet};
+use std::collections::HashMap;
 use std::marker::Model;
 
 /// Adds a value for a name that has none.
@@ -71,22 +71,29 @@ impl<'a> Declarations<'a> {
     }
 }
 
-/// The registers of a script: where pointers are declared to point, and the numbers.
+/// A pointer register, and where it is declared to point.
+#[derive(Clone, Copy)]
+struct PointerRegister<'a> {
+    name: &'a Name,
+    at: &'a At,
+}
+
+/// The registers of a script, which are few.
 #[derive(Drop)]
 struct Registers<'a> {
-    pointers: HashMap<&'a [u8], &'a At>,
-    numbers: HashSet<&'a [u8]>,
+    pointers: Vec<PointerRegister<'a>>,
+    numbers: Vec<&'a Name>,
 }
 
 impl<'a> Registers<'a> {
-    ghost use Rattle.mk_check.specs.Lookups.{lines_behind, AreRegisters};
+    ghost use Rattle.mk_check.specs.Lookups.{lines_behind, AreRegisters, first_at};
 
     fn new(alloc: Global) -> Registers<'a>
         ensures { AreRegisters result [] }
     {
         Registers {
-            pointers: HashMap::new(alloc),
-            numbers: HashSet::new(alloc),
+            pointers: Vec::new(alloc),
+            numbers: Vec::new(alloc),
         }
     }
 
@@ -102,13 +109,33 @@ impl<'a> Registers<'a> {
                 self.numbers.clear();
                 Ok(())
             }
-            Item::Ptr { name, at } => add_first(&mut self.pointers, name, at),
-            Item::Num { name } => {
-                self.numbers.insert(name.as_bytes())?;
-                Ok(())
-            }
+            Item::Ptr { name, at } => Ok(self.pointers.push(PointerRegister { name, at })?),
+            Item::Num { name } => Ok(self.numbers.push(name)?),
             _ => Ok(()),
         }
+    }
+
+    /// Where the first pointer register of this name is declared to point.
+    fn pointer_at(&self, name: &Name) -> Option<&'a At>
+        ensures { option_copied result ≡ first_at self.now.pointers.items name.now }
+    {
+        for register in &self.pointers {
+            if name.is(register.name) {
+                return Some(register.at);
+            }
+        }
+        None
+    }
+
+    fn has_number(&self, name: &Name) -> bool
+        ensures { result ≡ list_any (bytes_eq name.now) (map (λ number. number.now) self.now.numbers.items) }
+    {
+        for number in &self.numbers {
+            if name.is(number) {
+                return true;
+            }
+        }
+        false
     }
 }
 
@@ -176,13 +203,13 @@ impl<'a> Lookups<'a> {
     pub fn pointer_at(&self, name: &Name) -> Option<&'a At>
         ensures { option_copied result ≡ pointer_at name.now (around self.now).script }
     {
-        self.registers.pointers.get(&name.as_bytes()).copied()
+        self.registers.pointer_at(name)
     }
 
     /// Whether a number register of the script so far has this name.
     pub fn has_number(&self, name: &Name) -> bool
         ensures { result ≡ list_any (bytes_eq name.now) (number_names (around self.now).script) }
     {
-        self.registers.numbers.contains(&name.as_bytes())
+        self.registers.has_number(name)
     }
 }

@@ -1,5 +1,5 @@
 //! Rules for lines: what is wrong with each.
-ghost use Rattle.std.specs.Prelude.{◌≡◌, ℕ, false, List, Some, option_map};
+ghost use Rattle.std.specs.Prelude.{◌≡◌, ℕ, false, List, Some, is_some, option_map};
 ghost use Rattle.std.specs.Option.{option_copied};
 ghost use Rattle.mk_script.specs.declared.items.Item.{Item};
 ghost use Rattle.mk_script.specs.Scopes.{is_script};
@@ -27,6 +27,19 @@ fn kind_fault(first: Option<Place>, second: Option<Place>) -> Option<TypeKind>
         (Some(first), Some(second)) => unless(first.is(second), TypeKind::Kind),
         _ => Some(TypeKind::Kind),
     }
+}
+
+/// A word that is inside its type.
+fn offset_fault(word: Option<&TypeWord>) -> Option<TypeKind>
+    ensures { result ≡ rule.unless (is_some (option_copied word.entry)) kind.Offset }
+{
+    unless(word.is_some(), TypeKind::Offset)
+}
+
+fn number_word_fault(word: Option<&TypeWord>) -> Option<TypeKind>
+    ensures { result ≡ rule.unless (rule.is_number_word (option_copied word.entry)) kind.Kind }
+{
+    unless(matches!(word, Some(TypeWord::Number)), TypeKind::Kind)
 }
 
 impl<'a> Lookups<'a> {
@@ -138,23 +151,10 @@ impl<'a> Lookups<'a> {
         )
     }
 
-    fn offset_fault(&self, pointer: &Name, index: u64) -> Option<TypeKind>
-        ensures { result ≡ rule.inside_fault (around self.now) (rule.place_behind (around self.now) pointer.now index) }
+    fn pointer_word_fault(&self, word: Option<&TypeWord>, register: &Name) -> Option<TypeKind>
+        ensures { result ≡ rule.kind_fault (rule.pointed_place (option_copied word.entry))
+            (rule.pointer_at register.now (around self.now).script) }
     {
-        unless(self.word_behind(pointer, index).is_some(), TypeKind::Offset)
-    }
-
-    fn number_word_fault(&self, pointer: &Name, index: u64) -> Option<TypeKind>
-        ensures { result ≡ rule.number_word_fault (around self.now) pointer.now index }
-    {
-        let word = self.word_behind(pointer, index);
-        unless(matches!(word, Some(TypeWord::Number)), TypeKind::Kind)
-    }
-
-    fn pointer_word_fault(&self, pointer: &Name, index: u64, register: &Name) -> Option<TypeKind>
-        ensures { result ≡ rule.pointer_word_fault (around self.now) pointer.now index register.now }
-    {
-        let word = self.word_behind(pointer, index);
         kind_fault(pointed_place(word), self.declared_place(register))
     }
 
@@ -179,20 +179,24 @@ impl<'a> Lookups<'a> {
                 number,
                 pointer,
                 index,
-            } => self
-                .number_fault(number)
-                .or(self.pointer_fault(pointer))
-                .or(self.offset_fault(pointer, *index))
-                .or(self.number_word_fault(pointer, *index)),
+            } => {
+                let word = self.word_behind(pointer, *index);
+                self.number_fault(number)
+                    .or(self.pointer_fault(pointer))
+                    .or(offset_fault(word))
+                    .or(number_word_fault(word))
+            }
             Item::Setn {
                 pointer,
                 index,
                 number,
-            } => self
-                .pointer_fault(pointer)
-                .or(self.number_fault(number))
-                .or(self.offset_fault(pointer, *index))
-                .or(self.number_word_fault(pointer, *index)),
+            } => {
+                let word = self.word_behind(pointer, *index);
+                self.pointer_fault(pointer)
+                    .or(self.number_fault(number))
+                    .or(offset_fault(word))
+                    .or(number_word_fault(word))
+            }
             _ => None,
         }
     }
@@ -205,34 +209,40 @@ impl<'a> Lookups<'a> {
                 loaded,
                 pointer,
                 index,
-            } => self
-                .pointer_fault(loaded)
-                .or(self.pointer_fault(pointer))
-                .or(self.offset_fault(pointer, *index))
-                .or(self.pointer_word_fault(pointer, *index, loaded)),
+            } => {
+                let word = self.word_behind(pointer, *index);
+                self.pointer_fault(loaded)
+                    .or(self.pointer_fault(pointer))
+                    .or(offset_fault(word))
+                    .or(self.pointer_word_fault(word, loaded))
+            }
             Item::Setp {
                 pointer,
                 index,
                 stored,
-            } => self
-                .pointer_fault(pointer)
-                .or(self.pointer_fault(stored))
-                .or(self.offset_fault(pointer, *index))
-                .or(self.pointer_word_fault(pointer, *index, stored)),
+            } => {
+                let word = self.word_behind(pointer, *index);
+                self.pointer_fault(pointer)
+                    .or(self.pointer_fault(stored))
+                    .or(offset_fault(word))
+                    .or(self.pointer_word_fault(word, stored))
+            }
             Item::Casp {
                 number,
                 pointer,
                 index,
                 expected,
                 stored,
-            } => self
-                .number_fault(number)
-                .or(self.pointer_fault(pointer))
-                .or(self.pointer_fault(expected))
-                .or(self.pointer_fault(stored))
-                .or(self.offset_fault(pointer, *index))
-                .or(self.pointer_word_fault(pointer, *index, expected))
-                .or(self.pointer_word_fault(pointer, *index, stored)),
+            } => {
+                let word = self.word_behind(pointer, *index);
+                self.number_fault(number)
+                    .or(self.pointer_fault(pointer))
+                    .or(self.pointer_fault(expected))
+                    .or(self.pointer_fault(stored))
+                    .or(offset_fault(word))
+                    .or(self.pointer_word_fault(word, expected))
+                    .or(self.pointer_word_fault(word, stored))
+            }
             _ => None,
         }
     }
@@ -252,7 +262,7 @@ impl<'a> Lookups<'a> {
             } => self
                 .pointer_fault(moved)
                 .or(self.pointer_fault(pointer))
-                .or(self.offset_fault(pointer, *index))
+                .or(offset_fault(self.word_behind(pointer, *index)))
                 .or(kind_fault(
                     self.declared_place(moved),
                     self.place_behind(pointer, *index),

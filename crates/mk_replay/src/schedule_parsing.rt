@@ -10,7 +10,7 @@ ghost use Rattle.mk_replay.specs.Schedules.{replay_of, entries_of_lines};
 use crate::lines::{LineStop, line_entries};
 use crate::schedule::{Entry, Schedule};
 use mk_script::{
-    Program, TEXT_LIMIT, TOO_LONG, TextKind, TextStop, parse, split_lines, split_words,
+    Program, TEXT_LIMIT, TOO_LONG, TextKind, TextStop, parse, replace_words, split_lines,
 };
 use std::alloc::{AllocError, Global};
 
@@ -59,18 +59,20 @@ fn read_parts(
 fn schedule_place(alloc: Global, lines: &[&[u8]]) -> Result<Option<usize>, AllocError>
     ensures { IfOk result (λ place. MatchOption place (HasNone (texts_of lines.now)) (StandsAt (texts_of lines.now))) }
 {
+    let mut words = Vec::new(alloc);
     for (place, line) in lines.iter().enumerate() {
-        if is_schedule_line(alloc, line)? {
+        if is_schedule_line(&mut words, line)? {
             return Ok(Some(place));
         }
     }
     Ok(None)
 }
 
-fn is_schedule_line(alloc: Global, line: &[u8]) -> Result<bool, AllocError>
+/// Its words take the place of those of another.
+fn is_schedule_line<'a>(words: &mut Vec<&'a [u8]>, line: &'a [u8]) -> Result<bool, AllocError>
     ensures { IfOk result (λ is. is ≡ spec.is_schedule_line line.now) }
 {
-    let words = split_words(alloc, line)?;
+    replace_words(words, line)?;
     match words.as_slice() {
         [word] => Ok(*word == b"schedule".as_slice()),
         _ => Ok(false),

@@ -13,9 +13,11 @@ mod Converted
 mod Digits
 mod Ends
 mod FirstPlace
+mod KeywordLengths
 mod LastPiece
 mod NamesSoFar
 mod NoForm
+mod PaddedNames
 mod Placed
 mod Pushed
 mod PutName

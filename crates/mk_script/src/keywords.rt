@@ -36,36 +36,48 @@ pub enum Keyword {
     End,
 }
 
-const KEYWORDS: [(&[u8], Keyword); 29] = [
-    (b"heap", Keyword::Heap),
-    (b"type", Keyword::TypeLine),
-    (b"global", Keyword::Global),
-    (b"script", Keyword::Script),
+// The keywords by their length, so that a word is compared with few.
+
+const OF_TWO: [(&[u8], Keyword); 1] = [(b"if", Keyword::If)];
+
+const OF_THREE: [(&[u8], Keyword); 7] = [
     (b"ptr", Keyword::Ptr),
     (b"num", Keyword::Num),
     (b"new", Keyword::New),
+    (b"lea", Keyword::Lea),
+    (b"add", Keyword::Add),
+    (b"sub", Keyword::Sub),
+    (b"end", Keyword::End),
+];
+
+const OF_FOUR: [(&[u8], Keyword); 12] = [
+    (b"heap", Keyword::Heap),
+    (b"type", Keyword::TypeLine),
     (b"free", Keyword::Free),
     (b"getn", Keyword::Getn),
     (b"setn", Keyword::Setn),
     (b"getp", Keyword::Getp),
     (b"setp", Keyword::Setp),
     (b"casp", Keyword::Casp),
-    (b"lea", Keyword::Lea),
     (b"move", Keyword::Move),
+    (b"same", Keyword::Same),
+    (b"show", Keyword::Show),
+    (b"else", Keyword::Else),
+];
+
+const OF_FIVE: [(&[u8], Keyword); 4] = [
     (b"clear", Keyword::Clear),
     (b"loadg", Keyword::Loadg),
-    (b"storeg", Keyword::Storeg),
-    (b"same", Keyword::Same),
-    (b"isnull", Keyword::Isnull),
-    (b"show", Keyword::Show),
     (b"const", Keyword::Const),
-    (b"add", Keyword::Add),
-    (b"sub", Keyword::Sub),
     (b"print", Keyword::Print),
+];
+
+const OF_SIX: [(&[u8], Keyword); 5] = [
+    (b"global", Keyword::Global),
+    (b"script", Keyword::Script),
+    (b"storeg", Keyword::Storeg),
+    (b"isnull", Keyword::Isnull),
     (b"repeat", Keyword::Repeat),
-    (b"if", Keyword::If),
-    (b"else", Keyword::Else),
-    (b"end", Keyword::End),
 ];
 
 impl Keyword {
@@ -73,7 +85,14 @@ impl Keyword {
     pub fn of(word: &[u8]) -> Option<Keyword>
         ensures { result ≡ spec.keyword_of word.now }
     {
-        keyword_among(&KEYWORDS, word)
+        match word.len() {
+            2 => keyword_among(&OF_TWO, word),
+            3 => keyword_among(&OF_THREE, word),
+            4 => keyword_among(&OF_FOUR, word),
+            5 => keyword_among(&OF_FIVE, word),
+            6 => keyword_among(&OF_SIX, word),
+            _ => None,
+        }
     }
 }
 

@@ -27,4 +27,4 @@ pub use numbers::parse_number;
 pub use parsing::parse;
 pub use printing::print;
 pub use program::Program;
-pub use splitting::{split_lines, split_words};
+pub use splitting::{replace_words, split_lines, split_words};

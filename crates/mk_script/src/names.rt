@@ -10,18 +10,19 @@ use std::marker::Model;
 /// A name: 1 to 16 letters, digits or `_` of ASCII, the first of them a letter.
 #[derive(Drop)]
 pub struct Name {
+    /// Zeros after the name's own.
     bytes: [u8; 16],
     length: usize,
 }
 
 impl Model for Name {
-    ghost use Rattle.std.specs.Prelude.{ℕ, List, take, ◌≤◌};
+    ghost use Rattle.std.specs.Prelude.{◌≡◌, ℕ, ◌-◌, List, take, drop, replicate, ◌≤◌};
 
     ghost Value = { List ℕ };
 
     ghost view = { λ n. take n.length n.bytes };
 
-    ghost invariant = { λ n. n.length ≤ 16 };
+    ghost invariant = { λ n. (n.length ≤ 16) × (drop n.length n.bytes ≡ replicate (16 - n.length) 0) };
 }
 
 fn is_name_byte(byte: u8) -> bool
@@ -70,6 +71,6 @@ impl Name {
     pub fn is(&self, other: &Name) -> bool
         ensures { result ≡ bytes_eq self.now other.now }
     {
-        self.as_bytes() == other.as_bytes()
+        self.length == other.length && self.bytes == other.bytes
     }
 }

@@ -7,7 +7,7 @@ ghost use Rattle.mk_script.specs.Words.{lines_of, words_of};
 
 use crate::faults::{LineStop, TEXT_LIMIT, TOO_LONG, TextKind, TextStop, Which};
 use crate::scope::Scope;
-use crate::splitting::{split_lines, split_words};
+use crate::splitting::{replace_words, split_lines};
 use crate::{Item, Program, line};
 use std::alloc::Global;
 
@@ -38,27 +38,29 @@ fn items(alloc: Global, text: &[u8]) -> Result<Vec<Item>, TextStop>
     }
     let mut scope = Scope::new(alloc);
     let mut items = Vec::new(alloc);
+    let mut words = Vec::new(alloc);
     for (index, line) in lines.iter().enumerate() {
-        if let Err(stop) = read_line(alloc, &mut scope, &mut items, line) {
+        if let Err(stop) = read_line(alloc, &mut scope, &mut items, &mut words, line) {
             return Err(stop.at(index as u64 + 1));
         }
     }
     at_end(&scope, items)
 }
 
-/// Reads a line after those of the items and their scope.
-fn read_line(
+/// Reads a line after those of the items and their scope. Its words take the place of those of another.
+fn read_line<'a>(
     alloc: Global,
     scope: &mut Scope,
     items: &mut Vec<Item>,
-    line: &[u8],
+    words: &mut Vec<&'a [u8]>,
+    line: &'a [u8],
 ) -> Result<(), LineStop>
     ensures { IsScopeOf scope.old items.old.items
         → MatchResult result (λ _. ReadsLine items.old.items (words_of line.now) items.new.items scope.new)
         (IsStopOfLine items.old.items (words_of line.now)) }
 {
-    let words = split_words(alloc, line)?;
-    let item = line::item(alloc, scope, &words)?;
+    replace_words(words, line)?;
+    let item = line::item(alloc, scope, words.as_slice())?;
     scope.add(&item)?;
     Ok(items.push(item)?)
 }

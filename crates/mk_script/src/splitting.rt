@@ -1,5 +1,5 @@
 //! Lines and words.
-ghost use Rattle.std.specs.Prelude.{◌≡◌, ◌==◌, IfOk};
+ghost use Rattle.std.specs.Prelude.{◌≡◌, ◌==◌, IfOk, OnOk};
 ghost use Rattle.std.specs.List.{slice_split};
 ghost use Rattle.mk_script.specs.Words.{lines_of, words_of, texts_of};
 
@@ -29,7 +29,20 @@ fn between_newlines(alloc: Global, text: &[u8]) -> Result<Vec<&[u8]>, AllocError
 pub fn split_words(alloc: Global, line: &[u8]) -> Result<Vec<&[u8]>, AllocError>
     ensures { IfOk result (λ words. texts_of words.items ≡ words_of line.now) }
 {
-    line.split(|byte| *byte == b' ')
-        .filter(|word| !word.is_empty())
-        .collect(alloc)
+    let mut words = Vec::new(alloc);
+    replace_words(&mut words, line)?;
+    Ok(words)
+}
+
+/// Puts the words of a line in the place of those of another.
+pub fn replace_words<'a>(words: &mut Vec<&'a [u8]>, line: &'a [u8]) -> Result<(), AllocError>
+    ensures { OnOk result (texts_of words.new.items ≡ words_of line.now) }
+{
+    words.clear();
+    for word in line.split(|byte| *byte == b' ') {
+        if !word.is_empty() {
+            words.push(word)?;
+        }
+    }
+    Ok(())
 }

@@ -1,0 +1,47 @@
+-- A word is looked for among the keywords of its length alone.
+use Rattle.std.proofs.Common.{◌≡◌, ℕ, ◌≢◌, ◌==◌, Bool, true, false, List, [], ◌∷◌, length, filter, None, refl, ap, sym, ◌∙◌}
+use Rattle.std.proofs.Common.{⊎_elim, eq-eqb, ne_eqb}
+use Rattle.std.specs.Prelude.{if◌then◌else◌, Some}
+use Rattle.std.specs.Str.{bytes_eq}
+use Rattle.std.proofs.lemmas.Bool.{cases_Bool, false≢true}
+use Rattle.std.proofs.lemmas.Slice.Eq.{bytes_eq-Decides}
+use Rattle.mk_script.specs.declared.keywords.Keyword.{Keyword}
+use Rattle.mk_script.specs.Keywords.{keywords, keyword_among, keyword_of}
+
+-- words of different lengths differ
+differ : (word other : List ℕ) → (length other == length word) ≡ false → bytes_eq word other ≡ false
+differ word other apart = ⊎_elim
+    (λ (same : bytes_eq word other ≡ true).
+    absurd (false≢true (sym apart ∙ eq-eqb (length other) (length word)
+    (sym (ap length ((bytes_eq-Decides word other).0 same))))))
+    (λ (is : bytes_eq word other ≡ false). is) (cases_Bool (bytes_eq word other))
+
+kept_or_not : (word : List ℕ) (entry : List ℕ × Keyword) (kept all : List (List ℕ × Keyword)) (same : Bool)
+    → (length entry.0 == length word) ≡ same → keyword_among kept word ≡ keyword_among all word
+    → keyword_among (if same then entry ∷ kept else kept) word ≡ keyword_among (entry ∷ all) word
+kept_or_not word entry kept all true is others =
+    ap (λ other. if bytes_eq word entry.0 then Some entry.1 else other) others
+kept_or_not word entry kept all false is others = rw (differ word entry.0 is) others
+
+same_length : (word : List ℕ) (all : List (List ℕ × Keyword))
+    → keyword_among (filter (λ entry. length entry.0 == length word) all) word ≡ keyword_among all word
+same_length word [] = refl
+same_length word (entry ∷ all) =
+    kept_or_not word entry (filter (λ other. length other.0 == length word) all) all (length entry.0 == length word)
+    refl (same_length word all)
+
+pub of_length : (word : List ℕ) (count : ℕ) (table : List (List ℕ × Keyword)) → length word ≡ count
+    → filter (λ entry. length entry.0 == count) keywords ≡ table → keyword_among table word ≡ keyword_of word
+of_length word count table is are =
+    ap (λ entries. keyword_among entries word) (sym are)
+    ∙ ap (λ n. keyword_among (filter (λ entry. length entry.0 == n) keywords) word) (sym is) ∙ same_length word keywords
+
+pub of_no_length : (word : List ℕ) → length word ≢ 2 → length word ≢ 3 → length word ≢ 4 → length word ≢ 5
+    → length word ≢ 6 → keyword_of word ≡ None
+of_no_length word two three four five six =
+    let two' : (2 == length word) ≡ false = ne_eqb 2 (length word) (λ e. two (sym e)) in
+    let three' : (3 == length word) ≡ false = ne_eqb 3 (length word) (λ e. three (sym e)) in
+    let four' : (4 == length word) ≡ false = ne_eqb 4 (length word) (λ e. four (sym e)) in
+    let five' : (5 == length word) ≡ false = ne_eqb 5 (length word) (λ e. five (sym e)) in
+    let six' : (6 == length word) ≡ false = ne_eqb 6 (length word) (λ e. six (sym e)) in
+    sym (same_length word keywords) ∙ rw (two', three', four', five', six') refl
