@@ -1,60 +1,105 @@
 -- What the ledger keeps over a call, with the looks before it and after it.
-use Rattle.std.proofs.Common.{◌≡◌, ◌⊎◌, inl, inr, ℕ, ◌+◌, ◌≤◌, ◌<◌, List, ◌++◌, sym, ◌∙◌, ap, subst, arith, max}
+use Rattle.std.proofs.Common.{◌≡◌, ◌⊎◌, inl, inr, ℕ, ◌+◌, ◌≤◌, ◌<◌, false, List, ◌++◌, refl, sym, ◌∙◌, ap, subst}
+use Rattle.std.proofs.Common.{arith, max}
 use Rattle.std.specs.Prelude.{Option, Some, option_map}
 use Rattle.mk_never.specs.declared.operations.Op.{Op}
+use Rattle.mk_never.specs.declared.operations.Op.TheVariants as op
 use Rattle.mk_never.specs.Admitted.{IsAdmitted}
 use Rattle.mk_never.specs.NeverHeap.{NeverState}
 use Rattle.mk_core.specs.declared.config.Config.{Config}
 use Rattle.mk_core.specs.declared.events.Answer.{Answer}
 use Rattle.mk_core.specs.declared.events.Event.{Event}
-use Rattle.mk_core.specs.Allocations.{PlacedAllocation, held_by_allocations, placed_at}
+use Rattle.mk_core.specs.Allocations.{PlacedAllocation, held_by_allocations, placed_at, storage_words}
+use Rattle.mk_core.specs.Calls.{is_under_turn}
 use Rattle.mk_core.specs.Counts.{ends, in_a_word}
 use Rattle.mk_core.specs.Cycles.{is_quarantined}
 use Rattle.mk_core.specs.Decided.{Decided, asked, entry_of}
-use Rattle.mk_core.specs.History.{IsHistory, left, never_behind, never_first}
+use Rattle.mk_core.specs.History.{IsHistory, first_world, left, never_behind, never_first}
 use Rattle.mk_core.specs.Words.{Words}
 use Rattle.mk_never.specs.NeverHeap.{after_calls}
 use Rattle.mk_trace.specs.declared.ledger.Freed.{Freed}
 use Rattle.mk_trace.specs.declared.ledger.FreedObject.{FreedObject}
 use Rattle.mk_trace.specs.declared.ledger.Peak.{Peak}
 use Rattle.mk_trace.specs.Calls.{Calls, HoldsMostAtEnd, MayCome, held_behind, most_held}
-use Rattle.mk_trace.specs.Ends.{EndsNone, EndsOne, EndsTell, IsIdle}
-use Rattle.mk_trace.specs.Freeing.{FlagsBehindCall, QuarantinesMostWhereFreed, number_freed}
+use Rattle.mk_trace.specs.Ends.{EndsNone, EndsOne, EndsTell, IsIdle, LeavesAllocations}
+use Rattle.mk_trace.specs.Freeing.{FlagsBehindCall, IsMostWhereFreed, QuarantinesMostWhereFreed, freed_words}
+use Rattle.mk_trace.specs.Freeing.{large_words, number_freed}
 use Rattle.mk_trace.specs.Ledgers.{AreAgesOf, AreFound, AreObjectsOf, IsPeakOf, Keeps, Notes, Settles}
 use Rattle.mk_trace.specs.Ledgers.{object_of, objects_kept}
 use Rattle.mk_trace.specs.Looking.{OnlyLooks}
-use Rattle.mk_trace.specs.Peaks.{found_by_ends}
+use Rattle.mk_trace.specs.Peaks.{found_by_ends, greatest, quarantined_words, reserved_words}
+use Rattle.mk_trace.proofs.GreatestParts.{last_below}
 use Rattle.mk_trace.proofs.HeldCalls.{calls_looked}
 use Rattle.mk_trace.proofs.KeptPeaks.{keeps_on}
 
--- Looks leave what is kept.
+-- What leaves the allocations and the cycles leaves what is kept.
 
-peak_looked : (c : Config) (measure : List PlacedAllocation → ℕ) (es fs : List Event) (peak : Peak)
-    → OnlyLooks c es fs → IsPeakOf c measure es peak → IsPeakOf c measure fs peak
-peak_looked c measure es fs peak looks h = record {
-  now = h.now ∙ ap (λ (l : List PlacedAllocation). in_a_word (measure l)) (sym looks.table.allocations);
-  most = h.most ∙ ap in_a_word (sym (looks.most measure));
+peak_left : (c : Config) (measure : List PlacedAllocation → ℕ) (es fs : List Event) (peak : Peak)
+    → LeavesAllocations c es fs → greatest c measure fs ≡ greatest c measure es → IsPeakOf c measure es peak
+    → IsPeakOf c measure fs peak
+peak_left c measure es fs peak leaves most h = record {
+  now = h.now ∙ ap (λ (l : List PlacedAllocation). in_a_word (measure l)) (sym leaves.allocations);
+  most = h.most ∙ ap in_a_word (sym most);
 }
 
-pub keeps_looked : (c : Config) (es fs : List Event) (f : Freed) → OnlyLooks c es fs → Keeps c es f → Keeps c fs f
-keeps_looked c es fs f looks h = record {
-  quarantined = peak_looked c _ es fs f.quarantined looks h.quarantined;
-  reserved = peak_looked c _ es fs f.reserved looks h.reserved;
+keeps_left : (c : Config) (es fs : List Event) (f : Freed) → LeavesAllocations c es fs
+    → greatest c (quarantined_words c) fs ≡ greatest c (quarantined_words c) es
+    → greatest c (reserved_words c) fs ≡ greatest c (reserved_words c) es → Keeps c es f → Keeps c fs f
+keeps_left c es fs f leaves quarantined reserved h = record {
+  quarantined = peak_left c (quarantined_words c) es fs f.quarantined leaves quarantined h.quarantined;
+  reserved = peak_left c (reserved_words c) es fs f.reserved leaves reserved h.reserved;
   objects =
       subst (λ (found : List (List PlacedAllocation)). AreObjectsOf c found (left c fs).allocations
-      (λ (i : ℕ). is_quarantined (placed_at (left c fs).allocations i)) (objects_kept f)) (sym looks.leaves.found)
+      (λ (i : ℕ). is_quarantined (placed_at (left c fs).allocations i)) (objects_kept f)) (sym leaves.found)
       (subst (λ (xs : List PlacedAllocation). AreObjectsOf c (found_by_ends c es) xs
-      (λ (i : ℕ). is_quarantined (placed_at xs i)) (objects_kept f)) (sym looks.table.allocations) h.objects);
+      (λ (i : ℕ). is_quarantined (placed_at xs i)) (objects_kept f)) (sym leaves.allocations) h.objects);
   ages =
       subst (λ (found : List (List PlacedAllocation)). AreAgesOf found (left c fs).allocations f.ages.items)
-      (sym looks.leaves.found)
+      (sym leaves.found)
       (subst (λ (xs : List PlacedAllocation). AreAgesOf (found_by_ends c es) xs f.ages.items)
-      (sym looks.table.allocations) h.ages);
+      (sym leaves.allocations) h.ages);
   found =
-      subst (λ (found : List (List PlacedAllocation)). AreFound found (left c fs).allocations) (sym looks.leaves.found)
-      (subst (λ (xs : List PlacedAllocation). AreFound (found_by_ends c es) xs) (sym looks.table.allocations) h.found);
-  ends = h.ends ∙ ap in_a_word (sym looks.leaves.count);
+      subst (λ (found : List (List PlacedAllocation)). AreFound found (left c fs).allocations) (sym leaves.found)
+      (subst (λ (xs : List PlacedAllocation). AreFound (found_by_ends c es) xs) (sym leaves.allocations) h.found);
+  ends = h.ends ∙ ap in_a_word (sym leaves.count);
 }
+
+-- So does a look.
+keeps_looked : (c : Config) (es fs : List Event) (f : Freed) → OnlyLooks c es fs → Keeps c es f → Keeps c fs f
+keeps_looked c es fs f looks h =
+    keeps_left c es fs f looks.leaves (looks.most (quarantined_words c)) (looks.most (reserved_words c)) h
+
+-- So does a call that isn't under the turn.
+
+frees_nothing : (c : Config) (words : PlacedAllocation → ℕ) (es : List Event) (o : Op) → is_under_turn o ≡ false
+    → freed_words c words es o ≡ 0
+frees_nothing c words es (op.Free p) beside = cc
+frees_nothing c words es o beside = refl
+
+most_beside : (c : Config) (measure : List PlacedAllocation → ℕ) (words : PlacedAllocation → ℕ) (es : List Event)
+    (o : Op) (fs : List Event) → is_under_turn o ≡ false → IsMostWhereFreed c measure words es o fs
+    → greatest c measure fs ≡ greatest c measure es
+most_beside c measure words es o fs beside most =
+    let none = frees_nothing c words es o beside in
+    let below = last_below c measure (first_world c) es in
+    omega (arith, most, none, below)
+
+pub keeps_beside : (c : Config) (es : List Event) (o : Op) (fs : List Event) (f : Freed) → is_under_turn o ≡ false
+    → LeavesAllocations c es fs → QuarantinesMostWhereFreed c es o fs → Keeps c es f → Keeps c fs f
+keeps_beside c es o fs f beside leaves most h =
+    keeps_left c es fs f leaves
+    (most_beside c (quarantined_words c) (storage_words c) es o fs beside most.quarantined)
+    (most_beside c (reserved_words c) (large_words c) es o fs beside most.reserved) h
+
+-- What was held at most stays too.
+pub held_beside : (c : Config) (es fs : List Event) (held : ℕ) → LeavesAllocations c es fs → HoldsMostAtEnd c es fs
+    → held ≡ most_held c es → held ≡ most_held c fs
+held_beside c es fs held leaves most is =
+    let same = ap (λ (l : List PlacedAllocation). held_by_allocations c l) leaves.allocations in
+    let below = last_below c (held_by_allocations c) (first_world c) es in
+    omega (arith, most, is, same, below)
+
+-- Looks before a call and after it
 
 pub idle_looked : (c : Config) (es fs : List Event) → OnlyLooks c es fs → IsIdle c es → IsIdle c fs
 idle_looked c es fs looks idle = looks.leaves.phase ∙ idle

@@ -12,7 +12,7 @@ ghost use Rattle.mk_trace.specs.Traces.{slot_of};
 
 use crate::ledger::Ledger;
 use crate::looking::{look, object_to_free};
-use crate::operations::{first_op, is_full_answer, later_ops};
+use crate::operations::{first_op, is_full_answer, is_under_turn, later_ops};
 use crate::settling::settle;
 use crate::trace::TraceEvent;
 use mk_check::is_refusal;
@@ -59,9 +59,9 @@ fn call<E: Engine, R: Threads + Wait + Sync>(
     answer
 }
 
-/// Carries out an operation of the caller, returns its answer, and notes what is held and quarantined then. A Free's
+/// Carries out an operation under the turn, returns its answer, and notes what is held and quarantined then. A Free's
 /// register points to what the slot points to.
-fn answer<E: Engine, R: Threads + Wait + Sync>(
+fn answer_under_turn<E: Engine, R: Threads + Wait + Sync>(
     rt: &R,
     alloc: Global,
     heap: &Heap,
@@ -102,6 +102,47 @@ fn answer<E: Engine, R: Threads + Wait + Sync>(
     ledger.freed.note(freed)?;
     settle(rt, alloc, heap, host, &mut ledger.freed)?;
     Ok(told)
+}
+
+/// Carries out an operation of the caller, and returns its answer. Only one under the turn changes what is held or
+/// quarantined, or ends a cycle, so the ledger stays as it is after any other.
+fn answer<E: Engine, R: Threads + Wait + Sync>(
+    rt: &R,
+    alloc: Global,
+    heap: &Heap,
+    host: &mut Host,
+    bench: &mut Bench<E>,
+    ledger: &mut Ledger,
+    slot: u64,
+    op: Op,
+) -> Result<Answer, NoMemory>
+    requires slot { slot < 64 }
+    requires points { FreesSlot (never_behind heap.now.config host.old.pass.seen) slot op }
+    requires off { E.on ≡ false }
+    requires unswept { E.sweeps ≡ false }
+    requires home { IsHome heap.now host.old }
+    requires idle { IsIdle heap.now.config host.old.pass.seen }
+    requires few { ends host.old.pass.seen < 18446744073709551615 }
+    requires admitted { MayCome heap.now.config host.old.pass.seen op }
+    requires made_for { E.made_for bench.old.engine ≡ heap.now.config.pages }
+    requires book { length bench.old.book ≡ heap.now.config.pages }
+    requires held { ledger.old.held ≡ most_held heap.now.config host.old.pass.seen }
+    requires keeps { Keeps heap.now.config host.old.pass.seen ledger.old.freed }
+    ensures home { IsHome heap.now host.new }
+    ensures idle { IsIdle heap.now.config host.new.pass.seen }
+    ensures made_for { E.made_for bench.new.engine ≡ E.made_for bench.old.engine }
+    ensures book { length bench.new.book ≡ length bench.old.book }
+    ensures calls { IfOk result (λ told. Calls heap.now.config host.old.pass.seen op told host.new.pass.seen) }
+    ensures held { IfOk result (λ told. ledger.new.held ≡ most_held heap.now.config host.new.pass.seen) }
+    ensures ends { IfOk result (λ told. ends host.new.pass.seen ≤ ends host.old.pass.seen + 1) }
+    ensures exact { IfOk result (λ told. StayExact heap.now.config host.old.pass.seen host.new.pass.seen) }
+    ensures keeps { IfOk result (λ told. Keeps heap.now.config host.new.pass.seen ledger.new.freed) }
+{
+    if is_under_turn(op) {
+        answer_under_turn(rt, alloc, heap, host, bench, ledger, slot, op)
+    } else {
+        Ok(call(rt, heap, host, bench, op))
+    }
 }
 
 /// Carries out the operations of an event, and reports whether one of them is refused.

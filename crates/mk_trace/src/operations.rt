@@ -1,6 +1,7 @@
 //! The operations of a trace's events.
 ghost use Rattle.std.specs.Prelude.{◌≡◌, ◌∷◌, [], ◌<◌, drop, IfOk, false};
 ghost use Rattle.mk_never.specs.declared.operations.Op.TheVariants as op;
+ghost use Rattle.mk_core.specs.Calls.{is_under_turn};
 ghost use Rattle.mk_core.specs.Counts.{is_full_answer};
 ghost use Rattle.mk_trace.specs.Traces.{slot_of};
 ghost use Rattle.mk_trace.specs.Playing as spec;
@@ -93,4 +94,11 @@ pub(crate) fn is_full_answer(answer: Answer) -> bool
     ensures { result ≡ is_full_answer answer }
 {
     matches!(answer, Answer::Full)
+}
+
+/// Whether a call of the operation takes the turn.
+pub(crate) fn is_under_turn(op: Op) -> bool
+    ensures { result ≡ is_under_turn op }
+{
+    matches!(op, Op::New { .. } | Op::Free { .. })
 }
