@@ -466,6 +466,25 @@ impl Running {
         while self.step_to_op(tree) {}
     }
 
+    /// Whether the script comes from this node to an operation before anything is printed, with at most one block left
+    /// and none begun.
+    fn comes_to_op(&self, tree: &Tree, at: usize) -> bool
+        requires { IsWithin (length tree.now) (record self.now { at = at }) }
+        ensures { result ≡ asks_first (steps_at (trees tree.now) (resumed_node tree.now (record self.now { at = at }))) }
+    {
+        tree.asks_first(self.resumed_node(tree, at))
+    }
+
+    /// Runs on to that operation. No memory is taken.
+    fn run_on_to_op(&mut self, tree: &Tree)
+        requires within { IsWithin (length tree.now) self.old }
+        requires first { asks_first (steps_at (trees tree.now) (resumed_node tree.now self.old)) ≡ true }
+        ensures { HasStopped tree.now self.old self.new }
+    {
+        self.resume(tree);
+        self.run_to_op(tree);
+    }
+
     /// Takes an answer at which nothing is printed and runs on from the node after it to the next operation, if that
     /// comes before anything is printed, with at most one block left and none begun. Says whether it comes so. No
     /// memory is taken.
@@ -487,29 +506,11 @@ impl Running {
             self.take_at(next, instruction, answer);
             return true;
         }
-        self.take_to_op(tree, next, instruction, answer)
-    }
-
-    /// The same where the node after it isn't an operation.
-    fn take_to_op(
-        &mut self,
-        tree: &Tree,
-        next: usize,
-        instruction: Instruction,
-        answer: Answer,
-    ) -> bool
-        requires within { IsWithin (length tree.now) (record self.old { at = next }) }
-        requires silent { steps.is_silent instruction answer ≡ true }
-        ensures taken { IsTrue result → HasStopped tree.now (with_kept (record self.old { at = next })
-            (steps.after_answer instruction answer (kept_in self.old))) self.new }
-        ensures refused { result ≡ false → self.new ≡ self.old }
-    {
-        if !tree.asks_first(self.resumed_node(tree, next)) {
+        if !self.comes_to_op(tree, next) {
             return false;
         }
         self.take_at(next, instruction, answer);
-        self.resume(tree);
-        self.run_to_op(tree);
+        self.run_on_to_op(tree);
         true
     }
 }
