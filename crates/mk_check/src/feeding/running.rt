@@ -178,12 +178,24 @@ impl Running {
         ensures { result ≡ steps.op_asked self.now.numbers instruction }
     {
         match instruction {
-            Instruction::Ask { op } | Instruction::Load { op, .. } => Some(op),
-            Instruction::Store { q, i, number } => Some(Op::SetNum {
+            Instruction::New { d, ty } => Some(Op::New { d, ty, full: false }),
+            Instruction::Free { p } => Some(Op::Free { p }),
+            Instruction::GetPtr { d, q, i } => Some(Op::GetPtr { d, q, i }),
+            Instruction::SetPtr { q, p, i } => Some(Op::SetPtr { q, i, p }),
+            Instruction::Lea { d, q, i } => Some(Op::Lea { d, q, i }),
+            Instruction::Move { d, q } => Some(Op::Move { d, q }),
+            Instruction::Clear { d } => Some(Op::Clear { d }),
+            Instruction::GetGlobal { d, g } => Some(Op::GetGlobal { d, g }),
+            Instruction::SetGlobal { g, p } => Some(Op::SetGlobal { g, p }),
+            Instruction::SetNum { q, number, i } => Some(Op::SetNum {
                 q,
                 i,
                 n: self.number(number),
             }),
+            Instruction::GetNum { q, i, .. } => Some(Op::GetNum { q, i }),
+            Instruction::CasPtr { q, p, r, i, .. } => Some(Op::CasPtr { q, i, p, r }),
+            Instruction::Same { p, q, .. } => Some(Op::Same { p, q }),
+            Instruction::IsNull { p, .. } => Some(Op::IsNull { p }),
             Instruction::Show { p } => Some(Op::IsNull { p }),
             _ => None,
         }
@@ -377,7 +389,10 @@ impl Running {
             (steps.after_answer instruction answer (kept_in self.old))) }
     {
         match instruction {
-            Instruction::Load { number, .. } => self.set(number, answered_number(answer)),
+            Instruction::GetNum { number, .. }
+            | Instruction::CasPtr { number, .. }
+            | Instruction::Same { number, .. }
+            | Instruction::IsNull { number, .. } => self.set(number, answered_number(answer)),
             Instruction::Show { .. } => {
                 let shown: &[u8] = if answered_number(answer) == 0 {
                     b"ptr\n"
@@ -399,8 +414,14 @@ impl Running {
         ensures { self.new ≡ with_kept (record self.old { at = at })
             (steps.after_answer instruction answer (kept_in self.old)) }
     {
-        if let Instruction::Load { number, .. } = instruction {
-            self.set(number, answered_number(answer));
+        match instruction {
+            Instruction::GetNum { number, .. }
+            | Instruction::CasPtr { number, .. }
+            | Instruction::Same { number, .. }
+            | Instruction::IsNull { number, .. } => {
+                self.set(number, answered_number(answer));
+            }
+            _ => {}
         }
         self.at = at;
     }
