@@ -491,7 +491,8 @@ impl Running {
     /// and none begun.
     fn comes_to_op(&self, tree: &Tree, at: usize) -> bool
         requires { IsWithin (length tree.now) (record self.now { at = at }) }
-        ensures { result ≡ asks_first (steps_at (trees tree.now) (resumed_node tree.now (record self.now { at = at }))) }
+        ensures { result ≡ asks_first (steps_at (trees tree.now)
+            (resumed_node tree.now (record self.now { at = at }))) }
     {
         tree.asks_first(self.resumed_node(tree, at))
     }
