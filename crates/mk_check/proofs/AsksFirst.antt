@@ -5,8 +5,10 @@ use Rattle.std.specs.Prelude.{not, ◌&&◌, ◌||◌, is_some, Option, Some, No
 use Rattle.std.proofs.lemmas.List.{length_push, take_all, take_more, set_split, drop_all}
 use Rattle.std.proofs.lemmas.Option.{slice_get_within, get_or_from_slice_get, slice_get-get_or}
 use Rattle.mk_check.specs.declared.feeding.instructions.Instruction.{Instruction}
-use Rattle.mk_check.specs.declared.feeding.instructions.Instruction.TheVariants.{Nothing, Const, Add, Sub, Print, Ask}
-use Rattle.mk_check.specs.declared.feeding.instructions.Instruction.TheVariants.{Store, Load, Show}
+use Rattle.mk_check.specs.declared.feeding.instructions.Instruction.TheVariants.{Nothing, Const, Add, Sub, Print, New}
+use Rattle.mk_check.specs.declared.feeding.instructions.Instruction.TheVariants.{Free, GetPtr, SetPtr, Lea, Move, Clear}
+use Rattle.mk_check.specs.declared.feeding.instructions.Instruction.TheVariants.{GetGlobal, SetGlobal, SetNum, GetNum}
+use Rattle.mk_check.specs.declared.feeding.instructions.Instruction.TheVariants.{CasPtr, Same, IsNull, Show}
 use Rattle.mk_check.specs.declared.feeding.tree.Node.{Node}
 use Rattle.mk_check.specs.declared.feeding.tree.Node.TheVariants as node
 use Rattle.mk_check.specs.declared.feeding.tree.Frame.{Frame}
@@ -25,9 +27,20 @@ asked_so numbers (Const number value) = refl
 asked_so numbers (Add number left right) = refl
 asked_so numbers (Sub number left right) = refl
 asked_so numbers (Print number) = refl
-asked_so numbers (Ask o) = refl
-asked_so numbers (Store q i number) = refl
-asked_so numbers (Load number o) = refl
+asked_so numbers (New d ty) = refl
+asked_so numbers (Free p) = refl
+asked_so numbers (GetPtr d q i) = refl
+asked_so numbers (SetPtr q p i) = refl
+asked_so numbers (Lea d q i) = refl
+asked_so numbers (Move d q) = refl
+asked_so numbers (Clear d) = refl
+asked_so numbers (GetGlobal d g) = refl
+asked_so numbers (SetGlobal g p) = refl
+asked_so numbers (SetNum q number i) = refl
+asked_so numbers (GetNum q number i) = refl
+asked_so numbers (CasPtr q p r number i) = refl
+asked_so numbers (Same p q number) = refl
+asked_so numbers (IsNull p number) = refl
 asked_so numbers (Show p) = refl
 
 asks_here : (a b c : Bool) → a ≡ true → (a || (not b && c)) ≡ true

@@ -7,8 +7,10 @@ use Rattle.mk_core.specs.declared.events.Answer.{Answer}
 use Rattle.mk_core.specs.Decided.{flagged}
 use Rattle.mk_script.specs.declared.items.Item.{Item}
 use Rattle.mk_check.specs.declared.feeding.instructions.Instruction.{Instruction}
-use Rattle.mk_check.specs.declared.feeding.instructions.Instruction.TheVariants.{Nothing, Const, Add, Sub, Print, Ask}
-use Rattle.mk_check.specs.declared.feeding.instructions.Instruction.TheVariants.{Store, Load, Show}
+use Rattle.mk_check.specs.declared.feeding.instructions.Instruction.TheVariants.{Nothing, Const, Add, Sub, Print, New}
+use Rattle.mk_check.specs.declared.feeding.instructions.Instruction.TheVariants.{Free, GetPtr, SetPtr, Lea, Move, Clear}
+use Rattle.mk_check.specs.declared.feeding.instructions.Instruction.TheVariants.{GetGlobal, SetGlobal, SetNum, GetNum}
+use Rattle.mk_check.specs.declared.feeding.instructions.Instruction.TheVariants.{CasPtr, Same, IsNull, Show}
 use Rattle.mk_check.specs.declared.feeding.tree.Node.{Node}
 use Rattle.mk_check.specs.declared.feeding.tree.Node.TheVariants as node
 use Rattle.mk_check.specs.Blocks.{Blocks, Done, Line, Rounds, Choice, ScriptText, script_of, blocks_from, is_done}
@@ -226,9 +228,20 @@ after_answer-text text (Const number value) a k = refl
 after_answer-text text (Add number left right) a k = refl
 after_answer-text text (Sub number left right) a k = refl
 after_answer-text text (Print number) a k = refl
-after_answer-text text (Ask o) a k = refl
-after_answer-text text (Store q i number) a k = refl
-after_answer-text text (Load number o) a k = refl
+after_answer-text text (New d ty) a k = refl
+after_answer-text text (Free p) a k = refl
+after_answer-text text (GetPtr d q i) a k = refl
+after_answer-text text (SetPtr q p i) a k = refl
+after_answer-text text (Lea d q i) a k = refl
+after_answer-text text (Move d q) a k = refl
+after_answer-text text (Clear d) a k = refl
+after_answer-text text (GetGlobal d g) a k = refl
+after_answer-text text (SetGlobal g p) a k = refl
+after_answer-text text (SetNum q number i) a k = refl
+after_answer-text text (GetNum q number i) a k = refl
+after_answer-text text (CasPtr q p r number i) a k = refl
+after_answer-text text (Same p q number) a k = refl
+after_answer-text text (IsNull p number) a k = refl
 after_answer-text text (Show p) a k = ap (λ (t : List ℕ). let kept : Kept = record k { text = t } in kept)
     (append_assoc text k.text (show_text (answered_number a)))
 

@@ -4,8 +4,10 @@ use Rattle.std.specs.Prelude.{slice_index, ◌==◌, is_some}
 use Rattle.std.specs.Fmt.{decimal}
 use Rattle.std.proofs.lemmas.List.{append_assoc}
 use Rattle.mk_check.specs.declared.feeding.instructions.Instruction.{Instruction}
-use Rattle.mk_check.specs.declared.feeding.instructions.Instruction.TheVariants.{Nothing, Const, Add, Sub, Print, Ask}
-use Rattle.mk_check.specs.declared.feeding.instructions.Instruction.TheVariants.{Store, Load, Show}
+use Rattle.mk_check.specs.declared.feeding.instructions.Instruction.TheVariants.{Nothing, Const, Add, Sub, Print, New}
+use Rattle.mk_check.specs.declared.feeding.instructions.Instruction.TheVariants.{Free, GetPtr, SetPtr, Lea, Move, Clear}
+use Rattle.mk_check.specs.declared.feeding.instructions.Instruction.TheVariants.{GetGlobal, SetGlobal, SetNum, GetNum}
+use Rattle.mk_check.specs.declared.feeding.instructions.Instruction.TheVariants.{CasPtr, Same, IsNull, Show}
 use Rattle.mk_check.specs.Feed.{newline}
 use Rattle.mk_check.specs.Steps.{Steps, Done, Line, Rounds, Choice, then_steps, Kept, Stopped, op_asked, after_line}
 use Rattle.mk_check.specs.Steps.{stop_behind, stop_of_rounds, stop_of}
@@ -108,9 +110,20 @@ after_line-text text (Sub number left right) k = refl
 after_line-text text (Print number) k =
     ap (λ (t : List ℕ). let kept : Kept = record k { text = t } in kept)
     (append_assoc text k.text (decimal (slice_index k.numbers number) ++ newline))
-after_line-text text (Ask o) k = refl
-after_line-text text (Store q i number) k = refl
-after_line-text text (Load number o) k = refl
+after_line-text text (New d ty) k = refl
+after_line-text text (Free p) k = refl
+after_line-text text (GetPtr d q i) k = refl
+after_line-text text (SetPtr q p i) k = refl
+after_line-text text (Lea d q i) k = refl
+after_line-text text (Move d q) k = refl
+after_line-text text (Clear d) k = refl
+after_line-text text (GetGlobal d g) k = refl
+after_line-text text (SetGlobal g p) k = refl
+after_line-text text (SetNum q number i) k = refl
+after_line-text text (GetNum q number i) k = refl
+after_line-text text (CasPtr q p r number i) k = refl
+after_line-text text (Same p q number) k = refl
+after_line-text text (IsNull p number) k = refl
 after_line-text text (Show p) k = refl
 
 stop_behind-text : (text : List ℕ) (left : Steps) (kept : Kept) (go : Kept → Stopped) (rest : Steps)

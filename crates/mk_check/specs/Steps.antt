@@ -11,8 +11,10 @@ use Rattle.mk_core.specs.declared.events.Answer.{Answer}
 use Rattle.mk_script.specs.declared.items.Item.{Item}
 use Rattle.mk_script.specs.declared.items.Item.TheVariants as item
 use Rattle.mk_check.specs.declared.feeding.instructions.Instruction.{Instruction}
-use Rattle.mk_check.specs.declared.feeding.instructions.Instruction.TheVariants.{Nothing, Const, Add, Sub, Print, Ask}
-use Rattle.mk_check.specs.declared.feeding.instructions.Instruction.TheVariants.{Store, Load, Show}
+use Rattle.mk_check.specs.declared.feeding.instructions.Instruction.TheVariants.{Nothing, Const, Add, Sub, Print, New}
+use Rattle.mk_check.specs.declared.feeding.instructions.Instruction.TheVariants.{Free, GetPtr, SetPtr, Lea, Move, Clear}
+use Rattle.mk_check.specs.declared.feeding.instructions.Instruction.TheVariants.{GetGlobal, SetGlobal, SetNum, GetNum}
+use Rattle.mk_check.specs.declared.feeding.instructions.Instruction.TheVariants.{CasPtr, Same, IsNull, Show}
 use Rattle.mk_check.specs.declared.feeding.instructions.Element.{Element}
 use Rattle.mk_check.specs.declared.feeding.instructions.Element.TheVariants as element
 use Rattle.mk_check.specs.Declarations.{number_of_name}
@@ -44,45 +46,44 @@ none_left (Choice number first second rest) = false
 abbrev pub number_place : Scope → List ℕ → ℕ
 number_place scope name = number_of_name name scope.numbers
 
--- the operation of an instruction on an object, if it keeps no number
-abbrev pub object_op : Scope → Item → Option Op
-object_op scope (item.New pointer ty) =
-    Some (op.New (pointer_place scope pointer) (number_of_name ty scope.types) false)
-object_op scope (item.Free pointer) = Some (op.Free (pointer_place scope pointer))
-object_op scope (item.Getp loaded pointer index) =
-    Some (op.GetPtr (pointer_place scope loaded) (pointer_place scope pointer) index)
-object_op scope (item.Setp pointer index stored) =
-    Some (op.SetPtr (pointer_place scope pointer) index (pointer_place scope stored))
-object_op scope other = None
+-- an instruction on an object that keeps no number
+abbrev pub on_object : Scope → Item → Option Instruction
+on_object scope (item.New pointer ty) = Some (New (pointer_place scope pointer) (number_of_name ty scope.types))
+on_object scope (item.Free pointer) = Some (Free (pointer_place scope pointer))
+on_object scope (item.Getp loaded pointer index) =
+    Some (GetPtr (pointer_place scope loaded) (pointer_place scope pointer) index)
+on_object scope (item.Setp pointer index stored) =
+    Some (SetPtr (pointer_place scope pointer) (pointer_place scope stored) index)
+on_object scope other = None
 
--- the operation of an instruction that copies a pointer
-abbrev pub register_op : Scope → Item → Option Op
-register_op scope (item.Lea moved pointer index) =
-    Some (op.Lea (pointer_place scope moved) (pointer_place scope pointer) index)
-register_op scope (item.Move copied pointer) = Some (op.Move (pointer_place scope copied) (pointer_place scope pointer))
-register_op scope (item.Clear pointer) = Some (op.Clear (pointer_place scope pointer))
-register_op scope (item.Loadg loaded global) =
-    Some (op.GetGlobal (pointer_place scope loaded) (number_of_name global scope.globals))
-register_op scope (item.Storeg stored global) =
-    Some (op.SetGlobal (number_of_name global scope.globals) (pointer_place scope stored))
-register_op scope other = None
+-- an instruction that copies a pointer
+abbrev pub on_registers : Scope → Item → Option Instruction
+on_registers scope (item.Lea moved pointer index) =
+    Some (Lea (pointer_place scope moved) (pointer_place scope pointer) index)
+on_registers scope (item.Move copied pointer) = Some (Move (pointer_place scope copied) (pointer_place scope pointer))
+on_registers scope (item.Clear pointer) = Some (Clear (pointer_place scope pointer))
+on_registers scope (item.Loadg loaded global) =
+    Some (GetGlobal (pointer_place scope loaded) (number_of_name global scope.globals))
+on_registers scope (item.Storeg stored global) =
+    Some (SetGlobal (number_of_name global scope.globals) (pointer_place scope stored))
+on_registers scope other = None
 
 -- an instruction that keeps a number of an object
 abbrev pub load : Scope → Item → Option Instruction
 load scope (item.Getn number pointer index) =
-    Some (Load (number_place scope number) (op.GetNum (pointer_place scope pointer) index))
+    Some (GetNum (pointer_place scope pointer) (number_place scope number) index)
 load scope (item.Casp number pointer index expected stored) =
     Some
-    (Load (number_place scope number)
-    (op.CasPtr (pointer_place scope pointer) index (pointer_place scope expected) (pointer_place scope stored)))
+    (CasPtr (pointer_place scope pointer) (pointer_place scope expected) (pointer_place scope stored)
+    (number_place scope number) index)
 load scope other = None
 
 -- an instruction that keeps or shows what it tests of pointers
 abbrev pub pointer_test : Scope → Item → Option Instruction
 pointer_test scope (item.Same number first second) =
-    Some (Load (number_place scope number) (op.Same (pointer_place scope first) (pointer_place scope second)))
+    Some (Same (pointer_place scope first) (pointer_place scope second) (number_place scope number))
 pointer_test scope (item.Isnull number pointer) =
-    Some (Load (number_place scope number) (op.IsNull (pointer_place scope pointer)))
+    Some (IsNull (pointer_place scope pointer) (number_place scope number))
 pointer_test scope (item.Show pointer) = Some (Show (pointer_place scope pointer))
 pointer_test scope other = None
 
@@ -95,19 +96,16 @@ arithmetic scope (item.Sub number left right) =
     Some (Sub (number_place scope number) (number_place scope left) (number_place scope right))
 arithmetic scope (item.Print number) = Some (Print (number_place scope number))
 arithmetic scope (item.Setn pointer index number) =
-    Some (Store (pointer_place scope pointer) index (number_place scope number))
+    Some (SetNum (pointer_place scope pointer) (number_place scope number) index)
 arithmetic scope other = None
-
--- an operation, or else another instruction
-abbrev pub asking_or : Option Op → Option Instruction → Instruction
-asking_or None other = unwrap_or other Nothing
-asking_or (Some o) other = Ask o
 
 -- a line that is neither the head nor the end of a block
 abbrev pub instruction_of : Scope → Item → Instruction
 instruction_of scope item =
-    asking_or (option_or (object_op scope item) (register_op scope item))
-    (option_or (option_or (load scope item) (pointer_test scope item)) (arithmetic scope item))
+    unwrap_or
+    (option_or
+    (option_or (option_or (option_or (on_object scope item) (on_registers scope item)) (load scope item))
+    (pointer_test scope item)) (arithmetic scope item)) Nothing
 
 -- what a line adds to the script's tree
 abbrev pub element_of : Scope → Item → Element
@@ -142,9 +140,20 @@ op_asked numbers (Const number value) = None
 op_asked numbers (Add number left right) = None
 op_asked numbers (Sub number left right) = None
 op_asked numbers (Print number) = None
-op_asked numbers (Ask o) = Some o
-op_asked numbers (Store q i number) = Some (op.SetNum q i (slice_index numbers number))
-op_asked numbers (Load number o) = Some o
+op_asked numbers (New d ty) = Some (op.New d ty false)
+op_asked numbers (Free p) = Some (op.Free p)
+op_asked numbers (GetPtr d q i) = Some (op.GetPtr d q i)
+op_asked numbers (SetPtr q p i) = Some (op.SetPtr q i p)
+op_asked numbers (Lea d q i) = Some (op.Lea d q i)
+op_asked numbers (Move d q) = Some (op.Move d q)
+op_asked numbers (Clear d) = Some (op.Clear d)
+op_asked numbers (GetGlobal d g) = Some (op.GetGlobal d g)
+op_asked numbers (SetGlobal g p) = Some (op.SetGlobal g p)
+op_asked numbers (SetNum q number i) = Some (op.SetNum q i (slice_index numbers number))
+op_asked numbers (GetNum q number i) = Some (op.GetNum q i)
+op_asked numbers (CasPtr q p r number i) = Some (op.CasPtr q i p r)
+op_asked numbers (Same p q number) = Some (op.Same p q)
+op_asked numbers (IsNull p number) = Some (op.IsNull p)
 op_asked numbers (Show p) = Some (op.IsNull p)
 
 abbrev pub with_value : Kept → ℕ → ℕ → Kept
@@ -162,9 +171,20 @@ after_line (Add number left right) kept =
 after_line (Sub number left right) kept =
     with_value kept number ((2 ^ 64 + slice_index kept.numbers left - slice_index kept.numbers right) % 2 ^ 64)
 after_line (Print number) kept = with_text kept (decimal (slice_index kept.numbers number) ++ newline)
-after_line (Ask o) kept = kept
-after_line (Store q i number) kept = kept
-after_line (Load number o) kept = kept
+after_line (New d ty) kept = kept
+after_line (Free p) kept = kept
+after_line (GetPtr d q i) kept = kept
+after_line (SetPtr q p i) kept = kept
+after_line (Lea d q i) kept = kept
+after_line (Move d q) kept = kept
+after_line (Clear d) kept = kept
+after_line (GetGlobal d g) kept = kept
+after_line (SetGlobal g p) kept = kept
+after_line (SetNum q number i) kept = kept
+after_line (GetNum q number i) kept = kept
+after_line (CasPtr q p r number i) kept = kept
+after_line (Same p q number) kept = kept
+after_line (IsNull p number) kept = kept
 after_line (Show p) kept = kept
 
 -- what runs after a part that may have stopped at an operation
@@ -192,11 +212,12 @@ stop_of (Choice number first second rest) kept =
 
 -- whether an instruction asks for an operation, which doesn't depend on the number registers
 abbrev pub is_asking : Instruction → Bool
-is_asking (Ask o) = true
-is_asking (Store q i number) = true
-is_asking (Load number o) = true
-is_asking (Show p) = true
-is_asking instruction = false
+is_asking Nothing = false
+is_asking (Const number value) = false
+is_asking (Add number left right) = false
+is_asking (Sub number left right) = false
+is_asking (Print number) = false
+is_asking instruction = true
 
 -- whether it prints when it runs
 abbrev pub is_print : Instruction → Bool
@@ -217,9 +238,20 @@ after_answer (Const number value) a kept = kept
 after_answer (Add number left right) a kept = kept
 after_answer (Sub number left right) a kept = kept
 after_answer (Print number) a kept = kept
-after_answer (Ask o) a kept = kept
-after_answer (Store q i number) a kept = kept
-after_answer (Load number o) a kept = with_value kept number (answered_number a)
+after_answer (New d ty) a kept = kept
+after_answer (Free p) a kept = kept
+after_answer (GetPtr d q i) a kept = kept
+after_answer (SetPtr q p i) a kept = kept
+after_answer (Lea d q i) a kept = kept
+after_answer (Move d q) a kept = kept
+after_answer (Clear d) a kept = kept
+after_answer (GetGlobal d g) a kept = kept
+after_answer (SetGlobal g p) a kept = kept
+after_answer (SetNum q number i) a kept = kept
+after_answer (GetNum q number i) a kept = with_value kept number (answered_number a)
+after_answer (CasPtr q p r number i) a kept = with_value kept number (answered_number a)
+after_answer (Same p q number) a kept = with_value kept number (answered_number a)
+after_answer (IsNull p number) a kept = with_value kept number (answered_number a)
 after_answer (Show p) a kept = with_text kept (show_text (answered_number a))
 
 abbrev pub is_show : Instruction → Bool

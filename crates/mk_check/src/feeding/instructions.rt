@@ -2,10 +2,10 @@
 
 use crate::text::is_refusal;
 use mk_core::Answer;
-use mk_never::Op;
 
 /// A line that is neither the head nor the end of a block. Registers, types and globals are numbered
-/// from 0, in the order of their declarations.
+/// from 0, in the order of their declarations. An operation has its own variant here, so that it is told from the
+/// others once, where it is asked for.
 #[derive(Clone, Copy)]
 pub enum Instruction {
     /// A declaration.
@@ -27,20 +27,69 @@ pub enum Instruction {
     Print {
         number: usize,
     },
-    /// An operation whose answer the script doesn't keep.
-    Ask {
-        op: Op,
+    New {
+        d: u8,
+        ty: u64,
     },
-    /// `setn`: the number is read when it runs.
-    Store {
+    Free {
+        p: u8,
+    },
+    GetPtr {
+        d: u8,
         q: u8,
         i: u64,
+    },
+    SetPtr {
+        q: u8,
+        p: u8,
+        i: u64,
+    },
+    Lea {
+        d: u8,
+        q: u8,
+        i: u64,
+    },
+    Move {
+        d: u8,
+        q: u8,
+    },
+    Clear {
+        d: u8,
+    },
+    GetGlobal {
+        d: u8,
+        g: u8,
+    },
+    SetGlobal {
+        g: u8,
+        p: u8,
+    },
+    /// The number is read when it runs.
+    SetNum {
+        q: u8,
+        number: usize,
+        i: u64,
+    },
+    GetNum {
+        q: u8,
+        number: usize,
+        i: u64,
+    },
+    CasPtr {
+        q: u8,
+        p: u8,
+        r: u8,
+        number: usize,
+        i: u64,
+    },
+    Same {
+        p: u8,
+        q: u8,
         number: usize,
     },
-    /// An operation whose answer a number register takes.
-    Load {
+    IsNull {
+        p: u8,
         number: usize,
-        op: Op,
     },
     Show {
         p: u8,
@@ -57,12 +106,13 @@ impl Instruction {
     pub fn asks(&self) -> bool
         ensures { (numbers : List ℕ) → result ≡ is_some (op_asked numbers self.now) }
     {
-        matches!(
+        !matches!(
             self,
-            Instruction::Ask { .. }
-                | Instruction::Store { .. }
-                | Instruction::Load { .. }
-                | Instruction::Show { .. }
+            Instruction::Nothing
+                | Instruction::Const { .. }
+                | Instruction::Add { .. }
+                | Instruction::Sub { .. }
+                | Instruction::Print { .. }
         )
     }
 

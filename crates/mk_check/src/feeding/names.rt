@@ -7,7 +7,7 @@ ghost use Rattle.mk_check.specs.Feed.{scope_of};
 ghost use Rattle.mk_check.specs.Steps.{instruction_of, number_place};
 
 use crate::feeding::instructions::{Element, Instruction};
-use mk_never::{NoMemory, Op};
+use mk_never::NoMemory;
 use mk_script::{Item, Name};
 use std::alloc::Global;
 use std::marker::Model;
@@ -85,7 +85,7 @@ impl<'a> Model for Names<'a> {
 impl<'a> Names<'a> {
     ghost use Rattle.mk_check.specs.NamesInScope.{HasFew};
     ghost use Rattle.mk_check.specs.Feed.{pointer_place};
-    ghost use Rattle.mk_check.specs.Steps.{object_op, register_op, load, pointer_test, arithmetic, element_of};
+    ghost use Rattle.mk_check.specs.Steps.{on_object, on_registers, load, pointer_test, arithmetic, element_of};
 
     pub fn of(alloc: Global, program: &'a [Item], script: &'a [Item]) -> Result<Names<'a>, NoMemory>
         ensures { IfOk result (λ names. names ≡ scope_of program.now script.now) }
@@ -131,25 +131,24 @@ impl<'a> Names<'a> {
         number_of_name(&self.numbers, name)
     }
 
-    /// The operation of an instruction on an object, if it keeps no number.
-    fn object_op(&self, item: &Item) -> Option<Op>
+    /// An instruction on an object that keeps no number.
+    fn on_object(&self, item: &Item) -> Option<Instruction>
         requires { HasFew self.now }
-        ensures { result ≡ object_op self.now item.now }
+        ensures { result ≡ on_object self.now item.now }
     {
         match item {
-            Item::New { pointer, ty } => Some(Op::New {
+            Item::New { pointer, ty } => Some(Instruction::New {
                 d: self.pointer(pointer),
                 ty: self.ty(ty),
-                full: false,
             }),
-            Item::Free { pointer } => Some(Op::Free {
+            Item::Free { pointer } => Some(Instruction::Free {
                 p: self.pointer(pointer),
             }),
             Item::Getp {
                 loaded,
                 pointer,
                 index,
-            } => Some(Op::GetPtr {
+            } => Some(Instruction::GetPtr {
                 d: self.pointer(loaded),
                 q: self.pointer(pointer),
                 i: *index,
@@ -158,42 +157,42 @@ impl<'a> Names<'a> {
                 pointer,
                 index,
                 stored,
-            } => Some(Op::SetPtr {
+            } => Some(Instruction::SetPtr {
                 q: self.pointer(pointer),
-                i: *index,
                 p: self.pointer(stored),
+                i: *index,
             }),
             _ => None,
         }
     }
 
-    /// The operation of an instruction that copies a pointer.
-    fn register_op(&self, item: &Item) -> Option<Op>
+    /// An instruction that copies a pointer.
+    fn on_registers(&self, item: &Item) -> Option<Instruction>
         requires { HasFew self.now }
-        ensures { result ≡ register_op self.now item.now }
+        ensures { result ≡ on_registers self.now item.now }
     {
         match item {
             Item::Lea {
                 moved,
                 pointer,
                 index,
-            } => Some(Op::Lea {
+            } => Some(Instruction::Lea {
                 d: self.pointer(moved),
                 q: self.pointer(pointer),
                 i: *index,
             }),
-            Item::Move { copied, pointer } => Some(Op::Move {
+            Item::Move { copied, pointer } => Some(Instruction::Move {
                 d: self.pointer(copied),
                 q: self.pointer(pointer),
             }),
-            Item::Clear { pointer } => Some(Op::Clear {
+            Item::Clear { pointer } => Some(Instruction::Clear {
                 d: self.pointer(pointer),
             }),
-            Item::Loadg { loaded, global } => Some(Op::GetGlobal {
+            Item::Loadg { loaded, global } => Some(Instruction::GetGlobal {
                 d: self.pointer(loaded),
                 g: self.global(global),
             }),
-            Item::Storeg { stored, global } => Some(Op::SetGlobal {
+            Item::Storeg { stored, global } => Some(Instruction::SetGlobal {
                 g: self.global(global),
                 p: self.pointer(stored),
             }),
@@ -211,12 +210,10 @@ impl<'a> Names<'a> {
                 number,
                 pointer,
                 index,
-            } => Some(Instruction::Load {
+            } => Some(Instruction::GetNum {
+                q: self.pointer(pointer),
                 number: self.number(number),
-                op: Op::GetNum {
-                    q: self.pointer(pointer),
-                    i: *index,
-                },
+                i: *index,
             }),
             Item::Casp {
                 number,
@@ -224,14 +221,12 @@ impl<'a> Names<'a> {
                 index,
                 expected,
                 stored,
-            } => Some(Instruction::Load {
+            } => Some(Instruction::CasPtr {
+                q: self.pointer(pointer),
+                p: self.pointer(expected),
+                r: self.pointer(stored),
                 number: self.number(number),
-                op: Op::CasPtr {
-                    q: self.pointer(pointer),
-                    i: *index,
-                    p: self.pointer(expected),
-                    r: self.pointer(stored),
-                },
+                i: *index,
             }),
             _ => None,
         }
@@ -247,18 +242,14 @@ impl<'a> Names<'a> {
                 number,
                 first,
                 second,
-            } => Some(Instruction::Load {
+            } => Some(Instruction::Same {
+                p: self.pointer(first),
+                q: self.pointer(second),
                 number: self.number(number),
-                op: Op::Same {
-                    p: self.pointer(first),
-                    q: self.pointer(second),
-                },
             }),
-            Item::Isnull { number, pointer } => Some(Instruction::Load {
+            Item::Isnull { number, pointer } => Some(Instruction::IsNull {
+                p: self.pointer(pointer),
                 number: self.number(number),
-                op: Op::IsNull {
-                    p: self.pointer(pointer),
-                },
             }),
             Item::Show { pointer } => Some(Instruction::Show {
                 p: self.pointer(pointer),
@@ -302,10 +293,10 @@ impl<'a> Names<'a> {
                 pointer,
                 index,
                 number,
-            } => Some(Instruction::Store {
+            } => Some(Instruction::SetNum {
                 q: self.pointer(pointer),
-                i: *index,
                 number: self.number(number),
+                i: *index,
             }),
             _ => None,
         }
@@ -315,10 +306,9 @@ impl<'a> Names<'a> {
         requires { HasFew self.now }
         ensures { result ≡ instruction_of self.now item.now }
     {
-        if let Some(op) = self.object_op(item).or(self.register_op(item)) {
-            return Instruction::Ask { op };
-        }
-        self.load(item)
+        self.on_object(item)
+            .or(self.on_registers(item))
+            .or(self.load(item))
             .or(self.pointer_test(item))
             .or(self.arithmetic(item))
             .unwrap_or(Instruction::Nothing)

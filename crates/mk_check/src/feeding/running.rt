@@ -178,12 +178,24 @@ impl Running {
         ensures { result ≡ steps.op_asked self.now.numbers instruction }
     {
         match instruction {
-            Instruction::Ask { op } | Instruction::Load { op, .. } => Some(op),
-            Instruction::Store { q, i, number } => Some(Op::SetNum {
+            Instruction::New { d, ty } => Some(Op::New { d, ty, full: false }),
+            Instruction::Free { p } => Some(Op::Free { p }),
+            Instruction::GetPtr { d, q, i } => Some(Op::GetPtr { d, q, i }),
+            Instruction::SetPtr { q, p, i } => Some(Op::SetPtr { q, i, p }),
+            Instruction::Lea { d, q, i } => Some(Op::Lea { d, q, i }),
+            Instruction::Move { d, q } => Some(Op::Move { d, q }),
+            Instruction::Clear { d } => Some(Op::Clear { d }),
+            Instruction::GetGlobal { d, g } => Some(Op::GetGlobal { d, g }),
+            Instruction::SetGlobal { g, p } => Some(Op::SetGlobal { g, p }),
+            Instruction::SetNum { q, number, i } => Some(Op::SetNum {
                 q,
                 i,
                 n: self.number(number),
             }),
+            Instruction::GetNum { q, i, .. } => Some(Op::GetNum { q, i }),
+            Instruction::CasPtr { q, p, r, i, .. } => Some(Op::CasPtr { q, i, p, r }),
+            Instruction::Same { p, q, .. } => Some(Op::Same { p, q }),
+            Instruction::IsNull { p, .. } => Some(Op::IsNull { p }),
             Instruction::Show { p } => Some(Op::IsNull { p }),
             _ => None,
         }
@@ -377,7 +389,10 @@ impl Running {
             (steps.after_answer instruction answer (kept_in self.old))) }
     {
         match instruction {
-            Instruction::Load { number, .. } => self.set(number, answered_number(answer)),
+            Instruction::GetNum { number, .. }
+            | Instruction::CasPtr { number, .. }
+            | Instruction::Same { number, .. }
+            | Instruction::IsNull { number, .. } => self.set(number, answered_number(answer)),
             Instruction::Show { .. } => {
                 let shown: &[u8] = if answered_number(answer) == 0 {
                     b"ptr\n"
@@ -399,8 +414,14 @@ impl Running {
         ensures { self.new ≡ with_kept (record self.old { at = at })
             (steps.after_answer instruction answer (kept_in self.old)) }
     {
-        if let Instruction::Load { number, .. } = instruction {
-            self.set(number, answered_number(answer));
+        match instruction {
+            Instruction::GetNum { number, .. }
+            | Instruction::CasPtr { number, .. }
+            | Instruction::Same { number, .. }
+            | Instruction::IsNull { number, .. } => {
+                self.set(number, answered_number(answer));
+            }
+            _ => {}
         }
         self.at = at;
     }
@@ -466,6 +487,26 @@ impl Running {
         while self.step_to_op(tree) {}
     }
 
+    /// Whether the script comes from this node to an operation before anything is printed, with at most one block left
+    /// and none begun.
+    fn comes_to_op(&self, tree: &Tree, at: usize) -> bool
+        requires { IsWithin (length tree.now) (record self.now { at = at }) }
+        ensures { result ≡ asks_first (steps_at (trees tree.now)
+            (resumed_node tree.now (record self.now { at = at }))) }
+    {
+        tree.asks_first(self.resumed_node(tree, at))
+    }
+
+    /// Runs on to that operation. No memory is taken.
+    fn run_on_to_op(&mut self, tree: &Tree)
+        requires within { IsWithin (length tree.now) self.old }
+        requires first { asks_first (steps_at (trees tree.now) (resumed_node tree.now self.old)) ≡ true }
+        ensures { HasStopped tree.now self.old self.new }
+    {
+        self.resume(tree);
+        self.run_to_op(tree);
+    }
+
     /// Takes an answer at which nothing is printed and runs on from the node after it to the next operation, if that
     /// comes before anything is printed, with at most one block left and none begun. Returns whether it does. No
     /// memory is taken.
@@ -487,29 +528,11 @@ impl Running {
             self.take_at(next, instruction, answer);
             return true;
         }
-        self.take_to_op(tree, next, instruction, answer)
-    }
-
-    /// The same where the node after it isn't an operation.
-    fn take_to_op(
-        &mut self,
-        tree: &Tree,
-        next: usize,
-        instruction: Instruction,
-        answer: Answer,
-    ) -> bool
-        requires within { IsWithin (length tree.now) (record self.old { at = next }) }
-        requires silent { steps.is_silent instruction answer ≡ true }
-        ensures taken { IsTrue result → HasStopped tree.now (with_kept (record self.old { at = next })
-            (steps.after_answer instruction answer (kept_in self.old))) self.new }
-        ensures refused { result ≡ false → self.new ≡ self.old }
-    {
-        if !tree.asks_first(self.resumed_node(tree, next)) {
+        if !self.comes_to_op(tree, next) {
             return false;
         }
         self.take_at(next, instruction, answer);
-        self.resume(tree);
-        self.run_to_op(tree);
+        self.run_on_to_op(tree);
         true
     }
 }
