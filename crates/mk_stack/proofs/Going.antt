@@ -23,7 +23,7 @@ leads_more s [] t y u leads asks =
     (u, subst (λ (p : Point). Asks p y.op y.reply u) (sym leads) asks, refl)
 leads_more s (x ∷ xs) t y u leads asks = (leads.0, leads.1, leads_more leads.0 xs t y u leads.2 asks)
 
-seen_then : (p q r : PassState) → q ≡ record p { seen = q.seen } → r ≡ record q { seen = r.seen }
+pub seen_then : (p q r : PassState) → q ≡ record p { seen = q.seen } → r ≡ record q { seen = r.seen }
     → r ≡ record p { seen = r.seen }
 seen_then p q r is next = next ∙ ap (λ (s : PassState). record s { seen = r.seen }) is
 

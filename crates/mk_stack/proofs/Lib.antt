@@ -27,3 +27,12 @@ pub mod Advances
 pub mod RefusedAccesses
 pub mod Going
 pub mod StackHistories
+pub mod JobLists
+pub mod Walks
+pub mod WalkSteps
+pub mod OwnCalls
+pub mod JoinedJobs
+pub mod StackRuns
+pub mod Readers
+pub mod EndedRuns
+pub mod StackConfigs

@@ -109,10 +109,12 @@ module _ (p q : PassState) (types : HasStackTypes p.table.config) (history : IsH
       (λ n a w e. num_is_no_fault _ e) (omega arith) points)
       points e refused
 
-  pub follow_held : (e : Refusal) → IsPointerTo 0 (value_of p 2) → IsRefused p (op.GetPtr 3 2 1) e q → e ≡ Held
-  follow_held e points refused =
-      only_held (op.GetPtr 3 2 1) 0
-      (no_fault (op.GetPtr 3 2 1) 0 1 node_kinds refl (omega arith) node_kinds_of (λ n a w. reply.Val (word_at n a w))
+  -- a load of a node's link, into any register
+  pub link_load_held : (d : ℕ) (e : Refusal) → IsPointerTo 0 (value_of p 2) → IsRefused p (op.GetPtr d 2 1) e q
+      → e ≡ Held
+  link_load_held d e points refused =
+      only_held (op.GetPtr d 2 1) 0
+      (no_fault (op.GetPtr d 2 1) 0 1 node_kinds refl (omega arith) node_kinds_of (λ n a w. reply.Val (word_at n a w))
       (λ n. refl) (λ n a w e. val_is_no_fault _ e) (omega arith) points)
       points e refused
 

@@ -7,8 +7,10 @@ use Rattle.mk_never.specs.Admitted.{AreAdmitted}
 use Rattle.mk_never.specs.NeverHeap.{NeverState, Call, after_op}
 use Rattle.mk_never.specs.declared.values.Value.TheVariants.{Null}
 use Rattle.mk_never.proofs.Later.{op_stays}
+use Rattle.mk_core.specs.declared.config.Config.{Config}
+use Rattle.mk_core.specs.declared.events.Event.{Event}
 use Rattle.mk_core.specs.Decided.{asked}
-use Rattle.mk_core.specs.History.{calls, never_first}
+use Rattle.mk_core.specs.History.{IsHistory, calls, never_first}
 use Rattle.mk_stack.specs.Histories.{JobsAddUp, JobsInHistoriesAreLinearizable}
 use Rattle.mk_stack.specs.Interleavings.{AreBelow}
 use Rattle.mk_stack.specs.Jobs.{JobRun, Replied, all_of}
@@ -24,6 +26,11 @@ are_below globals n callers (x ∷ xs) count admitted =
       are_below globals (after_op n x.caller x.op) callers xs ((op_stays n x.caller x.op).registers ∙ count) admitted.1,
     )
 
+pub callers_are_below : (c : Config) (es : List Event) → IsHistory c es → AreBelow c.callers (asked (calls c es))
+callers_are_below c es h =
+    are_below c.globals (never_first c) c.callers (asked (calls c es)) (length-replicate (8 * c.callers) Null)
+    h.admitted
+
 pub jobs_in_histories_are_linearizable : JobsInHistoriesAreLinearizable
 jobs_in_histories_are_linearizable c es founding runs h jobs =
     stacks_are_linearizable c.types c.callers founding runs (asked (calls c es))
@@ -33,8 +40,7 @@ jobs_in_histories_are_linearizable c es founding runs h jobs =
       founds = jobs.founds;
       jobs = jobs.jobs;
       own = jobs.own;
-      exist = are_below c.globals (never_first c) c.callers (asked (calls c es))
-          (length-replicate (8 * c.callers) Null) h.admitted;
+      exist = callers_are_below c es h;
     })
 
 all_in_parts : (rs ss : List JobRun) → all_of (rs ++ ss) ≡ all_of rs ++ all_of ss

@@ -5,3 +5,8 @@ pub mod Laws
 pub mod Passes
 pub mod Advancing
 pub mod Histories
+pub mod JobLists
+pub mod Looks
+pub mod Walks
+pub mod Joining
+pub mod StackRuns

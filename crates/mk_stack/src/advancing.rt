@@ -21,7 +21,7 @@ const TOP: u8 = 0;
 
 const NODE: u8 = 1;
 
-const UPPERMOST: u8 = 2;
+pub(crate) const UPPERMOST: u8 = 2;
 
 const BELOW: u8 = 3;
 
@@ -33,9 +33,9 @@ const NODE_TYPE: u64 = 0;
 const TOP_TYPE: u64 = 1;
 
 /// The words of a node; that of a top is its first.
-const NUMBER: u64 = 0;
+pub(crate) const NUMBER: u64 = 0;
 
-const LINK: u64 = 1;
+pub(crate) const LINK: u64 = 1;
 
 const FIRST: u64 = 0;
 
@@ -50,7 +50,7 @@ fn done_without(job: Job) -> Done
 }
 
 /// The one refusal of an access to a node or a top.
-fn held(cause: Refusal) -> Held
+pub(crate) fn held(cause: Refusal) -> Held
     requires { cause ≡ refusal.Held }
 {
     match cause {
@@ -79,7 +79,7 @@ fn place_top(caller: &mut Caller) -> Result<Point, Held>
 }
 
 /// Loads the top from its global.
-fn load_top(caller: &mut Caller, job: Job) -> Result<Point, Held>
+pub(crate) fn load_top(caller: &mut Caller, job: Job) -> Result<Point, Held>
     requires home { caller.old.home ≡ true }
     requires exists { number_of caller.old.pass < caller.old.pass.table.config.callers }
     requires types { HasStackTypes caller.old.pass.table.config }
@@ -98,7 +98,7 @@ fn load_top(caller: &mut Caller, job: Job) -> Result<Point, Held>
 }
 
 /// Looks whether there is a top.
-fn check_top(caller: &mut Caller, job: Job) -> Result<Point, Held>
+pub(crate) fn check_top(caller: &mut Caller, job: Job) -> Result<Point, Held>
     requires home { caller.old.home ≡ true }
     requires exists { number_of caller.old.pass < caller.old.pass.table.config.callers }
     requires types { HasStackTypes caller.old.pass.table.config }
@@ -198,7 +198,7 @@ fn publish(caller: &mut Caller, n: u64) -> Result<Point, Held>
 }
 
 /// Loads the uppermost node, or null.
-fn peek(caller: &mut Caller) -> Result<Point, Held>
+pub(crate) fn peek(caller: &mut Caller) -> Result<Point, Held>
     requires home { caller.old.home ≡ true }
     requires exists { number_of caller.old.pass < caller.old.pass.table.config.callers }
     requires types { HasStackTypes caller.old.pass.table.config }
@@ -217,7 +217,7 @@ fn peek(caller: &mut Caller) -> Result<Point, Held>
 }
 
 /// Looks whether there is an uppermost node.
-fn test(caller: &mut Caller) -> Result<Point, Held>
+pub(crate) fn test(caller: &mut Caller) -> Result<Point, Held>
     requires home { caller.old.home ≡ true }
     requires exists { number_of caller.old.pass < caller.old.pass.table.config.callers }
     requires types { HasStackTypes caller.old.pass.table.config }

@@ -2,11 +2,19 @@
 #![tactic(auto)]
 
 mod advancing;
+mod job_lists;
 mod jobs;
+mod joining;
 pub mod laws;
+mod marking;
 mod points;
+mod runs;
 mod stacks;
+mod walking;
+mod working;
 
+pub use job_lists::{Dones, Jobs, run_jobs};
 pub use jobs::{Done, Job};
 pub use points::Point;
+pub use runs::{StackOutcome, run_stack};
 pub use stacks::{Full, do_job, found_stack, pop, push};

@@ -6,7 +6,7 @@ use Rattle.mk_caller.specs.declared.refusals.Refusal.{Refusal}
 use Rattle.mk_caller.specs.Causes.{IsRefused}
 use Rattle.mk_stack.proofs.NodeKinds.{may_follow}
 use Rattle.mk_stack.proofs.Advances.{pass_state, follow_advances}
-use Rattle.mk_stack.proofs.RefusedAccesses.{follow_held}
+use Rattle.mk_stack.proofs.RefusedAccesses.{link_load_held}
 use Rattle.mk_stack.proofs.Replies.{stays_held}
 use Rattle.mk_stack.proofs.advancing.follow.Goals as goal
 
@@ -20,7 +20,7 @@ pub held-requires : goal.held-requires
 held-requires c =
     let p : PassState = c.args.caller.now.pass in
     let q : PassState = c.get_ptr-loaded.new.self.pass in
-    follow_held p q c.requires.types c.is_idle-2.ensures.history c.in-Err.cause c.requires.holds.1
+    link_load_held p q c.requires.types c.is_idle-2.ensures.history 3 c.in-Err.cause c.requires.holds.1
     c.in-Err.ensures.refused
 
 pub returns-in-Ok-clause-advances : goal.returns-in-Ok-clause-advances
@@ -35,5 +35,5 @@ returns-in-Err-clause-held c =
     let q : PassState = c.get_ptr-loaded.new.self.pass in
     stays_held p q (op.GetPtr 3 2 1)
     (subst (λ (e : Refusal). IsRefused p (op.GetPtr 3 2 1) e q)
-    (follow_held p q c.requires.types c.is_idle-2.ensures.history c.in-Err.cause c.requires.holds.1
+    (link_load_held p q c.requires.types c.is_idle-2.ensures.history 3 c.in-Err.cause c.requires.holds.1
     c.in-Err.ensures.refused) c.in-Err.ensures.refused)

@@ -1,0 +1,230 @@
+-- All that happened on a stack: the founding, the jobs, the reading, and the end, with markers beside them.
+use Rattle.std.proofs.Common.{◌≡◌, ℕ, ◌+◌, ◌<◌, ◌≤◌, true, false, List, [], ◌∷◌, ◌++◌, length, refl, sym}
+use Rattle.std.proofs.Common.{◌∙◌, ap, subst, arith, ⊎_elim}
+use Rattle.std.specs.Prelude.{Result, Ok, Err, IfOk}
+use Rattle.std.proofs.lemmas.List.{get_or-replicate}
+use Rattle.mk_never.specs.declared.never_heap.NoMemory.{NoMemory}
+use Rattle.mk_core.specs.declared.config.Config.{Config}
+use Rattle.mk_core.specs.declared.events.Event.{Event}
+use Rattle.mk_core.specs.declared.events.Seat.{Seat}
+use Rattle.mk_core.specs.declared.events.Seat.TheVariants.{Caller, Marker, Host}
+use Rattle.mk_core.specs.Growing.{AreOfOthers, Grows, is_same_seat}
+use Rattle.mk_core.specs.History.{IsHistory, left, left_from}
+use Rattle.mk_core.specs.declared.seats.Presence.{Presence}
+use Rattle.mk_core.specs.declared.seats.Presence.TheVariants.{Attending, Out, Visiting}
+use Rattle.mk_core.specs.MarkerConditions.{is_out}
+use Rattle.mk_core.specs.StopConditions.{is_attending}
+use Rattle.mk_core.specs.Moments.{marker_at, outside}
+use Rattle.mk_core.proofs.HistoryParts.{earlier_part_is_history}
+use Rattle.mk_words.specs.Seats.{Has}
+use Rattle.mk_words.specs.Markers.{marker_in}
+use Rattle.mk_words.specs.States.{WordsState, PassState}
+use Rattle.mk_words.proofs.Seats.{has_first, has_left, has_right, others_own, without_keeps}
+use Rattle.mk_caller.specs.States.{CallerState, at_home}
+use Rattle.mk_heap.specs.Hosts.{HostState, pass_for, with_joined, with_marker_made, with_seen}
+use Rattle.mk_marker.specs.Markers.{attends}
+use Rattle.mk_heap.specs.Ending.{CallersAreJoined, SaysOver}
+use Rattle.mk_heap.proofs.MovedHosts.{MovesOn}
+use Rattle.mk_run.proofs.LastTurns.{over_moves}
+use Rattle.mk_stack.specs.declared.job_lists.Dones.{Dones}
+use Rattle.mk_stack.specs.declared.job_lists.Jobs.{Jobs}
+use Rattle.mk_stack.specs.declared.joining.Joined.{Joined}
+use Rattle.mk_stack.specs.declared.points.Point.TheVariants.{Founding, Founded}
+use Rattle.mk_stack.specs.declared.working.Ended.{Ended}
+use Rattle.mk_stack.specs.Joining.{HasHandedOut, HaveEnded, HaveFoundedAndWorked, IsMarkersPass, IsReader, ReadsStack}
+use Rattle.mk_stack.specs.JobLists.{HaveDone}
+use Rattle.mk_stack.specs.Passes.{Goes, HasStackTypes, replied_to}
+use Rattle.mk_stack.specs.Jobs.{Leads, Replied}
+use Rattle.mk_stack.specs.StackRuns.{IsStackRun}
+use Rattle.mk_stack.proofs.JoinedJobs.{next_unasked, same_or_later}
+use Rattle.mk_stack.proofs.Readers.{by_reader, callers_home, host_home, its_replies, same_callers, same_markers}
+use Rattle.mk_stack.proofs.Readers.{same_seat, same_table}
+use Rattle.mk_stack.proofs.StackRuns.{is_stack_run, run_stands}
+
+both_ok : {V U : Type 0} (P : V → Type 0) (Q : U → Type 0) (R : V → U → Type 0) (x : Result V NoMemory)
+    (y : Result U NoMemory) → ((v : V) (u : U) → P v → Q u → R v u) → IfOk x P → IfOk y Q
+    → IfOk x (λ v. IfOk y (λ u. R v u))
+both_ok P Q R (Ok v) (Ok u) f p q = f v u p q
+both_ok P Q R (Ok v) (Err e) f p q = tt
+both_ok P Q R (Err e) y f p q = tt
+
+still_ok : {V U : Type 0} (R S : V → U → Type 0) (x : Result V NoMemory) (y : Result U NoMemory)
+    → ((v : V) (u : U) → R v u → S v u) → IfOk x (λ v. IfOk y (λ u. R v u)) → IfOk x (λ v. IfOk y (λ u. S v u))
+still_ok R S (Ok v) (Ok u) f r = f v u r
+still_ok R S (Ok v) (Err e) f r = tt
+still_ok R S (Err e) y f r = tt
+
+-- The jobs were done, the first caller read what is left, and the host said that all is over.
+module _ (w : WordsState) (markers : ℕ) (lists : List Jobs) (joined : Joined) (g i : HostState)
+    (types : HasStackTypes w.config) (count : length lists ≡ w.config.callers)
+    (did : HaveFoundedAndWorked w markers lists joined) (reads : IsReader joined.host g)
+    (over : SaysOver g.pass i.pass) (is : i ≡ with_seen g i.pass.seen)
+    (history : IsHistory i.pass.table.config i.pass.seen) where
+  abbrev h : HostState
+  h = joined.host
+
+  home : (k : ℕ) → k < w.config.callers → Has h.pass.seats (Caller k)
+  home k lt = did.worked.seats k (omega arith) (omega (arith, lt, count))
+
+  table : g.pass.table ≡ w
+  table = same_table h g reads ∙ did.worked.table
+
+  last_history : IsHistory w.config i.pass.seen
+  last_history =
+      subst (λ (v : WordsState). IsHistory v.config i.pass.seen)
+      (ap (λ (x : HostState). x.pass.table) is ∙ table) history
+
+  moves : MovesOn g.pass i.pass
+  moves = over_moves g.pass i.pass over
+
+  grown : i.pass.seen ≡ g.pass.seen ++ moves.more
+  grown = ap (λ (p : PassState). p.seen) moves.is
+
+  read_history : IsHistory w.config g.pass.seen
+  read_history =
+      earlier_part_is_history w.config g.pass.seen moves.more
+      (subst (λ (l : List Event). IsHistory w.config l) grown last_history)
+
+  still : (k : ℕ) → k < w.config.callers → AreOfOthers (Caller k ∷ []) moves.more
+  still k lt =
+      moves.leaves (Caller k) (callers_home h g reads k (home k lt))
+      (ap (λ (s : Seat). is_same_seat (Caller k) s) (same_seat h g reads ∙ did.worked.seat))
+
+  runs : (all : List Dones) (numbers : List ℕ)
+      → HaveDone w.config h.pass.seen did.founding 0 lists all → ReadsStack w.config h numbers g
+      → IsStackRun w.config i.pass.seen lists all numbers
+  runs all numbers done read =
+      run_stands w.config g.pass.seen moves.more i.pass.seen lists all numbers grown last_history still
+      (is_stack_run w.config h.pass.seen reads.own.more g.pass.seen did.founding lists all numbers read.all
+      reads.own.is read_history types did.founds count done (by_reader h g reads w.config read_history home)
+      (its_replies h g reads w.config read_history home numbers read) read.leads read.reads)
+
+  pub have_ended : (ended : Ended) → ended.host ≡ i → ended.dones ≡ joined.dones
+      → IfOk ended.left (λ left. ReadsStack w.config h left.items g) → HaveEnded w markers lists ended
+  have_ended ended same dones left =
+      subst (λ (x : HostState). HaveEnded w markers lists (record ended { host = x })) (sym same) (record {
+        table = ap (λ (x : HostState). x.pass.table) is ∙ table;
+        own = subst (λ (x : HostState). Has x.pass.seats Host) (sym is) (host_home h g reads did.worked.own);
+        count =
+            (let now = ap (λ (x : HostState). x.callers) is ∙ same_callers h g reads in
+            let then = did.worked.count in omega (arith, now, then));
+        callers = λ k lt.
+            subst (λ (x : HostState). Has x.pass.seats (Caller k)) (sym is)
+            (callers_home h g reads k (home k (omega (arith, lt, count))));
+        markers = λ j le lt.
+            (let now = ap (λ (x : HostState). x.markers) is ∙ same_markers h g reads ∙ did.worked.same_markers in
+            absurd (omega (arith, now, le, lt)));
+        run =
+            both_ok (λ all. HaveDone w.config h.pass.seen did.founding 0 lists all.items)
+            (λ left. ReadsStack w.config h left.items g)
+            (λ all left. IsStackRun w.config i.pass.seen lists all.items left.items) ended.dones ended.left
+            (λ all left done read. runs all.items left.items done read)
+            (subst (λ x. IfOk x (λ all. HaveDone w.config h.pass.seen did.founding 0 lists all.items)) (sym dones)
+            did.worked.done) left;
+      })
+
+-- What the operations of the first caller lead to, before its jobs
+pub founds_stack : (w : WordsState) (markers : ℕ) (h : HostState) (s : CallerState) (q r : PassState)
+    → HasHandedOut w markers 0 h → s ≡ at_home (pass_for h (Caller h.callers)) → Goes s.pass Founding q Founded
+    → r ≡ q → Leads Founding (replied_to r) Founded
+founds_stack w markers h s q r made is goes same =
+    subst (λ (l : List Replied). Leads Founding l Founded)
+    (sym (ap (λ (p : PassState). replied_to p) same ∙ goes.did
+    ∙ ap (λ (l : List Replied). l ++ goes.all) (next_unasked w markers 0 h s made is))) goes.leads
+
+-- After the reading all callers are joined.
+pub callers_are_joined : (w : WordsState) (markers : ℕ) (lists : List Jobs) (joined : Joined) (g : HostState)
+    → HaveFoundedAndWorked w markers lists joined → IsReader joined.host g → CallersAreJoined g
+callers_are_joined w markers lists joined g did reads k lt =
+    let now = same_callers joined.host g reads in
+    let then = did.worked.count in
+    callers_home joined.host g reads k (did.worked.seats k (omega arith) (omega (arith, lt, now, then)))
+
+-- A marker that has done nothing is out.
+
+unseen : (c : Config) (j : ℕ) → j < 8 → is_out (marker_at (left c []).now (Marker j)).presence ≡ true
+unfolding left_from
+unseen c j few = ap (λ m. is_out m.presence) (get_or-replicate 8 j outside outside few)
+
+pub first_marker : (w : WordsState) (j : ℕ) (h : HostState) (m p : PassState) → HasHandedOut w j 0 h → j < 8
+    → m ≡ pass_for h (Marker h.markers) → p ≡ m → IsMarkersPass w j p
+first_marker w j h m p made few is same =
+    let count = made.same_markers in
+    let seat : m.seat ≡ Marker j = ap (λ (r : PassState). r.seat) is ∙ ap (λ (i : ℕ). Marker i) count in
+    let seen : m.seen ≡ [] = ap (λ (r : PassState). r.seen) is ∙ made.seen in
+    let c : Config = m.table.config in
+    subst (λ (r : PassState). IsMarkersPass w j r) (sym same) (record {
+      exists = few;
+      table = ap (λ (r : PassState). r.table) is ∙ made.table;
+      seat = seat;
+      alone = ap (λ (r : PassState). r.seats) is ∙ ap (λ (i : ℕ). Marker i ∷ []) count;
+      out =
+          subst (λ (s : Seat). is_out (marker_at (left c m.seen).now s).presence ≡ true) (sym seat)
+          (subst (λ (es : List Event). is_out (marker_at (left c es).now (Marker j)).presence ≡ true) (sym seen)
+          (unseen c j few));
+    })
+
+not_attending : (x : Presence) → is_out x ≡ true → is_attending x ≡ false
+not_attending Out e = refl
+not_attending Attending e = absurd (cc)
+not_attending Visiting e = absurd (cc)
+
+pub is_not_attending : (w : WordsState) (j : ℕ) (h : HostState) (m : PassState) → HasHandedOut w j 0 h → j < 8
+    → m ≡ pass_for h (Marker h.markers) → attends m ≡ false
+is_not_attending w j h m made few is =
+    let marker = first_marker w j h m m made few is refl in not_attending (marker_in m).presence marker.out
+
+pub marker_made : (w : WordsState) (j : ℕ) (h : HostState) → HasHandedOut w j 0 h
+    → HasHandedOut w (j + 1) 0 (with_marker_made h)
+marker_made w j h made = record {
+  table = made.table;
+  seat = made.seat;
+  own = without_keeps (Marker h.markers) h.pass.seats Host refl made.own;
+  seen = made.seen;
+  count = made.count;
+  same_markers = ap (λ (n : ℕ). n + 1) made.same_markers;
+}
+
+-- One marker more is joined.
+pub marker_joined : (w : WordsState) (j : ℕ) (lists : List Jobs) (p : PassState) (before after : Ended)
+    → length lists ≡ w.config.callers → p.seats ≡ Marker j ∷ [] → HaveEnded w (j + 1) lists before
+    → after.host ≡ with_joined before.host p after.host.pass.seen
+    → Grows before.host.pass.seats before.host.pass.seen after.host.pass.seen
+    → IsHistory after.host.pass.table.config after.host.pass.seen → after.dones ≡ before.dones
+    → after.left ≡ before.left → HaveEnded w j lists after
+marker_joined w j lists p before after all alone ended is grows history dones left =
+    let h = before.host in
+    let fs = after.host.pass.seen in
+    let seats : after.host.pass.seats ≡ h.pass.seats ++ p.seats = ap (λ (x : HostState). x.pass.seats) is in
+    let mine : Has p.seats (Marker j) =
+    subst (λ (l : List Seat). Has l (Marker j)) (sym alone) (has_first (Marker j) []) in
+    let count : after.host.markers ≡ h.markers = ap (λ (x : HostState). x.markers) is in
+    let table : after.host.pass.table ≡ w = ap (λ (x : HostState). x.pass.table) is ∙ ended.table in
+    let last : IsHistory w.config fs = subst (λ (v : WordsState). IsHistory v.config fs) table history in
+    let others : (k : ℕ) → k < w.config.callers → AreOfOthers (Caller k ∷ []) grows.more =
+    λ k lt. others_own h.pass.seats (Caller k) grows.more (ended.callers k (omega (arith, lt, all))) grows.of_others in
+    record {
+      table = table;
+      own = subst (λ (l : List Seat). Has l Host) (sym seats) (has_left h.pass.seats p.seats Host ended.own);
+      count = ap (λ (x : HostState). x.callers) is ∙ ended.count;
+      callers = λ k lt.
+          subst (λ (l : List Seat). Has l (Caller k)) (sym seats)
+          (has_left h.pass.seats p.seats (Caller k) (ended.callers k lt));
+      markers = λ i le lt.
+          subst (λ (l : List Seat). Has l (Marker i)) (sym seats)
+          (⊎_elim
+          (λ (e : i ≡ j). has_right h.pass.seats p.seats (Marker i)
+          (subst (λ (n : ℕ). Has p.seats (Marker n)) (sym e) mine))
+          (λ (later : j + 1 ≤ i). has_left h.pass.seats p.seats (Marker i)
+          (ended.markers i later (omega (arith, lt, count))))
+          (same_or_later j i le));
+      run =
+          subst (λ x. IfOk x (λ all. IfOk after.left (λ left. IsStackRun w.config fs lists all.items left.items)))
+          (sym dones)
+          (subst (λ y. IfOk before.dones (λ all. IfOk y (λ left. IsStackRun w.config fs lists all.items left.items)))
+          (sym left)
+          (still_ok (λ all left. IsStackRun w.config h.pass.seen lists all.items left.items)
+          (λ all left. IsStackRun w.config fs lists all.items left.items) before.dones before.left
+          (λ all left run. run_stands w.config h.pass.seen grows.more fs lists all.items left.items grows.is last
+          others run) ended.run));
+    }

@@ -1,0 +1,67 @@
+-- Calls of a history, by the callers that made them.
+use Rattle.std.proofs.Common.{◌≡◌, ◌≢◌, ◌⊎◌, ℕ, ◌<◌, Bool, true, false, List, [], ◌∷◌, ◌++◌, refl, sym, ◌∙◌, ap}
+use Rattle.std.proofs.Common.{inl, inr, append-nil}
+use Rattle.std.specs.Prelude.{◌==◌, if◌then◌else◌}
+use Rattle.std.proofs.lemmas.Bool.{cases_eq, eq-eqb}
+use Rattle.std.proofs.lemmas.List.{append_cancel_left}
+use Rattle.mk_core.specs.declared.config.Config.{Config}
+use Rattle.mk_core.specs.declared.events.Event.{Event}
+use Rattle.mk_core.specs.declared.events.Seat.TheVariants.{Caller}
+use Rattle.mk_core.specs.Decided.{Decided, asked}
+use Rattle.mk_core.specs.Growing.{AreOfOthers}
+use Rattle.mk_core.specs.History.{calls, calls_from, left}
+use Rattle.mk_core.proofs.HistoryParts.{calls_in_parts}
+use Rattle.mk_never.specs.NeverHeap.{Call}
+use Rattle.mk_caller.proofs.OwnSteps.{by_append, calls_by, others_add_none}
+use Rattle.mk_stack.specs.Interleavings.{AreBelow}
+use Rattle.mk_stack.specs.Walks.{AreAllBy}
+
+-- Events of others decide no call of a caller.
+pub none_of : (c : Config) (k : ℕ) (es more : List Event) → AreOfOthers (Caller k ∷ []) more
+    → calls_by k (calls_from c (left c es) more) ≡ []
+none_of c k es more others =
+    let xs = calls c es in
+    let later = calls_from c (left c es) more in
+    append_cancel_left (calls_by k xs) (calls_by k later) []
+    (sym (by_append k xs later)
+    ∙ ap (λ (l : List Decided). calls_by k l) (sym (calls_in_parts c es more))
+    ∙ others_add_none c k es more others
+    ∙ sym (append-nil (calls_by k xs)))
+
+cons_is_not_nil : (x : Decided) (xs : List Decided) → x ∷ xs ≡ [] → ⊥
+cons_is_not_nil x xs e = cc
+
+its_own : (x : Decided) (xs : List Decided) → calls_by x.caller (x ∷ xs) ≡ x ∷ calls_by x.caller xs
+its_own x xs =
+    ap (λ (b : Bool). if b then x ∷ calls_by x.caller xs else calls_by x.caller xs) (eq-eqb x.caller x.caller refl)
+
+none_of_fewer : (k : ℕ) (x : Decided) (xs : List Decided) → calls_by k (x ∷ xs) ≡ [] → calls_by k xs ≡ []
+none_of_fewer k x xs none = by (x.caller == k) none
+  where
+    by : (b : Bool) → (if b then x ∷ calls_by k xs else calls_by k xs) ≡ [] → calls_by k xs ≡ []
+    by true e = absurd (cons_is_not_nil x (calls_by k xs) e)
+    by false e = e
+
+-- Where no other caller makes any of these calls, this one makes them all.
+pub all_by : (callers j : ℕ) (xs : List Decided) → AreBelow callers (asked xs)
+    → ((k : ℕ) → k < callers → k ≢ j → calls_by k xs ≡ []) → AreAllBy j (asked xs)
+all_by callers j [] below none = tt
+all_by callers j (x ∷ xs) below none = (
+  by (cases_eq x.caller j),
+  all_by callers j xs below.1 (λ k lt ne. none_of_fewer k x xs (none k lt ne)),
+)
+  where
+    by : ((x.caller ≡ j) ⊎ (x.caller ≢ j)) → x.caller ≡ j
+    by (inl e) = e
+    by (inr ne) =
+        absurd (cons_is_not_nil x (calls_by x.caller xs) (sym (its_own x xs) ∙ none x.caller below.0 ne))
+
+pub no_calls : (callers : ℕ) (xs : List Decided) → AreBelow callers (asked xs)
+    → ((k : ℕ) → k < callers → calls_by k xs ≡ []) → xs ≡ []
+no_calls callers [] below none = refl
+no_calls callers (x ∷ xs) below none =
+    absurd (cons_is_not_nil x (calls_by x.caller xs) (sym (its_own x xs) ∙ none x.caller below.0))
+
+pub below_later : (callers : ℕ) (xs ys : List Call) → AreBelow callers (xs ++ ys) → AreBelow callers ys
+below_later callers [] ys below = below
+below_later callers (x ∷ xs) ys below = below_later callers xs ys below.1

@@ -1,0 +1,39 @@
+-- The heap of a stack is within the limits, and has the types of a stack.
+use Rattle.std.proofs.Common.{ℕ, ◌<◌, ◌≤◌, List, [], ◌∷◌, length, refl, arith}
+use Rattle.std.proofs.lemmas.List.Elements.{All-cons, All-nil}
+use Rattle.mk_never.specs.declared.types.Kind.{Kind}
+use Rattle.mk_never.specs.declared.types.Kind.TheVariants.{Num as Number, To}
+use Rattle.mk_core.specs.Config.{IsAmong, IsBetween, IsTypeAmong, IsWithinLimits}
+use Rattle.mk_stack.specs.Jobs.{node_kinds, top_kinds}
+use Rattle.mk_stack.specs.Passes.{HasStackTypes}
+use Rattle.mk_stack.specs.StackRuns.{stack_config}
+
+-- the types
+abbrev both : List (List Kind)
+both = node_kinds ∷ top_kinds ∷ []
+
+pub is_within_limits : (pages resident callers markers : ℕ) → IsBetween 1 4096 pages → IsBetween 1 pages resident
+    → IsBetween 1 16 callers → markers ≤ 8 → IsWithinLimits (stack_config pages resident callers markers)
+is_within_limits pages resident callers markers p r c m =
+    record {
+      pages = p;
+      resident = r;
+      callers = c;
+      markers = m;
+      type_count = omega arith;
+      global_count = omega arith;
+      types = All-cons (IsTypeAmong both) node_kinds (top_kinds ∷ []) (
+        (omega arith, omega arith),
+        All-cons (IsAmong both) Number (To 0 0 ∷ []) tt
+            (All-cons (IsAmong both) (To 0 0) [] (omega arith, omega arith) (All-nil (IsAmong both))),
+      )
+          (All-cons (IsTypeAmong both) top_kinds [] (
+            (omega arith, omega arith),
+            All-cons (IsAmong both) (To 0 0) [] (omega arith, omega arith) (All-nil (IsAmong both)),
+          )
+          (All-nil (IsTypeAmong both)));
+      globals = All-cons (λ (ty : ℕ). ty < length both) 1 [] (omega arith) (All-nil (λ (ty : ℕ). ty < length both));
+    }
+
+pub has_stack_types : (pages resident callers markers : ℕ) → HasStackTypes (stack_config pages resident callers markers)
+has_stack_types pages resident callers markers = record { node = refl; top = refl; global = refl }

@@ -1,0 +1,189 @@
+-- Lists of jobs that callers did are the jobs of a history, and so are explained.
+use Rattle.std.proofs.Common.{◌≡◌, ℕ, zero, suc, ◌+◌, ◌*◌, ◌<◌, ◌≤◌, List, [], ◌∷◌, ◌++◌, length, refl, sym}
+use Rattle.std.proofs.Common.{◌∙◌, ap, subst, arith, append-nil}
+use Rattle.std.specs.Prelude.{◌==◌, if◌then◌else◌, Bool, true, false, slice_get, Some}
+use Rattle.std.proofs.lemmas.Bool.{ne_eqb}
+use Rattle.mk_never.specs.NeverHeap.{NeverState, Call, after_op, reply_of}
+use Rattle.mk_core.specs.declared.config.Config.{Config}
+use Rattle.mk_core.specs.declared.events.Event.{Event}
+use Rattle.mk_core.specs.declared.events.Seat.TheVariants.{Caller}
+use Rattle.mk_core.specs.Decided.{Decided, asked}
+use Rattle.mk_core.specs.Growing.{AreOfOthers}
+use Rattle.mk_core.specs.History.{IsHistory, calls, calls_from, left, never_behind, never_first}
+use Rattle.mk_core.proofs.HistoryParts.{calls_in_parts, earlier_part_is_history}
+use Rattle.mk_frames.proofs.LastEvents.{stands}
+use Rattle.mk_stack.specs.declared.job_lists.Dones.{Dones}
+use Rattle.mk_stack.specs.declared.job_lists.Jobs.{Jobs}
+use Rattle.mk_stack.specs.declared.points.Point.TheVariants.{Founding, Founded}
+use Rattle.mk_stack.specs.declared.walking.WalkPoint.TheVariants as walk
+use Rattle.mk_stack.specs.Interleavings.{AreBelow, AreJobRuns, IsInterleaved, first_of, own_replied}
+use Rattle.mk_stack.specs.JobLists.{HaveDone}
+use Rattle.mk_stack.specs.Jobs.{Leads, Replied, JobRun, all_of}
+use Rattle.mk_stack.specs.Laws.{IsExplained}
+use Rattle.mk_stack.specs.Passes.{HasStackTypes, replied_in}
+use Rattle.mk_stack.specs.StackRuns.{AreRunsOf, IsStackRun}
+use Rattle.mk_stack.specs.Walks.{AreAllBy, LeadsDown, numbers_read}
+use Rattle.mk_stack.proofs.Linearizable.{stacks_are_linearizable}
+use Rattle.mk_stack.proofs.OwnCalls.{below_later, no_calls, none_of}
+use Rattle.mk_stack.proofs.Replies.{asked_in_two}
+use Rattle.mk_stack.proofs.StackHistories.{callers_are_below}
+use Rattle.mk_stack.proofs.Walks.{walks_read_the_stack}
+
+-- A caller that isn't there asks for nothing.
+unasked_beyond : (k callers : ℕ) (n : NeverState) (xs : List Call) → AreBelow callers xs → callers ≤ k
+    → own_replied k n xs ≡ []
+unasked_beyond k callers n [] below le = refl
+unasked_beyond k callers n (x ∷ xs) below le =
+    by (x.caller == k) (ne_eqb x.caller k (λ e. (let lt = below.0 in omega arith)))
+    (record { op = x.op; reply = reply_of n x.caller x.op })
+    (own_replied k (after_op n x.caller x.op) xs) (unasked_beyond k callers (after_op n x.caller x.op) xs below.1 le)
+  where
+    by : (b : Bool) → b ≡ false → (r : Replied) (rest : List Replied) → rest ≡ [] → (if b then r ∷ rest else rest) ≡ []
+    by true is r rest none = cc
+    by false is r rest none = none
+
+module _ (c : Config) (es : List Event) where
+  -- the runs of the callers, counted from the first of the lists
+  runs_at : (first : List Replied) (k : ℕ) (lists : List Jobs) (all : List Dones) → HaveDone c es first k lists all
+      → ℕ → List JobRun
+  runs_at first k [] [] h i = []
+  runs_at first k [] (d ∷ ds) h i = []
+  runs_at first k (x ∷ xs) [] h i = []
+  runs_at first k (x ∷ xs) (d ∷ ds) h zero = h.0.runs
+  runs_at first k (x ∷ xs) (d ∷ ds) h (suc i) = runs_at [] (k + 1) xs ds h.1 i
+
+  are_runs_at : (first : List Replied) (k : ℕ) (lists : List Jobs) (all : List Dones)
+      (h : HaveDone c es first k lists all) (i : ℕ) → AreJobRuns (runs_at first k lists all h i)
+  unfolding runs_at
+  are_runs_at first k [] [] h i = tt
+  are_runs_at first k [] (d ∷ ds) h i = tt
+  are_runs_at first k (x ∷ xs) [] h i = tt
+  are_runs_at first k (x ∷ xs) (d ∷ ds) h zero = h.0.are_runs
+  are_runs_at first k (x ∷ xs) (d ∷ ds) h (suc i) = are_runs_at [] (k + 1) xs ds h.1 i
+
+  same_at : (first : List Replied) (k : ℕ) (lists : List Jobs) (all : List Dones) (h : HaveDone c es first k lists all)
+      → AreRunsOf lists all (runs_at first k lists all h)
+  unfolding runs_at
+  same_at first k [] [] h i jobs dones at at' = absurd (none_there i jobs at)
+    where
+      none_there : (i : ℕ) (jobs : Jobs) → slice_get [] i ≡ Some jobs → ⊥
+      none_there zero jobs e = cc
+      none_there (suc i) jobs e = cc
+  same_at first k [] (d ∷ ds) h i jobs dones at at' = absurd h
+  same_at first k (x ∷ xs) [] h i jobs dones at at' = absurd h
+  same_at first k (x ∷ xs) (d ∷ ds) h zero jobs dones at at' =
+      let one : x ≡ jobs = cc in
+      let two : d ≡ dones = cc in (
+        h.0.same_jobs ∙ ap (λ (y : Jobs). y.list.items) one,
+        h.0.same_dones ∙ ap (λ (y : Dones). y.list.items) two,
+      )
+  same_at first k (x ∷ xs) (d ∷ ds) h (suc i) jobs dones at at' = same_at [] (k + 1) xs ds h.1 i jobs dones at at'
+
+  as_many : (first : List Replied) (k : ℕ) (lists : List Jobs) (all : List Dones) → HaveDone c es first k lists all
+      → length all ≡ length lists
+  as_many first k [] [] h = refl
+  as_many first k [] (d ∷ ds) h = absurd h
+  as_many first k (x ∷ xs) [] h = absurd h
+  as_many first k (x ∷ xs) (d ∷ ds) h = ap suc (as_many [] (k + 1) xs ds h.1)
+
+  -- Behind the last list no caller asks for anything.
+  own_at : (below : AreBelow c.callers (asked (calls c es))) (first : List Replied) (k : ℕ) (lists : List Jobs)
+      (all : List Dones) (h : HaveDone c es first k lists all) → (length lists ≡ 0 → first ≡ [])
+      → k + length lists ≡ c.callers → (i : ℕ)
+      → replied_in c (k + i) es ≡ first_of i first ++ all_of (runs_at first k lists all h i)
+  unfolding runs_at
+  own_at below first k [] [] h none count zero =
+      unasked_beyond (k + 0) c.callers (never_first c) (asked (calls c es)) below (omega arith)
+      ∙ ap (λ (l : List Replied). l ++ []) (sym (none refl))
+  own_at below first k [] [] h none count (suc i) =
+      unasked_beyond (k + suc i) c.callers (never_first c) (asked (calls c es)) below (omega arith)
+  own_at below first k [] (d ∷ ds) h none count i = absurd h
+  own_at below first k (x ∷ xs) [] h none count i = absurd h
+  own_at below first k (x ∷ xs) (d ∷ ds) h none count zero =
+      ap (λ (j : ℕ). replied_in c j es) (omega arith) ∙ h.0.own
+  own_at below first k (x ∷ xs) (d ∷ ds) h none count (suc i) =
+      ap (λ (j : ℕ). replied_in c j es) (omega arith)
+      ∙ own_at below [] (k + 1) xs ds h.1 (λ e. refl) (omega arith) i
+      ∙ ap (λ (l : List Replied). l ++ all_of (runs_at [] (k + 1) xs ds h.1 i)) (no_first i)
+    where
+      no_first : (i : ℕ) → first_of i [] ≡ []
+      no_first zero = refl
+      no_first (suc i) = refl
+
+-- All of it, where the calls after those of the jobs are a walk of the first caller.
+pub is_stack_run : (c : Config) (es more fs : List Event) (founding : List Replied) (lists : List Jobs)
+    (all : List Dones) (left_on : List ℕ) (walked : List Replied) → fs ≡ es ++ more → IsHistory c fs → HasStackTypes c
+    → Leads Founding founding Founded → length lists ≡ c.callers → HaveDone c es founding 0 lists all
+    → AreAllBy 0 (asked (calls_from c (left c es) more))
+    → own_replied 0 (never_behind c es) (asked (calls_from c (left c es) more)) ≡ walked
+    → LeadsDown walk.Starting walked walk.Ended → numbers_read walked ≡ left_on → IsStackRun c fs lists all left_on
+is_stack_run c es more fs founding lists all left_on walked is history types founds count h by_first own leads reads =
+    let jobs_history : IsHistory c es =
+    earlier_part_is_history c es more (subst (λ (l : List Event). IsHistory c l) is history) in
+    let below = callers_are_below c es jobs_history in
+    let later : List Call = asked (calls_from c (left c es) more) in
+    let runs = runs_at c es founding 0 lists all h in
+    let least : 1 ≤ c.callers = history.within_limits.callers.0 in
+    let interleaved : IsInterleaved c.types c.callers founding runs (asked (calls c es)) =
+    record {
+      nodes = types.node;
+      tops = types.top;
+      founds = founds;
+      jobs = are_runs_at c es founding 0 lists all h;
+      own = λ k. ap (λ (j : ℕ). replied_in c j es) (omega arith)
+          ∙ own_at c es below founding 0 lists all h (λ e. absurd (omega (arith, e, count, least)))
+          (omega (arith, count)) k;
+      exist = below;
+    } in
+    let explained : IsExplained c.types c.callers founding runs (asked (calls c es)) =
+    stacks_are_linearizable c.types c.callers founding runs (asked (calls c es)) interleaved in
+    let registers : length (never_behind c es).registers ≡ 8 * c.callers =
+    (stands c es jobs_history).all.mirrors.register_count in
+    let read = walks_read_the_stack (never_behind c es) 0 later explained.nodes (omega (arith, least, registers))
+    by_first explained.linked (subst (λ (l : List Replied). LeadsDown walk.Starting l walk.Ended) (sym own) leads) in
+    record {
+      founding = founding;
+      runs = runs;
+      jobs = asked (calls c es);
+      looks = later;
+      all_calls =
+          ap (λ (l : List Event). asked (calls c l)) is
+          ∙ ap (λ (l : List Decided). asked l) (calls_in_parts c es more)
+          ∙ asked_in_two (calls c es) (calls_from c (left c es) more);
+      only_looks = read.0;
+      one_each = as_many c es founding 0 lists all h;
+      are = same_at c es founding 0 lists all h;
+      interleaved = interleaved;
+      explained = explained;
+      is_left = sym read.1 ∙ ap (λ (l : List Replied). numbers_read l) own ∙ reads;
+    }
+
+-- It stands where the history goes on without a call.
+pub run_stands : (c : Config) (es more fs : List Event) (lists : List Jobs) (all : List Dones) (left_on : List ℕ)
+    → fs ≡ es ++ more → IsHistory c fs → ((k : ℕ) → k < c.callers → AreOfOthers (Caller k ∷ []) more)
+    → IsStackRun c es lists all left_on → IsStackRun c fs lists all left_on
+run_stands c es more fs lists all left_on is history others run =
+    let later : List Decided = calls_from c (left c es) more in
+    let split : asked (calls c fs) ≡ asked (calls c es) ++ asked later =
+    ap (λ (l : List Event). asked (calls c l)) is
+    ∙ ap (λ (l : List Decided). asked l) (calls_in_parts c es more)
+    ∙ asked_in_two (calls c es) later in
+    let below : AreBelow c.callers (asked later) =
+    below_later c.callers (asked (calls c es)) (asked later)
+    (subst (λ (l : List Call). AreBelow c.callers l) split (callers_are_below c fs history)) in
+    let none : later ≡ [] = no_calls c.callers later below (λ k lt. none_of c k es more (others k lt)) in
+    record {
+      founding = run.founding;
+      runs = run.runs;
+      jobs = run.jobs;
+      looks = run.looks;
+      all_calls =
+          split ∙ ap (λ (l : List Decided). asked (calls c es) ++ asked l) none ∙ append-nil (asked (calls c es))
+          ∙ run.all_calls;
+      only_looks = run.only_looks;
+      one_each = run.one_each;
+      are = run.are;
+      interleaved = run.interleaved;
+      explained = run.explained;
+      is_left = run.is_left;
+    }

@@ -1,0 +1,21 @@
+use Rattle.std.proofs.Common.{◌∙◌, List, sym, subst, take, ◌+◌}
+use Rattle.mk_stack.specs.declared.jobs.Done.{Done}
+use Rattle.mk_stack.specs.JobLists.{DoesJobs}
+use Rattle.mk_stack.proofs.JobLists.{does_next}
+use Rattle.mk_stack.proofs.job_lists.run_jobs.Goals as goal
+
+pub loop-index-preserved : goal.loop-index-preserved
+loop-index-preserved g c =
+    let old = c.loop-index in
+    let new = c.do_job-done.new.caller.pass in
+    record {
+      home = c.do_job-done.ensures.home;
+      made_for = c.do_job-done.ensures.made_for ∙ old.invariant.made_for;
+      book = c.do_job-done.ensures.book ∙ old.invariant.book;
+      does =
+          subst (λ (dones : List Done). DoesJobs c.args.caller.now.pass (take (old.index + 1) c.args.jobs.now) dones
+          new)
+          (sym c.in_ok-push.ensures.items)
+          (does_next c.args.caller.now.pass old.caller.pass new c.args.jobs.now old.index old.list.items _
+          c.do_job-done.result c.loop-index-test.true old.invariant.does c.do_job-done.ensures.does);
+    }

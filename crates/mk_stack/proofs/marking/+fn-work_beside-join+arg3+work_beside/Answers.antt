@@ -1,0 +1,36 @@
+use Rattle.std.proofs.Common.{◌+◌, ◌-◌, ◌<◌, sym, subst, arith, rules}
+use Rattle.mk_heap.specs.Hosts.{HostState}
+use Rattle.mk_stack.specs.Joining.{HasHandedOut, IsMarkersPass}
+use Rattle.mk_stack.proofs.EndedRuns.{first_marker, is_not_attending, marker_made}
+use Rattle.mk_stack.proofs.marking.+fn-work_beside-join+arg3+work_beside.Goals as goal
+
+pub finish-pass-requires : goal.finish-pass-requires
+finish-pass-requires g t c =
+    let few : c.args.number < 8 = omega (arith, c.requires.few_markers, c.if-number-markers.false) in
+    record {
+      out =
+          is_not_attending c.args.heap.now c.args.number c.args.host c.marker.result c.requires.host few
+          c.marker.ensures.marker;
+    }
+
+pub join-pass-requires-after_bounds : goal.join-pass-requires-after_bounds
+join-pass-requires-after_bounds g t c κs within =
+    let w = c.args.heap.now in
+    let number = c.args.number in
+    let more : number < c.args.markers = search rules in
+    let few : number < 8 = omega (arith, c.requires.few_markers) in
+    let pass : IsMarkersPass w number c.finish-pass.result =
+    first_marker w number c.args.host c.marker.result c.finish-pass.result c.requires.host few c.marker.ensures.marker
+    c.finish-pass.ensures.pass in
+    let made : HasHandedOut w (number + 1) 0 c.marker.new.self =
+    subst (λ (h : HostState). HasHandedOut w (number + 1) 0 h) (sym c.marker.ensures.host)
+    (marker_made w number c.args.host c.requires.host) in
+    let fewer : c.args.markers - (number + 1) < t = omega (arith, c.decreases) in
+    search rules
+
+pub returns : goal.returns
+returns g t c = record {
+  ended =
+      c.join_marker.ensures c.args.number c.args.lists.now c.requires.lists c.join-pass.ensures.first
+      c.join-pass.ensures.second;
+}

@@ -1,0 +1,43 @@
+use Rattle.std.proofs.Common.{ℕ, List, [], ◌∷◌, ◌++◌, subst, sym, append-nil}
+use Rattle.mk_words.specs.States.{PassState}
+use Rattle.mk_stack.specs.declared.walking.Found.{Found}
+use Rattle.mk_stack.specs.declared.walking.WalkPoint.{WalkPoint}
+use Rattle.mk_stack.specs.declared.walking.WalkPoint.TheVariants as walk
+use Rattle.mk_stack.specs.Walks.{HasWalked, HoldsDown, StepsDown, next_of, numbers_of}
+use Rattle.mk_stack.proofs.WalkSteps.{walked_more}
+use Rattle.mk_stack.proofs.walking.read_stack.Goals as goal
+
+pub points-preserved-in-Ok-To : goal.points-preserved-in-Ok-To
+points-preserved-in-Ok-To g c =
+    let p : PassState = c.args.caller.now.pass in
+    let q : PassState = c.points.caller.pass in
+    let r : PassState = c.go_down.new.caller.pass in
+    let steps : StepsDown q c.points.point [] r c.in-Ok-To.next =
+    subst (λ (f : Found). StepsDown q c.points.point (numbers_of f) r (next_of f)) c.in-Ok-To.field-0-is
+    c.in-Ok-To.ensures.steps in
+    record {
+      home = c.go_down.ensures.home;
+      walked =
+          subst (λ (t : WalkPoint). HasWalked p c.points.left.items r t) (sym c.in-Ok-To.next-is)
+          (subst (λ (l : List ℕ). HasWalked p l r c.in-Ok-To.next) (append-nil c.points.left.items)
+          (walked_more p q r c.points.left.items [] c.points.point c.in-Ok-To.next c.points.invariant.walked steps));
+      holds = subst (λ (t : WalkPoint). HoldsDown r t) (sym c.in-Ok-To.next-is) steps.holds;
+    }
+
+pub points-preserved-in-Ok-Number : goal.points-preserved-in-Ok-Number
+points-preserved-in-Ok-Number g c =
+    let p : PassState = c.args.caller.now.pass in
+    let q : PassState = c.points.caller.pass in
+    let r : PassState = c.go_down.new.caller.pass in
+    let steps : StepsDown q c.points.point (c.in-Ok-Number.n ∷ []) r walk.Descending =
+    subst (λ (f : Found). StepsDown q c.points.point (numbers_of f) r (next_of f)) c.in-Ok-Number.field-0-is
+    c.in-Ok-Number.ensures.steps in
+    record {
+      home = c.go_down.ensures.home;
+      walked =
+          subst (λ (l : List ℕ). HasWalked p l r walk.Descending) (sym c.in_ok-push-in-Ok-Number.ensures.items)
+          (subst (λ (n : ℕ). HasWalked p (c.points.left.items ++ n ∷ []) r walk.Descending) (sym c.in-Ok-Number.n-is)
+          (walked_more p q r c.points.left.items (c.in-Ok-Number.n ∷ []) c.points.point walk.Descending
+          c.points.invariant.walked steps));
+      holds = steps.holds;
+    }

@@ -1,0 +1,10 @@
+use Rattle.std.proofs.Common.{◌≡◌, true}
+use Rattle.mk_stack.specs.Walks.{HasWalked, HoldsDown}
+use Rattle.mk_stack.proofs.walking.read_stack.Given as goal
+
+abbrev pub invariant-points : goal.invariant-points
+invariant-points g l = record {
+  home : l.caller.home ≡ true;
+  walked : HasWalked l.fn.caller.pass l.left.items l.caller.pass l.point;
+  holds : HoldsDown l.caller.pass l.point;
+}

@@ -1,0 +1,96 @@
+-- Callers on threads of their own: what each hands back, and the host that has joined some of them.
+-- Private functions alone cite these words.
+use Rattle.std.specs.Prelude.{◌≡◌, ℕ, ◌+◌, ◌<◌, ◌≤◌, false, List, [], ◌∷◌, ◌++◌, length, IfOk}
+use Rattle.mk_core.specs.declared.config.Config.{Config}
+use Rattle.mk_core.specs.declared.events.Seat.TheVariants.{Caller, Marker, Host}
+use Rattle.mk_core.specs.Growing.{Grows}
+use Rattle.mk_words.specs.Seats.{Has, has_over, without_seat}
+use Rattle.mk_words.specs.States.{WordsState, PassState}
+use Rattle.mk_caller.specs.States.{IsIdleCaller}
+use Rattle.mk_marker.specs.Markers.{IsOut}
+use Rattle.mk_heap.specs.Hosts.{HostState, with_caller_out, with_joined}
+use Rattle.mk_stack.specs.declared.job_lists.Jobs.{Jobs}
+use Rattle.mk_stack.specs.declared.jobs.Job.{Job}
+use Rattle.mk_stack.specs.declared.joining.Worked.{Worked}
+use Rattle.mk_stack.specs.declared.joining.Joined.{Joined}
+use Rattle.mk_stack.specs.declared.points.Point.TheVariants.{Founding, Founded}
+use Rattle.mk_stack.specs.declared.working.Ended.{Ended}
+use Rattle.mk_stack.specs.declared.walking.WalkPoint.TheVariants as walk
+use Rattle.mk_stack.specs.JobLists.{HasDone, HaveDone}
+use Rattle.mk_stack.specs.Jobs.{Leads, Replied}
+use Rattle.mk_stack.specs.Passes.{replied_in}
+use Rattle.mk_stack.specs.StackRuns.{IsStackRun}
+use Rattle.mk_stack.specs.Walks.{LeadsDown, numbers_read}
+
+-- The pass of caller k between two jobs, which its own thread may take.
+pub record IsReady (w : WordsState) (k : ℕ) (p : PassState) : Type 0 where
+  pub table : p.table ≡ w
+  pub seat : p.seat ≡ Caller k
+  pub alone : p.seats ≡ Caller k ∷ []
+  pub idle : IsIdleCaller p
+
+-- Caller k did its jobs on a thread of its own, all of them where memory sufficed.
+pub record HasWorked (w : WordsState) (first : List Replied) (k : ℕ) (jobs : List Job) (worked : Worked) : Type 0 where
+  pub ready : IsReady w k worked.pass
+  pub done : IfOk worked.dones (λ dones. HasDone w.config worked.pass.seen first k jobs dones.list.items)
+
+-- The host has made the callers below n, and joined none.
+pub record HasHandedOut (w : WordsState) (markers n : ℕ) (h : HostState) : Type 0 where
+  pub table : h.pass.table ≡ w
+  pub seat : h.pass.seat ≡ Host
+  pub own : Has h.pass.seats Host
+  pub seen : h.pass.seen ≡ []
+  pub count : h.callers ≡ n
+  pub same_markers : h.markers ≡ markers
+
+-- The callers from k on did their jobs and are joined, and the host has made no more.
+pub record HaveWorked (w : WordsState) (markers : ℕ) (first : List Replied) (k : ℕ) (lists : List Jobs)
+    (joined : Joined) : Type 0 where
+  pub table : joined.host.pass.table ≡ w
+  pub seat : joined.host.pass.seat ≡ Host
+  pub own : Has joined.host.pass.seats Host
+  pub count : joined.host.callers ≡ k + length lists
+  pub seats : (j : ℕ) → k ≤ j → j < k + length lists → Has joined.host.pass.seats (Caller j)
+  pub before_over : has_over joined.host.pass.seen ≡ false
+  pub same_markers : joined.host.markers ≡ markers
+  pub done : IfOk joined.dones (λ all. HaveDone w.config joined.host.pass.seen first k lists all.items)
+
+-- All callers did their jobs on a stack that the first one had founded, and are joined.
+pub record HaveFoundedAndWorked (w : WordsState) (markers : ℕ) (lists : List Jobs) (joined : Joined) : Type 0 where
+  pub founding : List Replied
+  pub founds : Leads Founding founding Founded
+  pub worked : HaveWorked w markers founding 0 lists joined
+
+-- Since then the first caller's calls are those of a walk from the top down, which read these numbers.
+pub record ReadsStack (c : Config) (h : HostState) (numbers : List ℕ) (g : HostState) : Type 0 where
+  pub all : List Replied
+  pub leads : LeadsDown walk.Starting all walk.Ended
+  pub reads : numbers_read all ≡ numbers
+  pub did : replied_in c 0 g.pass.seen ≡ replied_in c 0 h.pass.seen ++ all
+
+-- The first caller, which was joined, was out and is joined again. No other seat that was home has made a step.
+pub record IsReader (h : HostState) (g : HostState) : Type 0 where
+  pub pass : PassState
+  pub alone : pass.seats ≡ Caller 0 ∷ []
+  pub is : g ≡ with_joined (with_caller_out h 0) pass g.pass.seen
+  pub own : Grows (without_seat (Caller 0) h.pass.seats) h.pass.seen g.pass.seen
+  pub overs : has_over g.pass.seen ≡ has_over h.pass.seen
+
+-- All jobs are done, what is left on the stack was read, the host said that all is over, and the markers from j on are
+-- joined.
+pub record HaveEnded (w : WordsState) (j : ℕ) (lists : List Jobs) (ended : Ended) : Type 0 where
+  pub table : ended.host.pass.table ≡ w
+  pub own : Has ended.host.pass.seats Host
+  pub count : ended.host.callers ≡ length lists
+  pub callers : (k : ℕ) → k < length lists → Has ended.host.pass.seats (Caller k)
+  pub markers : (i : ℕ) → j ≤ i → i < ended.host.markers → Has ended.host.pass.seats (Marker i)
+  pub run : IfOk ended.dones (λ dones. IfOk ended.left (λ left.
+      IsStackRun w.config ended.host.pass.seen lists dones.items left.items))
+
+-- The pass of a marker that is out.
+pub record IsMarkersPass (w : WordsState) (j : ℕ) (p : PassState) : Type 0 where
+  pub exists : j < 8
+  pub table : p.table ≡ w
+  pub seat : p.seat ≡ Marker j
+  pub alone : p.seats ≡ Marker j ∷ []
+  pub out : IsOut p

@@ -1,0 +1,110 @@
+-- A walk: a caller goes down the stack, and reads the number of each node. Private functions alone cite these words.
+use Rattle.std.specs.Prelude.{◌≡◌, ◌+◌, ◌*◌, ◌<◌, ℕ, List, [], ◌∷◌, ◌++◌, length}
+use Rattle.mk_never.specs.declared.values.Value.{Value}
+use Rattle.mk_never.specs.declared.operations.Op.{Op}
+use Rattle.mk_never.specs.declared.operations.Op.TheVariants as op
+use Rattle.mk_never.specs.declared.operations.Reply.{Reply}
+use Rattle.mk_never.specs.declared.operations.Reply.TheVariants as reply
+use Rattle.mk_never.specs.NeverHeap.{NeverState, Call, global_at}
+use Rattle.mk_words.specs.States.{PassState}
+use Rattle.mk_caller.specs.States.{value_of}
+use Rattle.mk_stack.specs.declared.points.Point.{Point}
+use Rattle.mk_stack.specs.declared.points.Point.TheVariants as point
+use Rattle.mk_stack.specs.declared.walking.Found.{Found}
+use Rattle.mk_stack.specs.declared.walking.Found.TheVariants as found
+use Rattle.mk_stack.specs.declared.walking.WalkPoint.{WalkPoint}
+use Rattle.mk_stack.specs.declared.walking.WalkPoint.TheVariants as walk
+use Rattle.mk_stack.specs.Advancing.{IsPointerTo, MayPointTo}
+use Rattle.mk_stack.specs.Interleavings.{own_replied}
+use Rattle.mk_stack.specs.Jobs.{Replied}
+use Rattle.mk_stack.specs.Laws.{AreLinked, uppermost, numbers_in}
+use Rattle.mk_stack.specs.Looks.{AreLooks}
+use Rattle.mk_stack.specs.Passes.{replied_to}
+
+-- At a point the operation is asked, is replied so, and leads to the next point.
+pub data Walks : WalkPoint → Op → Reply → WalkPoint → Type 0 where
+  start : {v : Value} → Walks walk.Starting (op.GetGlobal 0 0) (reply.Val v) walk.Checking
+  lack : Walks walk.Checking (op.IsNull 0) (reply.Num 1) walk.Ended
+  go : Walks walk.Checking (op.IsNull 0) (reply.Num 0) walk.Peeking
+  peek : {v : Value} → Walks walk.Peeking (op.GetPtr 2 0 0) (reply.Val v) walk.Testing
+  stop : Walks walk.Testing (op.IsNull 2) (reply.Num 1) walk.Ended
+  meet : Walks walk.Testing (op.IsNull 2) (reply.Num 0) walk.Reading
+  read : {n : ℕ} → Walks walk.Reading (op.GetNum 2 0) (reply.Num n) walk.Descending
+  descend : {v : Value} → Walks walk.Descending (op.GetPtr 2 2 1) (reply.Val v) walk.Testing
+
+-- The operations with their replies lead from one point to another.
+abbrev pub LeadsDown : WalkPoint → List Replied → WalkPoint → Type 0
+LeadsDown s [] t = s ≡ t
+LeadsDown s (x ∷ xs) t = (next : WalkPoint) × Walks s x.op x.reply next × LeadsDown next xs t
+
+-- the numbers that were loaded, in order
+
+abbrev pub number_told : Reply → List ℕ
+number_told (reply.Num n) = n ∷ []
+number_told _ = []
+
+abbrev pub number_read : Op → Reply → List ℕ
+number_read (op.GetNum q i) r = number_told r
+number_read _ r = []
+
+abbrev pub numbers_read : List Replied → List ℕ
+numbers_read [] = []
+numbers_read (x ∷ xs) = number_read x.op x.reply ++ numbers_read xs
+
+-- The caller makes all of these calls.
+abbrev pub AreAllBy : ℕ → List Call → Type 0
+AreAllBy k [] = Unit {0}
+AreAllBy k (x ∷ xs) = (x.caller ≡ k) × AreAllBy k xs
+
+abbrev pub WalksReadTheStack : Type 0
+WalksReadTheStack =
+    (n : NeverState) (k : ℕ) (calls : List Call) (nodes : List ℕ) → 8 * k + 7 < length n.registers
+    → AreAllBy k calls → AreLinked n (uppermost n (global_at n 0)) nodes
+    → LeadsDown walk.Starting (own_replied k n calls) walk.Ended
+    → AreLooks calls × (numbers_read (own_replied k n calls) ≡ numbers_in n nodes)
+
+-- the point of a walk, by that of the pop as which it begins
+abbrev pub walk_point : Point → WalkPoint
+walk_point (point.Checking j) = walk.Checking
+walk_point point.Peeking = walk.Peeking
+walk_point point.Testing = walk.Testing
+walk_point point.Following = walk.Reading
+walk_point _ = walk.Ended
+
+-- where the walk is after what it finds, and the numbers among that
+
+abbrev pub next_of : Found → WalkPoint
+next_of (found.To t) = t
+next_of (found.Number n) = walk.Descending
+
+abbrev pub numbers_of : Found → List ℕ
+numbers_of (found.To t) = []
+numbers_of (found.Number n) = n ∷ []
+
+-- what the caller's registers hold at each point: 0 has the top, and 2 a node
+abbrev pub HoldsDown : PassState → WalkPoint → Type 0
+HoldsDown p walk.Starting = Unit {0}
+HoldsDown p walk.Checking = MayPointTo 1 (value_of p 0)
+HoldsDown p walk.Peeking = IsPointerTo 1 (value_of p 0)
+HoldsDown p walk.Testing = IsPointerTo 1 (value_of p 0) × MayPointTo 0 (value_of p 2)
+HoldsDown p walk.Reading = IsPointerTo 1 (value_of p 0) × IsPointerTo 0 (value_of p 2)
+HoldsDown p walk.Descending = IsPointerTo 1 (value_of p 0) × IsPointerTo 0 (value_of p 2)
+HoldsDown p walk.Ended = Unit {0}
+
+-- One operation leads from point s to point t, and reads these numbers.
+pub record StepsDown (p : PassState) (s : WalkPoint) (numbers : List ℕ) (q : PassState) (t : WalkPoint) : Type 0 where
+  pub is : q ≡ record p { seen = q.seen }
+  pub op : Op
+  pub reply : Reply
+  pub walks : Walks s op reply t
+  pub reads : number_read op reply ≡ numbers
+  pub did : replied_to q ≡ replied_to p ++ record { op = op; reply = reply } ∷ []
+  pub holds : HoldsDown q t
+
+-- The pass has seen more, in which its caller walked down to point t, and read these numbers.
+pub record HasWalked (p : PassState) (numbers : List ℕ) (q : PassState) (t : WalkPoint) : Type 0 where
+  pub is : q ≡ record p { seen = q.seen }
+  pub all : List Replied
+  pub leads : LeadsDown walk.Starting all t
+  pub reads : numbers_read all ≡ numbers
+  pub did : replied_to q ≡ replied_to p ++ all

@@ -1,0 +1,58 @@
+//! Lists of jobs, each done by a caller of its own.
+ghost use Rattle.std.specs.Prelude.{◌≡◌, ◌<◌, ◌∷◌, [], length, IfOk, true};
+ghost use Rattle.mk_caller.specs.States.{number_of};
+ghost use Rattle.mk_stack.specs.JobLists.{DoesJobs};
+ghost use Rattle.mk_stack.specs.Passes.{HasStackTypes};
+
+use crate::jobs::{Done, Job};
+use crate::stacks::do_job;
+use mk_caller::Caller;
+use mk_cycle::{Bench, Engine};
+use mk_never::NoMemory;
+use mk_run::Pace;
+use std::alloc::Global;
+use std::sync::Wait;
+use std::thread::Threads;
+
+/// The jobs of one caller, in order.
+#[derive(Drop)]
+pub struct Jobs {
+    pub list: Vec<Job>,
+}
+
+/// What became of each job of one caller, in their order.
+#[derive(Drop)]
+pub struct Dones {
+    pub list: Vec<Done>,
+}
+
+/// Does jobs, one after the other, and tells what became of each. The pace is told of the number of the caller, and of
+/// the place of each job in the list. Where memory is refused, the jobs after that aren't done.
+pub fn run_jobs<E: Engine, P: Pace, R: Threads + Wait + Sync>(
+    rt: &R,
+    alloc: Global,
+    caller: &mut Caller,
+    bench: &mut Bench<E>,
+    jobs: &[Job],
+    pace: &P,
+) -> Result<Dones, NoMemory>
+    requires home { caller.old.home ≡ true }
+    requires exists { number_of caller.old.pass < caller.old.pass.table.config.callers }
+    requires alone { caller.old.pass.seats ≡ caller.old.pass.seat ∷ [] }
+    requires types { HasStackTypes caller.old.pass.table.config }
+    requires made_for { E.made_for bench.old.engine ≡ caller.old.pass.table.config.pages }
+    requires book { length bench.old.book ≡ caller.old.pass.table.config.pages }
+    ensures home { caller.new.home ≡ true }
+    ensures pass { caller.new.pass ≡ record caller.old.pass { seen = caller.new.pass.seen } }
+    ensures does { IfOk result (λ dones. DoesJobs caller.old.pass jobs.now dones.list.items caller.new.pass) }
+{
+    let number = caller.number();
+    let mut list = Vec::new(alloc);
+    for (index, job) in jobs.iter().enumerate() {
+        pace.before(number, index as u64);
+        let done = do_job(rt, caller, bench, *job);
+        pace.answered(number, index as u64);
+        list.push(done)?;
+    }
+    Ok(Dones { list })
+}
