@@ -8,6 +8,7 @@ ghost use Rattle.mk_stack.specs.Passes.{HasStackTypes};
 
 use crate::job_lists::Jobs;
 use crate::working::{Ended, work};
+use mk_core::Phase;
 use mk_cycle::{Bench, Engine};
 use mk_heap::{Heap, Host};
 use mk_marker::{Marker, NotMarking, Work};
@@ -18,9 +19,6 @@ use std::alloc::Global;
 use std::sync::Wait;
 use std::thread;
 use std::thread::Threads;
-
-/// The low bits of a phase word while markers mark.
-const MARKING: u64 = 1;
 
 /// Marks for the cycle that is on, until its close is wanted.
 fn mark_until_wanted<P: Pace, R: Wait>(
@@ -41,7 +39,7 @@ fn mark_until_wanted<P: Pace, R: Wait>(
                 pace.marked(number);
                 patience.reset();
             }
-            Work::Idle => patience.pause_for_phase(rt, words, MARKING),
+            Work::Idle => patience.pause_for_phase(rt, words, Phase::Marking.number()),
             Work::Wanted => break,
         }
     }
@@ -62,8 +60,8 @@ fn mark_until_over<P: Pace, R: Wait>(rt: &R, heap: &Heap, pass: Pass, number: u6
                 mark_until_wanted(rt, words, &mut marker, number, pace);
                 patience.reset();
             }
-            Err(NotMarking { phase: 5 }) => return marker.finish(),
-            Err(NotMarking { phase }) => patience.pause_for_phase(rt, words, phase),
+            Err(NotMarking { phase: Phase::Over }) => return marker.finish(),
+            Err(NotMarking { phase }) => patience.pause_for_phase(rt, words, phase.number()),
         }
     }
     unreachable!()
