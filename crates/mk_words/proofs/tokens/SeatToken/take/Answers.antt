@@ -52,7 +52,8 @@ learns c =
     taken_learns p.token.table_id f.new.token.table_id x.new.seat.table_id p.token.me f.new.token.me x.new.seat.me
     p.seat c.args.op c.turn_word-number.result f.result x.result c.args.self c.self.view_is f.ensures.table x.ensures.0
     (take_access p.token.table_id p.token.me p.seat c.args.op c.turn_word-number.result c.args.self c.self.view_is
-    c.turn_word-number.ensures) c.self.invariant.order f.ensures.told c.if-found-eq0.true (ap (λ (m : Mine). m.0) x.ensures.3) x.ensures.2
+    c.turn_word-number.ensures) c.self.invariant.order f.ensures.told c.if-found-eq0.true
+    (ap (λ (m : Mine). m.0) x.ensures.3) x.ensures.2
 
 pub invariant_of-taken : goal.invariant_of-taken
 invariant_of-taken c =

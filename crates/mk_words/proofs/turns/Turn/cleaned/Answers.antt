@@ -16,8 +16,8 @@ invariant_of-self c =
     record {
       turn = c.self.invariant.turn;
       knows = c.self.invariant.knows;
-      shows = map_cleaned (now_of t.pass).words c.args.page c.deref_mut.result.now c.cleaned.new.self c.cleaned.ensures.shows
-          c.cleaned.ensures.others
+      shows = map_cleaned (now_of t.pass).words c.args.page c.deref_mut.result.now c.cleaned.new.self
+          c.cleaned.ensures.shows c.cleaned.ensures.others
           (subst (λ (v : TurnState). HasNoMarks (now_of v.pass).words c.args.page) (sym c.self.view_is)
           c.requires.none)
           (shows_that _ _ _ c.deref_mut.ensures.value c.self.invariant.shows);

@@ -8,5 +8,6 @@ pub returns : goal.returns
 returns c =
     subst (λ (t : TurnState). IsNextUncleaned (now_of t.pass).words c.args.from t.pass.table.config.pages
     c.next_uncleaned.result) c.self.view_is
-    (next_is_uncleaned c.self.inside.pass c.deref.result.now c.args.from c.next_uncleaned.result (shows_that _ _ _ c.deref.ensures c.self.invariant.shows)
+    (next_is_uncleaned c.self.inside.pass c.deref.result.now c.args.from c.next_uncleaned.result
+    (shows_that _ _ _ c.deref.ensures c.self.invariant.shows)
     c.next_uncleaned.ensures)
