@@ -1,5 +1,5 @@
 //! The map: what it is, and how it begins.
-ghost use Rattle.std.specs.Prelude.{◌≡◌, ◌≤◌, IfOk, [], length, replicate};
+ghost use Rattle.std.specs.Prelude.{◌≤◌, IfOk, length, replicate};
 ghost use Rattle.mk_geom.specs.Storages.{free_page};
 ghost use Rattle.mk_page_map.specs.KnownPages.{Shows};
 
@@ -36,17 +36,6 @@ impl Model for PageMap {
 }
 
 impl PageMap {
-    /// The map of no pages, which takes no memory. It may lie where a map belongs that somebody has taken.
-    pub fn nothing(alloc: Global) -> PageMap
-        ensures { Shows result [] [] [] }
-    {
-        PageMap {
-            pages: Vec::new(alloc),
-            sets: Vec::new(alloc),
-            resident: 0,
-        }
-    }
-
     /// The map of this many free pages.
     pub fn new(alloc: Global, pages: u64) -> Result<PageMap, AllocError>
         requires { pages ≤ 4096 }

@@ -253,6 +253,10 @@ shows_mark p page v q t old new told shows =
     map_now p s q t new
     (told_mark p.table.config (world_at t.acts.makes).now p.seat page v old new told (map_then p s q t old shows))
 
+-- What a map shows it shows by another name too.
+pub shows_that : (w : Words) (map same : KnownPages) → same ≡ map → IsMapOf map w → IsMapOf same w
+shows_that w map same is shows = subst (λ (m : KnownPages). IsMapOf m w) (sym is) shows
+
 -- The map has all pages of the heap.
 
 pub page_known : (p : PassState) (page : ℕ) (map : KnownPages) → page < p.table.config.pages

@@ -1,5 +1,5 @@
 -- The page map of a heap: what it shows of the words, and the steps by which it changes hands or has to follow.
-use Rattle.std.specs.Prelude.{◌≡◌, ℕ, ◌<◌, ◌≤◌, Bool, true, false, slice_index, Option, Some, None}
+use Rattle.std.specs.Prelude.{◌≡◌, ℕ, ◌<◌, ◌≤◌, Bool, true, false, slice_index, Option, Some, None, []}
 use Rattle.mk_page_map.specs.KnownPages.{KnownPages, Shows, is_uncleaned}
 use Rattle.mk_core.specs.declared.events.Step.{Step}
 use Rattle.mk_core.specs.declared.events.Step.TheVariants as step
@@ -9,6 +9,15 @@ use Rattle.mk_core.specs.Words.{Words, header_at}
 pub record HasNoMarks (w : Words) (page : ℕ) : Type 0 where
   pub unmarked : slice_index w.marks page ≡ 0
   pub unscanned : slice_index w.blacks page ≡ 0
+
+-- a map of no pages
+abbrev pub no_map : KnownPages
+no_map = record { pages = []; quarantined = []; differing = []; uncleaned = [] }
+
+-- the map that lies in a slot, and where none does that of no pages
+abbrev pub map_in : {A : Type 0} → (A → KnownPages) → Option A → KnownPages
+map_in map_of (Some held) = map_of held
+map_in map_of None = no_map
 
 -- The map shows the headers, used, freed and snapshot words of all pages. A page without a header has no marks, unless
 -- the map has it as uncleaned.

@@ -4,11 +4,11 @@ ghost use Rattle.std.specs.Mem.Slots.{slots_items, slots_len, IsFull};
 ghost use Rattle.mk_core.specs.Layout.{count_of_words, index_of_named, NamesWord};
 ghost use Rattle.mk_words.specs.Finals.{freed_bits_in};
 
+use crate::homes::MapHome;
 use crate::indexes::index_of;
 use crate::rule::View;
 use atomic_table::{Closed, Seat as Token};
 use mk_core::{TableWord, Word};
-use mk_page_map::PageMap;
 use std::alloc::Global;
 
 /// The tallies that the history left, and how many freed bits the quarantine words have. The history itself stays
@@ -21,11 +21,11 @@ pub struct Final {
     pub cycles: u64,
     pub released: u64,
     pub full: u64,
-    pub(crate) memory: Token<PageMap, View>,
+    pub(crate) memory: Token<MapHome, View>,
 }
 
 /// The word of that name.
-pub(crate) fn last_word(closed: &Closed<PageMap, Global>, pages: u64, name: Word) -> u64
+pub(crate) fn last_word(closed: &Closed<MapHome, Global>, pages: u64, name: Word) -> u64
     requires pages { pages ≤ 4096 }
     requires full { IsFull closed.now.words }
     requires words { count_of_words pages ≤ slots_len closed.now.words }
@@ -36,7 +36,7 @@ pub(crate) fn last_word(closed: &Closed<PageMap, Global>, pages: u64, name: Word
 }
 
 /// The freed bits of the quarantine words of this many pages.
-pub(crate) fn freed_bits(closed: &Closed<PageMap, Global>, pages: u64) -> u64
+pub(crate) fn freed_bits(closed: &Closed<MapHome, Global>, pages: u64) -> u64
     requires pages { pages ≤ 4096 }
     requires full { IsFull closed.now.words }
     requires words { count_of_words pages ≤ slots_len closed.now.words }

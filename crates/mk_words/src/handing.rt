@@ -14,6 +14,7 @@ ghost use Rattle.mk_words.specs.Passes.{state_of, IsInOrder};
 ghost use Rattle.mk_words.specs.Rule.{takes_map, gives_map, no_step};
 ghost use Rattle.mk_words.specs.Steps.{IsEnabledTo, May, Makes, Tells};
 
+use crate::homes::MapHome;
 use crate::indexes::index_of;
 use crate::rule::View;
 use crate::telling::{GiveMap, Making, TakeMap};
@@ -29,7 +30,7 @@ use std::marker::Brand;
 #[inline(always)]
 fn take_as<J: Making>(
     words: &Words,
-    token: &mut Token<PageMap, View>,
+    token: &mut Token<MapHome, View>,
     seat: Seat,
     op: Option<Op>,
     number: u64,
@@ -54,7 +55,7 @@ fn take_as<J: Making>(
 
 /// Stores 0 into the turn word, with which the slot goes back.
 #[inline(always)]
-fn give_as<J: Making>(words: &Words, token: &mut Token<PageMap, View>, seat: Seat)
+fn give_as<J: Making>(words: &Words, token: &mut Token<MapHome, View>, seat: Seat)
     requires picked { J.event ≡ record { seat = seat; step = step.Give } }
     requires order { IsInOrder token.old.me seat }
     requires one_table { (state_of token.old.table_id token.old.me seat).table ≡ words.now }
@@ -90,22 +91,23 @@ impl SeatToken {
         self,
         words: &Words,
         op: Option<Op>,
-    ) -> Result<(TurnToken, PageMap), (SeatToken, u64)>
+    ) -> Result<(TurnToken, Box<PageMap>), (SeatToken, u64)>
         requires one_table { self.table ≡ words.now }
         requires enabled { IsEnabledTo self (step.Take op) }
         ensures taken { IfOk result (λ hand. Tells self (step.Take op) 0 hand.0) }
-        ensures map { IfOk result (λ hand. IsMapOf hand.1 (now_of hand.0).words) }
+        ensures map { IfOk result (λ hand. IsMapOf hand.1.value (now_of hand.0).words) }
         ensures missed { IfErr result (λ back. Tells self (step.Take op) back.1 back.0) }
         ensures another { IfErr result (λ back. back.1 ≢ 0) }
     {
+        words.is_within_limits();
         let number = self.turn_word(words);
         let SeatToken { mut token, seat } = self;
         let found = take_as::<Brand>(words, &mut token, seat, op, number);
         if found == 0 {
-            let blank = PageMap::nothing(words.alloc);
-            let map = words.table.shared.exchange(&mut token, 0, blank);
+            let empty = MapHome { map: None };
+            let home = words.table.shared.exchange(&mut token, 0, empty);
             let taken = TurnToken { token, seat };
-            Ok((taken, map))
+            Ok((taken, home.into_map()))
         } else {
             let back = SeatToken { token, seat };
             Err((back, found))
@@ -115,15 +117,16 @@ impl SeatToken {
 
 impl TurnToken {
     /// Gives the turn back, with a map that shows the pages.
-    pub(crate) fn give(self, words: &Words, map: PageMap) -> SeatToken
+    pub(crate) fn give(self, words: &Words, map: Box<PageMap>) -> SeatToken
         requires one_table { self.table ≡ words.now }
         requires may { May self step.Give }
         requires holds { Holds self.table.config (now_of self) self.seat }
-        requires map { IsMapOf map (now_of self).words }
+        requires map { IsMapOf map.value (now_of self).words }
         ensures { Makes self step.Give result }
     {
         let TurnToken { mut token, seat } = self;
-        let _blank = words.table.shared.exchange(&mut token, 0, map);
+        let home = MapHome { map: Some(map) };
+        let _empty = words.table.shared.exchange(&mut token, 0, home);
         give_as::<Brand>(words, &mut token, seat);
         SeatToken { token, seat }
     }

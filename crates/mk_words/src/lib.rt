@@ -5,6 +5,7 @@ mod call_steps;
 mod finals;
 mod granting;
 mod handing;
+mod homes;
 mod indexes;
 mod laws;
 mod map_reads;

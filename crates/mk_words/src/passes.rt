@@ -4,7 +4,7 @@ ghost use Rattle.mk_core.specs.Accesses.{caller_number, word_accessed, access};
 ghost use Rattle.mk_core.specs.History.{IsHistory};
 ghost use Rattle.mk_core.specs.Counts.{IsTidy};
 ghost use Rattle.mk_core.specs.Order.{group_of};
-ghost use Rattle.mk_words.specs.Seats.{CallersAreBeforeOver, Has};
+ghost use Rattle.mk_words.specs.Seats.{CallersAreBeforeOver, Has, is_caller};
 ghost use Rattle.mk_words.specs.PageMaps.{is_handing};
 ghost use Rattle.mk_words.specs.States.{now_of, event_of};
 ghost use Rattle.mk_words.specs.Markers.{is_markers, marker_in, Marks};
@@ -63,9 +63,10 @@ impl Pass {
         self.own.is_in_order();
     }
 
-    /// The caller's number, and 0 where the seat is no caller's.
+    /// The number of the caller whose seat it is.
     #[inline(always)]
     pub(crate) fn caller(&self) -> u64
+        requires { is_caller self.now.seat ≡ true }
         ensures { result ≡ caller_number self.now.seat }
     {
         self.own.caller()

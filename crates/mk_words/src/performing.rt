@@ -5,17 +5,17 @@ ghost use Rattle.mk_core.specs.declared.accesses.Access.TheVariants.{Store};
 ghost use Rattle.mk_core.specs.Words.{becomes};
 ghost use Rattle.mk_words.specs.Rule.{Kept, told_by, adds, no_step};
 
+use crate::homes::MapHome;
 use crate::rule::{OneHistory, View};
 use crate::telling::{Make, Making, Put};
 use atomic_table::{Seat as Token, Shared};
 use mk_core::{Access, Config};
-use mk_page_map::PageMap;
 
 /// Makes the access of an event. Returns what it found; at a store, what it stored.
 #[inline(always)]
 pub(crate) fn access_as<J: Making>(
-    table: &Shared<PageMap, View, Config, OneHistory>,
-    token: &mut Token<PageMap, View>,
+    table: &Shared<MapHome, View, Config, OneHistory>,
+    token: &mut Token<MapHome, View>,
     index: usize,
     access: Access,
 ) -> u64
@@ -45,8 +45,8 @@ pub(crate) fn access_as<J: Making>(
 /// Makes a store, and returns what it found.
 #[inline(always)]
 pub(crate) fn swap_as<J: Making>(
-    table: &Shared<PageMap, View, Config, OneHistory>,
-    token: &mut Token<PageMap, View>,
+    table: &Shared<MapHome, View, Config, OneHistory>,
+    token: &mut Token<MapHome, View>,
     index: usize,
     value: u64,
 ) -> u64

@@ -1,9 +1,9 @@
 //! The rule of the table: there is one history, of which each pass has seen a beginning that has all events of the
 //! pass's seats.
 
+use crate::homes::MapHome;
 use atomic_table::TableRule;
 use mk_core::{Config, Event, Seat};
-use mk_page_map::PageMap;
 use std::collections::LinkedList;
 
 /// Seats, and the events that were seen with them. No value of it is made.
@@ -22,7 +22,7 @@ pub struct View {
 
 pub struct OneHistory;
 
-impl TableRule<PageMap, View, Config> for OneHistory {
+impl TableRule<MapHome, View, Config> for OneHistory {
     ghost use Rattle.mk_words.specs.Rule.{Kept, first_view};
 
     ghost holds = { Kept };

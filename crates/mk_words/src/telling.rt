@@ -1,8 +1,8 @@
 //! What each step of the table says. The calls pick the event, and the seat of a split.
 
+use crate::homes::MapHome;
 use crate::rule::View;
 use atomic_table::{Join, Play, Split};
-use mk_page_map::PageMap;
 use std::marker::{Brand, PhantomData};
 
 /// The event that a step makes.
@@ -23,7 +23,7 @@ pub struct Make<J> {
     of: PhantomData<J>,
 }
 
-impl<J: Making> Play<PageMap, View> for Make<J> {
+impl<J: Making> Play<MapHome, View> for Make<J> {
     ghost use Rattle.mk_words.specs.Rule.{adds};
 
     ghost then = { adds J.event };
@@ -34,7 +34,7 @@ pub struct Put<J> {
     of: PhantomData<J>,
 }
 
-impl<J: Making> Play<PageMap, View> for Put<J> {
+impl<J: Making> Play<MapHome, View> for Put<J> {
     ghost use Rattle.mk_words.specs.Rule.{stores};
 
     ghost then = { stores J.event };
@@ -45,7 +45,7 @@ pub struct TakeMap<J> {
     of: PhantomData<J>,
 }
 
-impl<J: Making> Play<PageMap, View> for TakeMap<J> {
+impl<J: Making> Play<MapHome, View> for TakeMap<J> {
     ghost use Rattle.mk_words.specs.Rule.{takes_map};
 
     ghost then = { takes_map J.event };
@@ -56,7 +56,7 @@ pub struct GiveMap<J> {
     of: PhantomData<J>,
 }
 
-impl<J: Making> Play<PageMap, View> for GiveMap<J> {
+impl<J: Making> Play<MapHome, View> for GiveMap<J> {
     ghost use Rattle.mk_words.specs.Rule.{gives_map};
 
     ghost then = { gives_map J.event };
@@ -65,7 +65,7 @@ impl<J: Making> Play<PageMap, View> for GiveMap<J> {
 /// A look that takes in what came by a join.
 pub struct Settle;
 
-impl Play<PageMap, View> for Settle {
+impl Play<MapHome, View> for Settle {
     ghost use Rattle.mk_words.specs.Rule.{settles};
 
     ghost then = { settles };

@@ -1,15 +1,16 @@
 //! A token of the table with the seat whose steps it makes: what a pass and a turn have in common.
-ghost use Rattle.std.specs.Prelude.{◌≡◌, false};
+ghost use Rattle.std.specs.Prelude.{◌≡◌, false, true};
 ghost use Rattle.mk_core.specs.Accesses.{caller_number, word_accessed, access};
 ghost use Rattle.mk_core.specs.History.{IsHistory};
 ghost use Rattle.mk_core.specs.Counts.{IsTidy};
 ghost use Rattle.mk_core.specs.declared.accesses.Access.TheVariants.{Store};
 ghost use Rattle.mk_words.specs.PageMaps.{is_handing};
-ghost use Rattle.mk_words.specs.Seats.{CallersAreBeforeOver, Has};
+ghost use Rattle.mk_words.specs.Seats.{CallersAreBeforeOver, Has, is_caller};
 ghost use Rattle.mk_words.specs.States.{now_of, event_of};
 ghost use Rattle.mk_words.specs.Passes.{state_of, IsInOrder};
 ghost use Rattle.mk_words.specs.Steps.{May, Tells, Finds};
 
+use crate::homes::MapHome;
 use crate::indexes::index_of;
 use crate::performing::{access_as, swap_as};
 use crate::rule::View;
@@ -17,13 +18,12 @@ use crate::telling::Making;
 use crate::words::Words;
 use atomic_table::Seat as Token;
 use mk_core::{Access, Seat, Step, TableWord};
-use mk_page_map::PageMap;
 use std::marker::{Brand, Model};
 
 /// A pass's token with its seat. What a marker is at isn't kept here, so a turn is moved in few words.
 #[derive(Drop)]
 pub(crate) struct SeatToken {
-    pub(crate) token: Token<PageMap, View>,
+    pub(crate) token: Token<MapHome, View>,
     pub(crate) seat: Seat,
 }
 
@@ -42,7 +42,7 @@ impl Model for SeatToken {
 /// A turn's token with its seat, which holds the slot of the page map.
 #[derive(Drop)]
 pub(crate) struct TurnToken {
-    pub(crate) token: Token<PageMap, View>,
+    pub(crate) token: Token<MapHome, View>,
     pub(crate) seat: Seat,
 }
 
@@ -64,7 +64,7 @@ impl Model for TurnToken {
 fn perform_as<J: Making>(
     words: &Words,
     pages: u64,
-    token: &mut Token<PageMap, View>,
+    token: &mut Token<MapHome, View>,
     seat: Seat,
     step: Step,
     word: TableWord,
@@ -95,7 +95,7 @@ fn perform_as<J: Making>(
 #[inline(always)]
 fn replace_as<J: Making>(
     words: &Words,
-    token: &mut Token<PageMap, View>,
+    token: &mut Token<MapHome, View>,
     seat: Seat,
     step: Step,
     word: TableWord,
@@ -140,14 +140,15 @@ impl SeatToken {
         let _seat = &self.seat;
     }
 
-    /// The caller's number, and 0 where the seat is no caller's.
+    /// The number of the caller whose seat it is.
     #[inline(always)]
     pub(crate) fn caller(&self) -> u64
+        requires { is_caller self.now.seat ≡ true }
         ensures { result ≡ caller_number self.now.seat }
     {
         match self.seat {
             Seat::Caller(caller) => caller,
-            Seat::Marker(_) | Seat::Host => 0,
+            Seat::Marker(_) | Seat::Host => unreachable!(),
         }
     }
 

@@ -26,7 +26,7 @@ pub struct Turn {
     pub(crate) pass: TurnToken,
     pub(crate) op: Option<Op>,
     pub(crate) cell: Option<Cell>,
-    pub(crate) map: PageMap,
+    pub(crate) map: Box<PageMap>,
 }
 
 impl Model for Turn {
@@ -38,7 +38,7 @@ impl Model for Turn {
 
     ghost view = { λ t. record { pass = t.pass; op = t.op } };
 
-    ghost invariant = { λ t. KeepsTurn t.pass t.op t.cell t.map };
+    ghost invariant = { λ t. KeepsTurn t.pass t.op t.cell t.map.value };
 }
 
 /// Another seat has the turn, by its number: a caller's own, or for the host the number of callers.

@@ -9,6 +9,7 @@ ghost use Rattle.mk_words.specs.States.{now_of};
 ghost use Rattle.mk_words.specs.Finals.{history_of, config_of, HasTallies};
 
 use crate::finals::{Final, freed_bits, last_word};
+use crate::homes::MapHome;
 use crate::indexes::{count_of_words, index_of};
 use crate::passes::{OUTSIDE, Pass};
 use crate::rule::{OneHistory, View};
@@ -24,9 +25,8 @@ use std::marker::{Brand, Model};
 /// The words of a heap, which threads share. Who has a pass may access them.
 #[derive(Drop)]
 pub struct Words {
-    pub(crate) table: Table<PageMap, View, Config, OneHistory, Global>,
+    pub(crate) table: Table<MapHome, View, Config, OneHistory, Global>,
     pub(crate) config: Config,
-    pub(crate) alloc: Global,
 }
 
 impl Model for Words {
@@ -100,15 +100,15 @@ impl Words {
     {
         let zeros = zeros(alloc, count_of_words(config.pages))?;
         let copy = config.try_clone(alloc)?;
-        let map = PageMap::new(alloc, config.pages)?;
+        let pages = PageMap::new(alloc, config.pages)?;
+        let map = Box::new(alloc, pages)?;
         let mut slots = Vec::new(alloc);
-        slots.push(map)?;
+        slots.push(MapHome { map: Some(map) })?;
         match Table::new(alloc, zeros.as_slice(), slots, config) {
             Ok((table, token)) => Ok((
                 Words {
                     table,
                     config: copy,
-                    alloc,
                 },
                 Pass {
                     own: SeatToken {

@@ -27,5 +27,5 @@ perform-requires-clause-access c =
     let on = subst (λ (v : TurnState). IsEnabledTo v.pass step.Grant) (sym c.self.view_is) c.requires.enabled in
     subst (λ (v : TurnState). Store c.address_of-address.result
     ≡ access v.pass.table.config (now_of v.pass) (event_of v.pass step.Grant)) c.self.view_is
-    (grant_access t.pass t.op t.cell t.map c.words.inside.config c.cell_base.result c.address_of-address.result
+    (grant_access t.pass t.op t.cell t.map.value c.words.inside.config c.cell_base.result c.address_of-address.result
     c.self.invariant on (sym same) c.cell_base.ensures c.address_of-address.ensures)

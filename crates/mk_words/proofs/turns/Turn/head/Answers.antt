@@ -6,15 +6,15 @@ use Rattle.mk_words.specs.Steps.{IsEnabledTo}
 use Rattle.mk_words.specs.TurnSteps.{Acts}
 use Rattle.mk_words.proofs.TurnSteps.{still_turn, acts}
 use Rattle.mk_words.proofs.TakenCells.{knows_still}
-use Rattle.mk_words.proofs.MapSteps.{head_known, shows_head}
+use Rattle.mk_words.proofs.MapSteps.{head_known, shows_head, shows_that}
 use Rattle.mk_words.proofs.turns.Turn.head.Goals as goal
 
 pub header_stored-requires : goal.header_stored-requires
 header_stored-requires c =
     let t = c.self.inside in
-    head_known t.pass c.args.page c.args.v t.map
+    head_known t.pass c.args.page c.args.v c.deref_mut.result.now
     (subst (λ (v : TurnState). IsEnabledTo v.pass (step.Head c.args.page c.args.v)) (sym c.self.view_is)
-    c.requires.enabled) c.self.invariant.shows
+    c.requires.enabled) (shows_that _ _ _ c.deref_mut.ensures.value c.self.invariant.shows)
 
 pub invariant_of-self : goal.invariant_of-self
 invariant_of-self c =
@@ -28,16 +28,16 @@ invariant_of-self c =
       knows = knows_still t.pass s f.new.self a t.cell refl refl c.self.invariant.knows;
       shows = shows_head t.pass c.args.page c.args.v f.new.self
           (record { acts = a; own = f.ensures.own; history = f.ensures.history; holds = c.self.invariant.turn.holds })
-          t.map c.header_stored.new.self
+          c.deref_mut.result.now c.header_stored.new.self
           (record {
             shows = c.header_stored.ensures.shows;
             freed = c.header_stored.ensures.freed;
             others = c.header_stored.ensures.others;
           })
-          (head_known t.pass c.args.page c.args.v t.map
+          (head_known t.pass c.args.page c.args.v c.deref_mut.result.now
           (subst (λ (v : TurnState). IsEnabledTo v.pass (step.Head c.args.page c.args.v)) (sym c.self.view_is)
-          c.requires.enabled) c.self.invariant.shows)
-          c.self.invariant.shows;
+          c.requires.enabled) (shows_that _ _ _ c.deref_mut.ensures.value c.self.invariant.shows))
+          (shows_that _ _ _ c.deref_mut.ensures.value c.self.invariant.shows);
     }
 
 pub returns-clause-acts : goal.returns-clause-acts

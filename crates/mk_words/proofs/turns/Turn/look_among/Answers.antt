@@ -21,7 +21,7 @@ invariant_of-self c =
       knows = knows_still t.pass s f.new.self a t.cell refl refl c.self.invariant.knows;
       shows = shows_still t.pass s f.new.self
           (record { acts = a; own = f.ensures.own; history = f.ensures.history; holds = c.self.invariant.turn.holds })
-          t.map refl c.self.invariant.shows;
+          t.map.value refl c.self.invariant.shows;
     }
 
 pub returns-clause-acts : goal.returns-clause-acts

@@ -23,7 +23,7 @@ invariant_of-self c =
           (takes_none c.args.step c.requires.untold) c.self.invariant.knows;
       shows = shows_still t.pass c.args.step f.new.self
           (record { acts = a; own = f.ensures.own; history = f.ensures.history; holds = c.self.invariant.turn.holds })
-          t.map c.requires.untold c.self.invariant.shows;
+          t.map.value c.requires.untold c.self.invariant.shows;
     }
 
 pub returns-clause-acts : goal.returns-clause-acts

@@ -6,15 +6,15 @@ use Rattle.mk_words.specs.Steps.{IsEnabledTo}
 use Rattle.mk_words.specs.TurnSteps.{Acts}
 use Rattle.mk_words.proofs.TurnSteps.{still_turn, acts}
 use Rattle.mk_words.proofs.TakenCells.{knows_still}
-use Rattle.mk_words.proofs.MapSteps.{quar_known, shows_quar}
+use Rattle.mk_words.proofs.MapSteps.{quar_known, shows_quar, shows_that}
 use Rattle.mk_words.proofs.turns.Turn.quar.Goals as goal
 
 pub quarantine_stored-requires : goal.quarantine_stored-requires
 quarantine_stored-requires c =
     let t = c.self.inside in
-    quar_known t.pass c.args.page c.args.v t.map
+    quar_known t.pass c.args.page c.args.v c.deref_mut.result.now
     (subst (λ (v : TurnState). IsEnabledTo v.pass (step.Quar c.args.page c.args.v)) (sym c.self.view_is)
-    c.requires.enabled) c.self.invariant.shows
+    c.requires.enabled) (shows_that _ _ _ c.deref_mut.ensures.value c.self.invariant.shows)
 
 pub invariant_of-self : goal.invariant_of-self
 invariant_of-self c =
@@ -28,12 +28,12 @@ invariant_of-self c =
       knows = knows_still t.pass s f.new.self a t.cell refl refl c.self.invariant.knows;
       shows = shows_quar t.pass c.args.page c.args.v f.new.self
           (record { acts = a; own = f.ensures.own; history = f.ensures.history; holds = c.self.invariant.turn.holds })
-          t.map c.quarantine_stored.new.self
+          c.deref_mut.result.now c.quarantine_stored.new.self
           (record {
             shows = c.quarantine_stored.ensures.shows;
             uncleaned = c.quarantine_stored.ensures.uncleaned;
           })
-          c.self.invariant.shows;
+          (shows_that _ _ _ c.deref_mut.ensures.value c.self.invariant.shows);
     }
 
 pub returns-clause-acts : goal.returns-clause-acts

@@ -6,15 +6,15 @@ use Rattle.mk_words.specs.TurnSteps.{Acts, KnowsCell}
 use Rattle.mk_words.proofs.TurnSteps.{acts, still_turn}
 use Rattle.mk_words.specs.Steps.{IsEnabledTo}
 use Rattle.mk_words.proofs.TakenCells.{used_turn}
-use Rattle.mk_words.proofs.MapSteps.{used_known, shows_used}
+use Rattle.mk_words.proofs.MapSteps.{used_known, shows_used, shows_that}
 use Rattle.mk_words.proofs.turns.Turn.used.Goals as goal
 
 pub used_stored-requires : goal.used_stored-requires
 used_stored-requires c =
     let t = c.self.inside in
-    used_known t.pass c.args.page c.args.v t.map
+    used_known t.pass c.args.page c.args.v c.deref_mut.result.now
     (subst (λ (v : TurnState). IsEnabledTo v.pass (step.Used c.args.page c.args.v)) (sym c.self.view_is)
-    c.requires.enabled) c.self.invariant.shows
+    c.requires.enabled) (shows_that _ _ _ c.deref_mut.ensures.value c.self.invariant.shows)
 
 pub invariant_of-self : goal.invariant_of-self
 invariant_of-self c =
@@ -35,12 +35,12 @@ invariant_of-self c =
             history = f.ensures.history;
             holds = c.self.invariant.turn.holds;
           })
-          t.map c.used_stored.new.self
+          c.deref_mut.result.now c.used_stored.new.self
           (record { shows = c.used_stored.ensures.shows; uncleaned = c.used_stored.ensures.uncleaned })
-          (used_known t.pass c.args.page c.args.v t.map
+          (used_known t.pass c.args.page c.args.v c.deref_mut.result.now
           (subst (λ (v : TurnState). IsEnabledTo v.pass (step.Used c.args.page c.args.v)) (sym c.self.view_is)
-          c.requires.enabled) c.self.invariant.shows)
-          c.self.invariant.shows;
+          c.requires.enabled) (shows_that _ _ _ c.deref_mut.ensures.value c.self.invariant.shows))
+          (shows_that _ _ _ c.deref_mut.ensures.value c.self.invariant.shows);
     }
 
 pub returns-clause-acts : goal.returns-clause-acts

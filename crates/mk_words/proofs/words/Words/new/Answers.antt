@@ -2,22 +2,24 @@ use Rattle.std.proofs.Common.{◌≡◌, ℕ, [], ◌∷◌, ◌∙◌, ap, rule
 use Rattle.std.specs.Prelude.{replicate}
 use Rattle.mk_protocol.proofs.OrderlyLists.{at_first}
 use Rattle.mk_words.specs.Rule.{Mine}
+use Rattle.mk_words.proofs.MapSteps.{shows_that}
 use Rattle.mk_words.proofs.Owed.{first_call, first_in_order}
 use Rattle.mk_words.proofs.words.Words.new.Goals as goal
 
-pub new-requires-2 : goal.new-requires-2
-new-requires-2 c =
-    let one : c.push.new.self.items ≡ c.in_ok-map.map ∷ [] = search rules in
-    first_call c.args.config.now c.as_slice.result.now c.push.new.self.items c.in_ok-map.map c.requires
+pub new-requires-3 : goal.new-requires-3
+new-requires-3 c =
+    let one : c.push.new.self.items ≡ c.in_ok-map.map.value ∷ [] = search rules in
+    first_call c.args.config.now c.as_slice.result.now c.push.new.self.items c.in_ok-map.map.value c.requires
     (c.as_slice.ensures.value ∙ c.in_ok-zeros.ensures ∙ ap (λ (n : ℕ). replicate {A = ℕ} n 0) c.count_of_words.ensures)
     one
+    (shows_that _ c.in_ok-pages.pages c.in_ok-map.map.value c.in_ok-map.ensures.ok
     (record {
-      words = c.in_ok-map.ensures;
+      words = c.in_ok-pages.ensures;
       unmarked = λ page bare cleaned. record {
         unmarked = at_first c.args.config.now.pages page 0;
         unscanned = at_first c.args.config.now.pages page 0;
       };
-    })
+    }))
 
 pub invariant_of-result : goal.invariant_of-result
 invariant_of-result c = record {
