@@ -11,6 +11,7 @@ pub mod FreeingSteps
 pub mod OpeningSteps
 pub mod GivingSteps
 pub mod CellBits
+pub mod RestBits
 pub mod PageSteps
 pub mod GiveBack
 pub mod SettledPages

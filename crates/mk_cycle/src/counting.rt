@@ -36,6 +36,7 @@ fn released_cells(snapshot: u64, marks: u64, header: u64) -> Released
 }
 
 /// Looks at a word that is no register, while nothing is given back.
+#[inline(always)]
 pub(crate) fn look(turn: &mut Turn, words: &Words, x: Word) -> u64
     requires one_table { turn.old.pass.table ≡ words.now }
     requires free { IsFreeForCycle turn.old.pass }

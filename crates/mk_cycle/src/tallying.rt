@@ -15,6 +15,7 @@ use mk_core::{Tally, Word};
 use mk_words::{Turn, Words};
 
 /// Looks at a word that is no register.
+#[inline(always)]
 fn look(turn: &mut Turn, words: &Words, x: Word) -> u64
     requires one_table { turn.old.pass.table ≡ words.now }
     requires free { IsFreeForCycle turn.old.pass }

@@ -42,6 +42,7 @@ pub(crate) fn look_among(turn: &mut Turn, words: &Words, pages: u64, x: Word) ->
 }
 
 /// Looks at a word that is no register.
+#[inline(always)]
 pub(crate) fn look(turn: &mut Turn, words: &Words, x: Word) -> u64
     requires one_table { turn.old.pass.table ≡ words.now }
     requires free { IsFreeForCycle turn.old.pass }

@@ -8,8 +8,9 @@ ghost use Rattle.mk_words.specs.States.{now_of};
 ghost use Rattle.mk_cycle.specs.EngineLaw.{IsFreeForCycle, IsAtPhase};
 ghost use Rattle.mk_cycle.specs.Freeing.{GivesNothingBack, HasFreeCells, IsUnmapped, IsZero, IsUnmappedWord};
 
+use crate::bits::lowest_bit;
 use crate::turn_steps::{look, wipe};
-use mk_core::{Word, has_bit, is_unmapped, words_under};
+use mk_core::{Word, bit, is_unmapped, without, words_under};
 use mk_words::{Turn, Words};
 
 /// Sets a word of no mapped allocation to 0.
@@ -43,28 +44,7 @@ fn wipe_cell(turn: &mut Turn, words: &Words, first: u64, count: u64)
     }
 }
 
-/// Sets the words of a page's cell to 0, if the cell's bit is set.
-fn wipe_chosen(turn: &mut Turn, words: &Words, page: u64, cells: u64, size: u64, k: u64)
-    requires one_table { turn.old.pass.table ≡ words.now }
-    requires free { IsFreeForCycle turn.old.pass }
-    requires phase { IsAtPhase turn.old.pass 4 }
-    requires within { page < words.now.config.pages }
-    requires few { size < 4097 }
-    requires small { k < 32 }
-    requires unmapped { (i : ℕ) → has_bit cells k ≡ true → i < size
-        → IsUnmappedWord turn.old.pass (64 * page + k * size + i) }
-    ensures op { turn.new.op ≡ turn.old.op }
-    ensures frees { GivesNothingBack turn.old.pass turn.new.pass }
-    ensures zeros { (i : ℕ) → has_bit cells k ≡ true → i < size
-        → IsZero turn.new.pass (64 * page + k * size + i) }
-{
-    words.is_within_limits();
-    if has_bit(cells, k) {
-        wipe_cell(turn, words, 64 * page + k * size, size);
-    }
-}
-
-/// Sets the words of those cells of a page to 0 whose bits are set.
+/// Sets the words of those cells of a page to 0 whose bits are set. It goes from bit to bit.
 fn wipe_cells(turn: &mut Turn, words: &Words, page: u64, cells: u64, size: u64)
     requires one_table { turn.old.pass.table ≡ words.now }
     requires free { IsFreeForCycle turn.old.pass }
@@ -78,8 +58,12 @@ fn wipe_cells(turn: &mut Turn, words: &Words, page: u64, cells: u64, size: u64)
     ensures zeros { (k : ℕ) → k < 32 → (i : ℕ) → has_bit cells k ≡ true → i < size
         → IsZero turn.new.pass (64 * page + k * size + i) }
 {
-    for k in 0..32 {
-        wipe_chosen(turn, words, page, cells, size, k);
+    words.is_within_limits();
+    let mut rest = cells;
+    while rest != 0 {
+        let index = lowest_bit(rest);
+        wipe_cell(turn, words, 64 * page + index * size, size);
+        rest = without(rest, bit(index));
     }
 }
 

@@ -16,6 +16,7 @@ use mk_geom::Cell;
 use mk_words::{Turn, Words};
 
 /// Looks at a word that gives no hand.
+#[inline(always)]
 pub(crate) fn look_at(words: &Words, turn: &mut Turn, x: Word) -> u64
     requires one_table { turn.old.pass.table ≡ words.now }
     requires beside { IsBeside turn.old.pass }
@@ -33,6 +34,7 @@ pub(crate) fn look_at(words: &Words, turn: &mut Turn, x: Word) -> u64
 }
 
 /// Looks at a register or a global, whose value is then the hand.
+#[inline(always)]
 pub(crate) fn look_at_root(words: &Words, turn: &mut Turn, x: Word) -> u64
     requires one_table { turn.old.pass.table ≡ words.now }
     requires beside { IsBeside turn.old.pass }

@@ -13,6 +13,7 @@ use mk_geom::Page;
 use mk_words::{Turn, Words};
 
 /// Looks at a word that none but the holder changes.
+#[inline(always)]
 pub(crate) fn look_at(words: &Words, turn: &mut Turn, word: Word) -> u64
     requires one_table { turn.old.pass.table ≡ words.now }
     requires acting { is_acting (call_of turn.old.pass).stage ≡ true }

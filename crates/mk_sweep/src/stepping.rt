@@ -15,6 +15,7 @@ use mk_geom::Cell;
 use mk_words::{Stopped, Words};
 
 /// Looks at a word that gives no hand.
+#[inline(always)]
 pub(crate) fn look_at(words: &Words, stop: &mut Stopped, x: Word) -> u64
     requires one_table { stop.old.pass.table ≡ words.now }
     requires sweeping { IsSweeping stop.old.pass }
@@ -30,6 +31,7 @@ pub(crate) fn look_at(words: &Words, stop: &mut Stopped, x: Word) -> u64
 }
 
 /// Looks at a register or a global, whose value is then the hand.
+#[inline(always)]
 pub(crate) fn look_at_root(words: &Words, stop: &mut Stopped, x: Word) -> u64
     requires one_table { stop.old.pass.table ≡ words.now }
     requires sweeping { IsSweeping stop.old.pass }
@@ -45,6 +47,7 @@ pub(crate) fn look_at_root(words: &Words, stop: &mut Stopped, x: Word) -> u64
 }
 
 /// Looks at a word of a mapped allocation that isn't leaf, whose value is then the hand.
+#[inline(always)]
 pub(crate) fn look_at_word(words: &Words, stop: &mut Stopped, word: u64) -> u64
     requires one_table { stop.old.pass.table ≡ words.now }
     requires sweeping { IsSweeping stop.old.pass }

@@ -32,6 +32,7 @@ pub(crate) fn look_among(words: &Words, stop: &mut Stopped, pages: u64, x: Word)
 }
 
 /// Looks at a word that gives no hand.
+#[inline(always)]
 pub(crate) fn look_at(words: &Words, stop: &mut Stopped, x: Word) -> u64
     requires one_table { stop.old.pass.table ≡ words.now }
     requires wanted { IsWanted stop.old.pass }

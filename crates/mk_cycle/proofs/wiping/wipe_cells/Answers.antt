@@ -1,25 +1,63 @@
-use Rattle.std.proofs.Common.{◌+◌, ◌*◌, refl, ◌∙◌, arith, below_more}
+use Rattle.std.proofs.Common.{◌≡◌, ◌⊎◌, ◌+◌, ◌*◌, ℕ, ◌<◌, ◌^◌, refl, sym, ap, ◌∙◌, subst, true, false, inl, inr}
+use Rattle.std.proofs.lemmas.Bool.{cases_Bool, true≢false}
+use Rattle.mk_core.specs.Bits.{has_bit, without}
+use Rattle.mk_core.proofs.WordBits.{no_bit}
+use Rattle.mk_cycle.specs.Freeing.{IsZero}
+use Rattle.mk_cycle.proofs.RestBits.{fewer_left, left_among, taken_or_gone}
 use Rattle.mk_cycle.proofs.GivingSteps.{none_at_once, none_then, still_unmapped_word}
 use Rattle.mk_cycle.proofs.wiping.wipe_cells.Goals as goal
 
-pub loop-k-init : goal.loop-k-init
-loop-k-init c = record { op = refl; frees = none_at_once c.args.turn.now.pass; zeros = λ j lt. absurd (omega arith) }
+pub loop-rest-init : goal.loop-rest-init
+loop-rest-init c = record {
+  op = refl;
+  frees = none_at_once c.args.turn.now.pass;
+  among = λ j has. has;
+  zeros = λ j none i has lt. absurd (true≢false (sym has ∙ none));
+}
 
-pub wipe_chosen-requires-clause-unmapped : goal.wipe_chosen-requires-clause-unmapped
-wipe_chosen-requires-clause-unmapped c i has lt =
-    still_unmapped_word _ _ _ c.loop-k.invariant.frees.frees (c.requires.unmapped c.loop-k.k i has lt)
+pub wipe_cell-requires-clause-unmapped : goal.wipe_cell-requires-clause-unmapped
+wipe_cell-requires-clause-unmapped c i lt =
+    still_unmapped_word _ _ _ c.loop-rest.invariant.frees.frees
+    (c.requires.unmapped c.lowest_bit-index.result i
+    (c.loop-rest.invariant.among c.lowest_bit-index.result c.lowest_bit-index.ensures.one) lt)
 
-pub loop-k-preserved : goal.loop-k-preserved
-loop-k-preserved c =
-    let before = c.loop-k.invariant.frees in
-    let now = c.wipe_chosen.ensures.frees in
+pub loop-rest-smaller : goal.loop-rest-smaller
+loop-rest-smaller c =
+    let index = c.lowest_bit-index in
+    subst (λ (n : ℕ). n < c.loop-rest.rest)
+    (sym (c.without-rest.ensures ∙ ap (λ (n : ℕ). without c.loop-rest.rest n) c.bit.ensures))
+    (fewer_left c.loop-rest.rest index.result index.ensures.within index.ensures.one)
+
+pub loop-rest-preserved : goal.loop-rest-preserved
+loop-rest-preserved c =
+    let before = c.loop-rest.invariant in
+    let now = c.wipe_cell.ensures.frees in
+    let rest : ℕ = c.loop-rest.rest in
+    let index : ℕ = c.lowest_bit-index.result in
+    let left : c.without-rest.result ≡ without rest (2 ^ index) =
+    c.without-rest.ensures ∙ ap (λ (n : ℕ). without rest n) c.bit.ensures in
     record {
-      op = c.wipe_chosen.ensures.op ∙ c.loop-k.invariant.op;
-      frees = none_then _ _ _ before now;
-      zeros = below_more _ _
-          (λ j lt i has small. now.frees.zeros (64 * c.args.page + j * c.args.size + i)
-          (still_unmapped_word _ _ (64 * c.args.page + j * c.args.size + i) before.frees
-          (c.requires.unmapped j i has small)).unmapped
-          (c.loop-k.invariant.zeros j lt i has small))
-          c.wipe_chosen.ensures.zeros;
+      op = c.wipe_cell.ensures.op ∙ before.op;
+      frees = none_then _ _ _ before.frees now;
+      among = λ j has. before.among j
+          (left_among rest index j (subst (λ (n : ℕ). has_bit n j ≡ true) left has));
+      zeros = λ j gone i has lt. by j (subst (λ (n : ℕ). has_bit n j ≡ false) left gone) i has lt
+          (cases_Bool (has_bit rest j));
     }
+  where
+    by : (j : ℕ) → has_bit (without c.loop-rest.rest (2 ^ c.lowest_bit-index.result)) j ≡ false
+        → (i : ℕ) → has_bit c.args.cells j ≡ true → i < c.args.size
+        → (has_bit c.loop-rest.rest j ≡ true) ⊎ (has_bit c.loop-rest.rest j ≡ false)
+        → IsZero c.wipe_cell.new.turn.pass (64 * c.args.page + j * c.args.size + i)
+    by j gone i has lt (inl one) =
+        subst (λ (k : ℕ). IsZero c.wipe_cell.new.turn.pass (64 * c.args.page + k * c.args.size + i))
+        (sym (taken_or_gone c.loop-rest.rest c.lowest_bit-index.result j gone one)) (c.wipe_cell.ensures.zeros i lt)
+    by j gone i has lt (inr none) =
+        c.wipe_cell.ensures.frees.frees.zeros (64 * c.args.page + j * c.args.size + i)
+        (still_unmapped_word _ _ (64 * c.args.page + j * c.args.size + i) c.loop-rest.invariant.frees.frees
+        (c.requires.unmapped j i has lt)).unmapped
+        (c.loop-rest.invariant.zeros j none i has lt)
+
+pub returns-clause-zeros : goal.returns-clause-zeros
+returns-clause-zeros c k few i has lt =
+    c.loop-rest.invariant.zeros k (no_bit c.loop-rest.rest k c.loop-rest-test.false) i has lt

@@ -1,0 +1,47 @@
+-- The bits that are left of a word after its lowest is taken away.
+use Rattle.std.proofs.Common.{◌≡◌, ℕ, ◌^◌, ◌<◌, Bool, true, false, refl, sym, ap, ◌∙◌, subst, arith}
+use Rattle.std.proofs.Common.{bit_and}
+use Rattle.std.specs.Prelude.{◌&&◌, not}
+use Rattle.std.proofs.lemmas.Bool.{true≢false}
+use Rattle.std.proofs.lemmas.Nat.{and_le_l}
+use Rattle.mk_core.specs.Bits.{has_bit, without}
+use Rattle.mk_core.proofs.BitsWithout.{has_bit_without}
+use Rattle.mk_core.proofs.WordBits.{bit_for_has, bit_for_small, bit_of_power}
+
+both_left : (x y : Bool) → (x && not y) ≡ true → x ≡ true
+both_left true y h = refl
+both_left false y h = h
+
+and_gone : (x y : Bool) → (x && not y) ≡ false → x ≡ true → y ≡ true
+and_gone true true h is = refl
+and_gone true false h is = absurd (true≢false h)
+and_gone false y h is = absurd (true≢false (sym is))
+
+not_both : (x y : Bool) → y ≡ true → (x && not y) ≡ false
+not_both true y is = ap not is
+not_both false y is = refl
+
+-- what is left was there
+pub left_among : (n k j : ℕ) → has_bit (without n (2 ^ k)) j ≡ true → has_bit n j ≡ true
+left_among n k j has = both_left (has_bit n j) (has_bit (2 ^ k) j) (sym (has_bit_without n (2 ^ k) j) ∙ has)
+
+-- what was there and is not left was taken
+pub taken_or_gone : (n k j : ℕ) → has_bit (without n (2 ^ k)) j ≡ false → has_bit n j ≡ true → j ≡ k
+taken_or_gone n k j gone has =
+    bit_of_power k j (and_gone (has_bit n j) (has_bit (2 ^ k) j) (sym (has_bit_without n (2 ^ k) j) ∙ gone) has)
+
+power_has : (k : ℕ) → k < 64 → has_bit (2 ^ k) k ≡ true
+power_has k lt = subst (λ (n : ℕ). has_bit n k ≡ true) (bit_for_small k lt) (bit_for_has k lt)
+
+-- so less is left
+pub fewer_left : (n k : ℕ) → k < 64 → has_bit n k ≡ true → without n (2 ^ k) < n
+fewer_left n k lt has =
+    let le = and_le_l n (2 ^ k) in
+    let some : bit_and n (2 ^ k) ≡ 0 → ⊥ = λ none. true≢false (sym has ∙ kept none) in
+    omega (arith, le, some)
+  where
+    kept : bit_and n (2 ^ k) ≡ 0 → has_bit n k ≡ false
+    kept none =
+        let same : without n (2 ^ k) ≡ n = omega arith in
+        ap (λ (m : ℕ). has_bit m k) (sym same) ∙ has_bit_without n (2 ^ k) k
+        ∙ not_both (has_bit n k) (has_bit (2 ^ k) k) (power_has k lt)
