@@ -3,24 +3,13 @@ use Rattle.std.proofs.Common.{◌≡◌, ℕ, ◌<◌, Bool, true, false, List, 
 use Rattle.std.specs.Prelude.{None, slice_index, slice_set, if◌then◌else◌}
 use Rattle.std.proofs.lemmas.Bool.{cases_eq, eq-eqb, ne_eqb}
 use Rattle.std.proofs.lemmas.List.{set-get_or}
-use Rattle.mk_never.specs.declared.operations.Op.{Op}
-use Rattle.mk_geom.specs.Headers.{header_of}
-use Rattle.mk_core.specs.declared.config.Config.{Config}
+use Rattle.mk_protocol.proofs.Vocabulary.{Caller, Config, Event, Flight, Moment, Op, Stage, Step, access, accessed}
+use Rattle.mk_protocol.proofs.Vocabulary.{at_rest, begun, flight_of, found, group_of, header_of, is_under_turn}
+use Rattle.mk_protocol.proofs.Vocabulary.{is_unmapped_header, onward, progress_reg, refused, reg_access, register_met}
+use Rattle.mk_protocol.proofs.Vocabulary.{stage_behind, steps_of, still, word_accessed}
 use Rattle.mk_core.specs.declared.events.Answer.TheVariants as answer
 use Rattle.mk_core.specs.declared.events.Group.TheVariants as group
-use Rattle.mk_core.specs.declared.events.Seat.TheVariants.{Caller}
-use Rattle.mk_core.specs.declared.events.Step.{Step}
 use Rattle.mk_core.specs.declared.events.Step.TheVariants as step
-use Rattle.mk_core.specs.declared.events.Event.{Event}
-use Rattle.mk_core.specs.declared.seats.Stage.{Stage}
-use Rattle.mk_core.specs.declared.seats.Flight.{Flight}
-use Rattle.mk_core.specs.Words.{accessed}
-use Rattle.mk_core.specs.Cells.{is_unmapped_header}
-use Rattle.mk_core.specs.Calls.{steps_of, stage_behind, is_under_turn, begun, at_rest, still, onward, refused}
-use Rattle.mk_core.specs.Calls.{progress_reg}
-use Rattle.mk_core.specs.Moments.{Moment, flight_of}
-use Rattle.mk_core.specs.Order.{group_of}
-use Rattle.mk_core.specs.Accesses.{found, access, word_accessed, register_met, reg_access}
 use Rattle.mk_protocol.proofs.Standings.{Standing, Resting, InCall, UnderTurn, Astray, standing_at, standing, is_astray}
 use Rattle.mk_protocol.proofs.Stages.{is_call_stage, is_reg_stage, goes_on, calls_stand, onward_stands, refused_stands}
 use Rattle.mk_protocol.proofs.Stages.{regs_work, loads_under_turn, begun_in_call, read_stands, either_stands}

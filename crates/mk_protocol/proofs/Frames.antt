@@ -5,30 +5,16 @@ use Rattle.std.specs.Prelude.{slice_index, slice_set, ◌||◌, ◌==◌, ◌/�
 use Rattle.std.proofs.lemmas.Bool.{cases_lt, eq-eqb}
 use Rattle.std.proofs.lemmas.List.{get_or-set_other, get_or_past}
 use Rattle.std.proofs.lemmas.List.Sums.{sum_by-append}
-use Rattle.mk_core.specs.declared.config.Config.{Config}
-use Rattle.mk_core.specs.declared.events.Seat.{Seat}
-use Rattle.mk_core.specs.declared.events.Seat.TheVariants.{Caller, Marker, Host}
-use Rattle.mk_core.specs.declared.events.Event.{Event}
-use Rattle.mk_core.specs.declared.events.Step.{Step}
-use Rattle.mk_core.specs.declared.seats.Flight.{Flight}
-use Rattle.mk_core.specs.declared.seats.Marker.{Marker as MarkerState}
-use Rattle.mk_core.specs.Bounded.{all_below}
-use Rattle.mk_core.specs.Words.{Words, phase_of}
-use Rattle.mk_core.specs.Cells.{header_in, is_unmapped_header}
-use Rattle.mk_core.specs.Calls.{at_rest}
-use Rattle.mk_core.specs.Moments.{Moment, flight_of, marker_at, outside, holder_number, others_are_held, is_number_of}
-use Rattle.mk_core.specs.StopConditions.{is_attending}
-use Rattle.mk_core.specs.Effects.{answer_decided}
-use Rattle.mk_core.specs.Accesses.{caller_number}
-use Rattle.mk_core.specs.Decided.{Decided}
-use Rattle.mk_core.specs.Cycles.{is_end}
-use Rattle.mk_core.specs.Counts.{ends}
-use Rattle.mk_core.specs.History.{World, first_world, world_behind, left_from, left, AreEnabledFrom, call_decided}
-use Rattle.mk_core.specs.History.{calls_from, calls}
-use Rattle.mk_core.specs.Growing.{is_same_seat, is_one_of, AreOfOthers}
-use Rattle.mk_core.specs.Readings.{is_in_call, is_in_turn, is_in, Holds}
-use Rattle.mk_core.specs.Frames.{IsInCall, Attends, IsIn, HoldsAll, OnlyGrow, OwnIsLeft, Steady, Written, written_of}
-use Rattle.mk_core.specs.Frames.{TurnIsLeft, CountsAreLeft, ScanIsLeft, IsLeft, OthersLeave}
+use Rattle.mk_protocol.proofs.Vocabulary.{AreEnabledFrom, AreOfOthers, Caller, Config, Decided, Event, Flight, Holds}
+use Rattle.mk_protocol.proofs.Vocabulary.{Host, IsInCall, IsLeft, Marker, MarkerState, Moment, OnlyGrow, Seat, Steady}
+use Rattle.mk_protocol.proofs.Vocabulary.{Step, TurnIsLeft, Words, World, Written, all_below, answer_decided, at_rest}
+use Rattle.mk_protocol.proofs.Vocabulary.{call_decided, caller_number, calls, calls_from, ends, first_world, flight_of}
+use Rattle.mk_protocol.proofs.Vocabulary.{header_in, holder_number, is_attending, is_end, is_in, is_number_of}
+use Rattle.mk_protocol.proofs.Vocabulary.{is_one_of, is_unmapped_header, left, left_from, marker_at, others_are_held}
+use Rattle.mk_protocol.proofs.Vocabulary.{outside, phase_of, world_behind}
+use Rattle.mk_core.specs.Growing.{is_same_seat}
+use Rattle.mk_core.specs.Readings.{is_in_call, is_in_turn}
+use Rattle.mk_core.specs.Frames.{Attends, IsIn, HoldsAll, OwnIsLeft, written_of, CountsAreLeft, ScanIsLeft, OthersLeave}
 use Rattle.mk_core.proofs.Conditions.{enabled_meets}
 use Rattle.mk_core.proofs.Histories.{left_append, enabled_parts, calls_append}
 use Rattle.mk_protocol.specs.Protocol.{Protocol}

@@ -5,8 +5,7 @@ use Rattle.std.specs.Int.{bit_at}
 use Rattle.std.proofs.lemmas.Bool.{cases_eq, cases_lt, eqb-true, eq-eqb}
 use Rattle.std.proofs.lemmas.List.{get_or-set_same, get_or-set_other, set_past}
 use Rattle.std.proofs.lemmas.Nat.Bits.{bit_at_or}
-use Rattle.mk_core.specs.Bits.{has_bit}
-use Rattle.mk_core.specs.Frames.{OnlyGrow}
+use Rattle.mk_protocol.proofs.Vocabulary.{OnlyGrow, has_bit}
 
 more : (a b k : ℕ) → has_bit a k ≡ true → has_bit (bit_or a b) k ≡ true
 more a b k is =

@@ -3,24 +3,13 @@ use Rattle.std.proofs.Common.{◌≡◌, ◌≢◌, ℕ, ◌<◌, true, false, L
 use Rattle.std.specs.Prelude.{slice_index, slice_index_or, slice_set, not, ◌||◌}
 use Rattle.std.proofs.lemmas.Bool.{cases_eq, cases_lt, not-true, eqb-true, or_cases}
 use Rattle.std.proofs.lemmas.List.{get_or-set_same, get_or-set_other, set_past}
-use Rattle.mk_geom.specs.declared.pages.Page.{Page}
-use Rattle.mk_geom.specs.Storages.{free_page}
-use Rattle.mk_geom.specs.Headers.{header_of}
-use Rattle.mk_core.specs.declared.config.Config.{Config}
-use Rattle.mk_core.specs.declared.accesses.Access.{Access}
-use Rattle.mk_core.specs.declared.accesses.Access.TheVariants.{Load, Store}
-use Rattle.mk_core.specs.declared.accesses.TableWord.TheVariants.{Named}
-use Rattle.mk_core.specs.declared.events.Seat.{Seat}
-use Rattle.mk_core.specs.declared.events.Seat.TheVariants.{Caller, Marker, Host}
-use Rattle.mk_core.specs.declared.events.Tally.{Tally}
+use Rattle.mk_protocol.proofs.Vocabulary.{Access, Caller, Config, Host, Load, Marker, Moment, Named, Page, Seat, Step}
+use Rattle.mk_protocol.proofs.Vocabulary.{Store, Tally, Words, accessed, caller_number, flight_of, free_page, header_at}
+use Rattle.mk_protocol.proofs.Vocabulary.{header_in, header_of, is_held, is_number_of, is_unmapped_header}
+use Rattle.mk_protocol.proofs.Vocabulary.{others_are_held, reg_access, register_met, tally_word, used_at}
 use Rattle.mk_core.specs.declared.events.Tally.TheVariants as tally
 use Rattle.mk_core.specs.declared.events.Word.TheVariants as word
-use Rattle.mk_core.specs.declared.events.Step.{Step}
 use Rattle.mk_core.specs.declared.events.Step.TheVariants as step
-use Rattle.mk_core.specs.Words.{Words, accessed, header_at, used_at}
-use Rattle.mk_core.specs.Cells.{header_in, is_unmapped_header}
-use Rattle.mk_core.specs.Moments.{Moment, flight_of, is_number_of, is_held, others_are_held}
-use Rattle.mk_core.specs.Accesses.{caller_number, register_met, reg_access, tally_word}
 use Rattle.mk_core.proofs.AllBelow.{all_below-at}
 use Rattle.mk_protocol.proofs.Actors.{Meets}
 use Rattle.mk_protocol.proofs.SameWords.{Behind}

@@ -2,19 +2,10 @@
 use Rattle.std.proofs.Common.{◌≡◌, ◌≢◌, ℕ, zero, suc, ◌-◌, ◌≤◌, Bool, true, false, sym, subst, arith}
 use Rattle.std.specs.Prelude.{Option, Some, None, if◌then◌else◌, slice_index_or}
 use Rattle.std.proofs.lemmas.Bool.{and_parts}
-use Rattle.mk_geom.specs.declared.pages.Place.{Place}
-use Rattle.mk_geom.specs.Classes.{run_pages_of}
-use Rattle.mk_geom.specs.Headers.{word_of}
-use Rattle.mk_geom.specs.Storages.{free_page, block_header, run_header}
-use Rattle.mk_core.specs.declared.config.Config.{Config}
-use Rattle.mk_core.specs.declared.seats.Flight.{Flight}
-use Rattle.mk_core.specs.declared.seats.Object.{Object}
-use Rattle.mk_core.specs.declared.seats.RunPages.{RunPages}
-use Rattle.mk_core.specs.Words.{Words, header_at, used_at, phase_of}
-use Rattle.mk_core.specs.NewPlaces.{object_made, is_small_object, class_made, pages_made, header_made, unmapped_header}
-use Rattle.mk_core.specs.NewPlaces.{is_next_header}
-use Rattle.mk_core.specs.TurnConditions.{is_marked_first, place_now, carves, unmaps}
-use Rattle.mk_core.specs.History.{World}
+use Rattle.mk_protocol.proofs.Vocabulary.{Config, Flight, Object, Place, RunPages, Words, World, block_header, carves}
+use Rattle.mk_protocol.proofs.Vocabulary.{class_made, free_page, header_at, header_made, is_marked_first}
+use Rattle.mk_protocol.proofs.Vocabulary.{is_next_header, is_small_object, object_made, pages_made, phase_of, place_now}
+use Rattle.mk_protocol.proofs.Vocabulary.{run_header, run_pages_of, unmapped_header, unmaps, used_at, word_of}
 use Rattle.mk_protocol.proofs.HeaderSteps.{page_set, used_set}
 use Rattle.mk_protocol.proofs.RunsInHeap.{next_is}
 use Rattle.mk_protocol.specs.Ground.{Ground}

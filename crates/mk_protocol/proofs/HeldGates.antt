@@ -4,14 +4,9 @@ use Rattle.std.proofs.Common.{inl, inr}
 use Rattle.std.specs.Prelude.{not, ◌==◌, if◌then◌else◌, slice_index, slice_set}
 use Rattle.std.proofs.lemmas.Bool.{cases_eq, cases_lt, not-true, eqb-true, eqb-false, eq-eqb, ne_eqb}
 use Rattle.std.proofs.lemmas.List.{get_or-set_same, get_or-set_other, set_past}
-use Rattle.mk_core.specs.declared.config.Config.{Config}
-use Rattle.mk_core.specs.declared.events.Seat.{Seat}
-use Rattle.mk_core.specs.declared.events.Step.{Step}
+use Rattle.mk_protocol.proofs.Vocabulary.{Config, Event, Moment, Seat, Step, World, caller_number, first_world}
+use Rattle.mk_protocol.proofs.Vocabulary.{flight_of, left, left_from, reg_access, register_met, world_behind}
 use Rattle.mk_core.specs.declared.events.Step.TheVariants as step
-use Rattle.mk_core.specs.declared.events.Event.{Event}
-use Rattle.mk_core.specs.Moments.{Moment, flight_of}
-use Rattle.mk_core.specs.Accesses.{caller_number, register_met, reg_access}
-use Rattle.mk_core.specs.History.{World, first_world, world_behind, left_from, left}
 use Rattle.mk_core.specs.HeldGates.{is_hold_of, changes_gate, is_gate_held_from, is_gate_held}
 use Rattle.mk_protocol.proofs.SameWords.{Behind, reg_keeps, tally_keeps}
 use Rattle.mk_protocol.proofs.OrderlyLists.{at_first}

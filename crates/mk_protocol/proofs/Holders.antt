@@ -1,15 +1,10 @@
 -- Whoever is in a New or a Free holds the turn.
 use Rattle.std.proofs.Common.{◌≡◌, ℕ, ◌+◌, ◌<◌, true, refl}
 use Rattle.std.specs.Prelude.{not, ◌&&◌}
-use Rattle.mk_never.specs.declared.operations.Op.{Op}
+use Rattle.mk_protocol.proofs.Vocabulary.{Caller, Config, Moment, Op, Stage, flight_of, is_free_at, is_new_at}
+use Rattle.mk_protocol.proofs.Vocabulary.{is_undecided_free, is_undecided_new, is_under_turn}
 use Rattle.mk_never.specs.declared.operations.Op.TheVariants as op
-use Rattle.mk_core.specs.declared.config.Config.{Config}
-use Rattle.mk_core.specs.declared.events.Seat.TheVariants.{Caller}
-use Rattle.mk_core.specs.declared.seats.Stage.{Stage}
 use Rattle.mk_core.specs.declared.seats.Stage.TheVariants as stage
-use Rattle.mk_core.specs.Calls.{is_under_turn}
-use Rattle.mk_core.specs.NewPlaces.{is_new_at, is_free_at, is_undecided_new, is_undecided_free}
-use Rattle.mk_core.specs.Moments.{Moment, flight_of}
 use Rattle.mk_core.specs.Readings.{is_idle}
 use Rattle.mk_protocol.specs.Protocol.{is_decided_new_at, is_decided_free_at, is_decided_new, is_decided_free, Protocol}
 

@@ -2,23 +2,12 @@
 use Rattle.std.proofs.Common.{◌≡◌, ℕ, ◌<◌, true, List, [], ◌∷◌, refl, sym, subst}
 use Rattle.std.specs.Prelude.{nat_lt}
 use Rattle.std.proofs.lemmas.Bool.{ltb-true, and_parts}
-use Rattle.mk_geom.specs.declared.pages.Page.{Page}
-use Rattle.mk_geom.specs.Storages.{free_page}
-use Rattle.mk_core.specs.declared.config.Config.{Config}
-use Rattle.mk_core.specs.declared.events.Event.{Event}
-use Rattle.mk_core.specs.declared.events.Seat.{Seat}
-use Rattle.mk_core.specs.declared.events.Seat.TheVariants.{Caller, Marker, Host}
-use Rattle.mk_core.specs.declared.events.Step.{Step}
+use Rattle.mk_protocol.proofs.Vocabulary.{AreEnabled, AreEnabledFrom, AreOfPages, Caller, Config, Event, Host}
+use Rattle.mk_protocol.proofs.Vocabulary.{IsWithinLimits, Marker, MarkerState, Moment, Page, Seat, Step, World, access}
+use Rattle.mk_protocol.proofs.Vocabulary.{first_moment, first_world, flight_of, found, free_page, is_in_range, left}
+use Rattle.mk_protocol.proofs.Vocabulary.{left_from, marker_behind, marker_of, outside, word_accessed, world_behind}
 use Rattle.mk_core.specs.declared.events.Step.TheVariants as step
 use Rattle.mk_core.specs.declared.events.Word.TheVariants as word
-use Rattle.mk_core.specs.declared.seats.Marker.{Marker as MarkerState}
-use Rattle.mk_core.specs.Config.{IsWithinLimits}
-use Rattle.mk_core.specs.Layout.{AreOfPages}
-use Rattle.mk_core.specs.Moments.{Moment, first_moment, outside, flight_of, marker_of}
-use Rattle.mk_core.specs.Ranges.{is_in_range}
-use Rattle.mk_core.specs.Accesses.{word_accessed, access, found}
-use Rattle.mk_core.specs.Effects.{marker_behind}
-use Rattle.mk_core.specs.History.{World, first_world, world_behind, left_from, left, AreEnabledFrom, AreEnabled}
 use Rattle.mk_core.proofs.Conditions.{enabled_meets}
 use Rattle.mk_core.proofs.Lengths.{zero_lengths, accessed_lengths}
 use Rattle.mk_protocol.proofs.Markers.{marker_set}

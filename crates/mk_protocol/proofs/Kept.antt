@@ -4,16 +4,8 @@ use Rattle.std.proofs.Common.{sym, ◌∙◌, ap, subst, inl, inr, arith}
 use Rattle.std.specs.Prelude.{slice_index, slice_index_or, slice_set}
 use Rattle.std.proofs.lemmas.Bool.{cases_eq}
 use Rattle.std.proofs.lemmas.List.{get_or-set_same, get_or-set_other}
-use Rattle.mk_core.specs.declared.config.Config.{Config}
-use Rattle.mk_core.specs.declared.events.Seat.{Seat}
-use Rattle.mk_core.specs.declared.events.Seat.TheVariants.{Caller, Marker, Host}
-use Rattle.mk_core.specs.declared.seats.Flight.{Flight}
-use Rattle.mk_core.specs.declared.seats.Holding.{Holding}
-use Rattle.mk_core.specs.declared.seats.Presence.{Presence}
-use Rattle.mk_core.specs.declared.seats.Marker.{Marker as MarkerState}
-use Rattle.mk_core.specs.Calls.{at_rest}
-use Rattle.mk_core.specs.Moments.{outside, holder_number}
-use Rattle.mk_core.specs.StopConditions.{is_attending}
+use Rattle.mk_protocol.proofs.Vocabulary.{Caller, Config, Flight, Holding, Host, Marker, MarkerState, Presence, Seat}
+use Rattle.mk_protocol.proofs.Vocabulary.{at_rest, holder_number, is_attending, outside}
 use Rattle.mk_protocol.proofs.Standings.{Standing, Resting, InCall, standing, Shows, shows_taken, shows_given}
 use Rattle.mk_protocol.proofs.Standings.{shows_held, shows_opened}
 use Rattle.mk_protocol.proofs.Services.{Served, Service, Goes, service_stands, service_rests, served_on, nothing_served}

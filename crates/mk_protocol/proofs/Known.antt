@@ -1,17 +1,9 @@
 -- All that is known of a moment after an enabled list, of whatever calls.
 use Rattle.std.proofs.Common.{◌≡◌, ◌≤◌, true, List, [], ◌∷◌, refl, sym, ◌∙◌, subst}
-use Rattle.mk_core.specs.declared.config.Config.{Config}
-use Rattle.mk_core.specs.declared.events.Seat.{Seat}
-use Rattle.mk_core.specs.declared.events.Seat.TheVariants.{Caller, Marker, Host}
-use Rattle.mk_core.specs.declared.events.Event.{Event}
-use Rattle.mk_core.specs.declared.seats.Flight.{Flight}
-use Rattle.mk_core.specs.Config.{IsWithinLimits}
-use Rattle.mk_core.specs.Calls.{has_operands, at_rest}
-use Rattle.mk_core.specs.Moments.{Moment, first_moment, flight_of}
-use Rattle.mk_core.specs.Enabled.{IsEnabled}
+use Rattle.mk_protocol.proofs.Vocabulary.{AreEnabled, AreEnabledFrom, Caller, Config, Event, Flight, Holds, Host}
+use Rattle.mk_protocol.proofs.Vocabulary.{IsEnabled, IsWithinLimits, Marker, Moment, Seat, World, at_rest, first_moment}
+use Rattle.mk_protocol.proofs.Vocabulary.{first_world, flight_of, has_operands, left, left_from, world_behind}
 use Rattle.mk_core.specs.Effects.{moment_behind}
-use Rattle.mk_core.specs.History.{World, first_world, world_behind, left_from, left, AreEnabledFrom, AreEnabled}
-use Rattle.mk_core.specs.Readings.{Holds}
 use Rattle.mk_core.proofs.Conditions.{enabled_meets}
 use Rattle.mk_protocol.proofs.Standings.{in_turn_told, under_turn_is, standing}
 use Rattle.mk_protocol.proofs.Views.{view_of, HoldsTurn}

@@ -39,3 +39,4 @@ pub mod Stages
 pub mod Standings
 pub mod TurnFrame
 pub mod Views
+pub mod Vocabulary

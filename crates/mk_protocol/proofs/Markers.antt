@@ -5,11 +5,8 @@ use Rattle.std.specs.Prelude.{slice_index_or, slice_set, not, cond, count_by}
 use Rattle.std.proofs.lemmas.Bool.{cases_eq, cases_lt}
 use Rattle.std.proofs.lemmas.List.{get_or-set_same, get_or-set_other, set_past}
 use Rattle.std.proofs.lemmas.List.Sums.{sum_by-set}
-use Rattle.mk_core.specs.declared.seats.Presence.{Presence}
-use Rattle.mk_core.specs.declared.seats.Marker.{Marker as MarkerState}
-use Rattle.mk_core.specs.Moments.{outside}
+use Rattle.mk_protocol.proofs.Vocabulary.{MarkerState, Presence, is_in, outside}
 use Rattle.mk_core.specs.MarkerConditions.{is_out}
-use Rattle.mk_core.specs.Readings.{is_in}
 
 -- where the markers that are in are counted
 abbrev pub count_in : List MarkerState → ℕ

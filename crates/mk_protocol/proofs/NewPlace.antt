@@ -4,28 +4,12 @@ use Rattle.std.proofs.Common.{inl, inr}
 use Rattle.std.specs.Prelude.{Option, Some, None, slice_index_or, slice_set, if◌then◌else◌}
 use Rattle.std.proofs.lemmas.Bool.{cases_eq, cases_lt, ltb-true, leb-false}
 use Rattle.std.proofs.lemmas.List.{get_or-set_same, get_or-set_other, set_past}
-use Rattle.mk_never.specs.declared.operations.Op.{Op}
-use Rattle.mk_geom.specs.declared.pages.Page.{Page}
-use Rattle.mk_geom.specs.declared.pages.Place.{Place}
-use Rattle.mk_geom.specs.Classes.{run_pages_of}
+use Rattle.mk_protocol.proofs.Vocabulary.{Caller, Chosen, Config, Flight, Granted, Holding, Host, Marker, Moment}
+use Rattle.mk_protocol.proofs.Vocabulary.{Object, Op, Page, Place, Placing, Seat, Step, Unplaced, Used, World, at_rest}
+use Rattle.mk_protocol.proofs.Vocabulary.{chosen, flight_of, is_new_at, is_small_object, is_undecided_new, object_made}
+use Rattle.mk_protocol.proofs.Vocabulary.{place_by_placing, place_now, place_on_pages, run_pages_of, taken}
 use Rattle.mk_geom.proofs.FirstFit.{run_place_is}
-use Rattle.mk_core.specs.declared.config.Config.{Config}
-use Rattle.mk_core.specs.declared.events.Seat.{Seat}
-use Rattle.mk_core.specs.declared.events.Seat.TheVariants.{Caller, Marker, Host}
-use Rattle.mk_core.specs.declared.events.Step.{Step}
-use Rattle.mk_core.specs.declared.seats.Flight.{Flight}
-use Rattle.mk_core.specs.declared.seats.Holding.{Holding}
-use Rattle.mk_core.specs.declared.seats.Object.{Object}
-use Rattle.mk_core.specs.declared.seats.Placing.{Placing}
-use Rattle.mk_core.specs.declared.seats.Placing.TheVariants.{Unplaced, Chosen, Used, Granted}
 use Rattle.mk_core.specs.declared.seats.Stage.TheVariants as stage
-use Rattle.mk_core.specs.Calls.{at_rest}
-use Rattle.mk_core.specs.NewPlaces.{object_made, is_small_object, place_on_pages, place_by_placing, is_new_at}
-use Rattle.mk_core.specs.NewPlaces.{is_undecided_new}
-use Rattle.mk_core.specs.TurnConditions.{place_now}
-use Rattle.mk_core.specs.Effects.{chosen, taken}
-use Rattle.mk_core.specs.Moments.{Moment, flight_of}
-use Rattle.mk_core.specs.History.{World}
 use Rattle.mk_protocol.proofs.Standings.{InCall, UnderTurn, standing}
 use Rattle.mk_protocol.proofs.Stages.{new_stands}
 use Rattle.mk_protocol.proofs.Services.{Service, Goes, Loads, Places as PlacesNew, Fills, Grants as GrantsNew}

@@ -2,15 +2,12 @@
 use Rattle.std.proofs.Common.{◌≡◌, Bool, true, false, refl}
 use Rattle.std.specs.Prelude.{Some, None}
 use Rattle.std.proofs.lemmas.Bool.{not-true}
-use Rattle.mk_never.specs.declared.operations.Op.{Op}
+use Rattle.mk_protocol.proofs.Vocabulary.{Op, Stage, Step, comes_next, group_of, is_under_turn}
 use Rattle.mk_never.specs.declared.operations.Op.TheVariants as op
-use Rattle.mk_core.specs.declared.events.Step.{Step}
 use Rattle.mk_core.specs.declared.events.Step.TheVariants as step
 use Rattle.mk_core.specs.declared.events.Group.TheVariants as group
-use Rattle.mk_core.specs.declared.seats.Stage.{Stage}
 use Rattle.mk_core.specs.declared.seats.Stage.TheVariants as stage
-use Rattle.mk_core.specs.Calls.{is_under_turn}
-use Rattle.mk_core.specs.Order.{group_of, is_of_any_holder, may_decide, comes_next}
+use Rattle.mk_core.specs.Order.{is_of_any_holder, may_decide}
 use Rattle.mk_protocol.proofs.Stages.{is_turn_stage, is_reg_stage}
 
 abbrev pub is_take : Step → Bool

@@ -3,17 +3,10 @@ use Rattle.std.proofs.Common.{◌≡◌, ℕ, ◌<◌, ◌≤◌, true, false, L
 use Rattle.std.specs.Prelude.{replicate, slice_index, slice_index_or}
 use Rattle.std.proofs.lemmas.Bool.{cases_lt}
 use Rattle.std.proofs.lemmas.List.{length-replicate, get_or-replicate, get_or_past}
-use Rattle.mk_core.specs.declared.config.Config.{Config}
-use Rattle.mk_core.specs.declared.events.Seat.{Seat}
-use Rattle.mk_core.specs.declared.events.Seat.TheVariants.{Caller}
-use Rattle.mk_core.specs.declared.events.Step.{Step}
-use Rattle.mk_core.specs.declared.events.Event.{Event}
-use Rattle.mk_core.specs.declared.seats.Flight.{Flight}
+use Rattle.mk_protocol.proofs.Vocabulary.{AreEnabledFrom, Caller, Config, Event, Flight, Moment, Seat, Step, World}
+use Rattle.mk_protocol.proofs.Vocabulary.{at_rest, first_moment, flight_of, is_attending, left_from, outside}
+use Rattle.mk_protocol.proofs.Vocabulary.{world_behind}
 use Rattle.mk_core.specs.declared.seats.Marker.{Marker}
-use Rattle.mk_core.specs.Calls.{at_rest}
-use Rattle.mk_core.specs.Moments.{Moment, first_moment, outside, flight_of}
-use Rattle.mk_core.specs.StopConditions.{is_attending}
-use Rattle.mk_core.specs.History.{World, world_behind, left_from, AreEnabledFrom}
 use Rattle.mk_core.proofs.Conditions.{enabled_meets}
 use Rattle.mk_protocol.proofs.Standings.{Resting, standing, is_astray, Shows, shown_not_astray}
 use Rattle.mk_protocol.proofs.Services.{nothing_served}

@@ -4,37 +4,24 @@ use Rattle.std.proofs.Common.{ap, subst, inl, inr, arith}
 use Rattle.std.specs.Prelude.{Some, None, slice_index, slice_set, bit_or, if◌then◌else◌}
 use Rattle.std.proofs.lemmas.Bool.{cases_eq, eq-eqb, ne_eqb}
 use Rattle.std.proofs.lemmas.List.{set-get_or}
-use Rattle.mk_never.specs.declared.operations.Op.{Op}
-use Rattle.mk_core.specs.declared.config.Config.{Config}
-use Rattle.mk_core.specs.declared.accesses.TableWord.TheVariants.{Named}
+use Rattle.mk_protocol.proofs.Vocabulary.{Caller, Config, Flight, Host, Marker, MarkerState, Moment, Named, Op, Seat}
+use Rattle.mk_protocol.proofs.Vocabulary.{Stage, Step, Words, World, accessed, at_rest, begun, flight_of, found}
+use Rattle.mk_protocol.proofs.Vocabulary.{group_of, is_attending, is_in, marker_of, nothing_done, outside, reg_access}
+use Rattle.mk_protocol.proofs.Vocabulary.{register_met, still, world_behind}
 use Rattle.mk_core.specs.declared.events.Group.TheVariants as group
-use Rattle.mk_core.specs.declared.events.Seat.{Seat}
-use Rattle.mk_core.specs.declared.events.Seat.TheVariants.{Caller, Marker, Host}
 use Rattle.mk_core.specs.declared.events.Word.TheVariants as word
-use Rattle.mk_core.specs.declared.events.Step.{Step}
 use Rattle.mk_core.specs.declared.events.Step.TheVariants as step
-use Rattle.mk_core.specs.declared.seats.Stage.{Stage}
 use Rattle.mk_core.specs.declared.seats.Stage.TheVariants as stage
-use Rattle.mk_core.specs.declared.seats.Flight.{Flight}
-use Rattle.mk_core.specs.declared.seats.Marker.{Marker as MarkerState}
-use Rattle.mk_core.specs.Words.{Words, accessed}
-use Rattle.mk_core.specs.Calls.{at_rest, begun, still}
-use Rattle.mk_core.specs.Order.{group_of}
-use Rattle.mk_core.specs.Moments.{Moment, Seats, flight_of, marker_of, outside, nothing_done}
-use Rattle.mk_core.specs.StopConditions.{is_attending}
-use Rattle.mk_core.specs.Accesses.{found, register_met, reg_access}
-use Rattle.mk_core.specs.History.{World, world_behind}
-use Rattle.mk_core.specs.Readings.{is_in}
+use Rattle.mk_core.specs.Moments.{Seats}
 use Rattle.mk_protocol.proofs.Standings.{Standing, Resting, InCall, UnderTurn, Astray, standing, is_astray}
 use Rattle.mk_protocol.proofs.Stages.{is_call_stage, is_reg_stage, calls_stand, regs_work}
-use Rattle.mk_protocol.proofs.NextSteps.{stage_of, has_stage_of_its_own, at_its_stage, at_reg}
+use Rattle.mk_protocol.proofs.NextSteps.{stage_of, has_stage_of_its_own, at_its_stage, at_reg, is_take}
 use Rattle.mk_protocol.proofs.Views.{view_of, HoldsTurn}
 use Rattle.mk_protocol.proofs.Orderly.{shows_at, turn_of}
 use Rattle.mk_protocol.proofs.Actors.{Meets, Actor, InCallOf, AsMarker, CallTakes, HostTakes, AsHolder}
 use Rattle.mk_protocol.proofs.IdleMarkers.{work_attends, look_stays}
 use Rattle.mk_protocol.proofs.MarkerMoves.{attends_at}
 use Rattle.mk_protocol.proofs.Markers.{count_in-at}
-use Rattle.mk_protocol.proofs.NextSteps.{is_take}
 use Rattle.mk_protocol.proofs.OrderlyLists.{not_astray, actor_of}
 use Rattle.mk_protocol.proofs.Operands.{Operands, operands_of, register_small}
 use Rattle.mk_protocol.proofs.Known.{Known}

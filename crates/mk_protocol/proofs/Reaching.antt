@@ -2,29 +2,17 @@
 use Rattle.std.proofs.Common.{◌≡◌, ℕ, ◌*◌, ◌<◌, ◌≤◌, Bool, true, false, ◌++◌, refl, sym, ◌∙◌, ap, subst, arith}
 use Rattle.std.specs.Prelude.{nat_le, nat_lt, not, is_none, ◌&&◌}
 use Rattle.std.proofs.lemmas.Bool.{ltb-true, and_parts}
-use Rattle.mk_core.specs.declared.config.Config.{Config}
-use Rattle.mk_core.specs.declared.events.Seat.{Seat}
-use Rattle.mk_core.specs.declared.events.Seat.TheVariants.{Caller, Marker, Host}
-use Rattle.mk_core.specs.declared.events.Step.{Step}
+use Rattle.mk_protocol.proofs.Vocabulary.{Caller, Config, Flight, Holding, Holds, Host, Marker, MarkerState, Moment}
+use Rattle.mk_protocol.proofs.Vocabulary.{Placing, Seat, Step, Tally, Word, access, caller_number, flight_of}
+use Rattle.mk_protocol.proofs.Vocabulary.{has_next_word, holder_number, is_number_of, is_scanned, is_undecided_new}
+use Rattle.mk_protocol.proofs.Vocabulary.{left, marker_at, outside, page_met, seat_exists, tally_word, word_accessed}
+use Rattle.mk_protocol.proofs.Vocabulary.{word_met}
 use Rattle.mk_core.specs.declared.events.Step.TheVariants as step
-use Rattle.mk_core.specs.declared.events.Tally.{Tally}
 use Rattle.mk_core.specs.declared.events.Tally.TheVariants as tally
-use Rattle.mk_core.specs.declared.events.Word.{Word}
 use Rattle.mk_core.specs.declared.events.Word.TheVariants as word
-use Rattle.mk_core.specs.declared.seats.Flight.{Flight}
-use Rattle.mk_core.specs.declared.seats.Holding.{Holding}
-use Rattle.mk_core.specs.declared.seats.Marker.{Marker as MarkerState}
-use Rattle.mk_core.specs.declared.seats.Placing.{Placing}
-use Rattle.mk_core.specs.Calls.{word_met, page_met}
 use Rattle.mk_core.specs.Layout.{NamesWord, IsOfTable}
 use Rattle.mk_core.specs.Ranges.{is_word, is_word_met}
-use Rattle.mk_core.specs.Moments.{Moment, flight_of, marker_at, outside, is_number_of, holder_number}
-use Rattle.mk_core.specs.MarkerConditions.{has_next_word, is_scanned}
-use Rattle.mk_core.specs.NewPlaces.{is_undecided_new}
-use Rattle.mk_core.specs.Order.{seat_exists}
-use Rattle.mk_core.specs.Accesses.{caller_number, tally_word, word_reached, access_by, word_accessed, access}
-use Rattle.mk_core.specs.History.{left}
-use Rattle.mk_core.specs.Readings.{Holds}
+use Rattle.mk_core.specs.Accesses.{word_reached, access_by}
 use Rattle.mk_core.proofs.Conditions.{enabled_meets}
 use Rattle.mk_protocol.specs.Reaching.{EventsReachTheTable, OthersLeaveAccesses}
 use Rattle.mk_protocol.proofs.Actors.{Meets, grants_new}

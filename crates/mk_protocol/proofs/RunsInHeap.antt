@@ -5,24 +5,14 @@ use Rattle.std.specs.Prelude.{Option, Some, None, unwrap_or, nat_le, nat_lt, not
 use Rattle.std.specs.Prelude.{slice_index_or, slice_set}
 use Rattle.std.proofs.lemmas.Bool.{cases_eq, eqb-true, leb-true, and_parts}
 use Rattle.std.proofs.lemmas.List.{get_or-set_other}
-use Rattle.mk_geom.specs.declared.headers.Header.TheVariants.{Run}
-use Rattle.mk_geom.specs.declared.pages.Page.{Page}
-use Rattle.mk_geom.specs.declared.pages.Place.{Place}
-use Rattle.mk_geom.specs.Classes.{class_for, run_pages_of}
-use Rattle.mk_geom.specs.Headers.{word_of, header_of}
-use Rattle.mk_geom.specs.Storages.{free_page, block_header, run_header}
+use Rattle.mk_protocol.proofs.Vocabulary.{Config, Flight, Object, Page, Place, Run, RunPages, Words, World, all_below}
+use Rattle.mk_protocol.proofs.Vocabulary.{block_header, carves, class_made, empties, free_page, header_at, header_made}
+use Rattle.mk_protocol.proofs.Vocabulary.{header_of, is_marked_first, is_next_header, is_small_object, object_made}
+use Rattle.mk_protocol.proofs.Vocabulary.{pages_made, place_now, run_header, run_pages_of, stands, unmapped_header}
+use Rattle.mk_protocol.proofs.Vocabulary.{unmaps, used_at, word_of}
+use Rattle.mk_geom.specs.Classes.{class_for}
 use Rattle.mk_geom.proofs.HeaderLemmas.{word_of-header_of}
 use Rattle.mk_geom.proofs.ClassTable.{class_for-some}
-use Rattle.mk_core.specs.declared.config.Config.{Config}
-use Rattle.mk_core.specs.declared.seats.Flight.{Flight}
-use Rattle.mk_core.specs.declared.seats.Object.{Object}
-use Rattle.mk_core.specs.declared.seats.RunPages.{RunPages}
-use Rattle.mk_core.specs.Bounded.{all_below}
-use Rattle.mk_core.specs.Words.{Words, header_at, used_at}
-use Rattle.mk_core.specs.NewPlaces.{object_made, is_small_object, class_made, pages_made, header_made, unmapped_header}
-use Rattle.mk_core.specs.NewPlaces.{stands, is_next_header}
-use Rattle.mk_core.specs.TurnConditions.{is_marked_first, place_now, carves, unmaps, empties}
-use Rattle.mk_core.specs.History.{World}
 use Rattle.mk_protocol.proofs.HeaderSteps.{page_set, used_set}
 use Rattle.mk_protocol.specs.Ground.{Ground}
 use Rattle.mk_protocol.proofs.Ground.{GroundStep, Carves, Unmaps, Empties, TakesCell, GivesBack}

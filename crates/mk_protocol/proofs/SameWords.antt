@@ -1,20 +1,9 @@
 -- The moment after an event, and steps that leave the words of the protocol as they are.
 use Rattle.std.proofs.Common.{◌≡◌, ℕ, List, refl, sym, subst}
-use Rattle.mk_core.specs.declared.config.Config.{Config}
-use Rattle.mk_core.specs.declared.accesses.Access.{Access}
-use Rattle.mk_core.specs.declared.accesses.Access.TheVariants.{Load, Store}
-use Rattle.mk_core.specs.declared.accesses.TableWord.TheVariants.{Named}
-use Rattle.mk_core.specs.declared.events.Seat.{Seat}
-use Rattle.mk_core.specs.declared.events.Tally.{Tally}
+use Rattle.mk_protocol.proofs.Vocabulary.{Access, Config, Flight, Holding, Load, MarkerState, Moment, Named, Seat, Step}
+use Rattle.mk_protocol.proofs.Vocabulary.{Store, Tally, Words, accessed, found, tally_word}
 use Rattle.mk_core.specs.declared.events.Tally.TheVariants as tally
 use Rattle.mk_core.specs.declared.events.Word.TheVariants as word
-use Rattle.mk_core.specs.declared.events.Step.{Step}
-use Rattle.mk_core.specs.declared.seats.Flight.{Flight}
-use Rattle.mk_core.specs.declared.seats.Holding.{Holding}
-use Rattle.mk_core.specs.declared.seats.Marker.{Marker as MarkerState}
-use Rattle.mk_core.specs.Words.{Words, accessed}
-use Rattle.mk_core.specs.Moments.{Moment}
-use Rattle.mk_core.specs.Accesses.{found, tally_word}
 use Rattle.mk_core.specs.Effects.{moment_behind}
 use Rattle.mk_protocol.proofs.Views.{View, view_of}
 use Rattle.mk_protocol.proofs.Moves.{Move}

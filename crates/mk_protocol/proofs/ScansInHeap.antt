@@ -2,28 +2,16 @@
 use Rattle.std.proofs.Common.{◌≡◌, ℕ, ◌+◌, ◌*◌, ◌<◌, ◌≤◌, Bool, true, false, refl, sym, ◌∙◌, ap, subst, arith}
 use Rattle.std.specs.Prelude.{Option, Some, None, is_some, is_none, nat_lt, ◌==◌, ◌&&◌, if◌then◌else◌}
 use Rattle.std.proofs.lemmas.Bool.{eqb-true, ltb-true, and_parts}
-use Rattle.mk_geom.specs.declared.addresses.Cell.{Cell}
-use Rattle.mk_geom.specs.declared.headers.Header.{Header}
-use Rattle.mk_geom.specs.declared.headers.Header.TheVariants.{Free, Block, Run, Later, LeafBlock, LeafRun}
-use Rattle.mk_geom.specs.Classes.{class_words_of}
-use Rattle.mk_geom.specs.Headers.{header_of}
-use Rattle.mk_geom.specs.Addresses.{cell_at, page_at_address}
+use Rattle.mk_protocol.proofs.Vocabulary.{Block, Cell, Config, Free, Header, Later, LeafBlock, LeafRun, Run, Scan}
+use Rattle.mk_protocol.proofs.Vocabulary.{SeenHeader, Step, Word, behind_mlook, cell_at, cell_seen, cells_under}
+use Rattle.mk_protocol.proofs.Vocabulary.{class_words_of, has_bit, has_next_word, has_no_pointers, has_seen_cell}
+use Rattle.mk_protocol.proofs.Vocabulary.{header_of, is_attending, is_scanned, marker_behind, marker_may, next_word}
+use Rattle.mk_protocol.proofs.Vocabulary.{page_at_address, scan_begun, scan_claimed, scan_onward, scan_page, seen_page}
+use Rattle.mk_protocol.proofs.Vocabulary.{words_under}
 use Rattle.mk_geom.proofs.ClassTable.{cell_ends}
-use Rattle.mk_core.specs.declared.config.Config.{Config}
-use Rattle.mk_core.specs.declared.events.Step.{Step}
 use Rattle.mk_core.specs.declared.events.Step.TheVariants as step
-use Rattle.mk_core.specs.declared.events.Word.{Word}
 use Rattle.mk_core.specs.declared.events.Word.TheVariants as word
-use Rattle.mk_core.specs.declared.seats.Scan.{Scan}
-use Rattle.mk_core.specs.declared.seats.SeenHeader.{SeenHeader}
 use Rattle.mk_core.specs.declared.seats.Marker.{Marker}
-use Rattle.mk_core.specs.Bits.{has_bit}
-use Rattle.mk_core.specs.Cells.{cells_under, words_under, has_no_pointers}
-use Rattle.mk_core.specs.StopConditions.{is_attending}
-use Rattle.mk_core.specs.MarkerConditions.{has_seen_cell, has_next_word, is_scanned, cell_seen}
-use Rattle.mk_core.specs.Enabled.{marker_may}
-use Rattle.mk_core.specs.Effects.{scan_begun, scan_claimed, scan_onward, behind_mlook, marker_behind}
-use Rattle.mk_core.specs.Accesses.{next_word, scan_page, seen_page}
 use Rattle.mk_protocol.proofs.RunsInHeap.{RunFits}
 use Rattle.mk_core.proofs.PointedPages.{cell_within}
 

@@ -1,16 +1,10 @@
 -- What the turn's holder has done in its call: where a New is, and what a Free has freed.
 use Rattle.std.proofs.Common.{◌≡◌, true, false, refl, sym, ◌∙◌, ap}
 use Rattle.std.specs.Prelude.{Option, None, is_some}
-use Rattle.mk_never.specs.declared.operations.Op.{Op}
+use Rattle.mk_protocol.proofs.Vocabulary.{Flight, Granted, Holding, Op, Placing, RunPages, Stage, Unplaced, is_free_at}
+use Rattle.mk_protocol.proofs.Vocabulary.{is_new_at, is_undecided_free, is_undecided_new}
 use Rattle.mk_never.specs.declared.operations.Op.TheVariants as op
-use Rattle.mk_core.specs.declared.seats.Stage.{Stage}
 use Rattle.mk_core.specs.declared.seats.Stage.TheVariants as stage
-use Rattle.mk_core.specs.declared.seats.Flight.{Flight}
-use Rattle.mk_core.specs.declared.seats.Holding.{Holding}
-use Rattle.mk_core.specs.declared.seats.Placing.{Placing}
-use Rattle.mk_core.specs.declared.seats.Placing.TheVariants.{Unplaced, Granted}
-use Rattle.mk_core.specs.declared.seats.RunPages.{RunPages}
-use Rattle.mk_core.specs.NewPlaces.{is_new_at, is_free_at, is_undecided_new, is_undecided_free}
 use Rattle.mk_protocol.specs.Protocol.{has_place, is_granted, is_decided_new_at, is_decided_free_at}
 use Rattle.mk_protocol.proofs.Standings.{UnderTurn, standing}
 use Rattle.mk_protocol.proofs.Stages.{gives_stand}

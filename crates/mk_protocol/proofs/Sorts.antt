@@ -3,27 +3,12 @@ use Rattle.std.proofs.Common.{◌≡◌, ◌≢◌, ℕ, ◌+◌, ◌<◌, Bool,
 use Rattle.std.specs.Prelude.{Some, None, slice_index, slice_set, ◌==◌, if◌then◌else◌}
 use Rattle.std.proofs.lemmas.Bool.{cases_eq, not-true, eqb-true, eqb-false, eq-eqb, ne_eqb, and_parts}
 use Rattle.std.proofs.lemmas.List.{set-get_or}
-use Rattle.mk_never.specs.declared.operations.Op.{Op}
-use Rattle.mk_core.specs.declared.config.Config.{Config}
-use Rattle.mk_core.specs.declared.accesses.Access.TheVariants.{Store}
-use Rattle.mk_core.specs.declared.accesses.TableWord.TheVariants.{Named}
-use Rattle.mk_core.specs.declared.events.Seat.{Seat}
-use Rattle.mk_core.specs.declared.events.Seat.TheVariants.{Caller, Marker, Host}
-use Rattle.mk_core.specs.declared.events.Step.{Step}
+use Rattle.mk_protocol.proofs.Vocabulary.{Caller, Config, Flight, Holding, Host, Marker, Moment, Named, Op, Seat, Stage}
+use Rattle.mk_protocol.proofs.Vocabulary.{Step, Store, accessed, at_rest, begun, chosen, flight_of, holder_number}
+use Rattle.mk_protocol.proofs.Vocabulary.{host_has_turn, is_phase, is_under_turn, marks_place, nothing_done}
+use Rattle.mk_protocol.proofs.Vocabulary.{object_made, phase_of, place_now, progress, still, taken, tally_word}
 use Rattle.mk_core.specs.declared.events.Step.TheVariants as step
-use Rattle.mk_core.specs.declared.seats.Stage.{Stage}
 use Rattle.mk_core.specs.declared.seats.Stage.TheVariants as stage
-use Rattle.mk_core.specs.declared.seats.Flight.{Flight}
-use Rattle.mk_core.specs.declared.seats.Holding.{Holding}
-use Rattle.mk_core.specs.Words.{phase_of, accessed}
-use Rattle.mk_core.specs.NewPlaces.{object_made}
-use Rattle.mk_core.specs.TurnConditions.{place_now}
-use Rattle.mk_core.specs.Calls.{is_under_turn, begun, at_rest, still}
-use Rattle.mk_core.specs.Moments.{Moment, flight_of, is_phase, nothing_done, holder_number}
-use Rattle.mk_core.specs.StopConditions.{marks_place}
-use Rattle.mk_core.specs.Order.{host_has_turn}
-use Rattle.mk_core.specs.Accesses.{tally_word}
-use Rattle.mk_core.specs.Effects.{progress, chosen, taken}
 use Rattle.mk_protocol.proofs.Standings.{standing_at, standing, is_astray}
 use Rattle.mk_protocol.proofs.Stages.{begun_under_turn}
 use Rattle.mk_protocol.proofs.Services.{Service, Goes, Fills, Grants}

@@ -4,18 +4,11 @@ use Rattle.std.proofs.Common.{ap, inl, inr, arith}
 use Rattle.std.specs.Prelude.{slice_index, slice_set}
 use Rattle.std.proofs.lemmas.Bool.{cases_eq, cases_lt, cases_Bool}
 use Rattle.std.proofs.lemmas.List.{get_or-set_same, get_or-set_other, set_past}
-use Rattle.mk_core.specs.declared.config.Config.{Config}
-use Rattle.mk_core.specs.declared.events.Seat.{Seat}
-use Rattle.mk_core.specs.declared.events.Seat.TheVariants.{Caller}
-use Rattle.mk_core.specs.declared.seats.Flight.{Flight}
-use Rattle.mk_core.specs.declared.seats.Marker.{Marker as MarkerState}
-use Rattle.mk_core.specs.Words.{Words, register_word, phase_of}
-use Rattle.mk_core.specs.Calls.{at_rest}
-use Rattle.mk_core.specs.Moments.{Moment, flight_of, marker_of}
-use Rattle.mk_core.specs.StopConditions.{is_attending}
-use Rattle.mk_core.specs.History.{World}
+use Rattle.mk_protocol.proofs.Vocabulary.{Caller, Config, Flight, MarkerState, Moment, OnlyGrow, Seat, Steady}
+use Rattle.mk_protocol.proofs.Vocabulary.{TurnIsLeft, Words, World, at_rest, flight_of, is_attending, marker_of}
+use Rattle.mk_protocol.proofs.Vocabulary.{phase_of, register_word}
 use Rattle.mk_core.specs.Readings.{NoneAttends}
-use Rattle.mk_core.specs.Frames.{OnlyGrow, steady_of, Steady, TurnIsLeft}
+use Rattle.mk_core.specs.Frames.{steady_of}
 use Rattle.mk_protocol.proofs.Markers.{marker_set}
 use Rattle.mk_protocol.proofs.Growth.{grows_same, grows_joined, grows_more}
 use Rattle.mk_protocol.proofs.Known.{Known}
