@@ -19,8 +19,7 @@ none_held c w h j lt =
 
 number_is : (c : Config) (seat : Seat) (j : ℕ) → is_number_of seat j ≡ true → holder_number c seat ≡ j
 number_is c (Caller k) j h = eqb-true k j h
-number_is c (Marker k) j h = cc
-number_is c Host j h = cc
+number_is c _ j h = cc
 
 pub others_held : (c : Config) (m : Moment) (seat : Seat) → others_are_held c.callers m.words seat ≡ true
     → OthersAreHeld c (view_of m) seat

@@ -44,8 +44,7 @@ others_flight c w (Caller j) (Caller k) x ne =
     get_or-set_other w.now.seats.flights j k _ at_rest (λ e. ne (ap (λ i. Caller i) (sym e)))
 others_flight c w (Marker j) (Caller k) x ne = refl
 others_flight c w Host (Caller k) x ne = refl
-others_flight c w seat (Marker k) x ne = refl
-others_flight c w seat Host x ne = refl
+others_flight c w seat _ x ne = refl
 
 others_marker : (c : Config) (w : World) (seat s : Seat) (x : Step) → seat ≢ s
     → marker_at (WorldBehind c w seat x).now s ≡ marker_at w.now s
@@ -53,8 +52,7 @@ others_marker c w (Marker j) (Marker k) x ne =
     get_or-set_other w.now.seats.markers j k _ outside (λ e. ne (ap (λ i. Marker i) (sym e)))
 others_marker c w (Caller j) (Marker k) x ne = refl
 others_marker c w Host (Marker k) x ne = refl
-others_marker c w seat (Caller k) x ne = refl
-others_marker c w seat Host x ne = refl
+others_marker c w seat _ x ne = refl
 
 -- A seat that holds the turn holds it still, after an event of another.
 others_out : (c : Config) (w : World) (seat s : Seat) (x : Step) → Known c w.now → Meets c w.now seat x → seat ≢ s
@@ -123,8 +121,7 @@ mapped_after : (c : Config) (w : World) (seat s : Seat) (x : Step) → Known c w
 mapped_after c w seat (Caller k) x known h ne call p is =
     let g = in_call_gate c w.now k known call in
     stays_mapped w.now.words _ p (header_step c w.now seat x k h g.0 ne g.1) is
-mapped_after c w seat (Marker k) x known h ne call p is = absurd call
-mapped_after c w seat Host x known h ne call p is = absurd call
+mapped_after c w seat _ x known h ne call p is = absurd call
 
 -- Where all other gates are held, callers do nothing, and markers don't change what callers do.
 marks_leave : (w : World) (k : ℕ) (y : MarkerState) (ms : List MarkerState) (x : Words) → MarkerWrite k w.now y x
@@ -153,8 +150,7 @@ scan_after : (c : Config) (w : World) (seat s : Seat) (x : Step) → Known c w.n
 scan_after c w seat (Marker k) x known h a =
     attending_grows c w.now seat (colours_of (WorldBehind c w seat x).now) k (known.orderly.attends k a) a
     (colour_step c w.now seat x h)
-scan_after c w seat (Caller k) x known h a = absurd a
-scan_after c w seat Host x known h a = absurd a
+scan_after c w seat _ x known h a = absurd a
 
 -- one event of another seat
 pub left_after : (c : Config) (w : World) (seat s : Seat) (x : Step) → Known c w.now → Meets c w.now seat x → seat ≢ s
@@ -183,18 +179,15 @@ left_same c s w =
 
 still_calls : (c : Config) (s : Seat) (w u : World) → OwnIsLeft c s w u → IsInCall w.now s → IsInCall u.now s
 still_calls c (Caller k) w u l call = ap (λ (f : Flight). is_in_call f) l.flight ∙ call
-still_calls c (Marker k) w u l call = call
-still_calls c Host w u l call = call
+still_calls c _ w u l call = call
 
 pub still_attends : (c : Config) (s : Seat) (w u : World) → OwnIsLeft c s w u → Attends w.now s → Attends u.now s
 still_attends c (Marker k) w u l a = ap (λ (y : MarkerState). is_attending y.presence) l.marker ∙ a
-still_attends c (Caller k) w u l a = a
-still_attends c Host w u l a = a
+still_attends c _ w u l a = a
 
 still_in : (c : Config) (s : Seat) (w u : World) → OwnIsLeft c s w u → IsIn w.now s → IsIn u.now s
 still_in c (Marker k) w u l i = ap (λ (y : MarkerState). is_in y) l.marker ∙ i
-still_in c (Caller k) w u l i = i
-still_in c Host w u l i = i
+still_in c _ w u l i = i
 
 still_stopped : (c : Config) (s : Seat) (w u : World) → Left c s w u → HoldsAll c w.now s → HoldsAll c u.now s
 still_stopped c s w u l all = (
@@ -299,8 +292,7 @@ scan_left c s w v l p a =
 
 visit_left : (c : Config) (s : Seat) (m : Moment) → Protocol c m → IsIn m s → 1 ≤ m.words.phase / 8
 visit_left c (Marker k) m p i = in_counts c m k p i
-visit_left c (Caller k) m p i = absurd i
-visit_left c Host m p i = absurd i
+visit_left c _ m p i = absurd i
 
 is_left : (c : Config) (s : Seat) (es more : List Event) → Left c s (left c es) (left c (es ++ more))
     → Known c (left c (es ++ more)).now

@@ -220,8 +220,7 @@ taker_idle : (c : Config) (m : Moment) (seat : Seat) (o : Option Op) → Meets c
 taker_idle c m (Caller k) (Some o) h = (at_take (flight_of m (Caller k)).stage (flight_of m (Caller k)).op o h.order).0
 taker_idle c m (Caller k) None h =
     absurd (at_no_take (flight_of m (Caller k)).stage (flight_of m (Caller k)).op h.order)
-taker_idle c m Host o h = refl
-taker_idle c m (Marker k) o h = refl
+taker_idle c m _ o h = refl
 
 -- all kinds, whatever the seat
 pub ground_step : (c : Config) (w : World) (seat : Seat) (x : Step) → Meets c w.now seat x

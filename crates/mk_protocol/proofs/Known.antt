@@ -50,5 +50,4 @@ holds_turn c m (Caller k) o h = (
   under_turn_is (standing (flight_of m (Caller k)))
       (in_turn_told (flight_of m (Caller k)).stage (flight_of m (Caller k)).op (not_astray c m o k h.0) ∙ h.1),
 )
-holds_turn c m (Marker k) o h = h
-holds_turn c m Host o h = h
+holds_turn c m _ o h = h

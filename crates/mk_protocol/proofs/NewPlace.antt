@@ -54,9 +54,8 @@ in_fits : (c : Config) (pages : List Page) (o : Op) (placing : Placing) (place :
 in_fits c pages o Unplaced place count held is =
     λ large. subst (λ n. place.page + run_pages_of (object_made c o).words ≤ n) count
     (first_fits c.resident pages (object_made c o) place is large)
-in_fits c pages o (Chosen y) place count held is = held place is
-in_fits c pages o (Used y) place count held is = held place is
 in_fits c pages o Granted place count held is = cc
+in_fits c pages o _ place count held is = held place is
 
 now_is : (c : Config) (m : Moment) (f : Flight) (place : Place) → place_now c m f ≡ Some place
     → (is_undecided_new f ≡ true)
@@ -113,23 +112,21 @@ set_new fs k j f same new = elim (cases_eq j k) [
   | inr ne ↦ get_or-set_other fs k j f at_rest ne
 ]
 
-call_no_new : (f : Flight) → standing f ≡ InCall → is_undecided_new f ≡ true → ⊥
+pub call_no_new : (f : Flight) → standing f ≡ InCall → is_undecided_new f ≡ true → ⊥
 call_no_new f is new = let e : InCall ≡ UnderTurn = sym is ∙ new_stands f.stage f.op new in absurd (apart e)
   where
     apart : InCall ≡ UnderTurn → ⊥
     apart e = cc
 
-give_no_new : (o : Op) → is_new_at stage.Give o ≡ true → ⊥
+pub give_no_new : (o : Op) → is_new_at stage.Give o ≡ true → ⊥
 give_no_new o h = cc
 
-service_new : (f : Flight) (h : Holding) (g : Flight) (i : Holding) → Service f h g i → is_undecided_new g ≡ true
+pub service_new : (f : Flight) (h : Holding) (g : Flight) (i : Holding) → Service f h g i → is_undecided_new g ≡ true
     → g ≡ f
 service_new f h g i (Goes _ p q) new = refl
 service_new f h g i (Loads _ at stands no_new) new = let e : true ≡ false = sym new ∙ no_new in cc
 service_new f h g i (PlacesNew _ was p q) new = refl
-service_new f h g i (Fills was p) new = absurd (give_no_new f.op new)
-service_new f h g i (GrantsNew was) new = absurd (give_no_new f.op new)
-service_new f h g i (FreesRun _ free p) new = absurd (give_no_new f.op new)
+service_new f h g i _ new = absurd (give_no_new f.op new)
 
 pub new_was : (c : Config) (v : View) (seat : Seat) (n : View) (j : ℕ) → Move c v seat n
     → is_undecided_new (flight_in n j) ≡ true
@@ -156,8 +153,7 @@ pub new_holds : (c : Config) (m : Moment) (seat : Seat) (x : Step) → Meets c m
     → is_undecided_new (flight_of m seat) ≡ true
     → (k : ℕ) × (k < c.callers) × (seat ≡ Caller k)
 new_holds c m (Caller k) x h new = (k, ltb-true k c.callers h.seat, refl)
-new_holds c m (Marker k) x h new = cc
-new_holds c m Host x h new = cc
+new_holds c m _ x h new = cc
 
 -- the place of a step
 pub place_fits_now : (c : Config) (m : Moment) (seat : Seat) (x : Step) (place : Place) → length m.words.pages ≡ c.pages

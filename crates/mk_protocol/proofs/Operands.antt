@@ -90,8 +90,7 @@ pub operands_behind : (c : Config) (m : Moment) (seat : Seat) (x : Step) → Hav
 operands_behind c m (Caller k) x h on =
     set_operands c m.seats.flights k _ h
     (op_step c m (Caller k) (flight_of m (Caller k)) (found c m (record { seat = Caller k; step = x })) x on.range)
-operands_behind c m (Marker k) x h on = h
-operands_behind c m Host x h on = h
+operands_behind c m _ x h on = h
 
 -- the registers and the global of a call
 pub record Operands (o : Op) : Type 0 where

@@ -78,8 +78,7 @@ holder_shows c v (Caller k) f h t is = (
   subst (λ (x : Standing). Shows v.turn (gate_in v k) k x) (sym (is t.1))
       (shows_at c v k UnderTurn h t.0 t.1),
 )
-holder_shows c v (Marker k) f h t is = tt
-holder_shows c v Host f h t is = tt
+holder_shows c v _ f h t is = tt
 
 pub giver_shows : (c : Config) (v : View) (seat : Seat) → Orderly c v → HoldsTurn c v seat
     → OwnShows c v.flights 0 v.gates seat Resting
@@ -89,8 +88,7 @@ giver_shows c v (Caller k) h t =
       subst (λ n. k < n) (sym h.flights) t.0,
       (λ e. absurd (omega arith), omega arith, λ e. g, λ e. absurd (omega arith)),
     )
-giver_shows c v (Marker k) h t = tt
-giver_shows c v Host h t = tt
+giver_shows c v _ h t = tt
 
 pub taker_shows : (c : Config) (v : View) (seat : Seat) (f : Flight) → Orderly c v → v.turn ≡ 0 → MayTake c v seat f
     → OwnShows c v.flights (1 + holder_number c seat) v.gates seat (standing f)
@@ -100,14 +98,12 @@ taker_shows c v (Caller k) f h z t =
       subst (λ (x : Standing). Shows (1 + k) (gate_in v k) k x) (sym t.2)
           (s.2 z, refl),
     )
-taker_shows c v (Marker k) f h z t = tt
-taker_shows c v Host f h z t = tt
+taker_shows c v _ f h z t = tt
 
 pub taker_number : (c : Config) (v : View) (seat : Seat) (f : Flight) → MayTake c v seat f
     → holder_number c seat ≤ c.callers
 taker_number c v (Caller k) f t = omega (arith, t.0)
-taker_number c v (Marker k) f t = omega arith
-taker_number c v Host f t = omega arith
+taker_number c v _ f t = omega arith
 
 -- there are few markers
 pub few_in : (c : Config) (v : View) → Orderly c v → count_in v.markers ≤ 8

@@ -41,15 +41,6 @@ pub orderly_behind : (c : Config) (m : Moment) (seat : Seat) (x : Step) → c.ca
 orderly_behind c m seat x small o h =
     kept c (view_of m) seat (view_of (Behind c m seat x)) small o (event_moves c m seat x o h)
 
-pub orderly_from : (c : Config) (w : World) (es : List Event) → c.callers ≤ 16 → Orderly c (view_of w.now)
-    → AreEnabledFrom c w es
-    → Orderly c (view_of (left_from c w es).now)
-unfolding left_from AreEnabledFrom
-orderly_from c w [] small o on = o
-orderly_from c w (e ∷ es) small o on =
-    orderly_from c (world_behind c w e) es small
-    (orderly_behind c w.now e.seat e.step small o (enabled_meets c w.now e on.0)) on.1
-
 pub at_first : {A : Type 0} (n k : ℕ) (x : A) → slice_index_or (replicate n x) k x ≡ x
 at_first n k x = elim (cases_lt k n) [
   | inl lt ↦ get_or-replicate n k x x lt

@@ -88,9 +88,8 @@ abbrev pub fulls_of : List Decided → ℕ
 fulls_of ds = count_by is_full_answer (answered ds)
 
 pub entry_fulls : (k : ℕ) (o : Op) (a : Option Answer) → answers_full a ≡ false → fulls_of (entry_of k o a) ≡ 0
-entry_fulls k o None h = refl
 entry_fulls k o (Some answer.Full) h = cc
-entry_fulls k o (Some _) h = refl
+entry_fulls k o _ h = refl
 
 pub fulls_append : (xs ys : List Decided) → fulls_of (xs ++ ys) ≡ fulls_of xs + fulls_of ys
 fulls_append xs ys =

@@ -6,7 +6,10 @@ use Rattle.mk_protocol.proofs.Vocabulary.{Caller, Config, Flight, Holding, Holds
 use Rattle.mk_protocol.proofs.Vocabulary.{Placing, Seat, Step, Tally, Word, access, caller_number, flight_of}
 use Rattle.mk_protocol.proofs.Vocabulary.{has_next_word, holder_number, is_number_of, is_scanned, is_undecided_new}
 use Rattle.mk_protocol.proofs.Vocabulary.{left, marker_at, outside, page_met, seat_exists, tally_word, word_accessed}
-use Rattle.mk_protocol.proofs.Vocabulary.{word_met}
+use Rattle.mk_protocol.proofs.Vocabulary.{Op, Stage, is_new_at, is_under_turn, word_met}
+use Rattle.mk_never.specs.declared.operations.Op.TheVariants as op
+use Rattle.mk_core.specs.declared.seats.Stage.TheVariants as stage
+use Rattle.mk_core.specs.Readings.{is_idle}
 use Rattle.mk_core.specs.declared.events.Step.TheVariants as step
 use Rattle.mk_core.specs.declared.events.Tally.TheVariants as tally
 use Rattle.mk_core.specs.declared.events.Word.TheVariants as word
@@ -20,16 +23,15 @@ use Rattle.mk_protocol.proofs.Operands.{Operands, operands_of, register_small}
 use Rattle.mk_protocol.proofs.Known.{Known, known_left}
 use Rattle.mk_protocol.proofs.NewPlace.{new_holds}
 use Rattle.mk_protocol.proofs.ScansInHeap.{MarkerFits, nothing_fits, next_in_heap, scan_page_in_heap, seen_page_in_heap}
-use Rattle.mk_protocol.proofs.Holders.{new_in_turn}
 use Rattle.mk_protocol.proofs.InHeap.{InHeap, in_heap_left}
 use Rattle.mk_protocol.proofs.Frames.{others_leave}
+use Rattle.mk_protocol.proofs.StepKinds.{is_grant}
 
 -- what is known of a seat
 
 number_small : (c : Config) (seat : Seat) → c.callers ≤ 16 → seat_exists c seat ≡ true → caller_number seat < 16
 number_small c (Caller k) small h = let lt = ltb-true k c.callers h in omega arith
-number_small c (Marker k) small h = omega arith
-number_small c Host small h = omega arith
+number_small c _ small h = omega arith
 
 seat_operands : (c : Config) (m : Moment) (seat : Seat) → Known c m → Operands (flight_of m seat).op
 seat_operands c m (Caller k) known = operands_of c (flight_of m (Caller k)).op (known.operands k)
@@ -38,17 +40,10 @@ seat_operands c m Host known = operands_of c (flight_of m Host).op refl
 
 seat_marker : (c : Config) (m : Moment) (seat : Seat) → InHeap c m → MarkerFits c (marker_at m seat)
 seat_marker c m (Marker k) h = h.markers k
-seat_marker c m (Caller k) h = nothing_fits c outside refl refl
-seat_marker c m Host h = nothing_fits c outside refl refl
+seat_marker c m _ h = nothing_fits c outside refl refl
 
 -- a word that is looked at
 looked_at : (c : Config) (x : Word) → c.callers ≤ 16 → is_word c x ≡ true → NamesWord c.pages x
-looked_at c word.Phase small h = tt
-looked_at c word.Held small h = tt
-looked_at c word.Fresh small h = tt
-looked_at c word.Cycles small h = tt
-looked_at c word.Released small h = tt
-looked_at c word.Full small h = tt
 looked_at c (word.Gate j) small h = let lt = ltb-true j c.callers h in omega arith
 looked_at c (word.Reg j r) small h =
     let both = and_parts (nat_lt j c.callers) (nat_lt r 8) h in
@@ -62,6 +57,7 @@ looked_at c (word.Mark p) small h = ltb-true p c.pages h
 looked_at c (word.Black p) small h = ltb-true p c.pages h
 looked_at c (word.Dirty p) small h = ltb-true p c.pages h
 looked_at c (word.Heap n) small h = ltb-true n (64 * c.pages) h
+looked_at c _ small h = tt
 
 tallied : (pages : ℕ) (t : Tally) → NamesWord pages (tally_word t)
 tallied pages tally.Held = tt
@@ -129,14 +125,15 @@ events_reach_the_table c es e limits on now =
 
 -- the access is the same where the call, the marker and a New's place are
 
-abbrev is_grant : Step → Bool
-is_grant step.Grant = true
-is_grant _ = false
-
 placing_apart : (c : Config) (n : ℕ) (f : Flight) (p q : Placing) (x : MarkerState) (s : Step) → is_grant s ≡ false
     → access_by c n f p x s ≡ access_by c n f q x s
 placing_apart c n f p q x step.Grant g = cc
 placing_apart c n f p q x _ g = refl
+
+-- whoever is in a New holds the turn
+new_in_turn : (s : Stage) (o : Op) → is_new_at s o ≡ true → (not (is_idle s) && is_under_turn o) ≡ true
+new_in_turn stage.Turn (op.New d ty full) h = refl
+new_in_turn _ _ h = cc
 
 granter_holds : (c : Config) (m : Moment) (seat : Seat) → Meets c m seat step.Grant → Holds c m seat
 granter_holds c m seat h =

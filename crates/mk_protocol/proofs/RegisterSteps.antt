@@ -11,15 +11,11 @@ use Rattle.mk_core.specs.declared.seats.Stage.TheVariants as stage
 use Rattle.mk_protocol.proofs.Actors.{Meets, grants_new}
 use Rattle.mk_protocol.proofs.SameWords.{Behind}
 use Rattle.mk_protocol.proofs.Operands.{HaveOperands, Operands, operands_of, register_small}
+use Rattle.mk_core.proofs.RegisterAccesses.{tally_leaves_registers}
 
 pub data RegisterStep (w : Words) : Seat → List ℕ → Type 0 where
   KeepsRegisters : {seat : Seat} → RegisterStep w seat w.registers
   SetsOwn : {k : ℕ} (r v : ℕ) → r < 8 → RegisterStep w (Caller k) (slice_set w.registers (8 * k + r) v)
-
-tally_registers : (w : Words) (n : Tally) (v : ℕ)
-    → (accessed w (Named (tally_word n)) (Store v)).registers ≡ w.registers
-tally_registers w tally.Held v = refl
-tally_registers w _ v = refl
 
 reg_registers : (w : Words) (k : ℕ) (f : Flight) (s : Stage) → Operands f.op
     → RegisterStep w (Caller k) (accessed w (Named (word.Reg k (register_met f s))) (reg_access f s)).registers
@@ -40,7 +36,7 @@ register_step c m (Caller k) step.Grant ops h =
 register_step c m (Marker k) step.Grant ops h = let kind = h.kind in cc
 register_step c m Host step.Grant ops h = let new = grants_new c m Host h in cc
 register_step c m seat (step.Tally n v) ops h =
-    subst (λ (rs : List ℕ). RegisterStep m.words seat rs) (sym (tally_registers m.words n v)) KeepsRegisters
+    subst (λ (rs : List ℕ). RegisterStep m.words seat rs) (sym (tally_leaves_registers m.words n v)) KeepsRegisters
 register_step c m seat _ ops h = KeepsRegisters
 
 pub others_registers : (w : Words) (seat : Seat) (rs : List ℕ) (k r : ℕ) → RegisterStep w seat rs → seat ≢ Caller k

@@ -45,12 +45,12 @@ block_apart class count false lt e = omega arith
 run_shown : (pages count distance : ℕ) (mapped leaf : Bool)
     → 9 + 16 * count ≡ word_of (run_header pages mapped leaf distance)
     → (mapped ≡ true) × (distance ≡ 0) × (count ≡ pages)
-run_shown pages count zero true true e = absurd (omega arith)
 run_shown pages count zero true false e = (refl, refl, omega arith)
-run_shown pages count zero false true e = absurd (omega arith)
 run_shown pages count zero false false e = absurd (omega arith)
 run_shown pages count (suc d) true leaf e = absurd (omega arith)
 run_shown pages count (suc d) false leaf e = absurd (omega arith)
+run_shown pages count zero true true e = absurd (omega arith)
+run_shown pages count zero false true e = absurd (omega arith)
 
 made_shown : (o : Object) (distance count : ℕ) → 9 + 16 * count ≡ header_made o distance
     → (is_small_object o ≡ false) × (distance ≡ 0) × (count ≡ run_pages_of o.words)

@@ -48,9 +48,7 @@ scan_end c p i (Some (Run count false)) lt li fits =
 scan_end c p i (Some (LeafRun count)) lt li fits =
     let z : i ≡ 0 = omega arith in
     subst (λ j. 64 * p + j * (64 * count) + 0 ≤ 64 * c.pages) (sym z) (omega arith)
-scan_end c p i (Some Free) lt li fits = absurd (omega arith)
-scan_end c p i (Some (Later distance mapped)) lt li fits = absurd (omega arith)
-scan_end c p i None lt li fits = absurd (omega arith)
+scan_end c p i _ lt li fits = absurd (omega arith)
 
 seen_cell : (x : Option SeenHeader) (p i : ℕ) → has_seen_cell x p i ≡ true → (s : SeenHeader) → x ≡ Some s
     → (s.page ≡ p) × (i < cells_under (header_of s.header))

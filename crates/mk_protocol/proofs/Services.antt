@@ -36,21 +36,18 @@ pub service_stands : (f : Flight) (h : Holding) (g : Flight) (i : Holding) → s
 service_stands f h g i is (Goes _ p q) = is
 service_stands f h g i is (Loads _ at stands no_new) = stands
 service_stands f h g i is (Places _ new p q) = is
-service_stands f h g i is (Fills new p) = gives_stand f.stage f.op is
-service_stands f h g i is (Grants new) = gives_stand f.stage f.op is
-service_stands f h g i is (Frees _ free p) = gives_stand f.stage f.op is
+service_stands f h g i is _ = gives_stand f.stage f.op is
 
 pub service_rests : (f : Flight) (h : Holding) (g : Flight) (i : Holding) → f.stage ≡ stage.Idle → Service f h g i
     → g ≡ f
-service_rests f h g i idle (Goes _ p q) = refl
 service_rests f h g i idle (Loads _ at stands no_new) = let e : stage.Idle ≡ stage.LoadP = sym idle ∙ at in cc
-service_rests f h g i idle (Places _ new p q) = refl
 service_rests f h g i idle (Fills new p) = let e : false ≡ true = ap (λ (s : Stage). is_new_at s f.op) (sym idle)
     ∙ new in cc
 service_rests f h g i idle (Grants new) = let e : false ≡ true = ap (λ (s : Stage). is_new_at s f.op) (sym idle)
     ∙ new in cc
 service_rests f h g i idle (Frees _ free p) = let e : false ≡ true = ap (λ (s : Stage). is_free_at s f.op) (sym idle)
     ∙ free in cc
+service_rests f h g i idle _ = refl
 
 -- what the stages exclude
 

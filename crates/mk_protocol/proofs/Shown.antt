@@ -49,13 +49,11 @@ pub all_but_seat : (c : Config) (t : ℕ) (seat : Seat) (gs : List ℕ) (fs : Li
     → Shows t (slice_index gs b) b (standing (slice_index_or fs b at_rest)))
     → AllShow c.callers t gs (flights_with fs seat f)
 all_but_seat c t (Caller k) gs fs f mine others = all_but_flight c.callers t k gs fs f mine.0 mine.1 others
-all_but_seat c t (Marker k) gs fs f mine others = λ b lb. others b lb (λ e. absurd (omega arith))
-all_but_seat c t Host gs fs f mine others = λ b lb. others b lb (λ e. absurd (omega arith))
+all_but_seat c t _ gs fs f mine others = λ b lb. others b lb (λ e. absurd (omega arith))
 
 pub length_with : (fs : List Flight) (seat : Seat) (f : Flight) → length (flights_with fs seat f) ≡ length fs
 length_with fs (Caller k) f = length-set fs k f
-length_with fs (Marker k) f = refl
-length_with fs Host f = refl
+length_with fs _ f = refl
 
 -- a caller's gate and flight are set
 pub all_but_both : (n t k x : ℕ) (gs : List ℕ) (fs : List Flight) (f : Flight) → k < length gs → k < length fs

@@ -78,9 +78,8 @@ HolderMoves c m seat x =
 
 from_seat : (c : Config) (m : Moment) (seat : Seat) (x : Step) → HoldsTurn c (view_of m) seat → HolderMoves c m seat x
     → Moves c m seat x
-from_seat c m (Caller k) x t move = move
 from_seat c m (Marker k) x t move = absurd t
-from_seat c m Host x t move = move
+from_seat c m _ x t move = move
 
 works : (c : Config) (m : Moment) (seat : Seat) (g : Flight) (i : Holding) → HoldsTurn c (view_of m) seat
     → Service (flight_of m seat) m.seats.holding g i
@@ -94,8 +93,7 @@ works_on c m seat t = works c m seat (flight_of m seat) m.seats.holding t (Goes 
 -- its call stays as it is
 same_call : (m : Moment) (seat : Seat) → flights_with m.seats.flights seat (flight_of m seat) ≡ m.seats.flights
 same_call m (Caller k) = set-get_or m.seats.flights k at_rest
-same_call m (Marker k) = refl
-same_call m Host = refl
+same_call m _ = refl
 
 stays_at : (c : Config) (m : Moment) (seat : Seat) (v : View)
     → Move c (view_of m) seat (record v { flights = m.seats.flights; markers = m.seats.markers })

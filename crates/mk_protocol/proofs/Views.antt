@@ -36,13 +36,11 @@ marker_in v k = slice_index_or v.markers k outside
 -- a seat's call among these, and with another call of it
 abbrev pub flight_at : List Flight → Seat → Flight
 flight_at fs (Caller k) = slice_index_or fs k at_rest
-flight_at fs (Marker k) = at_rest
-flight_at fs Host = at_rest
+flight_at fs _ = at_rest
 
 abbrev pub flights_with : List Flight → Seat → Flight → List Flight
 flights_with fs (Caller k) f = slice_set fs k f
-flights_with fs (Marker k) f = fs
-flights_with fs Host f = fs
+flights_with fs _ f = fs
 
 pub flight_is : (m : Moment) (seat : Seat) → flight_of m seat ≡ flight_at m.seats.flights seat
 flight_is m (Caller k) = refl
