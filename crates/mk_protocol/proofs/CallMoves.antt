@@ -24,14 +24,12 @@ use Rattle.mk_protocol.proofs.SameWords.{Moves, finds, reg_keeps, with_words}
 -- a change of nothing
 
 pub same_flight : (v : View) (k : ℕ) → record v { flights = slice_set v.flights k (flight_in v k) } ≡ v
-same_flight v k = ap (λ (fs : List Flight). record v { flights = fs }) (set-get_or v.flights k at_rest)
+same_flight v k = rw (set-get_or v.flights k at_rest)
 
 same_both : (v : View) (k : ℕ)
     → record v { gates = slice_set v.gates k (gate_in v k); flights = slice_set v.flights k (flight_in v k) } ≡ v
 same_both v k =
-    ap (λ (fs : List Flight). record v { gates = slice_set v.gates k (gate_in v k); flights = fs })
-    (set-get_or v.flights k at_rest)
-    ∙ ap (λ (gs : List ℕ). record v { gates = gs }) (set-get_or v.gates k 0)
+    rw (set-get_or v.flights k at_rest) (ap (λ (gs : List ℕ). record v { gates = gs }) (set-get_or v.gates k 0))
 
 -- a caller in its call
 
@@ -48,13 +46,9 @@ enter_move : (c : Config) (m : Moment) (k : ℕ) (o : Op) → k < c.callers → 
     → Moves c m (Caller k) (step.Enter o)
 enter_move c m k o lt was out = elim (cases_eq (slice_index m.words.gates k) 0) [
   | inl z ↦
-      subst (λ (b : Bool). Move c (view_of m) (Caller k) (entered (view_of m) k o b))
-      (sym (eq-eqb (slice_index m.words.gates k) 0 z))
-      (Enters (begun o) lt z was (begun_in_call o out))
+      rw (eq-eqb (slice_index m.words.gates k) 0 z) (Enters (begun o) lt z was (begun_in_call o out))
   | inr ne ↦
-      subst (λ (b : Bool). Move c (view_of m) (Caller k) (entered (view_of m) k o b))
-      (sym (ne_eqb (slice_index m.words.gates k) 0 ne))
-      (subst (λ (n : View). Move c (view_of m) (Caller k) n) (sym (same_both (view_of m) k)) Stays)
+      rw (ne_eqb (slice_index m.words.gates k) 0 ne) (rw (same_both (view_of m) k) Stays)
 ]
 
 -- `reg`, in a call outside the turn or of a Free
@@ -109,7 +103,7 @@ pub call_moves : (c : Config) (m : Moment) (k : ℕ) (x : Step) → k < c.caller
     → is_astray (standing (flight_of m (Caller k))) ≡ false → Meets c m (Caller k) x → Moves c m (Caller k) x
 call_moves c m k (step.Enter o) lt g a h =
     let s = at_enter (flight_of m (Caller k)).stage (flight_of m (Caller k)).op o h.order in
-    enter_move c m k o lt (ap (λ (t : Stage). standing_at t (flight_of m (Caller k)).op) s.0) s.1
+    enter_move c m k o lt (rw s.0) s.1
 call_moves c m k step.Leave lt g a h = Leaves lt (on c m k step.Leave h refl refl a)
 call_moves c m k step.Reg lt g a h =
     reg_move c m k lt (at_reg (flight_of m (Caller k)).stage (flight_of m (Caller k)).op h.order) a

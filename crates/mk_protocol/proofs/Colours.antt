@@ -113,11 +113,9 @@ pub colour_step : (c : Config) (m : Moment) (seat : Seat) (x : Step) → Meets c
     → ColourStep c m seat (colours_of (Behind c m seat x))
 colour_step c m seat step.Reg h =
     let f = flight_of m seat in
-    subst (λ (y : Colours). ColourStep c m seat y)
-    (sym (reg_colours m.words (caller_number seat) (register_met f f.stage)
-    (reg_access f f.stage) m.seats.holding.hand)) Leaves
-colour_step c m seat (step.Tally n v) h =
-    subst (λ (y : Colours). ColourStep c m seat y) (sym (tally_colours m.words n v m.seats.holding.hand)) Leaves
+    rw (reg_colours m.words (caller_number seat) (register_met f f.stage)
+    (reg_access f f.stage) m.seats.holding.hand) Leaves
+colour_step c m seat (step.Tally n v) h = rw (tally_colours m.words n v m.seats.holding.hand) Leaves
 colour_step c m seat (step.Take o) h = takes_or_not c m seat (m.words.turn == 0)
 colour_step c m seat step.Give h = DropsHand
 colour_step c m seat (step.Look w) h = TakesHand w
@@ -129,15 +127,11 @@ colour_step c m seat step.Mmark h = MarksSeen _ _ h.marker refl refl
 colour_step c m seat (step.Black p v) h = Blackens p v (eqb-true (phase_of m.words) 2 h.phase) h.holder
 colour_step c m seat step.Mblack h = BlackensScanned _ _ h.marker refl refl
 colour_step c m seat (step.Unblack p) h =
-    Whitens p (quiet m true h.phase
-    (ap (λ b. not (is_phase m.words 2) || b) (sym (and_true (none_attends m.seats.markers))) ∙ h.holder))
+    Whitens p (quiet m true h.phase (rw (← (and_true (none_attends m.seats.markers))) h.holder))
 colour_step c m seat (step.Undirty p) h =
-    Cleans p
-    (quiet m (is_blank m p) h.phase
-    (ap (λ b. not (is_phase m.words 2) || b)
-    (sym (and_moved (none_attends m.seats.markers) (slice_index m.words.blacks p == 0)
-    (slice_index m.words.blacks (head_page m.words p) == 0))) ∙ h.holder))
-    h.holder
+    Cleans p (quiet m (is_blank m p) h.phase
+    (rw (← (and_moved (none_attends m.seats.markers) (slice_index m.words.blacks p == 0)
+    (slice_index m.words.blacks (head_page m.words p) == 0))) h.holder)) h.holder
 colour_step c m seat _ h = Leaves
 
 -- While a marker attends, no mark and no black bit is cleared.

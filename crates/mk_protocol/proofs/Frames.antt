@@ -40,16 +40,14 @@ use Rattle.mk_protocol.proofs.OthersCounts.{counts_nothing, fulls_of, entry_full
 
 others_flight : (c : Config) (w : World) (seat s : Seat) (x : Step) → seat ≢ s
     → flight_of (WorldBehind c w seat x).now s ≡ flight_of w.now s
-others_flight c w (Caller j) (Caller k) x ne =
-    get_or-set_other w.now.seats.flights j k _ at_rest (λ e. ne (ap (λ i. Caller i) (sym e)))
+others_flight c w (Caller j) (Caller k) x ne = get_or-set_other w.now.seats.flights j k _ at_rest (λ e. ne (rw (← e)))
 others_flight c w (Marker j) (Caller k) x ne = refl
 others_flight c w Host (Caller k) x ne = refl
 others_flight c w seat _ x ne = refl
 
 others_marker : (c : Config) (w : World) (seat s : Seat) (x : Step) → seat ≢ s
     → marker_at (WorldBehind c w seat x).now s ≡ marker_at w.now s
-others_marker c w (Marker j) (Marker k) x ne =
-    get_or-set_other w.now.seats.markers j k _ outside (λ e. ne (ap (λ i. Marker i) (sym e)))
+others_marker c w (Marker j) (Marker k) x ne = get_or-set_other w.now.seats.markers j k _ outside (λ e. ne (rw (← e)))
 others_marker c w (Caller j) (Marker k) x ne = refl
 others_marker c w Host (Marker k) x ne = refl
 others_marker c w seat _ x ne = refl
@@ -66,7 +64,7 @@ others_out c w seat s x known h ne holds =
 
 still_holds : (c : Config) (s : Seat) (w v : World) → flight_of v.now s ≡ flight_of w.now s
     → v.now.words.turn ≡ w.now.words.turn → Holds c w.now s → Holds c v.now s
-still_holds c (Caller k) w v flight turn h = (h.0, ap (λ (f : Flight). is_in_turn f) flight ∙ h.1)
+still_holds c (Caller k) w v flight turn h = (h.0, rw flight h.1)
 still_holds c (Marker k) w v flight turn h = h
 still_holds c Host w v flight turn h = turn ∙ h
 
@@ -225,8 +223,7 @@ same_seat Host = refl
 
 pub other_seat : (s seat : Seat) → is_one_of (s ∷ []) seat ≡ false → seat ≢ s
 other_seat s seat h e =
-    let f : true ≡ false = sym (ap (λ b. b || false) (same_seat s)) ∙ ap (λ (t : Seat). is_one_of (s ∷ []) t) (sym e)
-    ∙ h in
+    let f : true ≡ false = sym (rw (same_seat s)) ∙ ap (λ (t : Seat). is_one_of (s ∷ []) t) (sym e) ∙ h in
     cc
 
 pub left_later : (c : Config) (s : Seat) (w : World) (es : List Event) → Known c w.now → AreEnabledFrom c w es
@@ -258,7 +255,7 @@ counts_later c s w (e ∷ es) k on others holds =
     let one = left_after c w e.seat s e.step k h ne in
     let rest = counts_later c s (world_behind c w e) es (known_behind c w.now e k on.0) on.1 others.1
     (one.own.holding holds).0 in
-    let first : cond {A = ℕ} (is_end e.step) 1 0 ≡ 0 = ap (λ b. cond {A = ℕ} b 1 0) now.0 in
+    let first : cond {A = ℕ} (is_end e.step) 1 0 ≡ 0 = rw now.0 in
     let entry = entry_fulls (caller_number e.seat) (flight_of w.now e.seat).op (answer_decided c w.now e) now.1 in
     record {
       none_ends = sum_by-append (λ (x : Event). cond {A = ℕ} (is_end x.step) 1 0) (e ∷ []) es
@@ -273,9 +270,8 @@ counts_left c es more h =
       ends = sum_by-append (λ (x : Event). cond {A = ℕ} (is_end x.step) 1 0) es more
           ∙ (let r = h.none_ends in omega arith);
       fulls =
-          ap (λ (ds : List Decided). fulls_of ds) (calls_append c (first_world c) es more)
-          ∙ fulls_append (calls c es) (calls_from c (left c es) more)
-          ∙ (let r = h.none_full in omega arith);
+          rw (calls_append c (first_world c) es more) (fulls_append (calls c es) (calls_from c (left c es) more)
+          ∙ (let r = h.none_full in omega arith));
     }
 
 -- the law
@@ -303,8 +299,7 @@ is_left c s es more l known counts =
       own = l.own;
       in_call = λ k is call. record {
         gate =
-            (in_call_gate c (left c (es ++ more)).now k known
-            (subst (λ (t : Seat). IsInCall (left c (es ++ more)).now t) is
+            (in_call_gate c (left c (es ++ more)).now k known (rw is at
             (still_calls c s (left c es) (left c (es ++ more)) l.own call))).1;
         mapped = l.mapped call;
       };
@@ -318,8 +313,6 @@ pub others_leave : OthersLeave
 others_leave c es more s limits on others =
     let parts = enabled_parts c (first_world c) es more on in
     let known = known_left c es limits parts.0 in
-    is_left c s es more
-    (subst (λ (v : World). Left c s (left c es) v) (sym (left_append c (first_world c) es more))
-    (left_later c s (left c es) more known parts.1 others))
-    (known_left c (es ++ more) limits on)
+    is_left c s es more (rw (left_append c (first_world c) es more)
+    (left_later c s (left c es) more known parts.1 others)) (known_left c (es ++ more) limits on)
     (λ holds. counts_left c es more (counts_later c s (left c es) more known parts.1 others holds))

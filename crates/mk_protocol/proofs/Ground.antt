@@ -135,11 +135,7 @@ reg_ground w k r _ = record { pages = refl; freed = refl; snapshot = refl }
 rests : (c : Config) (w : World) (f : Flight) (x : Words) → KeepsGround w.now.words x
     → GroundStep c w f (record (ground_of w) { pages = x.pages; freed = x.freed; snapshot = x.snapshot })
 rests c w f x g =
-    subst (λ (ps : List Page). GroundStep c w f
-    (record (ground_of w) { pages = ps; freed = x.freed; snapshot = x.snapshot })) (sym g.pages)
-    (subst (λ (fs : List ℕ). GroundStep c w f (record (ground_of w) { freed = fs; snapshot = x.snapshot }))
-    (sym g.freed)
-    (subst (λ (ss : List ℕ). GroundStep c w f (record (ground_of w) { snapshot = ss })) (sym g.snapshot) Rests))
+    rw g.pages (rw g.freed (rw g.snapshot Rests))
 
 -- the kinds that go by the phase
 

@@ -23,11 +23,9 @@ pub grows_more : (xs : List ℕ) (q bits : ℕ) → OnlyGrow xs (slice_set xs q 
 grows_more xs q bits p k is = elim (cases_eq p q) [
   | inl e ↦ elim (cases_lt q (length xs)) [
     | inl lt ↦
-        ap (λ n. has_bit n k) (ap (λ i. slice_index (slice_set xs q (bit_or (slice_index xs q) bits)) i) e
-        ∙ get_or-set_same xs q (bit_or (slice_index xs q) bits) 0 lt)
-        ∙ more (slice_index xs q) bits k (sym (ap (λ i. has_bit (slice_index xs i) k) e) ∙ is)
-    | inr past ↦ ap (λ (ys : List ℕ). has_bit (slice_index ys p) k)
-        (set_past xs q (bit_or (slice_index xs q) bits) past) ∙ is
+        rw (ap (λ i. slice_index (slice_set xs q (bit_or (slice_index xs q) bits)) i) e
+        ∙ get_or-set_same xs q (bit_or (slice_index xs q) bits) 0 lt) (more (slice_index xs q) bits k (sym (rw e) ∙ is))
+    | inr past ↦ rw (set_past xs q (bit_or (slice_index xs q) bits) past) is
   ]
-  | inr ne ↦ ap (λ n. has_bit n k) (get_or-set_other xs q p (bit_or (slice_index xs q) bits) 0 ne) ∙ is
+  | inr ne ↦ rw (get_or-set_other xs q p (bit_or (slice_index xs q) bits) 0 ne) is
 ]

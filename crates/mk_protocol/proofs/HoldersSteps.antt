@@ -22,8 +22,7 @@ pub placed_new : (c : Config) (m : Moment) (f : Flight) (place : Place) → plac
     → is_undecided_new f ≡ true
 placed_new c m f place e =
     (where_some (is_undecided_new f) (place_by_placing c.resident m.words.pages
-    (object_made c f.op) m.seats.holding.placing)
-    (ap (λ (x : Option Place). is_some x) e)).0
+    (object_made c f.op) m.seats.holding.placing) (rw e)).0
 
 pub target_free : (pages : ℕ) (w : Words) (f : Flight) → is_some (target pages w f) ≡ true → is_undecided_free f ≡ true
 target_free pages w f h = (where_some (is_undecided_free f) (pointed_cell pages w.pages f.p) h).0
@@ -31,9 +30,8 @@ target_free pages w f h = (where_some (is_undecided_free f) (pointed_cell pages 
 pub freed_free : (pages : ℕ) (w : Words) (f : Flight) (p v : ℕ) (cell : Cell) → cell_freed pages w f p v ≡ Some cell
     → is_undecided_free f ≡ true
 freed_free pages w f p v cell e =
-    target_free pages w f
-    (where_some (not (is_phase w 4) && frees w (target pages w f) p v) (target pages w f)
-    (ap (λ (x : Option Cell). is_some x) e)).1
+    target_free pages w f (where_some (not (is_phase w 4) && frees w (target pages w f) p v) (target pages w f)
+    (rw e)).1
 
 double_some : (w : Words) (cell : Option Cell) (x : Word) → sees_double w cell x ≡ true → is_some cell ≡ true
 double_some w (Some cell) x h = refl

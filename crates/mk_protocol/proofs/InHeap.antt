@@ -35,13 +35,12 @@ own_fits c m k x h in_heap =
   where
     looked : (x : Step) (p : ℕ) → x ≡ step.Mlook (word.Head p)
         → RunFits c p (found c m (record { seat = Marker k; step = x }))
-    looked x p e = subst (λ (y : Step). RunFits c p (found c m (record { seat = Marker k; step = y }))) (sym e)
-        (in_heap.runs p)
+    looked x p e = rw e (in_heap.runs p)
 
     claimed : (x : Step) → is_in_range c (Marker k) (flight_of m (Marker k)) x ≡ true → (p i : ℕ) → x ≡ step.Claim p i
         → p < c.pages
     claimed x range p i e =
-        let r = subst (λ (y : Step). is_in_range c (Marker k) (flight_of m (Marker k)) y ≡ true) e range in
+        let r = rw e at range in
         ltb-true p c.pages (and_parts (nat_lt p c.pages) (nat_lt i 32) r).0
 
 markers_fit : (c : Config) (w : World) (seat : Seat) (x : Step) → InHeap c w.now → Meets c w.now seat x → (k : ℕ)
@@ -77,10 +76,9 @@ in_heap_at_first : (c : Config) → InHeap c (first_moment c)
 in_heap_at_first c =
     record {
       lengths = zero_lengths c.pages;
-      runs = λ p. subst (λ (y : Page). RunFits c p y.header) (sym (at_first c.pages p free_page)) (λ count shows. cc);
+      runs = λ p. rw (at_first c.pages p free_page) (λ count shows. cc);
       places = λ k lt new place held. cc;
-      markers = λ k. subst (λ (y : MarkerState). MarkerFits c y) (sym (at_first 8 k outside))
-          (nothing_fits c outside refl refl);
+      markers = λ k. rw (at_first 8 k outside) (nothing_fits c outside refl refl);
     }
 
 pub in_heap_left : (c : Config) (es : List Event) → IsWithinLimits c → AreEnabled c es → InHeap c (left c es).now

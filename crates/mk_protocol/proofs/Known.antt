@@ -36,7 +36,7 @@ known_at_first c limits =
     record {
       small = limits.callers.1;
       orderly = orderly_at_first c limits.callers.1;
-      operands = λ k. subst (λ (f : Flight). has_operands c f.op ≡ true) (sym (at_first c.callers k at_rest)) refl;
+      operands = λ k. rw (at_first c.callers k at_rest) refl;
     }
 
 pub known_left : (c : Config) (es : List Event) → IsWithinLimits c → AreEnabled c es → Known c (left c es).now

@@ -20,7 +20,7 @@ longer_at more at =
       before = at.before;
       event = at.event;
       behind = at.behind ++ more;
-      is = ap (λ (xs : List Event). xs ++ more) at.is ∙ append_assoc at.before (at.event ∷ at.behind) more;
+      is = rw at.is (append_assoc at.before (at.event ∷ at.behind) more);
       of_kind = at.of_kind;
     }
 

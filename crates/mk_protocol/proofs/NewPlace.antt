@@ -52,8 +52,7 @@ in_fits : (c : Config) (pages : List Page) (o : Op) (placing : Placing) (place :
     → ((y : Place) → held_place placing ≡ Some y → PlaceFits c o y)
     → place_by_placing c.resident pages (object_made c o) placing ≡ Some place → PlaceFits c o place
 in_fits c pages o Unplaced place count held is =
-    λ large. subst (λ n. place.page + run_pages_of (object_made c o).words ≤ n) count
-    (first_fits c.resident pages (object_made c o) place is large)
+    λ large. rw count at (first_fits c.resident pages (object_made c o) place is large)
 in_fits c pages o Granted place count held is = cc
 in_fits c pages o _ place count held is = held place is
 
@@ -103,11 +102,9 @@ set_new : (fs : List Flight) (k j : ℕ) (f : Flight) → (is_undecided_new f �
 set_new fs k j f same new = elim (cases_eq j k) [
   | inl e ↦ elim (cases_lt k (length fs)) [
     | inl lt ↦
-        let now : slice_index_or (slice_set fs k f) j at_rest ≡ f =
-        ap (λ i. slice_index_or (slice_set fs k f) i at_rest) e ∙ get_or-set_same fs k f at_rest lt in
-        now ∙ same (ap (λ (x : Flight). is_undecided_new x) (sym now) ∙ new)
-        ∙ ap (λ i. slice_index_or fs i at_rest) (sym e)
-    | inr past ↦ ap (λ (xs : List Flight). slice_index_or xs j at_rest) (set_past fs k f past)
+        let now : slice_index_or (slice_set fs k f) j at_rest ≡ f = rw e (get_or-set_same fs k f at_rest lt) in
+        now ∙ same (rw (← now) new) ∙ ap (λ i. slice_index_or fs i at_rest) (sym e)
+    | inr past ↦ rw (set_past fs k f past)
   ]
   | inr ne ↦ get_or-set_other fs k j f at_rest ne
 ]
@@ -163,10 +160,9 @@ pub place_fits_now : (c : Config) (m : Moment) (seat : Seat) (x : Step) (place :
 place_fits_now c m seat x place count fits h now =
     let is = now_is c m (flight_of m seat) place now in
     let own = new_holds c m seat x h is.0 in
-    let own_new : is_undecided_new (flight_of m (Caller own.0)) ≡ true =
-    subst (λ (s : Seat). is_undecided_new (flight_of m s) ≡ true) own.2 is.0 in
+    let own_new : is_undecided_new (flight_of m (Caller own.0)) ≡ true = rw own.2 at is.0 in
     in_fits c m.words.pages (flight_of m seat).op m.seats.holding.placing place count
-    (λ y old. subst (λ (s : Seat). PlaceFits c (flight_of m s).op y) (sym own.2) (fits own.0 own.1 own_new y old)) is.1
+    (λ y old. rw own.2 (fits own.0 own.1 own_new y old)) is.1
 
 pub places_behind : (c : Config) (w : World) (seat : Seat) (x : Step) → Known c w.now
     → length w.now.words.pages ≡ c.pages → PlacesFit c w.now
@@ -176,10 +172,8 @@ places_behind c w seat x known count fits h k lt new place held =
     (event_moves c w.now seat x known.orderly h) new) [
       | inr none ↦ let e : None ≡ Some place = sym none ∙ held in absurd (none_some e)
       | inl same ↦
-          let was : is_undecided_new (flight_of w.now (Caller k)) ≡ true =
-          ap (λ (f : Flight). is_undecided_new f) (sym same) ∙ new in
-          subst (λ (f : Flight). PlaceFits c f.op place) (sym same)
-          (before was (ground_place c w (flight_of w.now seat) _ place (ground_step c w seat x h) held))
+          let was : is_undecided_new (flight_of w.now (Caller k)) ≡ true = rw (← same) new in
+          rw same (before was (ground_place c w (flight_of w.now seat) _ place (ground_step c w seat x h) held))
     ]
   where
     none_some : None ≡ Some place → ⊥
@@ -187,20 +181,16 @@ places_behind c w seat x known count fits h k lt new place held =
 
     before : is_undecided_new (flight_of w.now (Caller k)) ≡ true
         → (held_place w.now.seats.holding.placing ≡ Some place)
-        ⊎ (place_now c w.now (flight_of w.now seat) ≡ Some place)
-        → PlaceFits c (flight_of w.now (Caller k)).op place
+        ⊎ (place_now c w.now (flight_of w.now seat) ≡ Some place) → PlaceFits c (flight_of w.now (Caller k)).op place
     before was (inl old) = fits k lt was place old
     before was (inr now) =
         let is = now_is c w.now (flight_of w.now seat) place now in
         let own = new_holds c w.now seat x h is.0 in
-        let own_new : is_undecided_new (flight_of w.now (Caller own.0)) ≡ true =
-        subst (λ (s : Seat). is_undecided_new (flight_of w.now s) ≡ true) own.2 is.0 in
+        let own_new : is_undecided_new (flight_of w.now (Caller own.0)) ≡ true = rw own.2 at is.0 in
         let stands : standing (flight_of w.now (Caller own.0)) ≡ UnderTurn =
-        new_stands (flight_of w.now (Caller own.0)).stage
-        (flight_of w.now (Caller own.0)).op own_new in
+        new_stands (flight_of w.now (Caller own.0)).stage (flight_of w.now (Caller own.0)).op own_new in
         let mine : standing (flight_of w.now (Caller k)) ≡ UnderTurn =
         new_stands (flight_of w.now (Caller k)).stage (flight_of w.now (Caller k)).op was in
         let that : seat ≡ Caller k = own.2
         ∙ same_holder c (view_of w.now) (Caller own.0) (Caller k) known.orderly (own.1, stands) (lt, mine) in
-        subst (λ (s : Seat). PlaceFits c (flight_of w.now s).op place) that
-        (place_fits_now c w.now seat x place count fits h now)
+        rw that at (place_fits_now c w.now seat x place count fits h now)

@@ -75,13 +75,11 @@ set_operands : (c : Config) (fs : List Flight) (k : ℕ) (f : Flight) → HaveOp
 set_operands c fs k f h s b = elim (cases_eq b k) [
   | inl e ↦ elim (cases_lt k (length fs)) [
     | inl lt ↦
-        subst (λ (x : Flight). has_operands c x.op ≡ true) (sym (ap (λ j. slice_index_or (slice_set fs k f) j at_rest) e
-        ∙ get_or-set_same fs k f at_rest lt))
+        rw (ap (λ j. slice_index_or (slice_set fs k f) j at_rest) e ∙ get_or-set_same fs k f at_rest lt)
         (checked c (slice_index_or fs k at_rest).op f.op (h k) s)
-    | inr le ↦ subst (λ (xs : List Flight). has_operands c (slice_index_or xs b at_rest).op ≡ true)
-        (sym (set_past fs k f le)) (h b)
+    | inr le ↦ rw (set_past fs k f le) (h b)
   ]
-  | inr ne ↦ subst (λ (x : Flight). has_operands c x.op ≡ true) (sym (get_or-set_other fs k b f at_rest ne)) (h b)
+  | inr ne ↦ rw (get_or-set_other fs k b f at_rest ne) (h b)
 ]
 
 pub operands_behind : (c : Config) (m : Moment) (seat : Seat) (x : Step) → HaveOperands c m.seats.flights

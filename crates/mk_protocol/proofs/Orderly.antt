@@ -32,7 +32,7 @@ pub record Orderly (c : Config) (v : View) : Type 0 where
 -- what a caller shows, at the standing that it is known to have
 pub shows_at : (c : Config) (v : View) (k : ℕ) (s : Standing) → Orderly c v → k < c.callers
     → standing (flight_in v k) ≡ s → Shows v.turn (gate_in v k) k s
-shows_at c v k s h lt is = subst (λ (x : Standing). Shows v.turn (gate_in v k) k x) is (h.each k lt)
+shows_at c v k s h lt is = rw is at (h.each k lt)
 
 -- the holder is named by the turn word
 pub turn_of : (c : Config) (v : View) (seat : Seat) → Orderly c v → HoldsTurn c v seat
@@ -74,9 +74,8 @@ pub holder_shows : (c : Config) (v : View) (seat : Seat) (f : Flight) → Orderl
     → (standing (flight_at v.flights seat) ≡ UnderTurn → standing f ≡ UnderTurn)
     → OwnShows c v.flights v.turn v.gates seat (standing f)
 holder_shows c v (Caller k) f h t is = (
-  subst (λ n. k < n) (sym h.flights) t.0,
-  subst (λ (x : Standing). Shows v.turn (gate_in v k) k x) (sym (is t.1))
-      (shows_at c v k UnderTurn h t.0 t.1),
+  rw h.flights t.0,
+  rw (is t.1) (shows_at c v k UnderTurn h t.0 t.1),
 )
 holder_shows c v _ f h t is = tt
 
@@ -85,7 +84,7 @@ pub giver_shows : (c : Config) (v : View) (seat : Seat) → Orderly c v → Hold
 giver_shows c v (Caller k) h t =
     let s = shows_at c v k UnderTurn h t.0 t.1 in
     let g : gate_in v k ≡ 0 = s.0 in (
-      subst (λ n. k < n) (sym h.flights) t.0,
+      rw h.flights t.0,
       (λ e. absurd (omega arith), omega arith, λ e. g, λ e. absurd (omega arith)),
     )
 giver_shows c v _ h t = tt
@@ -94,9 +93,8 @@ pub taker_shows : (c : Config) (v : View) (seat : Seat) (f : Flight) → Orderly
     → OwnShows c v.flights (1 + holder_number c seat) v.gates seat (standing f)
 taker_shows c v (Caller k) f h z t =
     let s = shows_at c v k Resting h t.0 t.1 in (
-      subst (λ n. k < n) (sym h.flights) t.0,
-      subst (λ (x : Standing). Shows (1 + k) (gate_in v k) k x) (sym t.2)
-          (s.2 z, refl),
+      rw h.flights t.0,
+      rw t.2 (s.2 z, refl),
     )
 taker_shows c v _ f h z t = tt
 

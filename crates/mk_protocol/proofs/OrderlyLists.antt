@@ -54,9 +54,7 @@ orderly_at_first c small =
       gates = refl;
       markers = refl;
       turn = omega arith;
-      each = λ k lt. subst (λ (f : Flight). Shows 0 (slice_index (replicate 16 0) k) k (standing f))
-          (sym (at_first c.callers k at_rest))
-          (subst (λ (g : ℕ). Shows 0 g k Resting) (sym (at_first 16 k 0))
+      each = λ k lt. rw (at_first c.callers k at_rest) (subst (λ (g : ℕ). Shows 0 g k Resting) (sym (at_first 16 k 0))
           (λ e. absurd (omega arith), omega arith, λ e. refl, λ e. absurd (omega arith)));
       served = nothing_served _ _;
       free = λ e. refl;
@@ -67,8 +65,8 @@ orderly_at_first c small =
       attends = λ k a. let e : false ≡ true = ap (λ (x : Marker). is_attending x.presence) (sym (at_first 8 k outside))
           ∙ a in cc;
       idle = λ k a. record {
-        scan = ap (λ (x : Marker). x.scan) (at_first 8 k outside);
-        hand = ap (λ (x : Marker). x.hand) (at_first 8 k outside);
-        seen = ap (λ (x : Marker). x.seen) (at_first 8 k outside);
+        scan = rw (at_first 8 k outside);
+        hand = rw (at_first 8 k outside);
+        seen = rw (at_first 8 k outside);
       };
     }

@@ -83,10 +83,7 @@ waits_flight : (c : Config) (w : World) (k : ℕ)
     → OthersMove c w (Caller k)
     (with_words_seats w w.now.words
     (record w.now.seats { flights = slice_set w.now.seats.flights k (flight_of w.now (Caller k)) }))
-waits_flight c w k =
-    subst (λ (fs : List Flight). OthersMove c w (Caller k)
-    (with_words_seats w w.now.words (record w.now.seats { flights = fs })))
-    (sym (set-get_or w.now.seats.flights k at_rest)) Waits
+waits_flight c w k = rw (set-get_or w.now.seats.flights k at_rest) Waits
 
 -- a call that begins where it may
 abbrev begun_if : Bool → Op → Flight → Flight
@@ -102,47 +99,17 @@ entered w k o b =
 enter_out : (c : Config) (w : World) (k : ℕ) (o : Op) → k < c.callers → Outs c w (Caller k) (step.Enter o)
 enter_out c w k o lt = elim (cases_eq (slice_index w.now.words.gates k) 0) [
   | inl z ↦
-      subst (λ (b : Bool). OthersMove c w (Caller k) (entered w k o b))
-      (sym (eq-eqb (slice_index w.now.words.gates k) 0 z))
-      (Calls (begun o) lt (omega arith) (SetsGate 1 (omega arith)))
+      rw (eq-eqb (slice_index w.now.words.gates k) 0 z) (Calls (begun o) lt (omega arith) (SetsGate 1 (omega arith)))
   | inr ne ↦
-      subst (λ (b : Bool). OthersMove c w (Caller k) (entered w k o b))
-      (sym (ne_eqb (slice_index w.now.words.gates k) 0 ne))
-      (subst (λ (gs : List ℕ). OthersMove c w (Caller k)
-      (with_words_seats w (record w.now.words { gates = gs })
-      (record w.now.seats { flights = slice_set w.now.seats.flights k (flight_of w.now (Caller k)) })))
-      (sym (set-get_or w.now.words.gates k 0)) (waits_flight c w k))
+      rw (ne_eqb (slice_index w.now.words.gates k) 0 ne) (rw (set-get_or w.now.words.gates k 0) (waits_flight c w k))
 ]
 
 -- the turn is held, so nobody takes it
 take_out : (c : Config) (w : World) (k : ℕ) (o : Op) → w.now.words.turn ≢ 0 → Outs c w (Caller k) (step.Take (Some o))
-take_out c w k o ne =
-    subst (λ (b : Bool). OthersMove c w (Caller k) (record {
-      now = record {
-        words = record w.now.words { turn = if b then 1 + k else w.now.words.turn };
-        seats = record {
-          flights = slice_set w.now.seats.flights k
-              ((if b then record { flight = begun o; answer = None } else still (flight_of w.now (Caller k))).flight);
-          holding = if b then nothing_done else w.now.seats.holding;
-          markers = w.now.seats.markers;
-        };
-        fresh_words = w.now.fresh_words;
-      };
-      allocations = w.allocations;
-    }))
-    (sym (ne_eqb w.now.words.turn 0 ne)) (waits_flight c w k)
+take_out c w k o ne = rw (ne_eqb w.now.words.turn 0 ne) (waits_flight c w k)
 
 host_take_out : (c : Config) (w : World) → w.now.words.turn ≢ 0 → Outs c w Host (step.Take None)
-host_take_out c w ne =
-    subst (λ (b : Bool). OthersMove c w Host (record {
-      now = record {
-        words = record w.now.words { turn = if b then 1 + c.callers else w.now.words.turn };
-        seats = record w.now.seats { holding = if b then nothing_done else w.now.seats.holding };
-        fresh_words = w.now.fresh_words;
-      };
-      allocations = w.allocations;
-    }))
-    (sym (ne_eqb w.now.words.turn 0 ne)) Waits
+host_take_out c w ne = rw (ne_eqb w.now.words.turn 0 ne) Waits
 
 -- the gate of a caller in a call
 

@@ -55,12 +55,10 @@ told c m o operands =
       free = o.free;
       placed = λ e. some_caller c m is_undecided_new o refl (o.served.placed e);
       granted = λ e. some_caller c m is_decided_new o refl (o.served.granted e);
-      freed = λ run e. some_caller c m is_decided_free o refl
-          (o.served.freed (ap (λ (x : Option RunPages). is_some x) e));
+      freed = λ run e. some_caller c m is_decided_free o refl (o.served.freed (rw e));
     }
   where
-    gates : (k : ℕ) → k < c.callers
-        → (gate_in (view_of m) k ≤ 2)
+    gates : (k : ℕ) → k < c.callers → (gate_in (view_of m) k ≤ 2)
         × ((gate_in (view_of m) k ≡ 1) ↔ (is_standing_in_call (standing (flight_of m (Caller k))) ≡ true))
         × (gate_in (view_of m) k ≡ 2 → (m.words.turn ≢ 0) × (m.words.turn ≢ 1 + k))
     gates k lt = shows_gate m.words.turn (gate_in (view_of m) k) k (standing (flight_of m (Caller k))) (o.each k lt)

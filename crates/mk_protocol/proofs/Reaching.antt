@@ -139,10 +139,9 @@ granter_holds : (c : Config) (m : Moment) (seat : Seat) → Meets c m seat step.
 granter_holds c m seat h =
     let new = grants_new c m seat h in
     let own = new_holds c m seat step.Grant h new in
-    subst (λ (s : Seat). Holds c m s) (sym own.2) (
+    rw own.2 (
       own.1,
-      new_in_turn (flight_of m (Caller own.0)).stage (flight_of m (Caller own.0)).op
-          (subst (λ (s : Seat). is_undecided_new (flight_of m s) ≡ true) own.2 new),
+      new_in_turn (flight_of m (Caller own.0)).stage (flight_of m (Caller own.0)).op (rw own.2 at new),
     )
 
 same_access : (c : Config) (m n : Moment) (seat : Seat) (x : Step) → flight_of n seat ≡ flight_of m seat
@@ -150,9 +149,9 @@ same_access : (c : Config) (m n : Moment) (seat : Seat) (x : Step) → flight_of
     → (is_grant x ≡ true → n.seats.holding ≡ m.seats.holding)
     → access c n (record { seat = seat; step = x }) ≡ access c m (record { seat = seat; step = x })
 same_access c m n seat x flight marker holding =
-    ap (λ (f : Flight). access_by c (holder_number c seat) f n.seats.holding.placing (marker_at n seat) x) flight
-    ∙ ap (λ (y : MarkerState). access_by c (holder_number c seat) (flight_of m seat) n.seats.holding.placing y x) marker
-    ∙ by (is_grant x) refl
+    rw flight
+    (ap (λ (y : MarkerState). access_by c (holder_number c seat) (flight_of m seat) n.seats.holding.placing y x) marker
+    ∙ by (is_grant x) refl)
   where
     by : (b : Bool) → is_grant x ≡ b
         → access_by c (holder_number c seat) (flight_of m seat) n.seats.holding.placing (marker_at m seat) x
@@ -166,10 +165,9 @@ pub others_leave_accesses : OthersLeaveAccesses
 others_leave_accesses c es more e limits on others now =
     let l = (others_leave c es more e.seat limits on others).own in
     record {
-      word = ap (λ (f : Flight). word_reached c (caller_number e.seat) f (marker_at (left c (es ++ more)).now e.seat)
-          e.step) l.flight
-          ∙ ap (λ (y : MarkerState). word_reached c (caller_number e.seat) (flight_of (left c es).now e.seat) y e.step)
-          l.marker;
+      word = rw l.flight
+          (ap (λ (y : MarkerState). word_reached c (caller_number e.seat) (flight_of (left c es).now e.seat) y e.step)
+          l.marker);
       access =
           same_access c (left c es).now (left c (es ++ more)).now e.seat e.step l.flight l.marker
           (λ g. (l.holding (granting e.step g (enabled_meets c (left c es).now e now))).1);

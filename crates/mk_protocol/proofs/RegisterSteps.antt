@@ -35,8 +35,7 @@ register_step c m (Caller k) step.Grant ops h =
     SetsOwn (d_of (flight_of m (Caller k)).op) _ (operands_of c (flight_of m (Caller k)).op (ops k)).d
 register_step c m (Marker k) step.Grant ops h = let kind = h.kind in cc
 register_step c m Host step.Grant ops h = let new = grants_new c m Host h in cc
-register_step c m seat (step.Tally n v) ops h =
-    subst (λ (rs : List ℕ). RegisterStep m.words seat rs) (sym (tally_leaves_registers m.words n v)) KeepsRegisters
+register_step c m seat (step.Tally n v) ops h = rw (tally_leaves_registers m.words n v) KeepsRegisters
 register_step c m seat _ ops h = KeepsRegisters
 
 pub others_registers : (w : Words) (seat : Seat) (rs : List ℕ) (k r : ℕ) → RegisterStep w seat rs → seat ≢ Caller k
@@ -44,5 +43,4 @@ pub others_registers : (w : Words) (seat : Seat) (rs : List ℕ) (k r : ℕ) →
     → slice_index rs (8 * k + r) ≡ slice_index w.registers (8 * k + r)
 others_registers w seat rs k r KeepsRegisters ne lt = refl
 others_registers w seat rs k r (SetsOwn {k = j} s v ls) ne lt =
-    get_or-set_other w.registers (8 * j + s) (8 * k + r) v 0
-    (λ e. ne (ap (λ i. Caller i) (let same : j ≡ k = omega arith in same)))
+    get_or-set_other w.registers (8 * j + s) (8 * k + r) v 0 (λ e. ne (rw (let same : j ≡ k = omega arith in same)))

@@ -125,15 +125,14 @@ header_set c ps p n u fits all q = elim (cases_eq q p) [
   | inl e ↦
       let own : RunFits c p (slice_index_or (slice_set ps p (record { header = n; used = u })) q free_page).header =
       page_set ps p q (record { header = n; used = u }) (λ y. RunFits c p y) (λ lt. fits)
-      (λ count shows. subst (λ i. i + count ≤ c.pages) e (all q count shows)) in
-      λ count shows. subst (λ i. i + count ≤ c.pages) (sym e) (own count shows)
+      (λ count shows. rw e at (all q count shows)) in
+      λ count shows. rw e (own count shows)
   | inr ne ↦ page_set_other ps p q (record { header = n; used = u }) ne (all q)
 ]
   where
     page_set_other : (ps : List Page) (p q : ℕ) (x : Page) → q ≢ p → RunFits c q (slice_index_or ps q free_page).header
         → RunFits c q (slice_index_or (slice_set ps p x) q free_page).header
-    page_set_other ps p q x ne h =
-        subst (λ (y : Page). RunFits c q y.header) (sym (get_or-set_other ps p q x free_page ne)) h
+    page_set_other ps p q x ne h = rw (get_or-set_other ps p q x free_page ne) h
 
 pub runs_behind : (c : Config) (w : World) (f : Flight) (g : Ground)
     → ((x : Place) → place_now c w.now f ≡ Some x → PlaceFits c f.op x)

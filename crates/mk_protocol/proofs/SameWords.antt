@@ -51,12 +51,4 @@ pub with_words : (c : Config) (v : View) (seat : Seat) (w x : Words) (fs : List 
       markers = ms;
     })
 with_words c v seat w x fs h ms same move =
-    subst (λ t. Move c v seat
-    (record { turn = t; phase = x.phase; gates = x.gates; flights = fs; holding = h; markers = ms }))
-    (sym same.turn)
-    (subst (λ p. Move c v seat
-    (record { turn = w.turn; phase = p; gates = x.gates; flights = fs; holding = h; markers = ms }))
-    (sym same.phase)
-    (subst (λ (gs : List ℕ). Move c v seat
-    (record { turn = w.turn; phase = w.phase; gates = gs; flights = fs; holding = h; markers = ms }))
-    (sym same.gates) move))
+    rw same.turn (rw same.phase (rw same.gates move))

@@ -41,13 +41,13 @@ scan_end c p i (Some (LeafBlock class)) lt li fits = omega (arith, cell_ends i (
 scan_end c p i (Some (Run count true)) lt li fits =
     let room = fits count refl in
     let z : i ≡ 0 = omega arith in
-    subst (λ j. 64 * p + j * (64 * count) + 64 * count ≤ 64 * c.pages) (sym z) (omega arith)
+    rw z (omega arith)
 scan_end c p i (Some (Run count false)) lt li fits =
     let z : i ≡ 0 = omega arith in
-    subst (λ j. 64 * p + j * (64 * count) + 0 ≤ 64 * c.pages) (sym z) (omega arith)
+    rw z (omega arith)
 scan_end c p i (Some (LeafRun count)) lt li fits =
     let z : i ≡ 0 = omega arith in
-    subst (λ j. 64 * p + j * (64 * count) + 0 ≤ 64 * c.pages) (sym z) (omega arith)
+    rw z (omega arith)
 scan_end c p i _ lt li fits = absurd (omega arith)
 
 seen_cell : (x : Option SeenHeader) (p i : ℕ) → has_seen_cell x p i ≡ true → (s : SeenHeader) → x ≡ Some s
@@ -75,14 +75,13 @@ claims : (c : Config) (p i marks : ℕ) (x : Marker) → p < c.pages → has_see
 claims c p i marks x lt seen h =
     record {
       seen = h.seen;
-      page = λ s e. let k = claimed_is p i marks x.seen s e in subst (λ (t : Scan). t.page < c.pages) (sym k.2) lt;
+      page = λ s e. let k = claimed_is p i marks x.seen s e in rw k.2 lt;
       end = λ s e.
           let k = claimed_is p i marks x.seen s e in
           let at = seen_cell x.seen p i seen k.0 k.1 in
           let fits : (count : ℕ) → header_of k.0.header ≡ Some (Run count true)
-          → p + count ≤ c.pages = λ count shows. subst
-          (λ q. q + count ≤ c.pages) at.0 (h.seen k.0 k.1 count shows) in
-          subst (λ (t : Scan). t.end ≤ 64 * c.pages) (sym k.2) (scan_end c p i (header_of k.0.header) lt at.1 fits);
+          → p + count ≤ c.pages = λ count shows. rw at.0 at (h.seen k.0 k.1 count shows) in
+          rw k.2 (scan_end c p i (header_of k.0.header) lt at.1 fits);
     }
 
 loads : (c : Config) (hand : Option ℕ) (x : Marker) → MarkerFits c x
@@ -129,8 +128,7 @@ pub marker_fits_behind : (c : Config) (n : ℕ) (s : Step) (x : Marker)
     → marker_may c x s ≡ true → MarkerFits c x → MarkerFits c (marker_behind c n s x)
 marker_fits_behind c n step.Attend x looked claimed m h = nothing_fits c _ refl refl
 marker_fits_behind c n step.Quit x looked claimed m h = nothing_fits c _ refl refl
-marker_fits_behind c n (step.Mlook w) x looked claimed m h =
-    looks c n w x (λ p e. looked p (ap (λ (y : Word). step.Mlook y) e)) h
+marker_fits_behind c n (step.Mlook w) x looked claimed m h = looks c n w x (λ p e. looked p (rw e)) h
 marker_fits_behind c n (step.Claim p i) x looked claimed m h =
     claims c p i n x (claimed p i refl)
     (and_parts (is_attending x.presence && is_none x.scan) (has_seen_cell x.seen p i) m).1 h

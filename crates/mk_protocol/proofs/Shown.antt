@@ -18,10 +18,8 @@ pub all_but_flight : (n t k : ℕ) (gs : List ℕ) (fs : List Flight) (f : Fligh
     → AllShow n t gs (slice_set fs k f)
 all_but_flight n t k gs fs f lt mine others b lb = elim (cases_eq b k) [
   | inl e ↦
-      subst (λ (j : ℕ). Shows t (slice_index gs j) j (standing (slice_index_or (slice_set fs k f) j at_rest))) (sym e)
-      (subst (λ (x : Flight). Shows t (slice_index gs k) k (standing x)) (sym (get_or-set_same fs k f at_rest lt)) mine)
-  | inr ne ↦ subst (λ (x : Flight). Shows t (slice_index gs b) b (standing x))
-      (sym (get_or-set_other fs k b f at_rest ne)) (others b lb (λ e. ne (sym e)))
+      rw e (rw (get_or-set_same fs k f at_rest lt) mine)
+  | inr ne ↦ rw (get_or-set_other fs k b f at_rest ne) (others b lb (λ e. ne (sym e)))
 ]
 
 -- one gate is set
@@ -31,10 +29,8 @@ pub all_but_gate : (n t k x : ℕ) (gs : List ℕ) (fs : List Flight) → k < le
     → AllShow n t (slice_set gs k x) fs
 all_but_gate n t k x gs fs lt mine others b lb = elim (cases_eq b k) [
   | inl e ↦
-      subst (λ (j : ℕ). Shows t (slice_index (slice_set gs k x) j) j (standing (slice_index_or fs j at_rest))) (sym e)
-      (subst (λ (y : ℕ). Shows t y k (standing (slice_index_or fs k at_rest))) (sym (get_or-set_same gs k x 0 lt)) mine)
-  | inr ne ↦ subst (λ (y : ℕ). Shows t y b (standing (slice_index_or fs b at_rest)))
-      (sym (get_or-set_other gs k b x 0 ne)) (others b lb (λ e. ne (sym e)))
+      rw e (rw (get_or-set_same gs k x 0 lt) mine)
+  | inr ne ↦ rw (get_or-set_other gs k b x 0 ne) (others b lb (λ e. ne (sym e)))
 ]
 
 -- what the seat itself is to show after its step
@@ -60,7 +56,5 @@ pub all_but_both : (n t k x : ℕ) (gs : List ℕ) (fs : List Flight) (f : Fligh
     → Shows t x k (standing f)
     → AllShow n t gs fs → AllShow n t (slice_set gs k x) (slice_set fs k f)
 all_but_both n t k x gs fs f lg lf mine all =
-    all_but_flight n t k (slice_set gs k x) fs f lf
-    (subst (λ (y : ℕ). Shows t y k (standing f)) (sym (get_or-set_same gs k x 0 lg)) mine)
-    (λ b lb ne. subst (λ (y : ℕ). Shows t y b (standing (slice_index_or fs b at_rest)))
-    (sym (get_or-set_other gs k b x 0 (λ e. ne (sym e)))) (all b lb))
+    all_but_flight n t k (slice_set gs k x) fs f lf (rw (get_or-set_same gs k x 0 lg) mine)
+    (λ b lb ne. rw (get_or-set_other gs k b x 0 (λ e. ne (sym e))) (all b lb))

@@ -42,12 +42,11 @@ call_takes c m k o lt idle is = elim (cases_eq m.words.turn 0) [
       subst (λ (b : Bool). Move c (view_of m) (Caller k) (taken_by (view_of m) k o b)) (sym (eq-eqb m.words.turn 0 z))
       (Takes (begun o) z (
         lt,
-        ap (λ (t : Stage). standing_at t (flight_of m (Caller k)).op) idle,
+        rw idle,
         begun_under_turn o is,
       ))
   | inr ne ↦
-      subst (λ (b : Bool). Move c (view_of m) (Caller k) (taken_by (view_of m) k o b)) (sym (ne_eqb m.words.turn 0 ne))
-      (subst (λ (n : View). Move c (view_of m) (Caller k) n) (sym (same_flight (view_of m) k)) Stays)
+      rw (ne_eqb m.words.turn 0 ne) (rw (same_flight (view_of m) k) Stays)
 ]
 
 abbrev taken_by_host : Config → View → Bool → View
@@ -59,10 +58,8 @@ taken_by_host c v b = record v {
 
 pub host_takes : (c : Config) (m : Moment) → Moves c m Host (step.Take None)
 host_takes c m = elim (cases_eq m.words.turn 0) [
-  | inl z ↦ subst (λ (b : Bool). Move c (view_of m) Host (taken_by_host c (view_of m) b))
-      (sym (eq-eqb m.words.turn 0 z)) (Takes at_rest z tt)
-  | inr ne ↦ subst (λ (b : Bool). Move c (view_of m) Host (taken_by_host c (view_of m) b))
-      (sym (ne_eqb m.words.turn 0 ne)) Stays
+  | inl z ↦ rw (eq-eqb m.words.turn 0 z) (Takes at_rest z tt)
+  | inr ne ↦ rw (ne_eqb m.words.turn 0 ne) Stays
 ]
 
 -- the holder, whose seat is a caller's or the host's
@@ -84,7 +81,7 @@ from_seat c m _ x t move = move
 works : (c : Config) (m : Moment) (seat : Seat) (g : Flight) (i : Holding) → HoldsTurn c (view_of m) seat
     → Service (flight_of m seat) m.seats.holding g i
     → Move c (view_of m) seat (record (view_of m) { flights = flights_with m.seats.flights seat g; holding = i })
-works c m seat g i t s = Works g i t (subst (λ (f : Flight). Service f m.seats.holding g i) (flight_is m seat) s)
+works c m seat g i t s = Works g i t (rw (flight_is m seat) at s)
 
 works_on : (c : Config) (m : Moment) (seat : Seat) → HoldsTurn c (view_of m) seat
     → Move c (view_of m) seat (record (view_of m) { flights = flights_with m.seats.flights seat (flight_of m seat) })
@@ -98,9 +95,7 @@ same_call m _ = refl
 stays_at : (c : Config) (m : Moment) (seat : Seat) (v : View)
     → Move c (view_of m) seat (record v { flights = m.seats.flights; markers = m.seats.markers })
     → Move c (view_of m) seat (with_call m seat (flight_of m seat) v)
-stays_at c m seat v move =
-    subst (λ (fs : List Flight). Move c (view_of m) seat (record v { flights = fs; markers = m.seats.markers }))
-    (sym (same_call m seat)) move
+stays_at c m seat v move = rw (same_call m seat) move
 
 -- a gate that is 0 or 1 is held or not
 hold_move : (c : Config) (m : Moment) (seat : Seat) (j : ℕ) → HoldsTurn c (view_of m) seat → j < c.callers
@@ -112,15 +107,9 @@ hold_move : (c : Config) (m : Moment) (seat : Seat) (j : ℕ) → HoldsTurn c (v
     })
 hold_move c m seat j t lj ne = elim (cases_eq (slice_index m.words.gates j) 0) [
   | inl z ↦
-      subst (λ (b : Bool). Move c (view_of m) seat
-      (record (view_of m) { gates = slice_set m.words.gates j (if b then 2 else slice_index m.words.gates j) }))
-      (sym (eq-eqb (slice_index m.words.gates j) 0 z)) (Holds j t lj ne z)
+      rw (eq-eqb (slice_index m.words.gates j) 0 z) (Holds j t lj ne z)
   | inr nz ↦
-      subst (λ (b : Bool). Move c (view_of m) seat
-      (record (view_of m) { gates = slice_set m.words.gates j (if b then 2 else slice_index m.words.gates j) }))
-      (sym (ne_eqb (slice_index m.words.gates j) 0 nz))
-      (subst (λ (gs : List ℕ). Move c (view_of m) seat (record (view_of m) { gates = gs }))
-      (sym (set-get_or m.words.gates j 0)) Stays)
+      rw (ne_eqb (slice_index m.words.gates j) 0 nz) (rw (set-get_or m.words.gates j 0) Stays)
 ]
 
 by_kind : (c : Config) (m : Moment) (seat : Seat) (x : Step) → HoldsTurn c (view_of m) seat → is_holders x ≡ true
