@@ -5,23 +5,15 @@ use Rattle.std.specs.Prelude.{Option, Some, None, is_none, slice_index, slice_se
 use Rattle.std.specs.Prelude.{bit_or}
 use Rattle.std.proofs.lemmas.Bool.{eq-eqb, cases_eq, true≢false, eqb-true, and_parts, or_cases, not-true}
 use Rattle.std.proofs.lemmas.List.{get_or-set_other}
-use Rattle.mk_core.specs.declared.config.Config.{Config}
-use Rattle.mk_core.specs.declared.events.Seat.{Seat}
-use Rattle.mk_core.specs.declared.events.Seat.TheVariants.{Marker}
+use Rattle.mk_protocol.proofs.Vocabulary.{AreOfPages, BlackIsGuarded, Config, DirtyIsOwed, IsGuarded, Marker, Moment}
+use Rattle.mk_protocol.proofs.Vocabulary.{PageIsDirty, PointsWell, Scan, Seat, Words, World, all_below, cell_words}
+use Rattle.mk_protocol.proofs.Vocabulary.{cells_under, first_word, has_bit, has_no_pointers, head_page, header_in}
+use Rattle.mk_protocol.proofs.Vocabulary.{is_marked, is_phase, is_scanned, marker_of, may_turn_black, none_attends}
+use Rattle.mk_protocol.proofs.Vocabulary.{phase_of, scan_page, word_points_well, words_under}
 use Rattle.mk_core.specs.declared.events.Step.TheVariants as step
-use Rattle.mk_core.specs.declared.seats.Scan.{Scan}
-use Rattle.mk_core.specs.Bits.{has_bit}
-use Rattle.mk_core.specs.Bounded.{all_below}
-use Rattle.mk_core.specs.Words.{Words, phase_of}
-use Rattle.mk_core.specs.Layout.{AreOfPages}
-use Rattle.mk_core.specs.Cells.{cells_under, words_under, has_no_pointers, head_page, header_in, is_marked, first_word}
-use Rattle.mk_core.specs.Cells.{cell_words, word_points_well, words_point_well}
-use Rattle.mk_core.specs.Moments.{Moment, marker_of, is_phase}
-use Rattle.mk_core.specs.Accesses.{scan_page, scan_bit}
-use Rattle.mk_core.specs.MarkerConditions.{is_scanned}
-use Rattle.mk_core.specs.StopConditions.{none_attends, blackens, may_turn_black}
-use Rattle.mk_core.specs.ClosedMarks.{IsGuarded, PointsWell, PageIsDirty, DirtyIsOwed, BlackIsGuarded}
-use Rattle.mk_core.specs.History.{World}
+use Rattle.mk_core.specs.Cells.{words_point_well}
+use Rattle.mk_core.specs.Accesses.{scan_bit}
+use Rattle.mk_core.specs.StopConditions.{blackens}
 use Rattle.mk_core.proofs.AllBelow.{all_below-at}
 use Rattle.mk_core.proofs.WordBits.{no_bit, bit_of_power, bit_of_cell, more_bits}
 use Rattle.mk_protocol.proofs.Actors.{Meets}

@@ -4,34 +4,16 @@ use Rattle.std.proofs.Common.{inl, inr, arith}
 use Rattle.std.specs.Prelude.{nat_le, nat_lt, slice_index, slice_index_or, slice_set}
 use Rattle.std.proofs.lemmas.Bool.{cases_eq, cases_lt, true≢false, ltb-true, and_parts}
 use Rattle.std.proofs.lemmas.List.{get_or-set_same, get_or-set_other, set_past}
-use Rattle.mk_never.specs.declared.operations.Op.{Op}
+use Rattle.mk_protocol.proofs.Vocabulary.{Access, AreOfPages, Caller, Config, DirtyIsOwed, Flight, Host, IsGuarded}
+use Rattle.mk_protocol.proofs.Vocabulary.{Load, Marker, Moment, Named, OnlyGrow, Op, OwesDirty, Page, Seat, Stage, Step}
+use Rattle.mk_protocol.proofs.Vocabulary.{Store, Tally, Words, accessed, at_rest, caller_number, comes_next, flight_of}
+use Rattle.mk_protocol.proofs.Vocabulary.{found, free_page, has_bit, header_at, page_met, progress, reg_access}
+use Rattle.mk_protocol.proofs.Vocabulary.{register_met, stage_behind, steps_of, tally_word, word_met}
 use Rattle.mk_never.specs.declared.operations.Op.TheVariants as op
-use Rattle.mk_geom.specs.declared.pages.Page.{Page}
-use Rattle.mk_geom.specs.Storages.{free_page}
-use Rattle.mk_core.specs.declared.config.Config.{Config}
-use Rattle.mk_core.specs.declared.accesses.Access.{Access}
-use Rattle.mk_core.specs.declared.accesses.Access.TheVariants.{Load, Store}
-use Rattle.mk_core.specs.declared.accesses.TableWord.TheVariants.{Named}
-use Rattle.mk_core.specs.declared.events.Tally.{Tally}
 use Rattle.mk_core.specs.declared.events.Tally.TheVariants as tally
 use Rattle.mk_core.specs.declared.events.Word.TheVariants as word
-use Rattle.mk_core.specs.declared.events.Seat.{Seat}
-use Rattle.mk_core.specs.declared.events.Seat.TheVariants.{Caller, Marker, Host}
-use Rattle.mk_core.specs.declared.events.Step.{Step}
 use Rattle.mk_core.specs.declared.events.Step.TheVariants as step
-use Rattle.mk_core.specs.declared.seats.Stage.{Stage}
 use Rattle.mk_core.specs.declared.seats.Stage.TheVariants as stage
-use Rattle.mk_core.specs.declared.seats.Flight.{Flight}
-use Rattle.mk_core.specs.Bits.{has_bit}
-use Rattle.mk_core.specs.Calls.{at_rest, page_met, word_met, steps_of, stage_behind}
-use Rattle.mk_core.specs.Words.{Words, accessed, header_at}
-use Rattle.mk_core.specs.Layout.{AreOfPages}
-use Rattle.mk_core.specs.Moments.{Moment, flight_of}
-use Rattle.mk_core.specs.Order.{comes_next}
-use Rattle.mk_core.specs.Accesses.{caller_number, tally_word, register_met, reg_access, found}
-use Rattle.mk_core.specs.Effects.{progress}
-use Rattle.mk_core.specs.Frames.{OnlyGrow}
-use Rattle.mk_core.specs.ClosedMarks.{OwesDirty, IsGuarded, DirtyIsOwed}
 use Rattle.mk_core.proofs.WordBits.{no_bit}
 use Rattle.mk_protocol.proofs.Standings.{standing_at, is_astray}
 use Rattle.mk_protocol.proofs.NextSteps.{at_its_stage}
@@ -188,8 +170,6 @@ at_owed o _ h = cc
 pub owed_kind : (c : Config) (m : Moment) (seat : Seat) (x : Step) → AreOfPages c.pages m.words → Meets c m seat x
     → (j p : ℕ) → OwesDirty m j p
     → OwesDirty (Behind c m seat x) j p ⊎ (slice_index (Behind c m seat x).words.dirty p ≡ 1)
-owed_kind c m (Marker k) x len h j p owes = inl owes
-owed_kind c m Host x len h j p owes = inl owes
 owed_kind c m (Caller k) x len h j p owes = elim (cases_eq j k) [
   | inr ne ↦
       let is = get_or-set_other m.seats.flights k j
@@ -213,6 +193,7 @@ owed_kind c m (Caller k) x len h j p owes = elim (cases_eq j k) [
         let lt = ltb-true (word_met (flight_of m (Caller k))) (64 * c.pages) met in
         get_or-set_same m.words.dirty (page_met (flight_of m (Caller k))) 1 0 (omega (arith, len.dirty, lt))
     paid _ h is = cc
+owed_kind c m _ x len h j p owes = inl owes
 
 -- headers
 

@@ -2,23 +2,16 @@
 use Rattle.std.proofs.Common.{◌≡◌, ℕ, ◌+◌, ◌-◌, ◌/◌, true, false, sym, ◌∙◌, ap, subst, inl, arith}
 use Rattle.std.specs.Prelude.{◌||◌, not}
 use Rattle.std.proofs.lemmas.Bool.{and_parts, not-true}
-use Rattle.mk_geom.specs.Headers.{header_of}
-use Rattle.mk_geom.specs.StorageWords.{IsWordOf, cell_of_storage}
-use Rattle.mk_core.specs.declared.config.Config.{Config}
-use Rattle.mk_core.specs.Config.{IsWithinLimits}
-use Rattle.mk_core.specs.Words.{header_at}
-use Rattle.mk_core.specs.Cells.{header_in, has_no_pointers, is_unmapped_header, first_word, cell_words}
-use Rattle.mk_core.specs.Cells.{word_points_well}
-use Rattle.mk_core.specs.NewPlaces.{header_made}
-use Rattle.mk_core.specs.Allocations.{PlacedAllocation, placed_at, is_mapped, storage_of, storage_words}
-use Rattle.mk_core.specs.StandingAllocations.{object_placed, HasItsHeaders}
-use Rattle.mk_core.specs.ClosedMarks.{MarksAreClosed, is_marked_allocation}
-use Rattle.mk_core.specs.History.{World}
+use Rattle.mk_protocol.proofs.Vocabulary.{Config, HasItsHeaders, IsWithinLimits, IsWordOf, MarksAreClosed}
+use Rattle.mk_protocol.proofs.Vocabulary.{PlacedAllocation, Words, World, cell_words, first_word, has_no_pointers}
+use Rattle.mk_protocol.proofs.Vocabulary.{header_at, header_in, header_made, header_of, is_mapped, is_unmapped_header}
+use Rattle.mk_protocol.proofs.Vocabulary.{object_placed, placed_at, storage_of, storage_words, word_points_well}
+use Rattle.mk_geom.specs.StorageWords.{cell_of_storage}
+use Rattle.mk_core.specs.ClosedMarks.{is_marked_allocation}
 use Rattle.mk_core.proofs.Sizes.{pages_some}
 use Rattle.mk_core.proofs.ObjectHeaders.{made_is_mapped, part_has_no_pointers}
 use Rattle.mk_core.proofs.StandingAllocations.{typed_size, first_page_shows, cells_begin, cell_is_known}
 use Rattle.mk_core.proofs.PointedAllocations.{marked_where_its_cell_is}
-use Rattle.mk_core.specs.Words.{Words}
 use Rattle.mk_guard.specs.Guard.{CellsAreClosed}
 use Rattle.mk_guard.specs.Kept.{StandsMapped}
 

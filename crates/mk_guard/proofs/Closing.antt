@@ -6,26 +6,14 @@ use Rattle.std.specs.Int.{bit_at}
 use Rattle.std.proofs.lemmas.Bool.{cases_eq, cases_lt, true≢false, eqb-true, eq-eqb, and_parts}
 use Rattle.std.proofs.lemmas.List.{get_or_past}
 use Rattle.std.proofs.lemmas.Nat.Bits.{bit_at_and, bit_at_ones}
-use Rattle.mk_geom.specs.declared.pages.Page.{Page}
-use Rattle.mk_geom.specs.Storages.{free_page}
-use Rattle.mk_geom.specs.Headers.{header_of}
-use Rattle.mk_core.specs.declared.config.Config.{Config}
-use Rattle.mk_core.specs.declared.events.Seat.{Seat}
-use Rattle.mk_core.specs.declared.events.Seat.TheVariants.{Caller, Marker, Host}
+use Rattle.mk_protocol.proofs.Vocabulary.{AreOfPages, BlackIsGuarded, Caller, Config, DirtyIsOwed, Flight, Host}
+use Rattle.mk_protocol.proofs.Vocabulary.{IsGuarded, Marker, Moment, Page, PageIsDirty, PointsWell, Seat, Stage, Words}
+use Rattle.mk_protocol.proofs.Vocabulary.{all_below, at_rest, cells_under, comes_next, first_word, flight_of, free_page}
+use Rattle.mk_protocol.proofs.Vocabulary.{has_bit, has_closed_page, header_in, header_of, holder_number, none_attends}
+use Rattle.mk_protocol.proofs.Vocabulary.{points_well, roots_point_well, without, word_points_well}
 use Rattle.mk_core.specs.declared.events.Step.TheVariants as step
-use Rattle.mk_core.specs.declared.seats.Stage.{Stage}
 use Rattle.mk_core.specs.declared.seats.Stage.TheVariants as stage
-use Rattle.mk_core.specs.declared.seats.Flight.{Flight}
-use Rattle.mk_core.specs.Bits.{has_bit, without}
-use Rattle.mk_core.specs.Bounded.{all_below}
-use Rattle.mk_core.specs.Calls.{at_rest}
-use Rattle.mk_core.specs.Words.{Words}
-use Rattle.mk_core.specs.Layout.{AreOfPages}
-use Rattle.mk_core.specs.Cells.{cells_under, header_in, cell_bits, first_word, points_well, word_points_well}
-use Rattle.mk_core.specs.Moments.{Moment, flight_of, holder_number}
-use Rattle.mk_core.specs.Order.{comes_next}
-use Rattle.mk_core.specs.StopConditions.{none_attends, has_closed_page, roots_point_well}
-use Rattle.mk_core.specs.ClosedMarks.{IsGuarded, PointsWell, PageIsDirty, DirtyIsOwed, BlackIsGuarded}
+use Rattle.mk_core.specs.Cells.{cell_bits}
 use Rattle.mk_core.proofs.AllBelow.{all_below-at}
 use Rattle.mk_core.proofs.ListTests.{list_all-at}
 use Rattle.mk_core.proofs.WordBits.{without_none, fewer_bits}

@@ -2,13 +2,10 @@
 use Rattle.std.proofs.Common.{◌≡◌, ◌≢◌, ℕ, ◌+◌, ◌*◌, ◌/◌, ◌%◌, ◌<◌, true, false, refl, ◌∙◌, ap, inl, inr, arith}
 use Rattle.std.specs.Prelude.{Option, Some, None, slice_index}
 use Rattle.std.proofs.lemmas.Bool.{cases_eq, true≢false}
-use Rattle.mk_geom.specs.declared.headers.Header.{Header}
-use Rattle.mk_geom.specs.declared.headers.Header.TheVariants.{Free, Block, Run, Later, LeafBlock, LeafRun}
-use Rattle.mk_geom.specs.Classes.{class_words_of}
-use Rattle.mk_geom.specs.Addresses.{head_page_under}
+use Rattle.mk_protocol.proofs.Vocabulary.{Block, Free, Header, Later, LeafBlock, LeafRun, Run, Words, cells_under}
+use Rattle.mk_protocol.proofs.Vocabulary.{class_words_of, has_no_pointers, head_page, head_page_under, header_in}
+use Rattle.mk_protocol.proofs.Vocabulary.{words_under}
 use Rattle.mk_geom.proofs.ClassTable.{cell_ends}
-use Rattle.mk_core.specs.Words.{Words}
-use Rattle.mk_core.specs.Cells.{cells_under, words_under, header_in, has_no_pointers, head_page}
 use Rattle.mk_guard.specs.Kept.{LaterPagesAreKnown}
 
 -- a page that is its own head

@@ -6,33 +6,20 @@ use Rattle.std.proofs.lemmas.Bool.{cases_Bool, cases_eq, true≢false, eqb-true,
 use Rattle.std.proofs.lemmas.Bool.{ltb-true, le-leb, cond-true, cond-false}
 use Rattle.std.proofs.lemmas.Nat.Bits.{bit_at_ones}
 use Rattle.std.proofs.Math.Bool.{or-true}
-use Rattle.mk_never.specs.declared.operations.Op.{Op}
-use Rattle.mk_geom.specs.declared.addresses.Cell.{Cell}
-use Rattle.mk_geom.specs.declared.headers.Header.{Header}
-use Rattle.mk_geom.specs.declared.pages.Place.{Place}
-use Rattle.mk_geom.specs.Classes.{cells_of, class_words_of}
-use Rattle.mk_geom.specs.Headers.{header_of}
-use Rattle.mk_geom.specs.Addresses.{is_heap_address, cell_under, cell_at, page_at_address, word_at_address}
-use Rattle.mk_geom.specs.Addresses.{head_page_under}
+use Rattle.mk_protocol.proofs.Vocabulary.{Cell, Config, Flight, Header, IsHeaderOf, IsSized, IsWithinLimits, Object}
+use Rattle.mk_protocol.proofs.Vocabulary.{OfBlock, OfLater, OfLeafBlock, OfLeafRun, OfRun, Op, Place, RunPages, Seat}
+use Rattle.mk_protocol.proofs.Vocabulary.{ShowsPart, Words, World, cell_at, cells_made, cells_of, cells_under}
+use Rattle.mk_protocol.proofs.Vocabulary.{class_made, class_words_of, d_of, flight_of, g_of, has_bit, has_operands}
+use Rattle.mk_protocol.proofs.Vocabulary.{head_page_under, header_at, header_in, header_made, header_of}
+use Rattle.mk_protocol.proofs.Vocabulary.{is_heap_address, is_leaf_header, is_marked_first, is_phase, is_small_object}
+use Rattle.mk_protocol.proofs.Vocabulary.{is_undecided_new, is_unmapped_header, object_made, p_of, page_at_address}
+use Rattle.mk_protocol.proofs.Vocabulary.{pages_made, phase_of, place_now, q_of, r_of, unmapped_header, without}
+use Rattle.mk_protocol.proofs.Vocabulary.{words_made, words_under}
+use Rattle.mk_geom.specs.Addresses.{cell_under, word_at_address}
 use Rattle.mk_geom.proofs.ClassTable.{cell_ends, some_cells}
-use Rattle.mk_core.specs.declared.config.Config.{Config}
-use Rattle.mk_core.specs.declared.events.Seat.{Seat}
 use Rattle.mk_core.specs.declared.events.Step.TheVariants as step
-use Rattle.mk_core.specs.declared.seats.Flight.{Flight}
-use Rattle.mk_core.specs.declared.seats.Object.{Object}
-use Rattle.mk_core.specs.declared.seats.RunPages.{RunPages}
-use Rattle.mk_core.specs.Config.{IsWithinLimits}
-use Rattle.mk_core.specs.Bits.{has_bit, without}
-use Rattle.mk_core.specs.Calls.{has_operands, has_type, q_of, p_of, r_of, d_of, g_of}
-use Rattle.mk_core.specs.Words.{Words, header_at, phase_of}
-use Rattle.mk_core.specs.Cells.{cells_under, words_under, header_in, is_leaf_header, is_unmapped_header}
-use Rattle.mk_core.specs.NewPlaces.{object_made, is_small_object, class_made, pages_made, header_made, unmapped_header}
-use Rattle.mk_core.specs.NewPlaces.{bits_made, is_undecided_new}
-use Rattle.mk_core.specs.ObjectHeaders.{IsSized, cells_made, words_made, ShowsPart, OfBlock, OfLeafBlock, OfRun}
-use Rattle.mk_core.specs.ObjectHeaders.{OfLeafRun, OfLater, IsHeaderOf}
-use Rattle.mk_core.specs.Moments.{flight_of, is_phase}
-use Rattle.mk_core.specs.TurnConditions.{place_now, is_marked_first}
-use Rattle.mk_core.specs.History.{World}
+use Rattle.mk_core.specs.Calls.{has_type}
+use Rattle.mk_core.specs.NewPlaces.{bits_made}
 use Rattle.mk_core.proofs.Sizes.{small_cells, large_cells, small_pages, small_words, large_words, class_known}
 use Rattle.mk_core.proofs.Sizes.{large_count}
 use Rattle.mk_core.proofs.ObjectHeaders.{made_shows, header_shows, part_head, part_not_free, part_cells, part_words}

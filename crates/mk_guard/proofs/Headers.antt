@@ -4,20 +4,10 @@ use Rattle.std.specs.Prelude.{Some, None, slice_index, slice_index_or, slice_set
 use Rattle.std.proofs.lemmas.Option.{none-some}
 use Rattle.std.proofs.lemmas.Bool.{cases_eq, ltb-true}
 use Rattle.std.proofs.lemmas.List.{get_or-set_same, get_or-set_other}
-use Rattle.mk_geom.specs.declared.addresses.Cell.{Cell}
-use Rattle.mk_geom.specs.declared.pages.Page.{Page}
-use Rattle.mk_geom.specs.Storages.{free_page}
-use Rattle.mk_geom.specs.Headers.{header_of}
-use Rattle.mk_geom.specs.Addresses.{is_heap_address, cell_at, page_at_address}
-use Rattle.mk_core.specs.declared.config.Config.{Config}
-use Rattle.mk_core.specs.declared.events.Seat.{Seat}
-use Rattle.mk_core.specs.declared.events.Step.{Step}
+use Rattle.mk_protocol.proofs.Vocabulary.{AreOfPages, Cell, Config, IsGuarded, Moment, Page, Seat, Step, Words, cell_at}
+use Rattle.mk_protocol.proofs.Vocabulary.{cells_under, free_page, header_at, header_in, header_of, is_heap_address}
+use Rattle.mk_protocol.proofs.Vocabulary.{is_marked, page_at_address, used_at, words_under}
 use Rattle.mk_core.specs.declared.events.Step.TheVariants as step
-use Rattle.mk_core.specs.Layout.{AreOfPages}
-use Rattle.mk_core.specs.Words.{Words, header_at, used_at}
-use Rattle.mk_core.specs.Cells.{header_in, cells_under, words_under, is_marked}
-use Rattle.mk_core.specs.Moments.{Moment}
-use Rattle.mk_core.specs.ClosedMarks.{IsGuarded}
 use Rattle.mk_protocol.proofs.Actors.{Meets}
 use Rattle.mk_protocol.proofs.SameWords.{Behind}
 use Rattle.mk_guard.specs.Guard.{GoesOn}
@@ -39,7 +29,7 @@ pub data HeadFinds (pages : ℕ) (w : Words) (p header : ℕ) : Type 0 where
       → (cells_under (header_in w p) ≡ 0 → cells_under (header_of header) ≡ 0)
       → HeadFinds pages w p header
 
-free_shows : (pages v : ℕ) (y : Cell) → cell_at pages 0 v ≡ Some y → ⊥
+pub free_shows : (pages v : ℕ) (y : Cell) → cell_at pages 0 v ≡ Some y → ⊥
 free_shows pages v y is = by (is_heap_address pages v) is
   where
     by : (b : Bool) → (if b then None else None) ≡ Some y → ⊥

@@ -3,17 +3,10 @@ use Rattle.std.proofs.Common.{◌≡◌, ◌≢◌, ◌⊎◌, ℕ, ◌+◌, ◌
 use Rattle.std.proofs.Common.{inl, inr, arith}
 use Rattle.std.specs.Prelude.{Option, Some, slice_index}
 use Rattle.std.proofs.lemmas.Bool.{true≢false, cases_eq}
-use Rattle.mk_geom.specs.declared.addresses.Cell.{Cell}
-use Rattle.mk_geom.specs.Headers.{header_of}
-use Rattle.mk_core.specs.declared.config.Config.{Config}
+use Rattle.mk_protocol.proofs.Vocabulary.{BlackIsGuarded, Cell, Config, DirtyIsOwed, IsGuarded, Moment, OnlyGrow}
+use Rattle.mk_protocol.proofs.Vocabulary.{OwesDirty, PageIsDirty, PointsWell, Scan, Words, cells_under, first_word}
+use Rattle.mk_protocol.proofs.Vocabulary.{has_bit, has_no_pointers, header_at, header_in, header_of, words_under}
 use Rattle.mk_core.specs.declared.seats.Marker.{Marker}
-use Rattle.mk_core.specs.declared.seats.Scan.{Scan}
-use Rattle.mk_core.specs.Bits.{has_bit}
-use Rattle.mk_core.specs.Words.{Words, header_at}
-use Rattle.mk_core.specs.Cells.{header_in, cells_under, words_under, has_no_pointers, first_word}
-use Rattle.mk_core.specs.Moments.{Moment}
-use Rattle.mk_core.specs.Frames.{OnlyGrow}
-use Rattle.mk_core.specs.ClosedMarks.{OwesDirty, IsGuarded, PointsWell, PageIsDirty, DirtyIsOwed, BlackIsGuarded}
 use Rattle.mk_guard.specs.Guard.{GoesOn, cell_scanned, ScanStands, MarkerStands}
 use Rattle.mk_guard.proofs.Wells.{IsWell, is_well, well_guarded}
 

@@ -3,27 +3,15 @@ use Rattle.std.proofs.Common.{◌≡◌, ℕ, ◌<◌, Bool, true, false, List, 
 use Rattle.std.specs.Prelude.{Option, Some, None, is_none, is_some, slice_index, slice_set, bit_or, ◌&&◌, ◌==◌}
 use Rattle.std.specs.Prelude.{if◌then◌else◌}
 use Rattle.std.proofs.lemmas.Bool.{and_parts}
-use Rattle.mk_geom.specs.declared.addresses.Cell.{Cell}
-use Rattle.mk_geom.specs.Addresses.{cell_at, page_at_address}
-use Rattle.mk_core.specs.declared.config.Config.{Config}
-use Rattle.mk_core.specs.declared.events.Seat.{Seat}
-use Rattle.mk_core.specs.declared.events.Seat.TheVariants.{Caller, Marker, Host}
-use Rattle.mk_core.specs.declared.events.Step.{Step}
+use Rattle.mk_protocol.proofs.Vocabulary.{AreOfPages, Caller, Cell, Config, Host, Marker, MarkerState, Moment, Scan}
+use Rattle.mk_protocol.proofs.Vocabulary.{Seat, SeenHeader, Step, Word, behind_mlook, cell_at, cell_seen, found}
+use Rattle.mk_protocol.proofs.Vocabulary.{has_bit, has_next_word, has_seen_cell, header_at, is_attending, marker_behind}
+use Rattle.mk_protocol.proofs.Vocabulary.{marker_of, next_word, page_at_address, seen_bit, seen_page}
 use Rattle.mk_core.specs.declared.events.Step.TheVariants as step
-use Rattle.mk_core.specs.declared.events.Word.{Word}
 use Rattle.mk_core.specs.declared.events.Word.TheVariants as word
-use Rattle.mk_core.specs.declared.seats.Marker.{Marker as MarkerState}
 use Rattle.mk_core.specs.declared.seats.Presence.TheVariants.{Out}
-use Rattle.mk_core.specs.declared.seats.Scan.{Scan}
-use Rattle.mk_core.specs.declared.seats.SeenHeader.{SeenHeader}
-use Rattle.mk_core.specs.Bits.{has_bit, bit_for}
-use Rattle.mk_core.specs.Layout.{AreOfPages}
-use Rattle.mk_core.specs.Words.{header_at}
-use Rattle.mk_core.specs.Moments.{Moment, marker_of}
-use Rattle.mk_core.specs.Accesses.{found, next_word, seen_page, seen_bit}
-use Rattle.mk_core.specs.Effects.{marker_behind, behind_mlook}
-use Rattle.mk_core.specs.MarkerConditions.{cell_seen, has_seen_cell, has_next_word, is_markers_word}
-use Rattle.mk_core.specs.StopConditions.{is_attending}
+use Rattle.mk_core.specs.Bits.{bit_for}
+use Rattle.mk_core.specs.MarkerConditions.{is_markers_word}
 use Rattle.mk_core.proofs.PointedPages.{cell_within}
 use Rattle.mk_core.proofs.WordBits.{bit_for_has, bits_added}
 use Rattle.mk_protocol.proofs.Actors.{Meets}

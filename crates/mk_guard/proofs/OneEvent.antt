@@ -3,20 +3,10 @@ use Rattle.std.proofs.Common.{◌≡◌, ◌⊎◌, ℕ, ◌≤◌, true, false,
 use Rattle.std.specs.Prelude.{slice_index, ◌&&◌, ◌==◌}
 use Rattle.std.proofs.lemmas.Bool.{cases_lt, true≢false, eqb-true, and_parts}
 use Rattle.std.proofs.lemmas.List.{get_or_past}
-use Rattle.mk_core.specs.declared.config.Config.{Config}
-use Rattle.mk_core.specs.declared.events.Seat.{Seat}
-use Rattle.mk_core.specs.declared.events.Seat.TheVariants.{Caller, Marker, Host}
-use Rattle.mk_core.specs.declared.events.Step.{Step}
+use Rattle.mk_protocol.proofs.Vocabulary.{AreOfPages, BlackIsGuarded, Caller, Config, Host, IsWithinLimits, Marker}
+use Rattle.mk_protocol.proofs.Vocabulary.{MarkerState, Moment, Seat, Step, World, all_below, has_clean_page, header_at}
+use Rattle.mk_protocol.proofs.Vocabulary.{is_attending, marker_of, phase_of}
 use Rattle.mk_core.specs.declared.events.Step.TheVariants as step
-use Rattle.mk_core.specs.declared.seats.Marker.{Marker as MarkerState}
-use Rattle.mk_core.specs.Bounded.{all_below}
-use Rattle.mk_core.specs.Config.{IsWithinLimits}
-use Rattle.mk_core.specs.Words.{header_at, phase_of}
-use Rattle.mk_core.specs.Layout.{AreOfPages}
-use Rattle.mk_core.specs.Moments.{Moment, marker_of}
-use Rattle.mk_core.specs.StopConditions.{is_attending, has_clean_page}
-use Rattle.mk_core.specs.ClosedMarks.{BlackIsGuarded}
-use Rattle.mk_core.specs.History.{World}
 use Rattle.mk_core.proofs.AllBelow.{all_below-at}
 use Rattle.mk_core.proofs.WordBits.{no_bit}
 use Rattle.mk_protocol.proofs.Actors.{Meets}
@@ -98,9 +88,8 @@ black_behind c w seat x limits known len early say h g = rest x h refl refl refl
 
 same_markers : (c : Config) (m : Moment) (seat : Seat) (q j : ℕ) → Meets c m seat (step.Undirty q)
     → marker_of (Behind c m seat (step.Undirty q)) j ≡ marker_of m j
-same_markers c m (Caller k) q j h = refl
-same_markers c m Host q j h = refl
 same_markers c m (Marker k) q j h = let kind = h.kind in cc
+same_markers c m _ q j h = refl
 
 markers_behind : (c : Config) (w : World) (seat : Seat) (x : Step) → IsWithinLimits c → Known c w.now
     → AreOfPages c.pages w.now.words

@@ -1,22 +1,11 @@
 -- Events of others take no header back while a marker attends, and what points well still does.
 use Rattle.std.proofs.Common.{◌≡◌, List, [], ◌∷◌, ◌++◌, false, refl, ◌∙◌, sym, ap, subst}
-use Rattle.mk_geom.specs.declared.pages.Page.{Page}
-use Rattle.mk_geom.specs.Storages.{free_page}
+use Rattle.mk_protocol.proofs.Vocabulary.{AreEnabledFrom, AreOfOthers, AreOfPages, Caller, Config, Event, Host}
+use Rattle.mk_protocol.proofs.Vocabulary.{IsWithinLimits, Marker, Moment, Page, Seat, Steady, Step, World, access}
+use Rattle.mk_protocol.proofs.Vocabulary.{cell_at, first_world, free_page, left, left_from, word_accessed, world_behind}
 use Rattle.std.specs.Prelude.{slice_index_or, Some}
-use Rattle.mk_geom.specs.Addresses.{cell_at}
-use Rattle.mk_core.specs.declared.config.Config.{Config}
-use Rattle.mk_core.specs.declared.events.Event.{Event}
-use Rattle.mk_core.specs.declared.events.Seat.{Seat}
-use Rattle.mk_core.specs.declared.events.Seat.TheVariants.{Caller, Marker, Host}
-use Rattle.mk_core.specs.declared.events.Step.{Step}
 use Rattle.mk_core.specs.declared.events.Step.TheVariants as step
-use Rattle.mk_core.specs.Config.{IsWithinLimits}
-use Rattle.mk_core.specs.Layout.{AreOfPages}
-use Rattle.mk_core.specs.Moments.{Moment}
-use Rattle.mk_core.specs.Accesses.{word_accessed, access}
-use Rattle.mk_core.specs.Growing.{AreOfOthers}
-use Rattle.mk_core.specs.Frames.{Attends, HeadersAreLeft, Steady}
-use Rattle.mk_core.specs.History.{World, first_world, world_behind, left, left_from, AreEnabledFrom}
+use Rattle.mk_core.specs.Frames.{Attends, HeadersAreLeft}
 use Rattle.mk_core.proofs.Conditions.{enabled_meets}
 use Rattle.mk_core.proofs.Lengths.{histories_keep_lengths, accessed_lengths}
 use Rattle.mk_core.proofs.Histories.{left_append, enabled_parts}
@@ -71,8 +60,7 @@ headers_after c w seat x limits known len early say h = rest x h refl
 -- While a marker attends, a cycle marks.
 attended : (c : Config) (m : Moment) (s : Seat) → Known c m → Attends m s → IsMarking m.words
 attended c m (Marker k) known a = known.orderly.attends k a
-attended c m (Caller k) known a = absurd a
-attended c m Host known a = absurd a
+attended c m _ known a = absurd a
 
 headers_from : (c : Config) (w : World) (s : Seat) (es : List Event) → IsWithinLimits c → Known c w.now
     → AreOfPages c.pages w.now.words → AreEnabledFrom c w es

@@ -4,21 +4,13 @@ use Rattle.std.proofs.Common.{inr, arith}
 use Rattle.std.specs.Prelude.{Option, Some, None, slice_index, nat_lt, ◌==◌, not, if◌then◌else◌}
 use Rattle.std.proofs.lemmas.Option.{none-some, same_Some}
 use Rattle.std.proofs.lemmas.Bool.{cases_eq, cases_lt, true≢false, eqb-true, and_parts, ltb-true, lt-ltb}
-use Rattle.mk_geom.specs.declared.addresses.Cell.{Cell}
-use Rattle.mk_geom.specs.Headers.{header_of}
-use Rattle.mk_geom.specs.Addresses.{is_heap_address, cell_at, page_at_address}
-use Rattle.mk_core.specs.declared.config.Config.{Config}
+use Rattle.mk_protocol.proofs.Vocabulary.{Cell, Config, IsGuarded, Moment, Presence, Scan, SeenHeader, Words, cell_at}
+use Rattle.mk_protocol.proofs.Vocabulary.{cell_seen, cells_under, has_bit, has_next_word, has_no_pointers}
+use Rattle.mk_protocol.proofs.Vocabulary.{has_seen_cell, header_at, header_in, header_of, is_heap_address, is_marked}
+use Rattle.mk_protocol.proofs.Vocabulary.{is_scanned, page_at_address, scan_begun, scan_claimed, scan_onward}
+use Rattle.mk_protocol.proofs.Vocabulary.{words_under}
 use Rattle.mk_core.specs.declared.seats.Marker.{Marker}
-use Rattle.mk_core.specs.declared.seats.Presence.{Presence}
-use Rattle.mk_core.specs.declared.seats.Scan.{Scan}
-use Rattle.mk_core.specs.declared.seats.SeenHeader.{SeenHeader}
-use Rattle.mk_core.specs.Bits.{has_bit}
-use Rattle.mk_core.specs.Words.{Words, header_at}
-use Rattle.mk_core.specs.Cells.{header_in, cells_under, words_under, has_no_pointers, is_marked}
-use Rattle.mk_core.specs.Moments.{Moment}
-use Rattle.mk_core.specs.MarkerConditions.{has_seen_cell, cell_seen, has_next_word, is_scanned}
-use Rattle.mk_core.specs.Effects.{open_hand, hand_behind_look, scan_begun, scan_claimed, scan_onward}
-use Rattle.mk_core.specs.ClosedMarks.{IsGuarded}
+use Rattle.mk_core.specs.Effects.{open_hand, hand_behind_look}
 use Rattle.mk_guard.specs.Guard.{GoesOn, EndsItsCell, ScanStands, MarkerStands}
 use Rattle.mk_guard.proofs.Wells.{IsWell, well_guarded}
 use Rattle.mk_guard.proofs.KeptGuard.{goes_same}

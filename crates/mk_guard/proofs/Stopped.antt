@@ -4,28 +4,17 @@ use Rattle.std.proofs.Common.{inr, arith}
 use Rattle.std.specs.Prelude.{slice_index, slice_set, ◌==◌, ◌||◌}
 use Rattle.std.proofs.lemmas.Bool.{cases_Bool, cases_eq, cases_lt, true≢false, ltb-true, eqb-true, or_cases}
 use Rattle.std.proofs.lemmas.List.{get_or-set_same, get_or-set_other, set_past}
-use Rattle.mk_geom.specs.Headers.{header_of}
-use Rattle.mk_core.specs.declared.config.Config.{Config}
-use Rattle.mk_core.specs.declared.accesses.TableWord.TheVariants.{Named}
+use Rattle.mk_protocol.proofs.Vocabulary.{Caller, Config, Flight, Host, Marker, Moment, Named, Seat, Stage, Step, Store}
+use Rattle.mk_protocol.proofs.Vocabulary.{Tally, Words, accessed, cells_under, first_word, flight_of, group_of, has_bit}
+use Rattle.mk_protocol.proofs.Vocabulary.{has_no_pointers, header_at, header_of, is_open_to, marker_of, phase_of}
+use Rattle.mk_protocol.proofs.Vocabulary.{points_well, reg_access, register_met, tally_word, word_points_well}
+use Rattle.mk_protocol.proofs.Vocabulary.{words_under}
 use Rattle.mk_core.specs.declared.events.Word.TheVariants as word
-use Rattle.mk_core.specs.declared.events.Tally.{Tally}
 use Rattle.mk_core.specs.declared.events.Tally.TheVariants as tally
-use Rattle.mk_core.specs.declared.accesses.Access.TheVariants.{Store}
 use Rattle.mk_core.specs.declared.events.Group.{Group}
 use Rattle.mk_core.specs.declared.events.Group.TheVariants as group
-use Rattle.mk_core.specs.Order.{is_open_to, group_of}
-use Rattle.mk_core.specs.Accesses.{tally_word}
-use Rattle.mk_core.specs.declared.events.Seat.{Seat}
-use Rattle.mk_core.specs.declared.events.Seat.TheVariants.{Caller, Marker, Host}
-use Rattle.mk_core.specs.declared.events.Step.{Step}
 use Rattle.mk_core.specs.declared.events.Step.TheVariants as step
-use Rattle.mk_core.specs.declared.seats.Stage.{Stage}
 use Rattle.mk_core.specs.declared.seats.Stage.TheVariants as stage
-use Rattle.mk_core.specs.declared.seats.Flight.{Flight}
-use Rattle.mk_core.specs.Words.{Words, header_at, phase_of, accessed}
-use Rattle.mk_core.specs.Cells.{cells_under, words_under, has_no_pointers, first_word, points_well, word_points_well}
-use Rattle.mk_core.specs.Moments.{Moment, flight_of, marker_of}
-use Rattle.mk_core.specs.Accesses.{register_met, reg_access}
 use Rattle.mk_protocol.proofs.Standings.{InCall}
 use Rattle.mk_protocol.proofs.Stages.{is_call_stage, is_reg_stage, calls_stand}
 use Rattle.mk_protocol.proofs.NextSteps.{stage_of, has_stage_of_its_own, at_its_stage, at_reg}
@@ -37,10 +26,10 @@ use Rattle.mk_protocol.proofs.OrderlyLists.{not_astray}
 use Rattle.mk_protocol.proofs.Known.{Known}
 use Rattle.mk_protocol.proofs.IdleMarkers.{work_attends}
 use Rattle.mk_guard.specs.Guard.{CellsAreClosed}
-use Rattle.mk_core.specs.Bits.{has_bit}
 use Rattle.mk_guard.proofs.Phases.{either_phase}
 use Rattle.mk_guard.proofs.Wells.{well_is, is_well, bare_word_well, wells_from}
 use Rattle.mk_guard.proofs.Changes.{Table, reg_table, tally_table, is_head, headers_kind}
+use Rattle.mk_core.proofs.RegisterAccesses.{tally_leaves_registers}
 
 -- what leaves closed marks closed
 pub record LeavesClosed (w v : Words) : Type 0 where
@@ -136,19 +125,13 @@ reg_still c m (Caller k) known three h = elim (cases_Bool (is_call_stage (flight
       (flight_of m (Caller k)) (flight_of m (Caller k)).stage
       (at_reg (flight_of m (Caller k)).stage (flight_of m (Caller k)).op h.order) out
 ]
-reg_still c m (Marker k) known three h = let kind = h.kind in cc
-reg_still c m Host known three h = let kind = h.kind in cc
-
-tally_registers : (w : Words) (n : Tally) (v : ℕ)
-    → (accessed w (Named (tally_word n)) (Store v)).registers ≡ w.registers
-tally_registers w tally.Held v = refl
-tally_registers w _ v = refl
+reg_still c m _ known three h = let kind = h.kind in cc
 
 registers_still : (c : Config) (m : Moment) (seat : Seat) (x : Step) → Known c m → phase_of m.words ≡ 3
     → Meets c m seat x
     → (Behind c m seat x).words.registers ≡ m.words.registers
 registers_still c m seat step.Reg known three h = reg_still c m seat known three h
-registers_still c m seat (step.Tally n v) known three h = tally_registers m.words n v
+registers_still c m seat (step.Tally n v) known three h = tally_leaves_registers m.words n v
 registers_still c m seat step.Grant known three h =
     elim (either_phase (phase_of m.words) 0 1 h.phase) [ inl e ↦ absurd (omega arith) | inr e ↦ absurd (omega arith) ]
 registers_still c m seat _ known three h = refl
@@ -183,8 +166,7 @@ no_mark : (c : Config) (m : Moment) (seat : Seat) → Known c m → phase_of m.w
 no_mark c m (Marker k) known three h =
     elim (known.orderly.attends k (work_attends c (marker_of m k) step.Mmark (known.orderly.idle k) h.marker refl))
     [ inl e ↦ absurd (omega arith) | inr e ↦ absurd (omega arith) ]
-no_mark c m (Caller k) known three h = true≢false (sym h.kind)
-no_mark c m Host known three h = true≢false (sym h.kind)
+no_mark c m _ known three h = true≢false (sym h.kind)
 
 marks_still : (c : Config) (m : Moment) (seat : Seat) (x : Step) → Known c m → phase_of m.words ≡ 3 → Meets c m seat x
     → (Behind c m seat x).words.marks ≡ m.words.marks

@@ -1,15 +1,8 @@
 -- Values that point well: each cell that one points into is marked.
 use Rattle.std.proofs.Common.{◌≡◌, ℕ, true, refl, sym, subst}
 use Rattle.std.specs.Prelude.{Option, Some, None, slice_index}
-use Rattle.mk_geom.specs.declared.addresses.Cell.{Cell}
-use Rattle.mk_geom.specs.Addresses.{cell_at, page_at_address}
-use Rattle.mk_core.specs.declared.config.Config.{Config}
-use Rattle.mk_core.specs.Bounded.{is_none_or}
-use Rattle.mk_core.specs.Words.{Words, header_at}
-use Rattle.mk_core.specs.Cells.{pointed_cell, is_marked, points_well}
-use Rattle.mk_core.specs.Moments.{Moment}
-use Rattle.mk_core.specs.Frames.{OnlyGrow}
-use Rattle.mk_core.specs.ClosedMarks.{IsGuarded, PointsWell}
+use Rattle.mk_protocol.proofs.Vocabulary.{Cell, Config, IsGuarded, Moment, OnlyGrow, PointsWell, Words, cell_at}
+use Rattle.mk_protocol.proofs.Vocabulary.{header_at, is_marked, is_none_or, page_at_address, pointed_cell, points_well}
 
 abbrev pub IsWell : Config → Words → ℕ → Type 0
 IsWell c w value = (x : Cell) → cell_at c.pages (header_at w (page_at_address value)) value ≡ Some x
