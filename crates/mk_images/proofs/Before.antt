@@ -3,22 +3,13 @@ use Rattle.std.proofs.Common.{[], ◌≡◌, ◌≢◌, ℕ, ◌+◌, ◌/◌, �
 use Rattle.std.proofs.Common.{inl, inr, arith}
 use Rattle.std.specs.Prelude.{nat_lt, ◌&&◌, Option, Some, None}
 use Rattle.std.proofs.lemmas.Bool.{cases_Bool}
-use Rattle.mk_never.specs.declared.types.Kind.{Kind}
-use Rattle.mk_never.specs.Types.{kinds_of, is_large}
-use Rattle.mk_never.specs.NeverHeap.{NeverState, allocation_at, words_of, is_unmapped}
-use Rattle.mk_never.specs.Typed.{IsTypedAllocation}
-use Rattle.mk_geom.specs.declared.addresses.Cell.{Cell}
-use Rattle.mk_core.specs.declared.config.Config.{Config}
-use Rattle.mk_core.specs.declared.seats.Flight.{Flight}
-use Rattle.mk_geom.specs.Addresses.{address_of}
-use Rattle.mk_core.specs.Words.{Words, header_at}
-use Rattle.mk_core.specs.Cells.{pointed_cell, first_word, header_in, is_unmapped_header}
-use Rattle.mk_core.specs.Allocations.{storage_words, placed_at}
-use Rattle.mk_core.specs.History.{World}
+use Rattle.mk_protocol.proofs.Vocabulary.{Cell, Config, Flight, IsTypedAllocation, Kind, NeverState, Words, World}
+use Rattle.mk_protocol.proofs.Vocabulary.{address_of, allocation_at, cell_of_allocation, first_word, header_at}
+use Rattle.mk_protocol.proofs.Vocabulary.{header_in, is_large, is_unmapped, is_unmapped_header, kinds_of, placed_at}
+use Rattle.mk_protocol.proofs.Vocabulary.{pointed_cell, storage_words, words_of}
 use Rattle.mk_protocol.proofs.Operands.{HaveOperands, operands_of}
 use Rattle.mk_images.specs.Images.{image_scene_of, flight_among}
 use Rattle.mk_images.specs.SafeSets.{IsSafeSet}
-use Rattle.mk_core.specs.Allocations.{cell_of_allocation}
 use Rattle.mk_images.proofs.Stands.{Stands, is_gone}
 use Rattle.mk_core.proofs.StandingAllocations.{storage_holds}
 use Rattle.mk_images.proofs.KnownWorlds.{KnownWorld}
@@ -30,7 +21,7 @@ use Rattle.mk_images.proofs.Reached.{PagesShow}
 pub small_operands : (c : Config) (fs : List Flight) → HaveOperands c fs → AreSmall fs
 small_operands c fs h j = let o = operands_of c (flight_among fs j).op (h j) in (o.q, o.p, o.r, o.d)
 
-abbrev first_in : Words → Option Cell → ℕ
+abbrev pub first_in : Words → Option Cell → ℕ
 first_in w (Some cell) = first_word w cell
 first_in w None = 0
 

@@ -4,31 +4,21 @@ use Rattle.std.proofs.Common.{subst, ◌∙◌}
 use Rattle.std.specs.Prelude.{slice_index, slice_set, ◌==◌, Some, None, if◌then◌else◌}
 use Rattle.std.proofs.lemmas.List.{set-get_or}
 use Rattle.std.proofs.lemmas.Bool.{false≢true, true≢false}
-use Rattle.mk_never.specs.declared.types.Kind.{Kind}
-use Rattle.mk_never.specs.declared.operations.Op.{Op}
+use Rattle.mk_protocol.proofs.Vocabulary.{AccessIsAdmitted, Done, Flight, IsAdmitted, IsNumber, IsPointer, IsSound}
+use Rattle.mk_protocol.proofs.Vocabulary.{Kind, Meets, NeverState, Null, Num, Op, Ptr, Stage, Unmapped, Value}
+use Rattle.mk_protocol.proofs.Vocabulary.{allocation_at, answer_of, bases_of, bit, d_of, g_of, global_at, header_of}
+use Rattle.mk_protocol.proofs.Vocabulary.{i_of, image_of, is_same, is_unmapped, is_unmapped_header, number_of, one_if}
+use Rattle.mk_protocol.proofs.Vocabulary.{onward, placed_at, progress_read, q_of, refused, register_at, stage_behind}
+use Rattle.mk_protocol.proofs.Vocabulary.{steps_of, target_of, with_register, with_word, word_at, words_of}
 use Rattle.mk_never.specs.declared.operations.Op.TheVariants as op
-use Rattle.mk_never.specs.declared.operations.Reply.TheVariants.{Done, Num as Number, Val}
-use Rattle.mk_never.specs.declared.values.Value.{Value}
-use Rattle.mk_never.specs.declared.values.Value.TheVariants.{Null, Num, Ptr}
-use Rattle.mk_never.specs.declared.values.Target.TheVariants.{Unmapped}
-use Rattle.mk_never.specs.NeverHeap.{NeverState, register_at, global_at, allocation_at, words_of, word_at, is_unmapped}
-use Rattle.mk_never.specs.NeverHeap.{with_register, with_word, target_of, reply_at, left_at, number_of, bit, is_same}
-use Rattle.mk_never.specs.Admitted.{Meets, AccessIsAdmitted, IsAdmitted, IsNumber, IsPointer}
-use Rattle.mk_never.specs.Typed.{IsSound}
-use Rattle.mk_geom.specs.Headers.{header_of}
+use Rattle.mk_never.specs.declared.operations.Reply.TheVariants.{Num as Number, Val}
+use Rattle.mk_never.specs.NeverHeap.{reply_at, left_at}
 use Rattle.mk_core.specs.declared.events.Answer.TheVariants as answer
-use Rattle.mk_core.specs.declared.seats.Stage.{Stage}
 use Rattle.mk_core.specs.declared.seats.Stage.TheVariants as stage
-use Rattle.mk_core.specs.declared.seats.Flight.{Flight}
-use Rattle.mk_core.specs.Calls.{q_of, steps_of, stage_behind, refused, d_of, g_of, i_of, one_if, onward, progress_read}
 use Rattle.mk_core.specs.Calls.{progress_cas, progress_getg, value_written}
-use Rattle.mk_core.specs.Cells.{is_unmapped_header}
-use Rattle.mk_core.specs.Image.{image_of, answer_of}
 use Rattle.mk_core.specs.Effects.{progress_probe}
-use Rattle.mk_core.specs.History.{bases_of}
 use Rattle.mk_protocol.proofs.Standings.{standing_at, is_astray}
 use Rattle.mk_images.specs.Images.{has_p, has_some_p, has_r, ImageScene, flight_among, is_put, CarriesOwn, ProbedOwn}
-use Rattle.mk_core.specs.Allocations.{placed_at}
 use Rattle.mk_images.specs.SafeSets.{IsSafe}
 use Rattle.mk_images.proofs.Moves.{Move, Decides, Owes, Shares, Writes}
 use Rattle.mk_images.proofs.Ready.{Ready, image_test, bit_is, LeadsBy, either_leads, one_right}
@@ -39,12 +29,11 @@ use Rattle.mk_images.proofs.Reached.{of_number}
 use Rattle.mk_images.proofs.RegMoves.{flight, flies_on}
 
 -- the access of an operation, at whatever kind of word
-meets_some : (n : NeverState) (v : Value) (i : ℕ) (P : Kind → Type 0) → Meets n v i P → Meets n v i (λ kind. Unit {0})
-meets_some n Null i P h = tt
-meets_some n (Num m) i P h = tt
+pub meets_some : (n : NeverState) (v : Value) (i : ℕ) (P : Kind → Type 0) → Meets n v i P → Meets n v i (λ kind. Unit {0})
 meets_some n (Ptr a t o) i P h = (h.0, tt)
+meets_some n _ i P h = tt
 
-access_meets : (n : NeverState) (k : ℕ) (o : Op) → accesses o ≡ true → AccessIsAdmitted n k o
+pub access_meets : (n : NeverState) (k : ℕ) (o : Op) → accesses o ≡ true → AccessIsAdmitted n k o
     → Meets n (register_at n k (q_of o)) (i_of o) (λ kind. Unit {0})
 access_meets n k (op.GetNum q i) a h = meets_some n (register_at n k q) i IsNumber h
 access_meets n k (op.SetNum q i m) a h = meets_some n (register_at n k q) i IsNumber h
@@ -54,14 +43,14 @@ access_meets n k (op.CasPtr q i p r) a h = meets_some n (register_at n k q) i Is
 access_meets n k _ a h = absurd (false≢true a)
 
 -- after its `probe` an access carries what it did before
-record BehindProbe (s : Stage) (o : Op) : Type 0 where
+pub record BehindProbe (s : Stage) (o : Op) : Type 0 where
   pub access : accesses o ≡ true
   pub put : is_put s ≡ false
   pub p : has_p s o ≡ has_p stage.Probe o
   pub some_p : has_some_p s o ≡ false
   pub r : has_r s o ≡ has_r stage.Probe o
 
-at_probe : (o : Op) → is_astray (standing_at stage.Probe o) ≡ false
+pub at_probe : (o : Op) → is_astray (standing_at stage.Probe o) ≡ false
     → BehindProbe (stage_behind stage.Probe (steps_of o)) o
 at_probe (op.GetNum q i) h = record { access = refl; put = refl; p = refl; some_p = refl; r = refl }
 at_probe (op.SetNum q i m) h = record { access = refl; put = refl; p = refl; some_p = refl; r = refl }

@@ -2,30 +2,19 @@
 use Rattle.std.proofs.Common.{◌≡◌, ℕ, ◌+◌, ◌*◌, ◌<◌, Bool, true, false, List, length, refl, sym, ap, subst, ◌∙◌, arith}
 use Rattle.std.specs.Prelude.{slice_index, slice_set, ◌==◌, if◌then◌else◌, Some, None}
 use Rattle.std.proofs.lemmas.Bool.{ltb-true}
-use Rattle.mk_never.specs.declared.operations.Op.{Op}
+use Rattle.mk_protocol.proofs.Vocabulary.{Answer, AreAdmitted, Caller, Config, Flight, IsAdmitted, MeetsAll, Named}
+use Rattle.mk_protocol.proofs.Vocabulary.{NeverState, Op, Stage, Step, Words, World, accessed, answer_decided, asked}
+use Rattle.mk_protocol.proofs.Vocabulary.{at_rest, bases_of, begun, call_decided, d_of, entry_of, flagged, flight_of}
+use Rattle.mk_protocol.proofs.Vocabulary.{g_of, header_at, is_under_turn, onward, page_met, progress_read, progress_reg}
+use Rattle.mk_protocol.proofs.Vocabulary.{refused, reg_access, register_met, register_word, still, word_met}
+use Rattle.mk_protocol.proofs.Vocabulary.{world_behind}
 use Rattle.mk_never.specs.declared.operations.Op.TheVariants as op
-use Rattle.mk_never.specs.NeverHeap.{NeverState}
-use Rattle.mk_never.specs.Admitted.{AreAdmitted, IsAdmitted}
-use Rattle.mk_core.specs.declared.config.Config.{Config}
-use Rattle.mk_core.specs.declared.accesses.TableWord.TheVariants.{Named}
-use Rattle.mk_core.specs.declared.events.Answer.{Answer}
 use Rattle.mk_core.specs.declared.events.Answer.TheVariants as answer
-use Rattle.mk_core.specs.declared.events.Seat.TheVariants.{Caller}
 use Rattle.mk_core.specs.declared.events.Word.TheVariants as word
-use Rattle.mk_core.specs.declared.events.Step.{Step}
 use Rattle.mk_core.specs.declared.events.Step.TheVariants as step
-use Rattle.mk_core.specs.declared.seats.Stage.{Stage}
 use Rattle.mk_core.specs.declared.seats.Stage.TheVariants as stage
-use Rattle.mk_core.specs.declared.seats.Flight.{Flight}
-use Rattle.mk_core.specs.Words.{Words, header_at, register_word, accessed}
-use Rattle.mk_core.specs.Calls.{is_under_turn, d_of, g_of, word_met, page_met, value_written, at_rest, begun, still}
-use Rattle.mk_core.specs.Calls.{onward, refused, progress_reg, progress_read, progress_cas, progress_getg}
-use Rattle.mk_core.specs.Moments.{flight_of}
-use Rattle.mk_core.specs.Accesses.{register_met, reg_access}
-use Rattle.mk_core.specs.Effects.{progress_probe, begins_where_free, answer_decided}
-use Rattle.mk_core.specs.History.{World, world_behind, bases_of, call_decided}
-use Rattle.mk_core.specs.Decided.{flagged, entry_of, asked}
-use Rattle.mk_core.specs.Enabled.{MeetsAll}
+use Rattle.mk_core.specs.Calls.{value_written, progress_cas, progress_getg}
+use Rattle.mk_core.specs.Effects.{progress_probe, begins_where_free}
 use Rattle.mk_protocol.proofs.Standings.{standing_at, standing, is_astray}
 use Rattle.mk_protocol.proofs.Stages.{is_call_stage}
 use Rattle.mk_protocol.proofs.NextSteps.{at_its_stage, at_reg, at_enter}

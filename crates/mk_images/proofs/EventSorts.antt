@@ -4,36 +4,16 @@ use Rattle.std.proofs.Common.{arith}
 use Rattle.std.specs.Prelude.{slice_set, ◌&&◌, ◌||◌, ◌==◌, not, if◌then◌else◌, Option, Some, None}
 use Rattle.std.proofs.lemmas.Bool.{cases_Bool, cases_eq, cases_lt, eqb-true, or_cases, ltb-true, false≢true}
 use Rattle.std.proofs.lemmas.List.{set-get_or, get_or_past}
-use Rattle.mk_never.specs.NeverHeap.{NeverState}
-use Rattle.mk_never.specs.Admitted.{AreAdmitted}
-use Rattle.mk_geom.specs.declared.addresses.Cell.{Cell}
-use Rattle.mk_core.specs.declared.config.Config.{Config}
-use Rattle.mk_core.specs.declared.accesses.Access.TheVariants.{Store}
-use Rattle.mk_core.specs.declared.accesses.TableWord.TheVariants.{Named}
-use Rattle.mk_core.specs.declared.events.Event.{Event}
-use Rattle.mk_core.specs.declared.events.Seat.{Seat}
-use Rattle.mk_core.specs.declared.events.Seat.TheVariants.{Caller, Marker, Host}
+use Rattle.mk_protocol.proofs.Vocabulary.{AreAdmitted, Caller, Cell, Config, Event, Flight, Host, Marker, MeetsAll}
+use Rattle.mk_protocol.proofs.Vocabulary.{Named, NeverState, PlacedAllocation, Seat, Stage, Step, Store, Tally, World}
+use Rattle.mk_protocol.proofs.Vocabulary.{accessed, answer_decided, asked, at_rest, call_decided, caller_number}
+use Rattle.mk_protocol.proofs.Vocabulary.{cell_freed, flight_of, freed_where_it_stands, frees, host_has_turn}
+use Rattle.mk_protocol.proofs.Vocabulary.{is_open_to, is_phase, is_run_cell, is_run_gone, no_longer_fresh}
+use Rattle.mk_protocol.proofs.Vocabulary.{others_are_held, tally_word, target, world_behind}
 use Rattle.mk_core.specs.declared.events.Group.TheVariants as group
-use Rattle.mk_core.specs.declared.events.Step.{Step}
 use Rattle.mk_core.specs.declared.events.Step.TheVariants as step
-use Rattle.mk_core.specs.declared.events.Tally.{Tally}
 use Rattle.mk_core.specs.declared.events.Tally.TheVariants as tally
-use Rattle.mk_core.specs.declared.seats.Stage.{Stage}
 use Rattle.mk_core.specs.declared.seats.Stage.TheVariants as stage
-use Rattle.mk_core.specs.declared.seats.Flight.{Flight}
-use Rattle.mk_core.specs.Words.{accessed}
-use Rattle.mk_core.specs.Calls.{at_rest}
-use Rattle.mk_core.specs.Moments.{flight_of, others_are_held, is_phase}
-use Rattle.mk_core.specs.NewPlaces.{target, is_run_gone}
-use Rattle.mk_core.specs.Order.{is_open_to, host_has_turn}
-use Rattle.mk_core.specs.Ranges.{is_run_cell}
-use Rattle.mk_core.specs.Accesses.{caller_number, tally_word}
-use Rattle.mk_core.specs.TurnConditions.{cell_freed, frees}
-use Rattle.mk_core.specs.Effects.{answer_decided}
-use Rattle.mk_core.specs.Allocations.{PlacedAllocation, freed_where_it_stands, no_longer_fresh}
-use Rattle.mk_core.specs.History.{World, world_behind, call_decided}
-use Rattle.mk_core.specs.Decided.{asked}
-use Rattle.mk_core.specs.Enabled.{MeetsAll}
 use Rattle.mk_protocol.proofs.Views.{view_of, gate_in}
 use Rattle.mk_protocol.proofs.Standings.{InCall, standing, Shows, is_astray}
 use Rattle.mk_core.proofs.ChangedAllocations.{changed_at, fresh_leaves, none_freed}
@@ -43,11 +23,10 @@ use Rattle.mk_protocol.proofs.Asked.{others_held}
 use Rattle.mk_protocol.proofs.Actors.{grants_new}
 use Rattle.mk_protocol.proofs.OrderlyLists.{not_astray}
 use Rattle.mk_images.proofs.KeptPlaces.{same_places}
-use Rattle.mk_images.proofs.Stands.{gone_shows}
+use Rattle.mk_images.proofs.Stands.{gone_shows, Stands}
 use Rattle.mk_images.specs.Images.{ImageScene, image_scene_of, flight_among, is_put, is_past_probe}
 use Rattle.mk_images.proofs.KnownWorlds.{KnownWorld}
 use Rattle.mk_images.specs.Mirrors.{Mirrors}
-use Rattle.mk_images.proofs.Stands.{Stands}
 use Rattle.mk_images.specs.ImagePremises.{ImagePremises}
 use Rattle.mk_images.proofs.Moves.{Move, Rests, Wipes, Renews}
 use Rattle.mk_images.proofs.Ready.{Ready, Leads}

@@ -3,27 +3,15 @@
 use Rattle.std.proofs.Common.{◌≡◌, ◌↔◌, ℕ, Bool, true, false, List, ◌∷◌, ◌++◌, refl, sym, ap, subst, ◌∙◌}
 use Rattle.std.specs.Prelude.{slice_index, ◌==◌, Some}
 use Rattle.std.proofs.lemmas.Bool.{ltb-true}
-use Rattle.mk_never.specs.declared.operations.Op.{Op}
+use Rattle.mk_protocol.proofs.Vocabulary.{AreAdmitted, AreEnabledFrom, Caller, Config, Event, Flight, IsAdmitted}
+use Rattle.mk_protocol.proofs.Vocabulary.{IsHistory, MeetsAll, NeverState, Op, Value, WordOf, World, answer_decided}
+use Rattle.mk_protocol.proofs.Vocabulary.{asked, bases_of, call_decided, calls_from, flight_of, is_same, is_under_turn}
+use Rattle.mk_protocol.proofs.Vocabulary.{left, never_behind, one_if, register_at, target_of, word_at, word_met}
 use Rattle.mk_never.specs.declared.operations.Op.TheVariants as op
-use Rattle.mk_never.specs.declared.values.Value.{Value}
-use Rattle.mk_never.specs.declared.values.Target.TheVariants.{WordOf}
-use Rattle.mk_never.specs.NeverHeap.{NeverState, register_at, word_at, target_of, is_same}
-use Rattle.mk_never.specs.Admitted.{AreAdmitted, IsAdmitted}
 use Rattle.mk_never.proofs.Sameness.{equal_from_same, same_from_equal}
-use Rattle.mk_core.specs.declared.config.Config.{Config}
 use Rattle.mk_core.specs.declared.events.Answer.TheVariants as answer
-use Rattle.mk_core.specs.declared.events.Event.{Event}
-use Rattle.mk_core.specs.declared.events.Seat.TheVariants.{Caller}
 use Rattle.mk_core.specs.declared.events.Step.TheVariants as step
 use Rattle.mk_core.specs.declared.seats.Stage.TheVariants as stage
-use Rattle.mk_core.specs.declared.seats.Flight.{Flight}
-use Rattle.mk_core.specs.Calls.{is_under_turn, one_if, word_met}
-use Rattle.mk_core.specs.Decided.{asked}
-use Rattle.mk_core.specs.Moments.{flight_of}
-use Rattle.mk_core.specs.Enabled.{MeetsAll}
-use Rattle.mk_core.specs.Effects.{answer_decided}
-use Rattle.mk_core.specs.History.{World, left, never_behind, call_decided, calls_from, bases_of, IsHistory}
-use Rattle.mk_core.specs.History.{AreEnabledFrom}
 use Rattle.mk_core.proofs.Conditions.{enabled_meets}
 use Rattle.mk_core.proofs.HistoryParts.{enabled_in_parts, admitted_in_parts, earlier_part_is_history}
 use Rattle.mk_protocol.proofs.NextSteps.{at_its_stage}

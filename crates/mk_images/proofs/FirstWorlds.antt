@@ -3,9 +3,7 @@ use Rattle.std.proofs.Common.{◌≡◌, ℕ, ◌*◌, false, sym, ap, ◌∙◌
 use Rattle.std.specs.Prelude.{◌==◌}
 use Rattle.std.proofs.lemmas.Bool.{false≢true}
 use Rattle.std.proofs.lemmas.Nat.Bits.{bit_at-zero}
-use Rattle.mk_core.specs.declared.config.Config.{Config}
-use Rattle.mk_core.specs.Bits.{has_bit}
-use Rattle.mk_core.specs.History.{first_world}
+use Rattle.mk_protocol.proofs.Vocabulary.{Config, first_world, has_bit}
 use Rattle.mk_protocol.proofs.OrderlyLists.{at_first}
 use Rattle.mk_images.specs.ImagePremises.{ImagePremises}
 

@@ -4,51 +4,25 @@ use Rattle.std.proofs.Common.{subst, ◌∙◌, inl, inr, arith}
 use Rattle.std.specs.Prelude.{slice_index, slice_index_or, slice_set, ◌&&◌, not, if◌then◌else◌, Option, Some, None}
 use Rattle.std.proofs.lemmas.Bool.{cases_Bool, cases_eq, cases_lt, ltb-true, false≢true}
 use Rattle.std.proofs.lemmas.List.{get_or-set_same, get_or-set_other, get_or_append_left, length-map, get_or_past}
-use Rattle.mk_never.specs.declared.operations.Op.{Op}
+use Rattle.mk_protocol.proofs.Vocabulary.{Answer, AreAdmitted, Caller, Cell, Config, Event, Flight, Header, Holding}
+use Rattle.mk_protocol.proofs.Vocabulary.{Host, IsSound, LeafRun, Marker, Moment, NeverState, Null, Num, Op}
+use Rattle.mk_protocol.proofs.Vocabulary.{PlacedAllocation, Progress, Ptr, Run, RunPages, Seat, Stage, Step, Value}
+use Rattle.mk_protocol.proofs.Vocabulary.{Word, Words, World, after_calls, after_free, answer_decided, asked, at_rest}
+use Rattle.mk_protocol.proofs.Vocabulary.{bases_of, call_decided, cell_freed, cell_of_allocation, comes_next, decided}
+use Rattle.mk_protocol.proofs.Vocabulary.{entry_of, flight_of, found, header_in, heads_run, image_of, is_phase}
+use Rattle.mk_protocol.proofs.Vocabulary.{is_small_object, is_undecided_free, nothing_done, object_placed, or_else}
+use Rattle.mk_protocol.proofs.Vocabulary.{p_of, placed_at, pointed_cell, progress, progress_freed, register_at}
+use Rattle.mk_protocol.proofs.Vocabulary.{run_headed, run_of_cell, sees_double, still, world_behind}
 use Rattle.mk_never.specs.declared.operations.Op.TheVariants as op
-use Rattle.mk_never.specs.declared.values.Value.{Value}
-use Rattle.mk_never.specs.declared.values.Value.TheVariants.{Null, Num, Ptr}
-use Rattle.mk_never.specs.NeverHeap.{NeverState, register_at, after_calls, after_free}
-use Rattle.mk_never.specs.Admitted.{AreAdmitted}
 use Rattle.mk_never.specs.Laws.{AreNotBy}
-use Rattle.mk_never.specs.Typed.{IsSound}
 use Rattle.mk_never.proofs.Registers.{admitted_keep}
 use Rattle.mk_never.proofs.Edits.{set_by}
-use Rattle.mk_geom.specs.declared.addresses.Cell.{Cell}
-use Rattle.mk_geom.specs.declared.headers.Header.{Header}
-use Rattle.mk_geom.specs.declared.headers.Header.TheVariants.{Run, LeafRun}
-use Rattle.mk_geom.specs.PageUses.{or_else}
-use Rattle.mk_core.specs.declared.config.Config.{Config}
-use Rattle.mk_core.specs.declared.events.Answer.{Answer}
 use Rattle.mk_core.specs.declared.events.Answer.TheVariants as answer
-use Rattle.mk_core.specs.declared.events.Event.{Event}
-use Rattle.mk_core.specs.declared.events.Seat.{Seat}
-use Rattle.mk_core.specs.declared.events.Seat.TheVariants.{Caller, Marker, Host}
-use Rattle.mk_core.specs.declared.events.Word.{Word}
 use Rattle.mk_core.specs.declared.events.Word.TheVariants as word
-use Rattle.mk_core.specs.declared.events.Step.{Step}
 use Rattle.mk_core.specs.declared.events.Step.TheVariants as step
-use Rattle.mk_core.specs.declared.seats.Stage.{Stage}
 use Rattle.mk_core.specs.declared.seats.Stage.TheVariants as stage
-use Rattle.mk_core.specs.declared.seats.Flight.{Flight}
-use Rattle.mk_core.specs.declared.seats.Progress.{Progress}
-use Rattle.mk_core.specs.declared.seats.Holding.{Holding}
-use Rattle.mk_core.specs.declared.seats.RunPages.{RunPages}
-use Rattle.mk_core.specs.Words.{Words}
-use Rattle.mk_core.specs.Image.{image_of}
-use Rattle.mk_core.specs.Calls.{at_rest, p_of, still}
-use Rattle.mk_core.specs.Cells.{header_in, run_headed, pointed_cell, heads_run}
-use Rattle.mk_core.specs.Decided.{entry_of, asked}
-use Rattle.mk_core.specs.Moments.{Moment, flight_of, is_phase, nothing_done}
-use Rattle.mk_core.specs.NewPlaces.{is_undecided_free, is_small_object}
-use Rattle.mk_core.specs.Order.{comes_next, is_of_any_holder}
-use Rattle.mk_core.specs.TurnConditions.{cell_freed}
-use Rattle.mk_core.specs.Accesses.{found}
-use Rattle.mk_core.specs.Allocations.{PlacedAllocation, placed_at, cell_of_allocation}
-use Rattle.mk_core.specs.StandingAllocations.{object_placed}
-use Rattle.mk_core.specs.Effects.{decided, sees_double, progress, progress_freed, holding_behind, run_of_cell}
-use Rattle.mk_core.specs.Effects.{answer_decided}
-use Rattle.mk_core.specs.History.{World, world_behind, bases_of, call_decided}
+use Rattle.mk_core.specs.Order.{is_of_any_holder}
+use Rattle.mk_core.specs.Effects.{holding_behind}
 use Rattle.mk_core.proofs.PlacesNow.{freed_cell}
 use Rattle.mk_core.proofs.ObjectHeaders.{small_heads_none}
 use Rattle.mk_core.proofs.StandingAllocations.{typed_size, run_begins, first_page_shows}
@@ -138,7 +112,6 @@ set_under v j k f s is ne =
 was_under : (c : Config) (v : View) (seat : Seat) (u : View) (k : ℕ) → ProtocolMove c v seat u → seat ≡ Caller k
     → v.turn ≢ 0
     → standing (flight_in u k) ≡ UnderTurn → standing (flight_in v k) ≡ UnderTurn
-was_under c v seat u k Stays e t h = h
 was_under c v seat u k (Enters {k = j} f a b d g) e t h = set_under v j k f InCall g (λ x. cc) h
 was_under c v seat u k (GoesOn {k = j} f a b d) e t h = set_under v j k f InCall d (λ x. cc) h
 was_under c v seat u k (Leaves {k = j} a b) e t h = set_under v j k at_rest Resting refl (λ x. cc) h
@@ -148,9 +121,7 @@ was_under c v seat u k (Works f g hold s) e t h = holds_now c v seat k e hold
 was_under c v seat u k (Holds j hold a b d) e t h = holds_now c v seat k e hold
 was_under c v seat u k (Opens j hold a b d g) e t h = holds_now c v seat k e hold
 was_under c v seat u k (Phases g hold a b p) e t h = holds_now c v seat k e hold
-was_under c v seat u k (Attends x a b d g i) e t h = h
-was_under c v seat u k (Quits a b) e t h = h
-was_under c v seat u k (Scans x a b d) e t h = h
+was_under c v seat u k _ e t h = h
 
 -- At Give a holder's step but `give` leaves the call as it is.
 
@@ -205,7 +176,7 @@ free_keeps n Null k r = refl
 free_keeps n (Num m) k r = refl
 free_keeps n (Ptr a t o) k r = refl
 
-not_by : (j k : ℕ) (o : Op) (a : Option Answer) → j ≢ k → AreNotBy k (asked (entry_of j o a))
+pub not_by : (j k : ℕ) (o : Op) (a : Option Answer) → j ≢ k → AreNotBy k (asked (entry_of j o a))
 not_by j k o None ne = tt
 not_by j k o (Some a) ne = (ne, tt)
 

@@ -1,16 +1,10 @@
 -- Only a Free that is decided unmaps a run, and that call holds the turn.
 use Rattle.std.proofs.Common.{◌≡◌, ◌≢◌, ℕ, ◌-◌, true, refl, ap, subst}
 use Rattle.std.specs.Prelude.{Option, Some, is_some}
-use Rattle.mk_never.specs.declared.operations.Op.{Op}
+use Rattle.mk_protocol.proofs.Vocabulary.{Caller, Config, Flight, Moment, Op, RunPages, Stage, flight_of, is_new_at}
+use Rattle.mk_protocol.proofs.Vocabulary.{is_undecided_new}
 use Rattle.mk_never.specs.declared.operations.Op.TheVariants as op
-use Rattle.mk_core.specs.declared.config.Config.{Config}
-use Rattle.mk_core.specs.declared.events.Seat.TheVariants.{Caller}
-use Rattle.mk_core.specs.declared.seats.Stage.{Stage}
 use Rattle.mk_core.specs.declared.seats.Stage.TheVariants as stage
-use Rattle.mk_core.specs.declared.seats.Flight.{Flight}
-use Rattle.mk_core.specs.declared.seats.RunPages.{RunPages}
-use Rattle.mk_core.specs.NewPlaces.{is_new_at, is_undecided_new}
-use Rattle.mk_core.specs.Moments.{Moment, flight_of}
 use Rattle.mk_protocol.specs.Protocol.{is_decided_free_at, is_decided_free}
 use Rattle.mk_protocol.proofs.Standings.{UnderTurn, standing_at}
 use Rattle.mk_protocol.proofs.Views.{view_of, flight_in, HoldsTurn}

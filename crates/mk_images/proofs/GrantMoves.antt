@@ -3,23 +3,14 @@ use Rattle.std.proofs.Common.{◌≡◌, ◌≢◌, ℕ, ◌+◌, ◌-◌, ◌*�
 use Rattle.std.proofs.Common.{inl, inr, arith}
 use Rattle.std.specs.Prelude.{slice_index, nat_le, nat_lt, ◌&&◌, not, Option, Some, None}
 use Rattle.std.proofs.lemmas.Bool.{cases_eq, and_parts, leb-true, eqb-true, or_cases, ltb-true, false≢true, true≢false}
-use Rattle.mk_never.specs.NeverHeap.{NeverState, allocation_at, words_of, is_unmapped}
-use Rattle.mk_geom.specs.declared.addresses.Cell.{Cell}
-use Rattle.mk_geom.specs.declared.pages.Place.{Place}
-use Rattle.mk_geom.specs.Addresses.{address_of}
-use Rattle.mk_geom.specs.Headers.{header_of}
-use Rattle.mk_core.specs.declared.config.Config.{Config}
-use Rattle.mk_core.specs.declared.seats.RunPages.{RunPages}
-use Rattle.mk_core.specs.Words.{Words, header_at, phase_of}
-use Rattle.mk_core.specs.Bounded.{is_some_and}
-use Rattle.mk_core.specs.Cells.{pointed_cell, first_word, header_in, is_released_cell, is_left_unmarked, is_in_run}
-use Rattle.mk_core.specs.Cells.{is_unmapped_header}
-use Rattle.mk_core.specs.Moments.{is_phase}
-use Rattle.mk_core.specs.NewPlaces.{pages_made, base_made, stands, unmapped_header, is_run_unmapped}
-use Rattle.mk_core.specs.Allocations.{PlacedAllocation, placed_at, storage_words, cell_of_allocation}
-use Rattle.mk_core.specs.StandingAllocations.{object_placed}
+use Rattle.mk_protocol.proofs.Vocabulary.{Cell, Config, NeverState, Place, PlacedAllocation, RunPages, Words, World}
+use Rattle.mk_protocol.proofs.Vocabulary.{address_of, allocation_at, base_made, cell_of_allocation, first_word}
+use Rattle.mk_protocol.proofs.Vocabulary.{header_at, header_in, header_of, is_left_unmarked, is_phase, is_released_cell}
+use Rattle.mk_protocol.proofs.Vocabulary.{is_run_unmapped, is_some_and, is_unmapped, is_unmapped_header, object_placed}
+use Rattle.mk_protocol.proofs.Vocabulary.{pages_made, phase_of, placed_at, pointed_cell, stands, storage_words}
+use Rattle.mk_protocol.proofs.Vocabulary.{unmapped_header, words_of}
+use Rattle.mk_core.specs.Cells.{is_in_run}
 use Rattle.mk_core.specs.TurnConditions.{may_wipe, is_in_gone_run}
-use Rattle.mk_core.specs.History.{World}
 use Rattle.mk_core.proofs.AllBelow.{all_below-at}
 use Rattle.mk_core.proofs.Sizes.{large_count}
 use Rattle.mk_core.proofs.ObjectHeaders.{unmapped_is_unmapped}
@@ -31,7 +22,7 @@ use Rattle.mk_images.specs.ImagePremises.{IsPlaceOfNone, MayHoldWords, OfMapped,
 use Rattle.mk_images.proofs.KnownWorlds.{KnownWorld}
 use Rattle.mk_images.proofs.Kept.{exists_placed}
 use Rattle.mk_images.proofs.Stands.{is_gone, Stands}
-use Rattle.mk_images.proofs.Before.{words_fit, unmapped_is}
+use Rattle.mk_images.proofs.Before.{words_fit, unmapped_is, first_in}
 
 -- the cell of a place, by the allocation that is granted there
 pub record FillsCell (c : Config) (w : Words) (a : PlacedAllocation) : Type 0 where
@@ -52,10 +43,6 @@ fills_cell c w a place known typed unreleased base h =
       first = (cells_begin c w.now.words a known.limits st has).0;
       inside = st.within;
     }
-
-abbrev first_in : Words → Option Cell → ℕ
-first_in w (Some cell) = first_word w cell
-first_in w None = 0
 
 module _ (c : Config) (w : World) (n : NeverState) (known : KnownWorld c w) (mirrors : Mirrors c w n)
     (others : ImagePremises c w) (st : Stands c w.now.words w.allocations) where

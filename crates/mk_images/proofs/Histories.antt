@@ -3,25 +3,16 @@ use Rattle.std.proofs.Common.{◌≡◌, ℕ, ◌*◌, ◌/◌, ◌%◌, Bool, t
 use Rattle.std.proofs.Common.{subst, ◌∙◌, append-nil, append_assoc, arith}
 use Rattle.std.specs.Prelude.{slice_index, slice_index_or}
 use Rattle.std.proofs.lemmas.List.{map-append, length-replicate}
-use Rattle.mk_never.specs.declared.values.Value.{Value}
-use Rattle.mk_never.specs.declared.values.Value.TheVariants.{Null, Num, Ptr}
-use Rattle.mk_never.specs.NeverHeap.{NeverState, Call, after_calls, replies_of}
-use Rattle.mk_never.specs.Admitted.{AreAdmitted}
+use Rattle.mk_protocol.proofs.Vocabulary.{Answer, AreAdmitted, AreEnabled, AreEnabledFrom, Call, Config, Decided, Event}
+use Rattle.mk_protocol.proofs.Vocabulary.{Flight, IsEnabled, IsHistory, IsWithinLimits, NeverState, Null, Num, Ptr}
+use Rattle.mk_protocol.proofs.Vocabulary.{Value, World, after_calls, answer_of, answered, answers_of, asked, at_rest}
+use Rattle.mk_protocol.proofs.Vocabulary.{bases_of, call_decided, calls_from, first_world, image_of, left, left_from}
+use Rattle.mk_protocol.proofs.Vocabulary.{never_behind, replies_of, world_behind}
 use Rattle.mk_never.specs.Reach.{LeadsTo}
 use Rattle.mk_never.proofs.TypedCalls.{start_is_typed}
 use Rattle.mk_never.proofs.Parts.{after_append, replies_append, admitted_split}
 use Rattle.mk_never.proofs.Reached.{reached_is_in}
-use Rattle.mk_core.specs.declared.config.Config.{Config}
-use Rattle.mk_core.specs.declared.events.Answer.{Answer}
-use Rattle.mk_core.specs.declared.events.Event.{Event}
-use Rattle.mk_core.specs.declared.seats.Flight.{Flight}
-use Rattle.mk_core.specs.Config.{IsWithinLimits}
-use Rattle.mk_core.specs.Calls.{at_rest}
-use Rattle.mk_core.specs.Enabled.{IsEnabled}
-use Rattle.mk_core.specs.Image.{image_of, answer_of, answers_of}
-use Rattle.mk_core.specs.Decided.{Decided, asked, answered}
-use Rattle.mk_core.specs.History.{World, first_world, world_behind, left_from, left, AreEnabledFrom, AreEnabled}
-use Rattle.mk_core.specs.History.{call_decided, calls_from, never_first, never_behind, bases_of, IsHistory}
+use Rattle.mk_core.specs.History.{never_first}
 use Rattle.mk_core.proofs.Histories.{left_more, enabled_more}
 use Rattle.mk_protocol.proofs.OrderlyLists.{at_first}
 use Rattle.mk_images.specs.Images.{shown, CarriesOwn, ProbedOwn}
@@ -167,9 +158,8 @@ histories_tell c es h others =
 
 -- What is reached is in a safe set.
 safe_leads : (safe : ℕ → Bool) (v : Value) (number : ℕ) → IsSafe safe v → LeadsTo v number → safe number ≡ true
-safe_leads safe Null number is leads = absurd leads
-safe_leads safe (Num m) number is leads = absurd leads
 safe_leads safe (Ptr a t o) number is leads = ap safe (sym leads) ∙ is
+safe_leads safe _ number is leads = absurd leads
 
 pub reached_is_unreleased : ReachedIsUnreleased
 reached_is_unreleased c es h others number reached =

@@ -3,28 +3,19 @@ use Rattle.std.proofs.Common.{◌≡◌, ◌≢◌, ℕ, zero, suc, ◌+◌, ◌
 use Rattle.std.proofs.Common.{length, map, get_or, refl, sym, ap, subst, ◌∙◌, inl, inr, arith, length-set}
 use Rattle.std.proofs.Common.{length-append}
 use Rattle.std.specs.Prelude.{slice_index, slice_index_or, slice_set, ◌&&◌, nat_lt}
-use Rattle.std.proofs.lemmas.Bool.{cases_eq, cases_lt, cases_Bool}
+use Rattle.std.proofs.lemmas.Bool.{cases_eq, cases_lt, cases_Bool, and_right}
 use Rattle.std.proofs.lemmas.List.{get_or-set_same, get_or-set_other, get_or_append_left, get_or_at, get_or_past}
 use Rattle.std.proofs.lemmas.List.{map-append, length-map}
 use Rattle.std.proofs.Math.ListN.{get_or-map as get_or-map-default}
-use Rattle.mk_never.specs.declared.types.Kind.{Kind}
-use Rattle.mk_never.specs.declared.types.Kind.TheVariants.{Num as Number, To}
-use Rattle.mk_never.specs.declared.values.Value.{Value}
-use Rattle.mk_never.specs.declared.values.Value.TheVariants.{Null, Num, Ptr}
-use Rattle.mk_never.specs.Types.{kinds_of, is_large, zero_of, zero_words}
-use Rattle.mk_never.specs.NeverHeap.{NeverState, Allocation as NeverAllocation, no_allocation, allocation_at, words_of}
-use Rattle.mk_never.specs.NeverHeap.{word_at, register_at, global_at, is_unmapped, with_register, with_global}
-use Rattle.mk_never.specs.NeverHeap.{with_word, with_new, with_freed}
-use Rattle.mk_never.specs.Typed.{IsSound, Suits, kind_in, IsTyped, IsTypedAllocation}
+use Rattle.mk_protocol.proofs.Vocabulary.{Flight, IsSound, IsTyped, IsTypedAllocation, Kind, NeverAllocation}
+use Rattle.mk_protocol.proofs.Vocabulary.{NeverState, Null, Num, Number, PlacedAllocation, Ptr, Stage, Suits, To, Value}
+use Rattle.mk_protocol.proofs.Vocabulary.{address_of, allocation_at, at_rest, bases_of, d_of, global_at, i_of, image_of}
+use Rattle.mk_protocol.proofs.Vocabulary.{is_large, is_unmapped, kind_in, kinds_of, never_granted, no_allocation, p_of}
+use Rattle.mk_protocol.proofs.Vocabulary.{placed_at, q_of, r_of, register_at, with_freed, with_global, with_new}
+use Rattle.mk_protocol.proofs.Vocabulary.{with_register, with_word, word_at, words_of}
+use Rattle.mk_never.specs.Types.{zero_of, zero_words}
 use Rattle.mk_never.proofs.Edits.{set_by, exists}
-use Rattle.mk_core.specs.declared.seats.Stage.{Stage}
 use Rattle.mk_core.specs.declared.seats.Stage.TheVariants as stage
-use Rattle.mk_core.specs.declared.seats.Flight.{Flight}
-use Rattle.mk_core.specs.Calls.{at_rest, d_of, q_of, p_of, r_of, i_of}
-use Rattle.mk_geom.specs.Addresses.{address_of}
-use Rattle.mk_core.specs.Image.{image_of}
-use Rattle.mk_core.specs.Allocations.{PlacedAllocation, never_granted, placed_at}
-use Rattle.mk_core.specs.History.{bases_of}
 use Rattle.mk_images.specs.Images.{ImageScene, flight_among, is_put, shown, is_past_probe, Carries, CarriesOwn, IsMet}
 use Rattle.mk_images.specs.Images.{ProbedOwn, AreImages}
 use Rattle.mk_images.proofs.Moves.{is_bare, Decides, Move, Rests, Flies, Owes, Pays, Stores, Shares, Writes, Wipes}
@@ -388,17 +379,13 @@ pub freed_words : (n : NeverState) (a b : ℕ) → words_of (with_freed n a) b �
 freed_words n a b = set_by (λ (x : NeverAllocation). x.words ≡ words_of n b) n.allocations a b
     (record (allocation_at n a) { freed = true }) no_allocation (λ e. ap (λ j. words_of n j) (sym e)) refl
 
-and_no : (b x : Bool) → x ≡ false → (b && x) ≡ false
-and_no true x h = h
-and_no false x h = refl
-
 pub freed_was : (n : NeverState) (a b : ℕ) → is_unmapped (allocation_at (with_freed n a) b) ≡ false
     → is_unmapped (allocation_at n b) ≡ false
 freed_was n a b = set_by (λ (x : NeverAllocation). is_unmapped x ≡ false
     → is_unmapped (allocation_at n b) ≡ false) n.allocations a b (record (allocation_at n a) { freed = true })
     no_allocation
     (λ e u. ap (λ j. is_unmapped (allocation_at n j)) e
-    ∙ and_no (allocation_at n a).freed (is_large (words_of n a)) u) (λ u. u)
+    ∙ and_right (allocation_at n a).freed (is_large (words_of n a)) u) (λ u. u)
 
 freed_is : (n : NeverState) (a b : ℕ) → is_unmapped (record (allocation_at n a) { freed = true }) ≡ false
     → is_unmapped (allocation_at n b) ≡ false
@@ -492,14 +479,13 @@ pub new_placed : (xs : List PlacedAllocation) (y : PlacedAllocation) → placed_
 new_placed xs y = get_or_at xs y [] never_granted (length xs) refl
 
 meets_new : (n : NeverState) (ty : ℕ) (v : Value) (i : ℕ) → IsMet n v i → IsMet (with_new n ty) v i
-meets_new n ty Null i h = tt
-meets_new n ty (Num m) i h = tt
 meets_new n ty (Ptr a t o) i h = λ lt. elim (cases_eq a (length n.allocations)) [
   | inl e ↦ ap (λ j. is_unmapped (allocation_at (with_new n ty) j)) e
       ∙ ap (λ (x : NeverAllocation). is_unmapped x) (new_never n ty)
   | inr ne ↦ ap (λ (x : NeverAllocation). is_unmapped x) (old_never n ty a ne)
       ∙ h (subst (λ (x : NeverAllocation). o + i < length x.words) (old_never n ty a ne) lt)
 ]
+meets_new n ty _ i h = tt
 
 -- a word of what is granted, and of what was
 pub exists_placed : (xs : List PlacedAllocation) (a : ℕ) → (placed_at xs a).released ≡ false → a < length xs

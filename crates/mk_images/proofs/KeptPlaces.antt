@@ -1,8 +1,7 @@
 -- Allocations that change one by one, and stay at their places.
 use Rattle.std.proofs.Common.{◌≡◌, List, [], ◌∷◌, map, refl, ap, ◌∙◌}
 use Rattle.std.proofs.lemmas.List.{length-map}
-use Rattle.mk_core.specs.Allocations.{PlacedAllocation, placed_at}
-use Rattle.mk_core.specs.History.{bases_of}
+use Rattle.mk_protocol.proofs.Vocabulary.{PlacedAllocation, bases_of, placed_at}
 use Rattle.mk_core.proofs.ChangedAllocations.{LeavesPlaces, changed_at}
 use Rattle.mk_images.proofs.Moves.{SamePlaces}
 

@@ -4,17 +4,9 @@ use Rattle.std.proofs.Common.{◌∙◌, inl, inr, arith}
 use Rattle.std.specs.Prelude.{if◌then◌else◌}
 use Rattle.std.proofs.lemmas.Bool.{cases_eq, eq-eqb, ne_eqb}
 use Rattle.std.proofs.lemmas.List.{get_or-set_same, get_or-set_other, get_or_append_left}
-use Rattle.mk_never.specs.declared.operations.Op.{Op}
-use Rattle.mk_never.specs.declared.values.Value.{Value}
-use Rattle.mk_never.specs.declared.values.Value.TheVariants.{Null, Num, Ptr}
-use Rattle.mk_never.specs.NeverHeap.{NeverState, allocation_at, words_of, is_unmapped}
-use Rattle.mk_never.specs.Typed.{IsSound}
-use Rattle.mk_core.specs.declared.seats.Stage.{Stage}
+use Rattle.mk_protocol.proofs.Vocabulary.{Flight, IsSound, NeverState, Null, Num, Op, Ptr, Stage, Value, address_of}
+use Rattle.mk_protocol.proofs.Vocabulary.{allocation_at, d_of, image_of, is_unmapped, words_of}
 use Rattle.mk_core.specs.declared.seats.Stage.TheVariants as stage
-use Rattle.mk_core.specs.declared.seats.Flight.{Flight}
-use Rattle.mk_geom.specs.Addresses.{address_of}
-use Rattle.mk_core.specs.Image.{image_of}
-use Rattle.mk_core.specs.Calls.{d_of}
 use Rattle.mk_images.specs.Images.{has_q, has_some_q, has_p, has_some_p, has_r, is_put, owes, shown, is_past_probe}
 use Rattle.mk_images.specs.Images.{Carries, IsMet}
 use Rattle.mk_images.proofs.Moves.{is_bare}
@@ -90,11 +82,10 @@ bare_owes_nothing _ h = refl
 -- images with one more base
 pub image_more : (n : NeverState) (bs more : List ℕ) (v : Value) → length bs ≡ length n.allocations → IsSound n v
     → image_of (bs ++ more) v ≡ image_of bs v
-image_more n bs more Null e s = refl
-image_more n bs more (Num m) e s = refl
 image_more n bs more (Ptr a t o) e s =
     ap (λ x. address_of (x + o))
     (get_or_append_left bs more 0 a (let lt : a < length n.allocations = s.0 in omega (arith, e)))
+image_more n bs more _ e s = refl
 
 -- what is carried, where the values are others with the same images
 pub carries_same : (bs cs : List ℕ) (f : Flight) (a b d a2 b2 d2 : Value) → image_of cs a2 ≡ image_of bs a
@@ -114,6 +105,5 @@ carries_same bs cs f a b d a2 b2 d2 ea eb ed h =
 pub met_same : (n m : NeverState) (v : Value) (i : ℕ) → ((a : ℕ) → length (words_of m a) ≡ length (words_of n a))
     → ((a : ℕ) → is_unmapped (allocation_at n a) ≡ false → is_unmapped (allocation_at m a) ≡ false)
     → IsMet n v i → IsMet m v i
-met_same n m Null i l u h = tt
-met_same n m (Num k) i l u h = tt
 met_same n m (Ptr a t o) i l u h = λ lt. u a (h (let e = l a in omega (arith, e)))
+met_same n m _ i l u h = tt

@@ -3,23 +3,14 @@ use Rattle.std.proofs.Common.{◌≡◌, ℕ, ◌+◌, ◌^◌, ◌<◌, Bool, t
 use Rattle.std.proofs.Common.{subst, ◌∙◌, inl, inr, arith}
 use Rattle.std.specs.Prelude.{slice_set, ◌==◌, Option, Some, if◌then◌else◌}
 use Rattle.std.proofs.lemmas.Bool.{cases_eq, cases_Bool, eq-eqb, ne_eqb}
-use Rattle.mk_never.specs.declared.operations.Op.{Op}
-use Rattle.mk_never.specs.declared.values.Value.{Value}
-use Rattle.mk_never.specs.declared.values.Value.TheVariants.{Null, Num, Ptr}
-use Rattle.mk_never.specs.Types.{kinds_of}
-use Rattle.mk_never.specs.NeverHeap.{NeverState, allocation_at, words_of, is_same, bit, after_calls, replies_of}
+use Rattle.mk_protocol.proofs.Vocabulary.{Answer, IsSound, IsTyped, IsTypedAllocation, NeverState, Null, Num, Op}
+use Rattle.mk_protocol.proofs.Vocabulary.{Progress, Ptr, Value, after_calls, allocation_at, answer_of, answered}
+use Rattle.mk_protocol.proofs.Vocabulary.{answers_of, asked, bases_of, bit, entry_of, flagged, image_of, is_same}
+use Rattle.mk_protocol.proofs.Vocabulary.{kinds_of, one_if, placed_at, replies_of, words_of}
 use Rattle.mk_never.specs.NeverHeap.{reply_of}
-use Rattle.mk_never.specs.Typed.{IsSound, IsTyped, IsTypedAllocation}
 use Rattle.mk_never.proofs.Soundness.{place_is_inside}
 use Rattle.mk_never.proofs.Sameness.{equal_from_same, same_from_equal}
-use Rattle.mk_core.specs.declared.events.Answer.{Answer}
-use Rattle.mk_core.specs.declared.seats.Progress.{Progress}
-use Rattle.mk_core.specs.Calls.{one_if}
-use Rattle.mk_core.specs.Image.{image_of, answer_of, answers_of}
-use Rattle.mk_core.specs.History.{bases_of}
-use Rattle.mk_core.specs.Decided.{entry_of, flagged, asked, answered}
 use Rattle.mk_images.specs.Images.{ImageScene, AreImages}
-use Rattle.mk_core.specs.Allocations.{placed_at}
 use Rattle.mk_images.specs.SafeSets.{IsSafe, IsSafeSet}
 use Rattle.mk_images.proofs.Moves.{Move}
 use Rattle.mk_images.proofs.Kept.{AreApart, AreSmall, base_at}

@@ -2,23 +2,16 @@
 use Rattle.std.proofs.Common.{◌≡◌, ℕ, ◌+◌, ◌*◌, ◌<◌, Bool, true, false, List, ◌++◌, length, refl, sym, ap, subst, ◌∙◌}
 use Rattle.std.proofs.Common.{arith}
 use Rattle.std.specs.Prelude.{slice_set, Some, if◌then◌else◌}
-use Rattle.mk_never.specs.declared.operations.Op.{Op}
+use Rattle.mk_protocol.proofs.Vocabulary.{Answer, Done, Flight, NeverState, Null, Num, Op, Stage, Unmapped, WordOf}
+use Rattle.mk_protocol.proofs.Vocabulary.{answer_of, bases_of, bit, d_of, flagged, i_of, is_same, number_of, q_of}
+use Rattle.mk_protocol.proofs.Vocabulary.{register_at, stage_refused, target_of, with_register, with_word, word_at}
 use Rattle.mk_never.specs.declared.operations.Op.TheVariants as op
 use Rattle.mk_never.specs.declared.operations.Reply.{Reply}
-use Rattle.mk_never.specs.declared.operations.Reply.TheVariants.{Done, Num as Number, Val}
-use Rattle.mk_never.specs.declared.values.Value.TheVariants.{Null, Num}
+use Rattle.mk_never.specs.declared.operations.Reply.TheVariants.{Num as Number, Val}
 use Rattle.mk_never.specs.declared.values.Target.{Target}
-use Rattle.mk_never.specs.declared.values.Target.TheVariants.{Nothing, Unmapped, WordOf}
-use Rattle.mk_never.specs.NeverHeap.{NeverState, register_at, with_register, number_of, bit, is_same, word_at}
-use Rattle.mk_never.specs.NeverHeap.{with_word, target_of, reply_at, left_at, reply_of, after_op}
-use Rattle.mk_core.specs.declared.events.Answer.{Answer}
-use Rattle.mk_core.specs.declared.seats.Stage.{Stage}
+use Rattle.mk_never.specs.declared.values.Target.TheVariants.{Nothing}
+use Rattle.mk_never.specs.NeverHeap.{reply_at, left_at, reply_of, after_op}
 use Rattle.mk_core.specs.declared.seats.Stage.TheVariants as stage
-use Rattle.mk_core.specs.declared.seats.Flight.{Flight}
-use Rattle.mk_core.specs.Calls.{q_of, i_of, d_of, stage_refused}
-use Rattle.mk_core.specs.Image.{answer_of}
-use Rattle.mk_core.specs.History.{bases_of}
-use Rattle.mk_core.specs.Decided.{flagged}
 use Rattle.mk_images.specs.Images.{ImageScene, flight_among, is_put}
 use Rattle.mk_images.proofs.Moves.{is_bare, Move, Flies, Owes}
 use Rattle.mk_images.proofs.Pairs.{bare_carries, bare_unprobed, shows_plain, bare_owes_nothing}
@@ -90,10 +83,6 @@ refused_left x t left at e none = ap (λ (y : Target). left_at y left at) e ∙ 
     by Nothing none = refl
     by Unmapped none = refl
     by (WordOf a i) none = cc
-
-abbrev pub is_bare_refusal : Op → Bool
-is_bare_refusal (op.GetPtr d q i) = false
-is_bare_refusal o = accesses o
 
 abbrev flight : Stage → Op → ℕ → ℕ → ℕ → ℕ → Flight
 flight st o q p r l = record { stage = st; op = o; q = q; p = p; r = r; loaded = l }

@@ -3,26 +3,17 @@ use Rattle.std.proofs.Common.{◌≡◌, ◌≢◌, ℕ, ◌+◌, ◌*◌, ◌%�
 use Rattle.std.proofs.Common.{ap, subst, ◌∙◌, arith}
 use Rattle.std.specs.Prelude.{if◌then◌else◌, slice_set, ◌==◌, Some, None}
 use Rattle.std.proofs.lemmas.Bool.{false≢true, eqb-true, eqb-false}
-use Rattle.mk_never.specs.declared.operations.Op.{Op}
+use Rattle.mk_protocol.proofs.Vocabulary.{AreAdmitted, Done, Flight, IsAdmitted, IsSound, Meets, NeverState, Null, Num}
+use Rattle.mk_protocol.proofs.Vocabulary.{Op, Ptr, Stage, Value, after_free, answer_of, asked, bases_of, d_of, entry_of}
+use Rattle.mk_protocol.proofs.Vocabulary.{i_of, image_of, is_same, one_if, onward, p_of, progress_p, progress_q}
+use Rattle.mk_protocol.proofs.Vocabulary.{progress_reg, q_of, r_of, refused, register_at, register_met, stage_behind}
+use Rattle.mk_protocol.proofs.Vocabulary.{steps_of, target_of, with_register}
 use Rattle.mk_never.specs.declared.operations.Op.TheVariants as op
-use Rattle.mk_never.specs.declared.operations.Reply.TheVariants.{Done}
-use Rattle.mk_never.specs.declared.values.Value.{Value}
-use Rattle.mk_never.specs.declared.values.Value.TheVariants.{Null, Num, Ptr}
 use Rattle.mk_never.specs.declared.values.Target.TheVariants.{Nothing}
-use Rattle.mk_never.specs.NeverHeap.{NeverState, register_at, with_register, target_of, free_reply, after_free}
-use Rattle.mk_never.specs.NeverHeap.{lea_reply, moved_on, is_same}
-use Rattle.mk_never.specs.Admitted.{AreAdmitted, IsAdmitted, Meets}
-use Rattle.mk_never.specs.Typed.{IsSound}
+use Rattle.mk_never.specs.NeverHeap.{free_reply, lea_reply, moved_on}
 use Rattle.mk_core.specs.declared.events.Answer.TheVariants as answer
-use Rattle.mk_core.specs.declared.seats.Stage.{Stage}
 use Rattle.mk_core.specs.declared.seats.Stage.TheVariants as stage
-use Rattle.mk_core.specs.declared.seats.Flight.{Flight}
-use Rattle.mk_core.specs.Calls.{i_of, steps_of, stage_behind, refused, q_of, p_of, r_of, d_of, value_for, progress_q}
-use Rattle.mk_core.specs.Calls.{progress_p, progress_reg, onward, one_if}
-use Rattle.mk_core.specs.Image.{image_of, answer_of}
-use Rattle.mk_core.specs.History.{bases_of}
-use Rattle.mk_core.specs.Decided.{entry_of, asked}
-use Rattle.mk_core.specs.Accesses.{register_met}
+use Rattle.mk_core.specs.Calls.{value_for}
 use Rattle.mk_protocol.proofs.Standings.{standing_at, is_astray}
 use Rattle.mk_protocol.proofs.Stages.{is_reg_stage}
 use Rattle.mk_images.specs.Images.{is_past_probe, ImageScene, flight_among, is_put, has_p, has_some_p, has_r, Carries}

@@ -3,19 +3,12 @@ use Rattle.std.proofs.Common.{◌≡◌, ◌≢◌, ℕ, ◌+◌, ◌*◌, ◌/�
 use Rattle.std.proofs.Common.{inr, arith}
 use Rattle.std.specs.Prelude.{◌&&◌, ◌==◌, not, Option, Some, None}
 use Rattle.std.proofs.lemmas.Bool.{cases_Bool, and_parts, and_from, eqb-true, eq-eqb, not-true, true≢false}
-use Rattle.mk_never.specs.Types.{kinds_of, is_large}
-use Rattle.mk_geom.specs.Addresses.{address_of}
-use Rattle.mk_geom.specs.Headers.{header_of}
-use Rattle.mk_core.specs.declared.config.Config.{Config}
-use Rattle.mk_core.specs.declared.seats.RunPages.{RunPages}
-use Rattle.mk_core.specs.Config.{IsWithinLimits}
-use Rattle.mk_core.specs.Words.{Words, header_at}
-use Rattle.mk_core.specs.Cells.{pointed_cell, first_word, header_in, heads_run, is_unmapped_header, words_are_zero}
-use Rattle.mk_core.specs.NewPlaces.{is_small_object, pages_made, stands, unmapped_header, is_run_unmapped, is_run_gone}
-use Rattle.mk_core.specs.ObjectHeaders.{IsSized}
-use Rattle.mk_core.specs.Allocations.{PlacedAllocation, placed_at, is_mapped, storage_words, cell_of_allocation}
-use Rattle.mk_core.specs.StandingAllocations.{object_placed, BeginsAtCell}
-use Rattle.mk_core.specs.History.{World}
+use Rattle.mk_protocol.proofs.Vocabulary.{BeginsAtCell, Config, IsSized, IsWithinLimits, PlacedAllocation, RunPages}
+use Rattle.mk_protocol.proofs.Vocabulary.{Words, World, address_of, cell_of_allocation, first_word, header_at}
+use Rattle.mk_protocol.proofs.Vocabulary.{header_in, header_of, heads_run, is_large, is_mapped, is_run_gone}
+use Rattle.mk_protocol.proofs.Vocabulary.{is_run_unmapped, is_small_object, is_unmapped_header, kinds_of, object_placed}
+use Rattle.mk_protocol.proofs.Vocabulary.{pages_made, placed_at, pointed_cell, stands, storage_words, unmapped_header}
+use Rattle.mk_protocol.proofs.Vocabulary.{words_are_zero}
 use Rattle.mk_core.proofs.AllBelow.{all_below-at}
 use Rattle.mk_core.proofs.Sizes.{large_is_not_small, small_pages, large_words, large_count}
 use Rattle.mk_core.proofs.ObjectHeaders.{part_heads_run, made_is_mapped, unmapped_is_unmapped}
