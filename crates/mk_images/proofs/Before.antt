@@ -32,15 +32,13 @@ module _ (c : Config) (w : World) (n : NeverState) (known : KnownWorld c w) (mir
   words_are a lt =
       let count = mirrors.twins.count in
       let typed : IsTypedAllocation n (allocation_at n a) = mirrors.typed.allocations a (omega arith) in
-      typed.size ∙ ap (λ (types : List (List Kind)). length (kinds_of types (allocation_at n a).ty)) mirrors.types
-      ∙ ap (λ ty. length (kinds_of c.types ty)) (sym (mirrors.twins.ty a lt))
+      typed.size ∙ rw mirrors.types (rw (← (mirrors.twins.ty a lt)))
 
   pub type_is : (a : ℕ) → a < length w.allocations → (placed_at w.allocations a).ty < length c.types
   type_is a lt =
       let count = mirrors.twins.count in
       let typed : IsTypedAllocation n (allocation_at n a) = mirrors.typed.allocations a (omega arith) in
-      subst (λ (types : List (List Kind)). (placed_at w.allocations a).ty < length types) mirrors.types
-      (subst (λ ty. ty < length n.types) (sym (mirrors.twins.ty a lt)) typed.ty)
+      rw mirrors.types at (subst (λ ty. ty < length n.types) (sym (mirrors.twins.ty a lt)) typed.ty)
 
   pub words_fit : (a : ℕ) → a < length w.allocations
       → length (words_of n a) ≤ storage_words c (placed_at w.allocations a)
@@ -50,8 +48,7 @@ module _ (c : Config) (w : World) (n : NeverState) (known : KnownWorld c w) (mir
 
   pub unmapped_is : (a : ℕ) → a < length w.allocations
       → is_unmapped (allocation_at n a) ≡ is_gone c (placed_at w.allocations a)
-  unmapped_is a lt = ap (λ b. b && is_large (words_of n a)) (sym (mirrors.twins.freed a lt))
-      ∙ ap (λ l. (placed_at w.allocations a).freed && nat_lt 32 l) (words_are a lt)
+  unmapped_is a lt = rw (← (mirrors.twins.freed a lt)) (rw (words_are a lt))
 
   pub storages_apart : Stands c w.now.words w.allocations → (a b i j : ℕ) → (placed_at w.allocations a).released ≡ false
       → (placed_at w.allocations b).released ≡ false
@@ -82,8 +79,7 @@ module _ (c : Config) (w : World) (n : NeverState) (known : KnownWorld c w) (mir
         bound = λ a i u li. let f = words_fit a (exists_placed w.allocations a u) in let b =
             st.inside a u in omega (arith, known.lengths.heap);
         room = let p = known.limits.pages.1 in omega (arith, known.lengths.heap);
-        full = λ ty lt. subst (λ (types : List (List Kind)). 0 < length (kinds_of types ty)) (sym mirrors.types)
-            (known.limits.types ty [] (subst (λ (types : List (List Kind)). ty < length types) mirrors.types lt)).0.0;
+        full = λ ty lt. rw mirrors.types (known.limits.types ty [] (rw mirrors.types at lt)).0.0;
       }
 
   -- headers say what is unmapped

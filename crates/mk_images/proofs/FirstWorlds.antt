@@ -8,7 +8,7 @@ use Rattle.mk_protocol.proofs.OrderlyLists.{at_first}
 use Rattle.mk_images.specs.ImagePremises.{ImagePremises}
 
 bare_word : (k : ℕ) → has_bit 0 k ≡ false
-bare_word k = ap (λ x. x == 1) (bit_at-zero k)
+bare_word k = rw (bit_at-zero k)
 
 pub others_at_first : (c : Config) → ImagePremises c (first_world c)
 others_at_first c =

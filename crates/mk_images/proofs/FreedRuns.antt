@@ -88,7 +88,7 @@ was_freed : (c : Config) (w : World) (seat : Seat) (f : Flight) (x : Step) (run 
 was_freed c w seat f (step.Take o) run e = Before (take_freed _ w.now.seats.holding run e) refl
 was_freed c w seat f step.Give run e = cc
 was_freed c w seat f (step.Quar p v) run e =
-    elim (else_freed (run_of_cell w.now.words (cell_freed c.pages w.now.words f p v)) w.now.seats.holding.freed run e) [
+    elim (else_freed _ w.now.seats.holding.freed run e) [
       | inl new ↦ Now p v new
       | inr old ↦ Before old refl
     ]
@@ -98,7 +98,7 @@ was_freed c w seat f _ run e = Before e refl
 
 holds_now : (c : Config) (v : View) (seat : Seat) (k : ℕ) → seat ≡ Caller k → HoldsTurn c v seat
     → standing (flight_in v k) ≡ UnderTurn
-holds_now c v seat k e hold = by (subst (λ (s : Seat). HoldsTurn c v s) e hold)
+holds_now c v seat k e hold = by (rw e at hold)
   where
     by : HoldsTurn c v (Caller k) → standing (flight_in v k) ≡ UnderTurn
     by h = h.1
@@ -149,7 +149,7 @@ give_still c m o q p r l n (step.Take y) h g = absurd (false≢true h)
 give_still c m o q p r l n step.Grant h g = absurd (false≢true h)
 give_still c m o q p r l n step.Full h g = absurd (false≢true h)
 give_still c m o q p r l n step.Give h g = absurd (false≢true (sym g))
-give_still c m o q p r l n (step.Quar y v) h g = none_freed_at (not (is_phase m.words 4)) (flight stage.Give o q p r l)
+give_still c m o q p r l n (step.Quar y v) h g = none_freed_at _ _
 give_still c m o q p r l n (step.Look x) h g =
     let f = flight stage.Give o q p r l in
     ap (λ (b : Bool). if b then decided f answer.Double else still f) (none_seen m.words x)
@@ -191,7 +191,7 @@ module _ (c : Config) (w : World) (n : NeverState) (known : KnownWorld c w) (oth
   -- who is in a decided Free holds the turn
   holds : (k : ℕ) → k < c.callers → is_decided_free (flight_of w.now (Caller k)) ≡ true
       → HoldsTurn c (view_of w.now) (Caller k)
-  holds k lt free = (lt, decided_free_stands (flight_of w.now (Caller k)).stage (flight_of w.now (Caller k)).op free)
+  holds k lt free = (lt, decided_free_stands _ _ free)
 
   -- what a register points at is there after the event
   points_on : (e : Event) (k r : ℕ) (run : RunPages)
@@ -199,8 +199,7 @@ module _ (c : Config) (w : World) (n : NeverState) (known : KnownWorld c w) (oth
       → register_at (never_after c w n e) k r ≡ register_at n k r → PointsAtRun w n k r run
       → PointsAtRun (world_behind c w e) (never_after c w n e) k r run
   points_on e k r run grows same h =
-      let sound : IsSound n (Ptr h.number h.ty h.offset) =
-      subst (λ (v : Value). IsSound n v) h.is (mirrors.typed.registers (8 * k + r)) in
+      let sound : IsSound n (Ptr h.number h.ty h.offset) = rw h.is at (mirrors.typed.registers (8 * k + r)) in
       let there : h.number < length n.allocations = sound.0 in
       let longs = length-map w.allocations (λ (x : PlacedAllocation). x.base) in
       let count = mirrors.twins.count in
@@ -209,9 +208,8 @@ module _ (c : Config) (w : World) (n : NeverState) (known : KnownWorld c w) (oth
         ty = h.ty;
         offset = h.offset;
         is = same ∙ h.is;
-        base = sym (base_at (world_behind c w e).allocations h.number) ∙ ap (λ bs. slice_index bs h.number) grows.is
-            ∙ get_or_append_left (bases_of w.allocations) grows.more 0 h.number (omega arith)
-            ∙ base_at w.allocations h.number ∙ h.base;
+        base = sym (base_at _ h.number) ∙ rw grows.is (get_or_append_left _ grows.more 0 h.number (omega arith)
+            ∙ base_at w.allocations h.number ∙ h.base);
       }
 
   -- the target of a Free that is a run
@@ -276,25 +274,20 @@ module _ (c : Config) (w : World) (n : NeverState) (known : KnownWorld c w) (oth
       let f = flight_of w.now (Caller k) in
       let behind = flight_of (world_behind c w e).now (Caller k) in
       let under = decided_free_stands behind.stage behind.op free in
-      let was = was_under c (view_of w.now) (Caller k) (view_of (world_behind c w e).now) k
+      let was = was_under c (view_of w.now) (Caller k) _ k
       (moves c w.now (Caller k) x (not_astray c w.now known.now.orderly)
-      (actor_of c w.now (Caller k) x known.now.orderly h) h)
-      refl (turn_taken run old) under in
+      (actor_of c w.now (Caller k) x known.now.orderly h) h) refl (turn_taken run old) under in
       let was_free = frees_run c w.now k run known.now.orderly (lt, was) old in
       let at_give = decided_free_gives f.stage f.op was_free in
       let lit = literal f stage.Give at_give in
-      let any : is_of_any_holder x ≡ true = subst (λ (s : Stage). comes_next s f.op x ≡ true) at_give h.order in
+      let any : is_of_any_holder x ≡ true = rw at_give at h.order in
       let stays : progress c w.now f (found c w.now e) x ≡ still f =
       subst (λ (y : Flight). progress c w.now y (found c w.now e) x ≡ still y) (sym lit)
       (give_still c w.now f.op f.q f.p f.r f.loaded (found c w.now e) x any g) in
       let there : k < length w.now.seats.flights = (let l = known.now.orderly.flights in omega (arith, l)) in
-      let same : behind ≡ f = get_or-set_same w.now.seats.flights k _ at_rest there
-      ∙ ap (λ (y : Progress). y.flight) stays in
-      let never : never_after c w n e ≡ n =
-      ap (λ (y : Progress). after_calls n (asked (entry_of k f.op y.answer))) stays in
-      subst (λ (y : Flight). PointsAtRun (world_behind c w e) (never_after c w n e) k (p_of y.op) run) (sym same)
-      (points_on e k (p_of f.op) run grows (ap (λ m. register_at m k (p_of f.op)) never)
-      (mirrors.freed_run run old k was_free))
+      let same : behind ≡ f = get_or-set_same w.now.seats.flights k _ at_rest there ∙ rw stays in
+      let never : never_after c w n e ≡ n = rw stays in
+      rw same (points_on e k (p_of f.op) run grows (rw never) (mirrors.freed_run run old k was_free))
 
   -- the step of another caller
   other_old : (j k : ℕ) (x : Step) (run : RunPages) → j ≢ k → GrowsBehind (Caller j) x
@@ -304,12 +297,8 @@ module _ (c : Config) (w : World) (n : NeverState) (known : KnownWorld c w) (oth
       let e = event_of (Caller j) x in
       let same : flight_of (world_behind c w e).now (Caller k) ≡ flight_of w.now (Caller k) =
       get_or-set_other w.now.seats.flights j k _ at_rest (λ y. ne (sym y)) in
-      subst (λ (y : Flight). PointsAtRun (world_behind c w e) (never_after c w n e) k (p_of y.op) run) (sym same)
-      (points_on e k (p_of (flight_of w.now (Caller k)).op) run grows
-      (admitted_keep c.globals n k (asked (call_decided c w.now e)) ad
-      (not_by j k (flight_of w.now (Caller j)).op (answer_decided c w.now e) ne)
-      (p_of (flight_of w.now (Caller k)).op) (ready.small k).1)
-      (mirrors.freed_run run old k (subst (λ (y : Flight). is_decided_free y ≡ true) same free)))
+      rw same (points_on e k _ run grows (admitted_keep c.globals n k _ ad (not_by j k _ _ ne) _ (ready.small k).1)
+      (mirrors.freed_run run old k (rw same at free)))
 
   -- a run that is freed by this step
   own_new : (k p v : ℕ) (run : RunPages) (y : Option Cell) → k < c.callers → GrowsBehind (Caller k) (step.Quar p v)
@@ -339,8 +328,7 @@ module _ (c : Config) (w : World) (n : NeverState) (known : KnownWorld c w) (oth
       let lj = ltb-true j c.callers h.seat in
       let same : flight_of (world_behind c w (event_of (Caller j) (step.Quar p v))).now (Caller k)
       ≡ flight_of w.now (Caller k) = get_or-set_other w.now.seats.flights j k _ at_rest (λ y. ne (sym y)) in
-      let was : is_decided_free (flight_of w.now (Caller k)) ≡ true =
-      subst (λ (y : Flight). is_decided_free y ≡ true) same free in
+      let was : is_decided_free (flight_of w.now (Caller k)) ≡ true = rw same at free in
       let lk : k < c.callers = there k was in
       let tj = turn_of c (view_of w.now) (Caller j) known.now.orderly (
         lj,
@@ -353,8 +341,7 @@ module _ (c : Config) (w : World) (n : NeverState) (known : KnownWorld c w) (oth
       there : (k : ℕ) → is_decided_free (flight_of w.now (Caller k)) ≡ true → k < c.callers
       there k free = elim (cases_lt k c.callers) [
         | inl lt ↦ lt
-        | inr le ↦ absurd (false≢true
-            (ap (λ (y : Flight). is_decided_free y)
+        | inr le ↦ absurd (false≢true (ap (λ (y : Flight). is_decided_free y)
             (sym (get_or_past w.now.seats.flights k at_rest (let e = known.now.orderly.flights in omega (arith, e))))
             ∙ free))
       ]
@@ -377,7 +364,7 @@ module _ (c : Config) (w : World) (n : NeverState) (known : KnownWorld c w) (oth
       → OwnsBehind Host x run k
   host_owns x grows run (Before old g) k free =
       points_on (event_of Host x) k _ run grows refl (mirrors.freed_run run old k free)
-  host_owns x grows run (Now p v heads) k free = absurd (no_run w.now.words (not (is_phase w.now.words 4)) run heads)
+  host_owns x grows run (Now p v heads) k free = absurd (no_run w.now.words _ run heads)
 
   owns : (seat : Seat) (x : Step) → Meets c w.now seat x → GrowsBehind seat x
       → AreAdmitted c.globals n (asked (call_decided c w.now (event_of seat x)))

@@ -26,13 +26,11 @@ pub frees_run : (c : Config) (m : Moment) (k : ℕ) (run : RunPages) → Orderly
     → HoldsTurn c (view_of m) (Caller k) → m.seats.holding.freed ≡ Some run
     → is_decided_free (flight_of m (Caller k)) ≡ true
 frees_run c m k run o hold e =
-    let freed : is_decided_free (flight_in (view_of m) (m.words.turn - 1)) ≡ true =
-    o.served.freed (ap (λ (x : Option RunPages). is_some x) e) in
-    subst (λ (f : Flight). is_decided_free f ≡ true) (holders_flight c (view_of m) (Caller k) o hold) freed
+    let freed : is_decided_free (flight_in (view_of m) (m.words.turn - 1)) ≡ true = o.served.freed (rw e) in
+    rw (holders_flight c (view_of m) (Caller k) o hold) at freed
 
 -- While a New is undecided no run is freed.
 pub new_frees_none : (c : Config) (m : Moment) (k : ℕ) (run : RunPages) → Orderly c (view_of m)
     → HoldsTurn c (view_of m) (Caller k)
     → is_undecided_new (flight_of m (Caller k)) ≡ true → m.seats.holding.freed ≢ Some run
-new_frees_none c m k run o hold new e =
-    new_is_undecided (flight_of m (Caller k)).stage (flight_of m (Caller k)).op new (frees_run c m k run o hold e)
+new_frees_none c m k run o hold new e = new_is_undecided _ _ new (frees_run c m k run o hold e)

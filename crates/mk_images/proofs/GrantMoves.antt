@@ -64,8 +64,7 @@ module _ (c : Config) (w : World) (n : NeverState) (known : KnownWorld c w) (mir
           let low = is.0 in
           let there : x.base + (a.base + i - x.base) ≡ a.base + i = omega arith in
           let cells : Some (cell_of_allocation c x) ≡ Some (cell_of_allocation c a) =
-          sym (st.cell j (a.base + i - x.base) u (let high = is.1 in omega arith))
-          ∙ ap (λ y. pointed_cell c.pages w.now.words.pages (address_of y)) there ∙ fills.cell i lt in
+          sym (st.cell j (a.base + i - x.base) u (let high = is.1 in omega arith)) ∙ rw there (fills.cell i lt) in
           h.alone j u (sym (st.first j u) ∙ ap (first_in w.now.words) cells ∙ fills.first ∙ base)
         where
           unreleased_of : (r g : Bool) → (not r && not g) ≡ true → r ≡ false
@@ -86,20 +85,18 @@ module _ (c : Config) (w : World) (n : NeverState) (known : KnownWorld c w) (mir
       let un = sym (unmapped_is c w n known mirrors a lt) ∙ m in
       let cell : pointed_cell c.pages w.now.words.pages (address_of x)
       ≡ Some (cell_of_allocation c (placed_at w.allocations a)) =
-      ap (λ y. pointed_cell c.pages w.now.words.pages (address_of y)) (sym e) ∙ st.cell a i u (omega arith) in
+      rw (← e) (st.cell a i u (omega arith)) in
       let mapped : is_unmapped_header (header_in w.now.words (x / 64)) ≡ false =
-      ap (λ y. is_unmapped_header (header_in w.now.words (y / 64))) (sym e) ∙ st.mapped a i u un (omega arith) in
+      rw (← e) (st.mapped a i u un (omega arith)) in
       elim (or_cases (is_some_and (is_released_cell w.now.words) (pointed_cell c.pages w.now.words.pages
-      (address_of x)))
-      (is_in_gone_run w.now.words w.now.seats.holding.freed x) h) [
+      (address_of x))) (is_in_gone_run w.now.words w.now.seats.holding.freed x) h) [
         | inl r ↦ absurd (false≢true (sym (others.kept a u)
             ∙ ap (λ (y : Option Cell). is_some_and (is_released_cell w.now.words) y) (sym cell) ∙ r))
         | inr g ↦ absurd (true≢false (sym (gone_word w.now.seats.holding.freed refl g) ∙ mapped))
       ]
     where
       gone_word : (freed : Option RunPages) → w.now.seats.holding.freed ≡ freed
-          → is_in_gone_run w.now.words freed x ≡ true
-          → is_unmapped_header (header_in w.now.words (x / 64)) ≡ true
+          → is_in_gone_run w.now.words freed x ≡ true → is_unmapped_header (header_in w.now.words (x / 64)) ≡ true
       gone_word None is g = cc
       gone_word (Some run) is g =
           let at = others.freed_run run is in

@@ -27,13 +27,12 @@ held_resting t k _ g e h = absurd (let x = h.0 in omega arith)
 pub held_idle : (c : Config) (v : View) (j : ℕ) → Orderly c v → j < c.callers → gate_in v j ≡ 2
     → (flight_in v j).stage ≡ stage.Idle
 held_idle c v j p lt e =
-    resting_idle (flight_in v j).op (flight_in v j).stage
-    (held_resting v.turn j (standing (flight_in v j)) (gate_in v j) e (p.each j lt))
+    resting_idle (flight_in v j).op (flight_in v j).stage (held_resting v.turn j _ (gate_in v j) e (p.each j lt))
 
 -- Where the gates of all others are held, all but one are idle.
 pub others_idle : (c : Config) (v : View) (k : ℕ) → Orderly c v → ((j : ℕ) → j < c.callers → k ≢ j → gate_in v j ≡ 2)
     → (j : ℕ) → j ≢ k → (flight_in v j).stage ≡ stage.Idle
 others_idle c v k p held j ne = elim (cases_lt j c.callers) [
   | inl lt ↦ held_idle c v j p lt (held j lt (λ e. ne (sym e)))
-  | inr le ↦ ap (λ (f : Flight). f.stage) (get_or_past v.flights j at_rest (let e = p.flights in omega (arith, e)))
+  | inr le ↦ rw (get_or_past v.flights j at_rest (let e = p.flights in omega (arith, e)))
 ]

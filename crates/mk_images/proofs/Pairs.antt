@@ -16,11 +16,8 @@ pub set_both : {A B : Type 0} (P : A → B → Type 0) (xs : List A) (ys : List 
     → (i ≡ k → P x y) → (i ≢ k → P (get_or xs i dx) (get_or ys i dy))
     → P (get_or (set xs k x) i dx) (get_or (set ys k y) i dy)
 set_both P xs ys k i x dx y dy lx ly new old = elim (cases_eq i k) [
-  | inl e ↦ subst (λ (j : ℕ). P (get_or (set xs k x) j dx) (get_or (set ys k y) j dy)) (sym e)
-      (subst (λ a. P a (get_or (set ys k y) k dy)) (sym (get_or-set_same xs k x dx lx))
-      (subst (λ b. P x b) (sym (get_or-set_same ys k y dy ly)) (new e)))
-  | inr ne ↦ subst (λ a. P a (get_or (set ys k y) i dy)) (sym (get_or-set_other xs k i x dx ne))
-      (subst (λ b. P (get_or xs i dx) b) (sym (get_or-set_other ys k i y dy ne)) (old ne))
+  | inl e ↦ rw e (rw (get_or-set_same xs k x dx lx) (rw (get_or-set_same ys k y dy ly) (new e)))
+  | inr ne ↦ rw (get_or-set_other xs k i x dx ne) (rw (get_or-set_other ys k i y dy ne) (old ne))
 ]
 
 -- a stage that carries nothing
@@ -48,11 +45,11 @@ bare_carries bs f a b d h =
 pub put_carries : (bs : List ℕ) (f : Flight) (a b d : Value) → f.stage ≡ stage.Put → Carries bs f a b d
 put_carries bs f a b d h =
     record {
-      q = λ e. let x : has_q stage.Put f.op ≡ true = subst (λ s. has_q s f.op ≡ true) h e in cc;
-      some_q = λ e. let x : has_some_q stage.Put f.op ≡ true = subst (λ s. has_some_q s f.op ≡ true) h e in cc;
-      p = λ e. let x : has_p stage.Put f.op ≡ true = subst (λ s. has_p s f.op ≡ true) h e in cc;
-      some_p = λ e. let x : has_some_p stage.Put f.op ≡ true = subst (λ s. has_some_p s f.op ≡ true) h e in cc;
-      r = λ e. let x : has_r stage.Put f.op ≡ true = subst (λ s. has_r s f.op ≡ true) h e in cc;
+      q = λ e. let x : has_q stage.Put f.op ≡ true = rw h at e in cc;
+      some_q = λ e. let x : has_some_q stage.Put f.op ≡ true = rw h at e in cc;
+      p = λ e. let x : has_p stage.Put f.op ≡ true = rw h at e in cc;
+      some_p = λ e. let x : has_some_p stage.Put f.op ≡ true = rw h at e in cc;
+      r = λ e. let x : has_r stage.Put f.op ≡ true = rw h at e in cc;
     }
 
 pub bare_unprobed : (s : Stage) → is_bare s ≡ true → is_past_probe s ≡ false
@@ -61,19 +58,17 @@ bare_unprobed _ h = cc
 
 -- what a flight shows of a register
 pub shows_plain : (f : Flight) (r x : ℕ) → is_put f.stage ≡ false → shown f r x ≡ x
-shows_plain f r x h = ap (λ b. if b then f.loaded else x) (none f.stage (d_of f.op) r h)
+shows_plain f r x h = rw (none f.stage (d_of f.op) r h)
   where
     none : (s : Stage) (d r : ℕ) → is_put s ≡ false → owes s d r ≡ false
     none stage.Put d r h = cc
     none _ d r h = refl
 
 pub shows_owed : (f : Flight) (x : ℕ) → f.stage ≡ stage.Put → shown f (d_of f.op) x ≡ f.loaded
-shows_owed f x h = ap (λ (s : Stage). if owes s (d_of f.op) (d_of f.op) then f.loaded else x) h
-    ∙ ap (λ b. if b then f.loaded else x) (eq-eqb (d_of f.op) (d_of f.op) refl)
+shows_owed f x h = rw h (rw (eq-eqb (d_of f.op) (d_of f.op) refl))
 
 pub shows_other : (f : Flight) (r x : ℕ) → f.stage ≡ stage.Put → d_of f.op ≢ r → shown f r x ≡ x
-shows_other f r x h ne = ap (λ (s : Stage). if owes s (d_of f.op) r then f.loaded else x) h
-    ∙ ap (λ b. if b then f.loaded else x) (ne_eqb (d_of f.op) r ne)
+shows_other f r x h ne = rw h (rw (ne_eqb (d_of f.op) r ne))
 
 pub bare_owes_nothing : (s : Stage) → is_bare s ≡ true → is_put s ≡ false
 bare_owes_nothing stage.Put h = cc

@@ -50,7 +50,7 @@ module _ (listed : List ℕ) (safe : ℕ → Bool) (s : ImageScene) (n : NeverSt
       record {
         number = a;
         place = o + i;
-        target = ap (λ b. if b then Unmapped else WordOf a (o + i)) mapped;
+        target = rw mapped;
         word = word_is a t o q i e;
         inside = meets.0;
         exists = sound.0;
@@ -69,9 +69,8 @@ module _ (listed : List ℕ) (safe : ℕ → Bool) (s : ImageScene) (n : NeverSt
   unmapped_target header show (Num m) q i P e ne sound is meets u = absurd sound
   unmapped_target header show (Ptr a t o) q i P e ne sound is meets u =
       let un : is_unmapped (allocation_at n a) ≡ true =
-      sym (show a (o + i) (h.set.unreleased a is) meets.0)
-      ∙ ap (λ x. is_unmapped_header (header_of (header (x / 64)))) (sym (word_is a t o q i e)) ∙ u in
-      ap (λ b. if b then Unmapped else WordOf a (o + i)) un
+      sym (show a (o + i) (h.set.unreleased a is) meets.0) ∙ rw (← (word_is a t o q i e)) u in
+      rw un
 
   pub mapped_met : (header : ℕ → ℕ) → PagesShow header s n → (v : Value) (q i : ℕ)
       → q ≡ image_of (bases_of s.allocations) v → q ≢ 0 → IsSound n v → IsSafe safe v
@@ -89,8 +88,7 @@ module _ (listed : List ℕ) (safe : ℕ → Bool) (s : ImageScene) (n : NeverSt
   pub sound_more : (v : Value) (more : List ℕ) → IsSound n v
       → image_of (bases_of s.allocations) v ≡ image_of (bases_of s.allocations ++ more) v
   sound_more v more sound =
-      sym (image_more n (bases_of s.allocations) more v (length-map s.allocations (λ (x : PlacedAllocation). x.base)
-      ∙ h.count) sound)
+      sym (image_more n _ more v (length-map s.allocations (λ (x : PlacedAllocation). x.base) ∙ h.count) sound)
 
 pub of_number : (n : NeverState) (bs : List ℕ) (v : Value) (kind : Kind) → IsNumber kind → Suits n v kind
     → image_of bs v ≡ number_of v

@@ -32,10 +32,8 @@ pub pointed_word : (listed : List ℕ) (safe : ℕ → Bool) (s : ImageScene) (n
     → (a t o : ℕ) → IsSound n (Ptr a t o) → o < length (words_of n a)
 pointed_word listed safe s n h a t o sound =
     let typed : IsTypedAllocation n (allocation_at n a) = h.typed.allocations a sound.0 in
-    let place = place_is_inside (kinds_of n.types t) o sound.2
-    (h.full t (subst (λ x. x < length n.types) (sym sound.1) typed.ty)) in
-    let place' : o < length (kinds_of n.types (allocation_at n a).ty) =
-    subst (λ x. o < length (kinds_of n.types x)) sound.1 place in
+    let place = place_is_inside (kinds_of n.types t) o sound.2 (h.full t (rw sound.1 typed.ty)) in
+    let place' : o < length (kinds_of n.types (allocation_at n a).ty) = rw sound.1 at place in
     omega (arith, typed.size)
 
 pub image_zero : (n : NeverState) (bs : List ℕ) (v : Value) → IsSound n v → image_of bs v ≡ 0 → v ≡ Null
@@ -47,7 +45,7 @@ pub image_same : (listed : List ℕ) (safe : ℕ → Bool) (s : ImageScene) (n :
     → (u v : Value) → IsSound n u → IsSound n v → IsSafe safe u
     → IsSafe safe v
     → image_of (bases_of s.allocations) u ≡ image_of (bases_of s.allocations) v → u ≡ v
-image_same listed safe s n h Null v su sv fu fv e = sym (image_zero n (bases_of s.allocations) v sv (sym e))
+image_same listed safe s n h Null v su sv fu fv e = sym (image_zero n _ v sv (sym e))
 image_same listed safe s n h (Num m) v su sv fu fv e = absurd su
 image_same listed safe s n h (Ptr a t o) Null su sv fu fv e = absurd (omega arith)
 image_same listed safe s n h (Ptr a t o) (Num m) su sv fu fv e = absurd sv
@@ -57,10 +55,9 @@ image_same listed safe s n h (Ptr a t o) (Ptr b u i) su sv fu fv e =
     let places : (placed_at s.allocations a).base + o ≡ (placed_at s.allocations b).base + i = omega arith in
     elim (cases_eq a b) [
       | inl ab ↦
-          let bases : (placed_at s.allocations a).base ≡ (placed_at s.allocations b).base =
-          ap (λ x. (placed_at s.allocations x).base) ab in
+          let bases : (placed_at s.allocations a).base ≡ (placed_at s.allocations b).base = rw ab in
           let oi : o ≡ i = omega arith in
-          let tu : t ≡ u = su.1 ∙ ap (λ x. (allocation_at n x).ty) ab ∙ sym sv.1 in
+          let tu : t ≡ u = su.1 ∙ rw ab (sym sv.1) in
           cc
       | inr ne ↦ absurd (h.apart a b o i (h.set.unreleased a fu) (h.set.unreleased b fv)
           (pointed_word listed safe s n h a t o su) (pointed_word listed safe s n h b u i sv) ne places)

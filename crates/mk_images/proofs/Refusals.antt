@@ -59,8 +59,7 @@ pub owes_null : (safe : ℕ → Bool) (s : ImageScene) (n : NeverState) (k d : �
     → ((bs : List ℕ) → a ≡ answer_of bs (reply_of n k o))
     → Leads safe s n k o (record s { flights = slice_set s.flights k f }) (Some a)
 owes_null safe s n k d o f a flag there long was put isd ld zero stays is = (
-  subst (λ (m : NeverState). Move safe s n (record s { flights = slice_set s.flights k f }) m)
-      (sym (ap (after_op n k) flag ∙ stays ∙ ap (λ x. with_register n k x Null) (sym isd)))
+  rw (ap (after_op n k) flag ∙ stays ∙ ap (λ x. with_register n k x Null) (sym isd))
       (Owes k f Null there long was put (omega (arith, isd)) zero tt),
   λ more. one_right _ a n k o (is _
       ∙ ap (λ (x : Op). answer_of (bases_of s.allocations ++ more) (reply_of n k x)) (sym flag)),
@@ -68,7 +67,7 @@ owes_null safe s n k d o f a flag there long was put isd ld zero stays is = (
 
 refused_reply : (x t : Target) (at : ℕ → ℕ → Reply) → x ≡ t → is_word t ≡ false
     → reply_at x at ≡ reply_at t (λ a w. Done)
-refused_reply x t at e none = ap (λ (y : Target). reply_at y at) e ∙ by t none
+refused_reply x t at e none = rw e (by t none)
   where
     by : (t : Target) → is_word t ≡ false → reply_at t at ≡ reply_at t (λ a w. Done)
     by Nothing none = refl
@@ -77,7 +76,7 @@ refused_reply x t at e none = ap (λ (y : Target). reply_at y at) e ∙ by t non
 
 refused_left : (x t : Target) (left : NeverState) (at : ℕ → ℕ → NeverState) → x ≡ t → is_word t ≡ false
     → left_at x left at ≡ left
-refused_left x t left at e none = ap (λ (y : Target). left_at y left at) e ∙ by t none
+refused_left x t left at e none = rw e (by t none)
   where
     by : (t : Target) → is_word t ≡ false → left_at t left at ≡ left
     by Nothing none = refl
@@ -100,33 +99,24 @@ pub refuses : (safe : ℕ → Bool) (s : ImageScene) (n : NeverState) (k : ℕ) 
           (record { stage = stage_refused o; op = o; q = q; p = p; r = r; loaded = 0 });
     }) (Some a)
 refuses safe s n k (op.GetNum q' i) q p r a t is there long was ld none e answer =
-    decides_nothing safe s n k (op.GetNum q' i) (flight stage.Leave (op.GetNum q' i) q p r 0) a refl was refl refl
-    (λ bs. answer bs ∙ ap (answer_of bs)
-    (sym (refused_reply (target_of n (register_at n k q') i) t (λ a w. Number (number_of (word_at n a w))) e none)))
+    decides_nothing safe s n k (op.GetNum q' i) _ a refl was refl refl (λ bs. answer bs ∙ ap (answer_of bs)
+    (sym (refused_reply _ t (λ a w. Number (number_of (word_at n a w))) e none)))
 refuses safe s n k (op.SetNum q' i m) q p r a t is there long was ld none e answer =
-    decides_nothing safe s n k (op.SetNum q' i m) (flight stage.Leave (op.SetNum q' i m) q p r 0) a refl was refl
-    (refused_left (target_of n (register_at n k q') i) t n (λ a w. with_word n a w (Num m)) e none)
-    (λ bs. answer bs ∙ ap (answer_of bs)
-    (sym (refused_reply (target_of n (register_at n k q') i) t (λ a w. Done) e none)))
+    decides_nothing safe s n k (op.SetNum q' i m) _ a refl was refl
+    (refused_left _ t n (λ a w. with_word n a w (Num m)) e none) (λ bs. answer bs ∙ ap (answer_of bs)
+    (sym (refused_reply _ t (λ a w. Done) e none)))
 refuses safe s n k (op.SetPtr q' i p') q p r a t is there long was ld none e answer =
-    decides_nothing safe s n k (op.SetPtr q' i p') (flight stage.Leave (op.SetPtr q' i p') q p r 0) a refl was refl
-    (refused_left (target_of n (register_at n k q') i) t n (λ a w. with_word n a w (register_at n k p')) e none)
-    (λ bs. answer bs ∙ ap (answer_of bs)
-    (sym (refused_reply (target_of n (register_at n k q') i) t (λ a w. Done) e none)))
+    decides_nothing safe s n k (op.SetPtr q' i p') _ a refl was refl
+    (refused_left _ t n (λ a w. with_word n a w (register_at n k p')) e none) (λ bs. answer bs ∙ ap (answer_of bs)
+    (sym (refused_reply _ t (λ a w. Done) e none)))
 refuses safe s n k (op.CasPtr q' i p' r') q p r a t is there long was ld none e answer =
-    decides_nothing safe s n k (op.CasPtr q' i p' r') (flight stage.Leave (op.CasPtr q' i p' r') q p r 0) a refl was
-    refl (refused_left (target_of n (register_at n k q') i) t n
-    (λ a w. if is_same (word_at n a w) (register_at n k p') then with_word n a w (register_at n k r')
-    else n) e none)
-    (λ bs. answer bs ∙ ap (answer_of bs)
-    (sym (refused_reply (target_of n (register_at n k q') i) t
+    decides_nothing safe s n k (op.CasPtr q' i p' r') _ a refl was refl (refused_left _ t n
+    (λ a w. if is_same (word_at n a w) (register_at n k p') then with_word n a w (register_at n k r') else n) e none)
+    (λ bs. answer bs ∙ ap (answer_of bs) (sym (refused_reply _ t
     (λ a w. Number (bit (is_same (word_at n a w) (register_at n k p')))) e none)))
 refuses safe s n k (op.GetPtr d q' i) q p r a t is there long was ld none e answer =
-    owes_null safe s n k d (op.GetPtr d q' i) (flight stage.Put (op.GetPtr d q' i) q p r 0) a refl there long was refl
-    refl ld refl
-    (refused_left (target_of n (register_at n k q') i) t (with_register n k d Null)
-    (λ a w. with_register n k d (word_at n a w)) e none)
-    (λ bs. answer bs ∙ ap (answer_of bs)
-    (sym (refused_reply (target_of n (register_at n k q') i) t (λ a w. Val (word_at n a w)) e none)))
+    owes_null safe s n k d (op.GetPtr d q' i) _ a refl there long was refl refl ld refl (refused_left _ t _
+    (λ a w. with_register n k d (word_at n a w)) e none) (λ bs. answer bs ∙ ap (answer_of bs)
+    (sym (refused_reply _ t (λ a w. Val (word_at n a w)) e none)))
 refuses safe s n k (op.New d' ty full) q p r a t is there long was ld none e answer = cc
 refuses safe s n k _ q p r a t is there long was ld none e answer = cc

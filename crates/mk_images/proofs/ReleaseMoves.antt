@@ -47,14 +47,13 @@ module _ (c : Config) (w : World) (n : NeverState) (known : KnownWorld c w) (mir
       let fits = words_fit c w n known mirrors a lt in
       let cell = ap (λ b. pointed_cell c.pages w.now.words.pages (address_of (b + o))) (base_at w.allocations a)
       ∙ st.cell a o u (omega arith) in
-      and_from (safe a) (is_marked w.now.words (cell_of_allocation c (placed_at w.allocations a))) is
-      (ap (λ (x : Option Cell). is_none_or (is_marked w.now.words) x) (sym cell) ∙ well)
+      and_from (safe a) _ is (ap (λ (x : Option Cell). is_none_or (is_marked w.now.words) x) (sym cell) ∙ well)
   value_cut _ sound is well = tt
 
   -- a root that is the image of a value
   root_cut : (x : ℕ) (v : Value) → points_well c.pages w.now.words x ≡ true → x ≡ image_of (bases_of w.allocations) v
       → IsSound n v → IsSafe safe v → IsSafe cut v
-  root_cut x v well e sound is = value_cut v sound is (subst (λ y. points_well c.pages w.now.words y ≡ true) e well)
+  root_cut x v well e sound is = value_cut v sound is (rw e at well)
 
   some_words : (a : ℕ) → (placed_at w.allocations a).released ≡ false → 0 < storage_words c (placed_at w.allocations a)
   some_words a u =
@@ -74,7 +73,7 @@ module _ (c : Config) (w : World) (n : NeverState) (known : KnownWorld c w) (mir
       → is_unmapped (allocation_at n a) ≡ false
       → IsSafe cut (word_at n a i)
   word_cut a i sa marked mapped = elim (cases_lt i (length (words_of n a))) [
-    | inr le ↦ subst (λ (x : Value). IsSafe cut x) (sym (get_or_past (words_of n a) i Null le)) tt
+    | inr le ↦ rw (get_or_past (words_of n a) i Null le) tt
     | inl li ↦
         let u = ready.set.unreleased a sa in
         let lt = exists_placed w.allocations a u in
@@ -82,26 +81,19 @@ module _ (c : Config) (w : World) (n : NeverState) (known : KnownWorld c w) (mir
         let typed : IsTypedAllocation n (allocation_at n a) = mirrors.typed.allocations a (omega arith) in
         let un = sym (unmapped_is c w n known mirrors a lt) ∙ mapped in
         elim (cases_Bool (is_leaf (kinds_of c.types (placed_at w.allocations a).ty))) [
-          | inl leaf ↦ number_cut (word_at n a i) (kind_in n (allocation_at n a) i) (typed.words i li)
-              (is_number_kind _ (subst
-              (λ (types : List (List Kind)). is_number
-              (slice_index_or (kinds_of types (allocation_at n a).ty) i Number) ≡ true) (sym mirrors.types)
-              (subst (λ ty. is_number (slice_index_or (kinds_of c.types ty) i Number) ≡ true) (mirrors.twins.ty a lt)
+          | inl leaf ↦ number_cut (word_at n a i) _ (typed.words i li) (is_number_kind _ (rw mirrors.types
+              (rw (mirrors.twins.ty a lt) at
               (list_all-at is_number (kinds_of c.types (placed_at w.allocations a).ty) Number leaf refl i))))
           | inr pointers ↦
               let fits = words_fit c w n known mirrors a lt in
               let scanned : is_scanned_allocation c (placed_at w.allocations a) ≡ true =
-              ap (λ b. (not b && not (is_gone c (placed_at w.allocations a)))
-              && not (is_leaf (kinds_of c.types (placed_at w.allocations a).ty))) u
-              ∙ ap (λ b. not b && not (is_leaf (kinds_of c.types (placed_at w.allocations a).ty))) un
-              ∙ ap not pointers in
+              rw u (rw un (ap not pointers)) in
               let is_marked_here : is_marked_allocation c w.now.words (placed_at w.allocations a) ≡ true =
-              ap (λ (x : Option Cell). is_some_and (is_marked w.now.words) x) (base_cell_is a u) ∙ marked in
+              rw (base_cell_is a u) marked in
               let well = marks.words a ((placed_at w.allocations a).base + i) scanned is_marked_here
               (omega arith, omega arith) in
-              suited_cut (word_at n a i) (kind_in n (allocation_at n a) i) (typed.words i li)
-              (ready.set.closed a i sa mapped)
-              (subst (λ x. points_well c.pages w.now.words x ≡ true) (ready.images.heap a i u mapped li) well)
+              suited_cut (word_at n a i) _ (typed.words i li) (ready.set.closed a i sa mapped)
+              (rw (ready.images.heap a i u mapped li) at well)
         ]
   ]
     where
@@ -154,9 +146,7 @@ module _ (c : Config) (w : World) (n : NeverState) (known : KnownWorld c w) (mir
       (record (image_scene_of w) { allocations = map (with_released c w.now.words) w.allocations }) n
   releases =
       Releases (map (with_released c w.now.words) w.allocations)
-      (same_places (with_released c w.now.words) w.allocations (released_leaves c w.now.words))
-      (λ a u. (or_parts (placed_at w.allocations a).released _
+      (same_places (with_released c w.now.words) w.allocations (released_leaves c w.now.words)) (λ a u. (or_parts _ _
       (ap (λ (y : PlacedAllocation). y.released)
       (sym (changed_at (with_released c w.now.words) w.allocations a refl)) ∙ u)).0)
-      (λ a. ap (λ (y : PlacedAllocation). y.freed) (changed_at (with_released c w.now.words) w.allocations a refl)) cut
-      cut_safe
+      (λ a. rw (changed_at _ w.allocations a refl)) cut cut_safe

@@ -55,8 +55,7 @@ module _ (safe : ℕ → Bool) (s : ImageScene) (n : NeverState) (h : IsSafeSet 
             let was = h.closed b j sb (sym (written_alike n a i v b).1 ∙ mb) in
             set_by (λ (x : NeverAllocation). IsSafe safe (slice_index_or x.words j Null)) n.allocations a b
             (record (allocation_at n a) { words = slice_set (words_of n a) i v }) no_allocation
-            (λ e. set_by (λ x. IsSafe safe x) (words_of n a) i j v Null (λ e2. is)
-            (subst (λ y. IsSafe safe (word_at n y j)) e was)) was;
+            (λ e. set_by (λ x. IsSafe safe x) (words_of n a) i j v Null (λ e2. is) (rw e at was)) was;
         unreleased = h.unreleased;
       }
 
@@ -67,8 +66,7 @@ module _ (safe : ℕ → Bool) (s : ImageScene) (n : NeverState) (h : IsSafeSet 
       record {
         registers = h.registers;
         globals = h.globals;
-        closed = λ b j sb mb. subst (λ (ws : List Value). IsSafe safe (slice_index_or ws j Null))
-            (sym (freed_words n a b)) (h.closed b j sb (freed_was n a b mb));
+        closed = λ b j sb mb. rw (freed_words n a b) (h.closed b j sb (freed_was n a b mb));
         unreleased = λ b sb. same b ∙ h.unreleased b sb;
       }
 
@@ -96,14 +94,14 @@ module _ (safe : ℕ → Bool) (s : ImageScene) (n : NeverState) (h : IsSafeSet 
           | inr ne ↦
               let na = old_never n ty b ne in
               subst (λ (x : NeverAllocation). IsSafe (λ a. safe a || (a == m)) (slice_index_or x.words j Null)) (sym na)
-              (wider safe m _ (h.closed b j (old b ne sb) (sym (ap (λ (x : NeverAllocation). is_unmapped x) na) ∙ mb)))
+              (wider safe m _ (h.closed b j (old b ne sb) (sym (rw na) ∙ mb)))
         ];
         unreleased = λ b sb. elim (cases_eq b m) [
           | inl e ↦ ap (λ (x : PlacedAllocation). x.released)
               (ap (placed_at (s.allocations ++ fresh_one base ty ∷ [])) (e ∙ sym same)
               ∙ new_placed s.allocations (fresh_one base ty))
-          | inr ne ↦ ap (λ (x : PlacedAllocation). x.released)
-              (old_placed s.allocations (fresh_one base ty) b (λ e. ne (e ∙ same))) ∙ h.unreleased b (old b ne sb)
+          | inr ne ↦ rw (old_placed s.allocations (fresh_one base ty) b (λ e. ne (e ∙ same)))
+              (h.unreleased b (old b ne sb))
         ];
       }
     where
@@ -137,10 +135,10 @@ twins_changed xs n a x et ef h =
       count = h.count ∙ sym (length-set n.allocations a x);
       ty = λ b lt. h.ty b lt
           ∙ set_by (λ (y : NeverAllocation). (allocation_at n b).ty ≡ y.ty) n.allocations a b x no_allocation
-          (λ e. ap (λ j. (allocation_at n j).ty) e ∙ sym et) refl;
+          (λ e. rw e (sym et)) refl;
       freed = λ b lt. h.freed b lt
           ∙ set_by (λ (y : NeverAllocation). (allocation_at n b).freed ≡ y.freed) n.allocations a b x no_allocation
-          (λ e. ap (λ j. (allocation_at n j).freed) e ∙ sym ef) refl;
+          (λ e. rw e (sym ef)) refl;
     }
 
 twins_same : (xs ys : List PlacedAllocation) (n : NeverState) → SamePlaces xs ys
@@ -161,13 +159,12 @@ twins_freed xs ys n a p la others is h =
       count = p.count ∙ h.count ∙ sym (length-set n.allocations a new);
       ty = λ b lt. p.each b ∙ h.ty b (let e = p.count in omega (arith, e))
           ∙ set_by (λ (y : NeverAllocation). (allocation_at n b).ty ≡ y.ty) n.allocations a b new no_allocation
-          (λ e. ap (λ j. (allocation_at n j).ty) e) refl;
+          (λ e. rw e) refl;
       freed = λ b lt. elim (cases_eq b a) [
-        | inl e ↦ ap (λ j. (placed_at ys j).freed) e ∙ is
-            ∙ sym (ap (λ j. (allocation_at (with_freed n a) j).freed) e
-            ∙ ap (λ (y : NeverAllocation). y.freed) (get_or-set_same n.allocations a new no_allocation la))
+        | inl e ↦ ap (λ j. (placed_at ys j).freed) e ∙ is ∙ sym (ap (λ j. (allocation_at (with_freed n a) j).freed) e
+            ∙ rw (get_or-set_same n.allocations a new no_allocation la))
         | inr ne ↦ others b ne ∙ h.freed b (let e = p.count in omega (arith, e))
-            ∙ sym (ap (λ (y : NeverAllocation). y.freed) (get_or-set_other n.allocations a b new no_allocation ne))
+            ∙ sym (rw (get_or-set_other n.allocations a b new no_allocation ne))
       ];
     }
 
@@ -178,20 +175,18 @@ twins_new xs n base ty h =
     let same = h.count in
     let longer = length-append xs (y ∷ []) in
     record {
-      count = length-append xs (y ∷ []) ∙ ap (λ i. i + 1) same
-          ∙ sym (length-append n.allocations (new_words n ty ∷ []));
+      count = length-append xs (y ∷ []) ∙ rw same (sym (length-append n.allocations (new_words n ty ∷ [])));
       ty = λ b lt. elim (cases_eq b (length xs)) [
         | inl e ↦ ap (λ (x : PlacedAllocation). x.ty) (ap (placed_at (xs ++ y ∷ [])) e ∙ new_placed xs y)
-            ∙ sym (ap (λ (x : NeverAllocation). x.ty) (ap (allocation_at (with_new n ty)) (e ∙ same) ∙ new_never n ty))
-        | inr ne ↦ ap (λ (x : PlacedAllocation). x.ty) (old_placed xs y b ne) ∙ h.ty b (omega arith)
-            ∙ sym (ap (λ (x : NeverAllocation). x.ty) (old_never n ty b (λ e. ne (e ∙ sym same))))
+            ∙ sym (rw (ap (allocation_at (with_new n ty)) (e ∙ same) ∙ new_never n ty))
+        | inr ne ↦ rw (old_placed xs y b ne) (h.ty b (omega arith)
+            ∙ sym (rw (old_never n ty b (λ e. ne (e ∙ sym same)))))
       ];
       freed = λ b lt. elim (cases_eq b (length xs)) [
         | inl e ↦ ap (λ (x : PlacedAllocation). x.freed) (ap (placed_at (xs ++ y ∷ [])) e ∙ new_placed xs y)
-            ∙ sym (ap (λ (x : NeverAllocation). x.freed) (ap (allocation_at (with_new n ty)) (e ∙ same)
-            ∙ new_never n ty))
-        | inr ne ↦ ap (λ (x : PlacedAllocation). x.freed) (old_placed xs y b ne) ∙ h.freed b (omega arith)
-            ∙ sym (ap (λ (x : NeverAllocation). x.freed) (old_never n ty b (λ e. ne (e ∙ sym same))))
+            ∙ sym (rw (ap (allocation_at (with_new n ty)) (e ∙ same) ∙ new_never n ty))
+        | inr ne ↦ rw (old_placed xs y b ne) (h.freed b (omega arith)
+            ∙ sym (rw (old_never n ty b (λ e. ne (e ∙ sym same)))))
       ];
     }
 

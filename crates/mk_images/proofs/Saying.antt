@@ -126,7 +126,7 @@ module _ (c : Config) (w : World) (n : NeverState) (known : KnownWorld c w) (oth
       let inside = to.inside in
       record {
         number = to.number;
-        mapped = ap (λ b. not b && not (is_gone c x)) to.unreleased ∙ ap not gone;
+        mapped = rw to.unreleased (ap not gone);
         word = (omega arith, omega arith);
       }
 
@@ -166,8 +166,7 @@ module _ (c : Config) (w : World) (n : NeverState) (known : KnownWorld c w) (oth
       let a = not_astray c w.now known.now.orderly k (ltb-true k c.callers h.seat) in
       let lit = literal f stage.Write at in
       write_word k f.op f.q f.p f.r f.loaded (subst (λ (s : Stage). is_astray (standing_at s f.op) ≡ false) at a)
-      (subst (λ (g : Flight). CarriesOwn (bases_of w.allocations) n k g) lit (ready.images.carried k))
-      (subst (λ (g : Flight). ProbedOwn n k g) lit (ready.images.probed k))
+      (rw lit at (ready.images.carried k)) (rw lit at (ready.images.probed k))
       (admitted_call c.globals n k f.op _ (call_outside f.op f.stage (ap is_call_stage at) a) ad)
   stored_word k step.Cas is h ad =
       let f = flight_of w.now (Caller k) in
@@ -175,8 +174,7 @@ module _ (c : Config) (w : World) (n : NeverState) (known : KnownWorld c w) (oth
       let a = not_astray c w.now known.now.orderly k (ltb-true k c.callers h.seat) in
       let lit = literal f stage.Cas at in
       cas_word k f.op f.q f.p f.r f.loaded (subst (λ (s : Stage). is_astray (standing_at s f.op) ≡ false) at a)
-      (subst (λ (g : Flight). CarriesOwn (bases_of w.allocations) n k g) lit (ready.images.carried k))
-      (subst (λ (g : Flight). ProbedOwn n k g) lit (ready.images.probed k))
+      (rw lit at (ready.images.carried k)) (rw lit at (ready.images.probed k))
       (admitted_call c.globals n k f.op _ (call_outside f.op f.stage (ap is_call_stage at) a) ad)
   stored_word k _ (inl e) h ad = cc
   stored_word k _ (inr e) h ad = cc

@@ -71,10 +71,9 @@ module _ (c : Config) (w : World) (n : NeverState) (known : KnownWorld c w) (mir
       let o = object_made c (op.New d ty full) in
       let f = flight stage.Turn (op.New d ty full) q p r l in
       let a = fresh_one (base_made o place) ty in
-      let new : is_undecided_new (flight_of w.now (Caller k)) ≡ true = ap (λ (g : Flight). is_undecided_new g) is in
+      let new : is_undecided_new (flight_of w.now (Caller k)) ≡ true = rw is in
       let typed : ty < length c.types = granted_type c w.now f refl operands in
-      let taken : IsPlaceOfNone c w o place = subst (λ (g : Flight). IsPlaceOfNone c w (object_made c g.op) place) is
-      (others.taken place k placed lt new) in
+      let taken : IsPlaceOfNone c w o place = rw is at (others.taken place k placed lt new) in
       let fills = fills_cell c w a place known typed refl refl taken in
       let holds = (storage_holds c a known.limits typed).0 in
       let inside = fills.inside in
@@ -89,14 +88,12 @@ module _ (c : Config) (w : World) (n : NeverState) (known : KnownWorld c w) (mir
           flights = slice_set w.now.seats.flights k (flight stage.Give (op.New d ty full) q p r l);
           allocations = w.allocations ++ a ∷ [];
         }) (with_register (with_new n ty) k d (Ptr (length n.allocations) ty 0))) word
-            (Grants k d (base_made o place) ty (flight stage.Give (op.New d ty full) q p r l)
-            (record {
+            (Grants k d (base_made o place) ty (flight stage.Give (op.New d ty full) q p r l) (record {
               there = there_is c w n known mirrors safe ready k lt;
               registers = own_registers c w n known mirrors safe ready k lt;
-              was = ap (λ (f : Flight). is_put f.stage) is;
+              was = rw is;
               bare = refl;
-            })
-            (own_words c w n known mirrors safe ready k lt) (operands_of c (op.New d ty full) operands).d
+            }) (own_words c w n known mirrors safe ready k lt) (operands_of c (op.New d ty full) operands).d
             (λ i li. zero_there i
             (let small = subst (λ (types : List (List Kind)). i < length (kinds_of types ty)) mirrors.types li
             in omega arith))),
@@ -111,8 +108,7 @@ module _ (c : Config) (w : World) (n : NeverState) (known : KnownWorld c w) (mir
       (record (image_scene_of w) { flights = slice_set w.now.seats.flights k (flight stage.Give o q p r l) })
       (Some answer.Full)
   full_by stage.Turn (op.New d ty full) q p r l is next = (
-    goes_bare safe (image_scene_of w) n k (flight stage.Give (op.New d ty full) q p r l)
-        (ap (λ (f : Flight). is_put f.stage) is) refl,
+    goes_bare safe (image_scene_of w) n k _ (rw is) refl,
     λ more. refl,
   )
   full_by _ _ q p r l is next = absurd (false≢true next)
