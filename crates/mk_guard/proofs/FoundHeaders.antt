@@ -1,5 +1,5 @@
 -- What a `head` finds while a cycle marks, from what the layout says.
-use Rattle.std.proofs.Common.{◌≡◌, ◌⊎◌, ℕ, ◌+◌, ◌-◌, ◌*◌, ◌^◌, ◌<◌, Bool, true, false, length, refl, sym, ◌∙◌, ap}
+use Rattle.std.proofs.Common.{◌≡◌, ◌⊎◌, ℕ, ◌+◌, ◌-◌, ◌*◌, ◌^◌, ◌<◌, Bool, true, false, length, refl, sym, ◌∙◌, ap, []}
 use Rattle.std.proofs.Common.{subst, inl, inr, arith, option_and_then}
 use Rattle.std.specs.Prelude.{Option, Some, None, slice_index, nat_le, nat_lt, ◌&&◌, ◌||◌, ◌==◌, not, if◌then◌else◌}
 use Rattle.std.proofs.lemmas.Bool.{cases_Bool, cases_eq, true≢false, eqb-true, eq-eqb, and_parts, or_cases, not-true}
@@ -288,7 +288,7 @@ marking_phase n h (inr two) = elim (or_cases _ (n == 4) h) [
 
 pub head_finds : (c : Config) (w : World) (seat : Seat) (p n : ℕ) → IsWithinLimits c → Known c w.now
     → IsMarking w.now.words → GuardPremises c w → Meets c w.now seat (step.Head p n) → HeadFinds c.pages w.now.words p n
-head_finds c w seat p n limits known early say h = by (head_step c w.now _ p n h.holder)
+head_finds c w seat p n limits known early say h = by (head_step c w.now (flight_of w.now seat) p n h.holder)
   where
     one : phase_of w.now.words ≡ 1
     one = marking_phase _ h.phase early
@@ -296,9 +296,9 @@ head_finds c w seat p n limits known early say h = by (head_step c w.now _ p n h
     new_has : (place : Place) → place_now c w.now (flight_of w.now seat) ≡ Some place
         → IsSized (object_made c (flight_of w.now seat).op)
     new_has place now =
-        let new = (placed_now c w.now _ place now).new in
+        let new = (placed_now c w.now (flight_of w.now seat) place now).new in
         let own = new_holds c w.now seat (step.Head p n) h new in
-        new_sized c _ limits (rw own.2 (known.operands own.0)) new
+        new_sized c (flight_of w.now seat) limits (rw own.2 (known.operands own.0)) new
 
     by : HeadStep c w.now (flight_of w.now seat) p n → HeadFinds c.pages w.now.words p n
     by (ItCarves four k) =

@@ -1,5 +1,5 @@
 -- What stands while a cycle marks and stops, after every enabled list.
-use Rattle.std.proofs.Common.{◌≡◌, ◌⊎◌, ℕ, List, ◌∷◌, inl, inr, arith}
+use Rattle.std.proofs.Common.{◌≡◌, ◌⊎◌, ℕ, List, ◌∷◌, inl, inr, arith, []}
 use Rattle.std.proofs.lemmas.Bool.{eqb-true}
 use Rattle.mk_protocol.proofs.Vocabulary.{AreEnabledFrom, AreOfPages, Config, Event, IsWithinLimits, World, access}
 use Rattle.mk_protocol.proofs.Vocabulary.{first_moment, first_world, left, left_from, phase_of, word_accessed}

@@ -1,5 +1,5 @@
 -- Events of others take no header back while a marker attends, and what points well still does.
-use Rattle.std.proofs.Common.{◌≡◌, List, ◌∷◌, ◌++◌, false, refl, ◌∙◌, sym, ap, subst}
+use Rattle.std.proofs.Common.{◌≡◌, List, ◌∷◌, ◌++◌, false, refl, ◌∙◌, sym, ap, subst, []}
 use Rattle.mk_protocol.proofs.Vocabulary.{AreEnabledFrom, AreOfOthers, AreOfPages, Config, Event, IsWithinLimits}
 use Rattle.mk_protocol.proofs.Vocabulary.{Marker, Moment, Page, Seat, Steady, Step, World, access, cell_at, first_world}
 use Rattle.mk_protocol.proofs.Vocabulary.{free_page, left, left_from, word_accessed, world_behind}
