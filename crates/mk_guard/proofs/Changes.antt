@@ -4,34 +4,16 @@ use Rattle.std.proofs.Common.{inl, inr, arith}
 use Rattle.std.specs.Prelude.{nat_le, nat_lt, slice_index, slice_index_or, slice_set}
 use Rattle.std.proofs.lemmas.Bool.{cases_eq, cases_lt, true≢false, ltb-true, and_parts}
 use Rattle.std.proofs.lemmas.List.{get_or-set_same, get_or-set_other, set_past}
-use Rattle.mk_never.specs.declared.operations.Op.{Op}
+use Rattle.mk_protocol.proofs.Vocabulary.{Access, AreOfPages, Caller, Config, DirtyIsOwed, Flight, Host, IsGuarded}
+use Rattle.mk_protocol.proofs.Vocabulary.{Load, Marker, Moment, Named, OnlyGrow, Op, OwesDirty, Page, Seat, Stage, Step}
+use Rattle.mk_protocol.proofs.Vocabulary.{Store, Tally, Words, accessed, at_rest, caller_number, comes_next, flight_of}
+use Rattle.mk_protocol.proofs.Vocabulary.{found, free_page, has_bit, header_at, page_met, progress, reg_access}
+use Rattle.mk_protocol.proofs.Vocabulary.{register_met, stage_behind, steps_of, tally_word, word_met}
 use Rattle.mk_never.specs.declared.operations.Op.TheVariants as op
-use Rattle.mk_geom.specs.declared.pages.Page.{Page}
-use Rattle.mk_geom.specs.Storages.{free_page}
-use Rattle.mk_core.specs.declared.config.Config.{Config}
-use Rattle.mk_core.specs.declared.accesses.Access.{Access}
-use Rattle.mk_core.specs.declared.accesses.Access.TheVariants.{Load, Store}
-use Rattle.mk_core.specs.declared.accesses.TableWord.TheVariants.{Named}
-use Rattle.mk_core.specs.declared.events.Tally.{Tally}
 use Rattle.mk_core.specs.declared.events.Tally.TheVariants as tally
 use Rattle.mk_core.specs.declared.events.Word.TheVariants as word
-use Rattle.mk_core.specs.declared.events.Seat.{Seat}
-use Rattle.mk_core.specs.declared.events.Seat.TheVariants.{Caller, Marker, Host}
-use Rattle.mk_core.specs.declared.events.Step.{Step}
 use Rattle.mk_core.specs.declared.events.Step.TheVariants as step
-use Rattle.mk_core.specs.declared.seats.Stage.{Stage}
 use Rattle.mk_core.specs.declared.seats.Stage.TheVariants as stage
-use Rattle.mk_core.specs.declared.seats.Flight.{Flight}
-use Rattle.mk_core.specs.Bits.{has_bit}
-use Rattle.mk_core.specs.Calls.{at_rest, page_met, word_met, steps_of, stage_behind}
-use Rattle.mk_core.specs.Words.{Words, accessed, header_at}
-use Rattle.mk_core.specs.Layout.{AreOfPages}
-use Rattle.mk_core.specs.Moments.{Moment, flight_of}
-use Rattle.mk_core.specs.Order.{comes_next}
-use Rattle.mk_core.specs.Accesses.{caller_number, tally_word, register_met, reg_access, found}
-use Rattle.mk_core.specs.Effects.{progress}
-use Rattle.mk_core.specs.Frames.{OnlyGrow}
-use Rattle.mk_core.specs.ClosedMarks.{OwesDirty, IsGuarded, DirtyIsOwed}
 use Rattle.mk_core.proofs.WordBits.{no_bit}
 use Rattle.mk_protocol.proofs.Standings.{standing_at, is_astray}
 use Rattle.mk_protocol.proofs.NextSteps.{at_its_stage}
@@ -75,8 +57,7 @@ tally_table w _ v = refl
 
 pub reg_table : (c : Config) (m : Moment) (seat : Seat) → table_of (Behind c m seat step.Reg).words ≡ table_of m.words
 reg_table c m seat =
-    register_table m.words (caller_number seat) (register_met (flight_of m seat) (flight_of m seat).stage)
-    (reg_access (flight_of m seat) (flight_of m seat).stage)
+    register_table m.words (caller_number seat) _ _
 
 -- A call that has written, or exchanged, owes the dirty word after it.
 
@@ -99,16 +80,13 @@ stored : (c : Config) (m : Moment) (k : ℕ) (x : Step) (n y : ℕ) (f : Flight)
     ⊎ IsGuarded c (Behind c m (Caller k) x) y
 stored c m k x n y f lt heap flights at same = elim (cases_eq y (word_met (flight_of m (Caller k)))) [
   | inl e ↦
-      let is : flight_of (Behind c m (Caller k) x) (Caller k) ≡ f
-      = ap (λ (fs : List Flight). slice_index_or fs k at_rest) flights
-      ∙ get_or-set_same m.seats.flights k f at_rest lt in
+      let is : flight_of (Behind c m (Caller k) x) (Caller k) ≡ f = rw flights
+      (get_or-set_same m.seats.flights k f at_rest lt) in
       inr (DirtyIsOwed k (
-        ap (λ (g : Flight). g.stage) is ∙ at,
-        ap (λ (g : Flight). page_met g) is
-            ∙ ap (λ i. i / 64) (same ∙ sym e),
+        rw is at,
+        rw is (rw (same ∙ sym e)),
       ))
-  | inr ne ↦ inl (ap (λ (ys : List ℕ). slice_index ys y) heap
-      ∙ get_or-set_other m.words.heap (word_met (flight_of m (Caller k))) y n 0 ne)
+  | inr ne ↦ inl (rw heap (get_or-set_other m.words.heap _ y n 0 ne))
 ]
 
 pub heap_kind : (c : Config) (m : Moment) (seat : Seat) (x : Step) → Known c m → Meets c m seat x → (y : ℕ)
@@ -122,8 +100,7 @@ heap_kind c m (Caller k) step.Write known h y =
     (not_astray c m known.orderly k lt) in
     stored c m k step.Write _ y
     (progress c m (flight_of m (Caller k)) (found c m (record { seat = Caller k; step = step.Write }))
-    step.Write).flight
-    (omega (arith, lt, known.orderly.flights)) refl refl
+    step.Write).flight (omega (arith, lt, known.orderly.flights)) refl refl
     (ap (λ (s : Stage). stage_behind s (steps_of (flight_of m (Caller k)).op)) at
     ∙ wrote (flight_of m (Caller k)).op fine) refl
 heap_kind c m (Caller k) step.Cas known h y =
@@ -132,8 +109,7 @@ heap_kind c m (Caller k) step.Cas known h y =
     let fine = subst (λ (s : Stage). is_astray (standing_at s (flight_of m (Caller k)).op) ≡ false) at
     (not_astray c m known.orderly k lt) in
     stored c m k step.Cas _ y
-    (progress c m (flight_of m (Caller k)) (found c m (record { seat = Caller k; step = step.Cas }))
-    step.Cas).flight
+    (progress c m (flight_of m (Caller k)) (found c m (record { seat = Caller k; step = step.Cas })) step.Cas).flight
     (omega (arith, lt, known.orderly.flights)) refl refl
     (ap (λ (s : Stage). stage_behind s (steps_of (flight_of m (Caller k)).op)) at
     ∙ swapped (flight_of m (Caller k)).op fine) refl
@@ -146,7 +122,7 @@ heap_kind c m seat (step.Wipe n) known h y = elim (cases_eq y n) [
     | inl lt ↦
         let bare = ap (λ i. slice_index (slice_set m.words.heap n 0) i) e ∙ get_or-set_same m.words.heap n 0 0 lt in
         inr (bare_guarded c (Behind c m seat (step.Wipe n)) y bare)
-    | inr past ↦ inl (ap (λ (ys : List ℕ). slice_index ys y) (set_past m.words.heap n 0 past))
+    | inr past ↦ inl (rw (set_past m.words.heap n 0 past))
   ]
   | inr ne ↦ inl (get_or-set_other m.words.heap n y 0 0 ne)
 ]
@@ -159,16 +135,13 @@ is_undirty (step.Undirty p) = true
 is_undirty _ = false
 
 pub dirty_kind : (c : Config) (m : Moment) (seat : Seat) (x : Step) → is_undirty x ≡ false → (p : ℕ)
-    → slice_index m.words.dirty p ≡ 1
-    → slice_index (Behind c m seat x).words.dirty p ≡ 1
+    → slice_index m.words.dirty p ≡ 1 → slice_index (Behind c m seat x).words.dirty p ≡ 1
 dirty_kind c m seat step.Reg u p h = ap (λ (t : Table). slice_index t.dirty p) (reg_table c m seat) ∙ h
 dirty_kind c m seat (step.Tally n v) u p h = ap (λ (t : Table). slice_index t.dirty p) (tally_table m.words n v) ∙ h
 dirty_kind c m seat step.Dirty u p h = elim (cases_eq p (page_met (flight_of m seat))) [
   | inl e ↦ elim (cases_lt (page_met (flight_of m seat)) (length m.words.dirty)) [
-    | inl lt ↦ ap (λ i. slice_index (slice_set m.words.dirty (page_met (flight_of m seat)) 1) i) e
-        ∙ get_or-set_same m.words.dirty (page_met (flight_of m seat)) 1 0 lt
-    | inr past ↦ ap (λ (ys : List ℕ). slice_index ys p) (set_past m.words.dirty (page_met (flight_of m seat)) 1 past)
-        ∙ h
+    | inl lt ↦ rw e (get_or-set_same m.words.dirty (page_met (flight_of m seat)) 1 0 lt)
+    | inr past ↦ rw (set_past m.words.dirty (page_met (flight_of m seat)) 1 past) h
   ]
   | inr ne ↦ get_or-set_other m.words.dirty (page_met (flight_of m seat)) p 1 0 ne ∙ h
 ]
@@ -188,21 +161,16 @@ at_owed o _ h = cc
 pub owed_kind : (c : Config) (m : Moment) (seat : Seat) (x : Step) → AreOfPages c.pages m.words → Meets c m seat x
     → (j p : ℕ) → OwesDirty m j p
     → OwesDirty (Behind c m seat x) j p ⊎ (slice_index (Behind c m seat x).words.dirty p ≡ 1)
-owed_kind c m (Marker k) x len h j p owes = inl owes
-owed_kind c m Host x len h j p owes = inl owes
 owed_kind c m (Caller k) x len h j p owes = elim (cases_eq j k) [
   | inr ne ↦
       let is = get_or-set_other m.seats.flights k j
       (progress c m (flight_of m (Caller k)) (found c m (record { seat = Caller k; step = x })) x).flight at_rest ne
       in
-      inl (ap (λ (f : Flight). f.stage) is ∙ owes.0, ap (λ (f : Flight). page_met f) is ∙ owes.1)
+      inl (rw is owes.0, rw is owes.1)
   | inl e ↦
-      let own : (flight_of m (Caller k)).stage ≡ stage.Dirty =
-      subst (λ i. (flight_of m (Caller i)).stage ≡ stage.Dirty) e owes.0 in
-      let page : page_met (flight_of m (Caller k)) ≡ p = subst (λ i. page_met (flight_of m (Caller i)) ≡ p) e owes.1 in
-      inr (subst (λ q. slice_index (Behind c m (Caller k) x).words.dirty q ≡ 1) page
-      (paid x h (at_owed (flight_of m (Caller k)).op x
-      (subst (λ (s : Stage). comes_next s (flight_of m (Caller k)).op x ≡ true) own h.order))))
+      let own : (flight_of m (Caller k)).stage ≡ stage.Dirty = rw e at owes.0 in
+      let page : page_met (flight_of m (Caller k)) ≡ p = rw e at owes.1 in
+      inr (rw page at (paid x h (at_owed (flight_of m (Caller k)).op x (rw own at h.order))))
 ]
   where
     paid : (x : Step) → Meets c m (Caller k) x → is_dirty x ≡ true
@@ -213,6 +181,7 @@ owed_kind c m (Caller k) x len h j p owes = elim (cases_eq j k) [
         let lt = ltb-true (word_met (flight_of m (Caller k))) (64 * c.pages) met in
         get_or-set_same m.words.dirty (page_met (flight_of m (Caller k))) 1 0 (omega (arith, len.dirty, lt))
     paid _ h is = cc
+owed_kind c m _ x len h j p owes = inl owes
 
 -- headers
 
@@ -230,13 +199,9 @@ headers_kind c m seat (step.Head q n) u p = cc
 headers_kind c m seat (step.Used q n) u p = elim (cases_eq p q) [
   | inl e ↦ elim (cases_lt q (length m.words.pages)) [
     | inl lt ↦
-        ap (λ i. (slice_index_or (slice_set m.words.pages q (record { header = header_at m.words q; used = n })) i
-        free_page).header) e
-        ∙ ap (λ (y : Page). y.header)
-        (get_or-set_same m.words.pages q (record { header = header_at m.words q; used = n }) free_page lt)
-        ∙ ap (λ i. header_at m.words i) (sym e)
-    | inr past ↦ ap (λ (ys : List Page). (slice_index_or ys p free_page).header)
-        (set_past m.words.pages q (record { header = header_at m.words q; used = n }) past)
+        rw e (ap (λ (y : Page). y.header)
+        (get_or-set_same m.words.pages q (record { header = header_at m.words q; used = n }) free_page lt) ∙ rw (← e))
+    | inr past ↦ rw (set_past m.words.pages q (record { header = header_at m.words q; used = n }) past)
   ]
   | inr ne ↦ ap (λ (y : Page). y.header)
       (get_or-set_other m.words.pages q p (record { header = header_at m.words q; used = n }) free_page ne)
@@ -254,7 +219,7 @@ marks_grow c m seat y early _ = grows_same m.words.marks
 
 pub marks_kind : (c : Config) (m : Moment) (seat : Seat) (x : Step) → IsMarking m.words → Meets c m seat x
     → OnlyGrow m.words.marks (Behind c m seat x).words.marks
-marks_kind c m seat x early h = marks_grow c m seat (colours_of (Behind c m seat x)) early (colour_step c m seat x h)
+marks_kind c m seat x early h = marks_grow c m seat _ early (colour_step c m seat x h)
 
 -- black words: bits are added by two kinds
 abbrev pub is_blackening : Step → Bool
@@ -275,8 +240,8 @@ blacks_kind c m seat (step.Unblack q) u = λ p k is. elim (cases_eq p q) [
     | inl lt ↦
         let none = ap (λ i. slice_index (slice_set m.words.blacks q 0) i) e ∙ get_or-set_same m.words.blacks q 0 0 lt in
         absurd (true≢false (sym is ∙ no_bit (slice_index (slice_set m.words.blacks q 0) p) k none))
-    | inr past ↦ subst (λ (ys : List ℕ). has_bit (slice_index ys p) k ≡ true) (set_past m.words.blacks q 0 past) is
+    | inr past ↦ rw (set_past m.words.blacks q 0 past) at is
   ]
-  | inr ne ↦ subst (λ n. has_bit n k ≡ true) (get_or-set_other m.words.blacks q p 0 0 ne) is
+  | inr ne ↦ rw (get_or-set_other m.words.blacks q p 0 0 ne) at is
 ]
 blacks_kind c m seat _ u = grows_same m.words.blacks

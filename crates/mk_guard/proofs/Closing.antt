@@ -6,26 +6,14 @@ use Rattle.std.specs.Int.{bit_at}
 use Rattle.std.proofs.lemmas.Bool.{cases_eq, cases_lt, true≢false, eqb-true, eq-eqb, and_parts}
 use Rattle.std.proofs.lemmas.List.{get_or_past}
 use Rattle.std.proofs.lemmas.Nat.Bits.{bit_at_and, bit_at_ones}
-use Rattle.mk_geom.specs.declared.pages.Page.{Page}
-use Rattle.mk_geom.specs.Storages.{free_page}
-use Rattle.mk_geom.specs.Headers.{header_of}
-use Rattle.mk_core.specs.declared.config.Config.{Config}
-use Rattle.mk_core.specs.declared.events.Seat.{Seat}
-use Rattle.mk_core.specs.declared.events.Seat.TheVariants.{Caller, Marker, Host}
+use Rattle.mk_protocol.proofs.Vocabulary.{AreOfPages, BlackIsGuarded, Caller, Config, DirtyIsOwed, Flight, Host}
+use Rattle.mk_protocol.proofs.Vocabulary.{IsGuarded, Marker, Moment, Page, PageIsDirty, PointsWell, Seat, Stage, Words}
+use Rattle.mk_protocol.proofs.Vocabulary.{all_below, at_rest, cells_under, comes_next, first_word, flight_of, free_page}
+use Rattle.mk_protocol.proofs.Vocabulary.{has_bit, has_closed_page, header_in, header_of, holder_number, none_attends}
+use Rattle.mk_protocol.proofs.Vocabulary.{points_well, roots_point_well, without, word_points_well}
 use Rattle.mk_core.specs.declared.events.Step.TheVariants as step
-use Rattle.mk_core.specs.declared.seats.Stage.{Stage}
 use Rattle.mk_core.specs.declared.seats.Stage.TheVariants as stage
-use Rattle.mk_core.specs.declared.seats.Flight.{Flight}
-use Rattle.mk_core.specs.Bits.{has_bit, without}
-use Rattle.mk_core.specs.Bounded.{all_below}
-use Rattle.mk_core.specs.Calls.{at_rest}
-use Rattle.mk_core.specs.Words.{Words}
-use Rattle.mk_core.specs.Layout.{AreOfPages}
-use Rattle.mk_core.specs.Cells.{cells_under, header_in, cell_bits, first_word, points_well, word_points_well}
-use Rattle.mk_core.specs.Moments.{Moment, flight_of, holder_number}
-use Rattle.mk_core.specs.Order.{comes_next}
-use Rattle.mk_core.specs.StopConditions.{none_attends, has_closed_page, roots_point_well}
-use Rattle.mk_core.specs.ClosedMarks.{IsGuarded, PointsWell, PageIsDirty, DirtyIsOwed, BlackIsGuarded}
+use Rattle.mk_core.specs.Cells.{cell_bits}
 use Rattle.mk_core.proofs.AllBelow.{all_below-at}
 use Rattle.mk_core.proofs.ListTests.{list_all-at}
 use Rattle.mk_core.proofs.WordBits.{without_none, fewer_bits}
@@ -48,7 +36,7 @@ none_owes c m seat j known h at = elim (cases_lt j c.callers) [
   | inr past ↦
       let rest : flight_of m (Caller j) ≡ at_rest =
       get_or_past m.seats.flights j at_rest (omega (arith, known.orderly.flights)) in
-      let bad : stage.Idle ≡ stage.Dirty = sym (ap (λ (f : Flight). f.stage) rest) ∙ at in
+      let bad : stage.Idle ≡ stage.Dirty = sym (rw rest) ∙ at in
       true≢false (let y : true ≡ false = cc in y)
   | inl lt ↦ elim (cases_eq (holder_number c seat) j) [
     | inl e ↦ own seat e lt h
@@ -56,8 +44,7 @@ none_owes c m seat j known h at = elim (cases_lt j c.callers) [
         let fine = subst (λ (s : Stage). is_astray (standing_at s (flight_of m (Caller j)).op) ≡ false) at
         (not_astray c m known.orderly j lt) in
         let stands : standing (flight_of m (Caller j)) ≡ InCall
-        = ap (λ (s : Stage). standing_at s (flight_of m (Caller j)).op) at
-        ∙ calls_stand stage.Dirty (flight_of m (Caller j)).op refl fine in
+        = ap (λ (s : Stage). standing_at s (flight_of m (Caller j)).op) at ∙ calls_stand stage.Dirty _ refl fine in
         let one = (shows_at c (view_of m) j InCall known.orderly lt stands).0 in
         let two = others_held c m seat h.gates j lt ne in
         absurd (omega arith)
@@ -68,8 +55,7 @@ none_owes c m seat j known h at = elim (cases_lt j c.callers) [
     own (Caller k) e lt h =
         let here : (flight_of m (Caller k)).stage ≡ stage.Dirty =
         subst (λ i. (flight_of m (Caller i)).stage ≡ stage.Dirty) (sym e) at in
-        true≢false (sym (at_owed (flight_of m (Caller k)).op step.Close
-        (subst (λ (s : Stage). comes_next s (flight_of m (Caller k)).op step.Close ≡ true) here h.order)))
+        true≢false (sym (at_owed (flight_of m (Caller k)).op step.Close (rw here at h.order)))
     own (Marker k) e lt h = absurd (omega arith)
     own Host e lt h = absurd (omega arith)
 
@@ -81,30 +67,24 @@ record ClosedPage (w : Words) (p : ℕ) : Type 0 where
 
 closed_page : (w : Words) (p : ℕ) → has_closed_page w p ≡ true → ClosedPage w p
 closed_page w p h =
-    let parts = and_parts (without (bit_and (slice_index w.marks p) (cell_bits w p)) (slice_index w.blacks p) == 0)
-    (slice_index w.dirty p == 0) h in
+    let parts = and_parts _ _ h in
     record {
-      black = eqb-true (without (bit_and (slice_index w.marks p) (cell_bits w p)) (slice_index w.blacks p)) 0
-          parts.0;
-      clean = eqb-true (slice_index w.dirty p) 0 parts.1;
+      black = eqb-true _ 0 parts.0;
+      clean = eqb-true _ 0 parts.1;
     }
 
 black_bit : (w : Words) (p k : ℕ) → ClosedPage w p → k < cells_under (header_in w p)
-    → has_bit (slice_index w.marks p) k ≡ true
-    → has_bit (slice_index w.blacks p) k ≡ true
+    → has_bit (slice_index w.marks p) k ≡ true → has_bit (slice_index w.blacks p) k ≡ true
 black_bit w p k h lt is =
-    fewer_bits (bit_and (slice_index w.marks p) (cell_bits w p)) (slice_index w.blacks p) k
-    (without_none (bit_and (slice_index w.marks p) (cell_bits w p)) (slice_index w.blacks p) h.black)
-    (eq-eqb (bit_at (bit_and (slice_index w.marks p) (cell_bits w p)) k) 1
-    (bit_at_and (slice_index w.marks p) (cell_bits w p) k
-    ∙ (let one = eqb-true (bit_at (slice_index w.marks p) k) 1 is in
-    let ones = bit_at_ones (cells_under (header_in w p)) k lt in
+    fewer_bits (bit_and _ (cell_bits w p)) _ k (without_none (bit_and _ (cell_bits w p)) _ h.black)
+    (eq-eqb (bit_at (bit_and _ (cell_bits w p)) k) 1 (bit_at_and _ (cell_bits w p) k
+    ∙ (let one = eqb-true (bit_at _ k) 1 is in
+    let ones = bit_at_ones _ k lt in
     let both : min (bit_at (slice_index w.marks p) k) (bit_at (cell_bits w p) k) ≡ 1 = omega arith in
     both)))
 
 pub closed : (c : Config) (m : Moment) (seat : Seat) → Known c m → AreOfPages c.pages m.words
-    → Meets c m seat step.Close → BlackIsGuarded c m
-    → CellsAreClosed c m.words
+    → Meets c m seat step.Close → BlackIsGuarded c m → CellsAreClosed c m.words
 closed c m seat known len h black =
     record {
       registers = λ i. list_all-at (points_well c.pages m.words) m.words.registers 0 roots.0

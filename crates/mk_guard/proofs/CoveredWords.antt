@@ -2,23 +2,19 @@
 use Rattle.std.proofs.Common.{◌≡◌, ◌≢◌, ℕ, ◌+◌, ◌*◌, ◌/◌, ◌%◌, ◌<◌, true, false, refl, ◌∙◌, ap, inl, inr, arith}
 use Rattle.std.specs.Prelude.{Option, Some, None, slice_index}
 use Rattle.std.proofs.lemmas.Bool.{cases_eq, true≢false}
-use Rattle.mk_geom.specs.declared.headers.Header.{Header}
-use Rattle.mk_geom.specs.declared.headers.Header.TheVariants.{Free, Block, Run, Later, LeafBlock, LeafRun}
-use Rattle.mk_geom.specs.Classes.{class_words_of}
-use Rattle.mk_geom.specs.Addresses.{head_page_under}
+use Rattle.mk_protocol.proofs.Vocabulary.{Block, Free, Header, Later, LeafBlock, LeafRun, Run, Words, cells_under}
+use Rattle.mk_protocol.proofs.Vocabulary.{class_words_of, has_no_pointers, head_page, head_page_under, header_in}
+use Rattle.mk_protocol.proofs.Vocabulary.{words_under}
 use Rattle.mk_geom.proofs.ClassTable.{cell_ends}
-use Rattle.mk_core.specs.Words.{Words}
-use Rattle.mk_core.specs.Cells.{cells_under, words_under, header_in, has_no_pointers, head_page}
 use Rattle.mk_guard.specs.Kept.{LaterPagesAreKnown}
 
 -- a page that is its own head
 own_head : (w : Words) (p : ℕ) (x : Option Header) → header_in w p ≡ x → head_page_under x p ≡ p → (n : ℕ) → n / 64 ≡ p
     → head_page w (n / 64) ≡ p
-own_head w p x is head n at = ap (λ q. head_page w q) at ∙ ap (λ (y : Option Header). head_page_under y p) is ∙ head
+own_head w p x is head n at = ap (λ q. head_page w q) at ∙ rw is head
 
 pub covered_word : (w : Words) (p k i : ℕ) → LaterPagesAreKnown w → k < cells_under (header_in w p)
-    → has_no_pointers (header_in w p) ≡ false
-    → i < words_under (header_in w p)
+    → has_no_pointers (header_in w p) ≡ false → i < words_under (header_in w p)
     → slice_index w.heap (64 * p + k * words_under (header_in w p) + i) ≢ 0
     → head_page w ((64 * p + k * words_under (header_in w p) + i) / 64) ≡ p
 covered_word w p k i later lk scanned li some = by (header_in w p) refl lk scanned li some
@@ -28,18 +24,16 @@ covered_word w p k i later lk scanned li some = by (header_in w p) refl lk scann
         → head_page w ((64 * p + k * (64 * count) + i) / 64) ≡ p
     in_run count is lk li some =
         let zero : k ≡ 0 = omega arith in
-        let at : 64 * p + k * (64 * count) + i ≡ 64 * p + i = ap (λ j. 64 * p + j * (64 * count) + i) zero
-        ∙ omega arith in
+        let at : 64 * p + k * (64 * count) + i ≡ 64 * p + i = rw zero (omega arith) in
         elim (cases_eq (i / 64) 0) [
-          | inl first ↦ own_head w p (Some (Run count true)) is refl (64 * p + k * (64 * count) + i)
-              (ap (λ n. n / 64) at ∙ omega arith)
+          | inl first ↦ own_head w p _ is refl _ (ap (λ n. n / 64) at ∙ omega arith)
           | inr ne ↦
               let page : (64 * p + k * (64 * count) + i) / 64 ≡ p + i / 64 = ap (λ n. n / 64) at ∙ omega arith in
               elim (later p count (i / 64) is (omega arith) (omega arith)) [
-                | inl head ↦ ap (λ q. head_page w q) page ∙ head
+                | inl head ↦ rw page head
                 | inr bare ↦
                     let word : 64 * p + k * (64 * count) + i ≡ 64 * (p + i / 64) + i % 64 = at ∙ omega arith in
-                    absurd (some (ap (λ n. slice_index w.heap n) word ∙ bare (i % 64) (omega arith)))
+                    absurd (some (rw word (bare (i % 64) (omega arith))))
               ]
         ]
 
@@ -47,8 +41,8 @@ covered_word w p k i later lk scanned li some = by (header_in w p) refl lk scann
         → slice_index w.heap (64 * p + k * words_under x + i) ≢ 0
         → head_page w ((64 * p + k * words_under x + i) / 64) ≡ p
     by (Some (Block class)) is lk scanned li some =
-        let ends = cell_ends k (class_words_of class) lk in
-        own_head w p (Some (Block class)) is refl (64 * p + k * class_words_of class + i) (omega arith)
+        let ends = cell_ends k _ lk in
+        own_head w p (Some (Block class)) is refl _ (omega arith)
     by (Some (Run count true)) is lk scanned li some = in_run count is lk li some
     by (Some (Run count false)) is lk scanned li some = absurd (true≢false scanned)
     by (Some (LeafBlock class)) is lk scanned li some = absurd (true≢false scanned)

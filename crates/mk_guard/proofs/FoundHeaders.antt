@@ -1,38 +1,25 @@
 -- What a `head` finds while a cycle marks, from what the layout says.
-use Rattle.std.proofs.Common.{◌≡◌, ◌⊎◌, ℕ, ◌+◌, ◌-◌, ◌*◌, ◌^◌, ◌<◌, Bool, true, false, [], length, refl, sym, ◌∙◌, ap}
+use Rattle.std.proofs.Common.{◌≡◌, ◌⊎◌, ℕ, ◌+◌, ◌-◌, ◌*◌, ◌^◌, ◌<◌, Bool, true, false, length, refl, sym, ◌∙◌, ap, []}
 use Rattle.std.proofs.Common.{subst, inl, inr, arith, option_and_then}
 use Rattle.std.specs.Prelude.{Option, Some, None, slice_index, nat_le, nat_lt, ◌&&◌, ◌||◌, ◌==◌, not, if◌then◌else◌}
 use Rattle.std.proofs.lemmas.Bool.{cases_Bool, cases_eq, true≢false, eqb-true, eq-eqb, and_parts, or_cases, not-true}
 use Rattle.std.proofs.lemmas.Bool.{ltb-true, le-leb, cond-true, cond-false}
 use Rattle.std.proofs.lemmas.Nat.Bits.{bit_at_ones}
 use Rattle.std.proofs.Math.Bool.{or-true}
-use Rattle.mk_never.specs.declared.operations.Op.{Op}
-use Rattle.mk_geom.specs.declared.addresses.Cell.{Cell}
-use Rattle.mk_geom.specs.declared.headers.Header.{Header}
-use Rattle.mk_geom.specs.declared.pages.Place.{Place}
-use Rattle.mk_geom.specs.Classes.{cells_of, class_words_of}
-use Rattle.mk_geom.specs.Headers.{header_of}
-use Rattle.mk_geom.specs.Addresses.{is_heap_address, cell_under, cell_at, page_at_address, word_at_address}
-use Rattle.mk_geom.specs.Addresses.{head_page_under}
+use Rattle.mk_protocol.proofs.Vocabulary.{Cell, Config, Flight, Header, IsHeaderOf, IsSized, IsWithinLimits, Object}
+use Rattle.mk_protocol.proofs.Vocabulary.{OfBlock, OfLater, OfLeafBlock, OfLeafRun, OfRun, Op, Place, RunPages, Seat}
+use Rattle.mk_protocol.proofs.Vocabulary.{ShowsPart, Words, World, cell_at, cells_made, cells_of, cells_under}
+use Rattle.mk_protocol.proofs.Vocabulary.{class_made, class_words_of, d_of, flight_of, g_of, has_bit, has_operands}
+use Rattle.mk_protocol.proofs.Vocabulary.{head_page_under, header_at, header_in, header_made, header_of}
+use Rattle.mk_protocol.proofs.Vocabulary.{is_heap_address, is_leaf_header, is_marked_first, is_phase, is_small_object}
+use Rattle.mk_protocol.proofs.Vocabulary.{is_undecided_new, is_unmapped_header, object_made, p_of, page_at_address}
+use Rattle.mk_protocol.proofs.Vocabulary.{pages_made, phase_of, place_now, q_of, r_of, unmapped_header, without}
+use Rattle.mk_protocol.proofs.Vocabulary.{words_made, words_under}
+use Rattle.mk_geom.specs.Addresses.{cell_under, word_at_address}
 use Rattle.mk_geom.proofs.ClassTable.{cell_ends, some_cells}
-use Rattle.mk_core.specs.declared.config.Config.{Config}
-use Rattle.mk_core.specs.declared.events.Seat.{Seat}
 use Rattle.mk_core.specs.declared.events.Step.TheVariants as step
-use Rattle.mk_core.specs.declared.seats.Flight.{Flight}
-use Rattle.mk_core.specs.declared.seats.Object.{Object}
-use Rattle.mk_core.specs.declared.seats.RunPages.{RunPages}
-use Rattle.mk_core.specs.Config.{IsWithinLimits}
-use Rattle.mk_core.specs.Bits.{has_bit, without}
-use Rattle.mk_core.specs.Calls.{has_operands, has_type, q_of, p_of, r_of, d_of, g_of}
-use Rattle.mk_core.specs.Words.{Words, header_at, phase_of}
-use Rattle.mk_core.specs.Cells.{cells_under, words_under, header_in, is_leaf_header, is_unmapped_header}
-use Rattle.mk_core.specs.NewPlaces.{object_made, is_small_object, class_made, pages_made, header_made, unmapped_header}
-use Rattle.mk_core.specs.NewPlaces.{bits_made, is_undecided_new}
-use Rattle.mk_core.specs.ObjectHeaders.{IsSized, cells_made, words_made, ShowsPart, OfBlock, OfLeafBlock, OfRun}
-use Rattle.mk_core.specs.ObjectHeaders.{OfLeafRun, OfLater, IsHeaderOf}
-use Rattle.mk_core.specs.Moments.{flight_of, is_phase}
-use Rattle.mk_core.specs.TurnConditions.{place_now, is_marked_first}
-use Rattle.mk_core.specs.History.{World}
+use Rattle.mk_core.specs.Calls.{has_type}
+use Rattle.mk_core.specs.NewPlaces.{bits_made}
 use Rattle.mk_core.proofs.Sizes.{small_cells, large_cells, small_pages, small_words, large_words, class_known}
 use Rattle.mk_core.proofs.Sizes.{large_count}
 use Rattle.mk_core.proofs.ObjectHeaders.{made_shows, header_shows, part_head, part_not_free, part_cells, part_words}
@@ -63,8 +50,7 @@ first_cell distance page z =
     (le-leb distance page (omega arith)))
 
 run_cell_under : (o : Object) (distance page word : ℕ) (x : Option Header) → ShowsPart o distance x
-    → is_small_object o ≡ false
-    → option_and_then (λ h. cell_under h page word) x ≡ run_cell distance page
+    → is_small_object o ≡ false → option_and_then (λ h. cell_under h page word) x ≡ run_cell distance page
 run_cell_under o distance page word x (OfBlock z small leaf) large = absurd (true≢false (sym small ∙ large))
 run_cell_under o distance page word x (OfLeafBlock z small leaf) large = absurd (true≢false (sym small ∙ large))
 run_cell_under o distance page word x (OfRun mapped z l leaf) large = first_cell distance page z
@@ -82,8 +68,7 @@ run_cell_at pages header value distance o part large =
 -- Unmapping shows the same.
 
 unmapped_goes : (pages before after distance : ℕ) (o : Object) → is_small_object o ≡ false
-    → ShowsPart o distance (header_of before)
-    → ShowsPart o distance (header_of after)
+    → ShowsPart o distance (header_of before) → ShowsPart o distance (header_of after)
     → is_unmapped_header (header_of after) ≡ true → GoesOn pages before after
 unmapped_goes pages before after distance o large b a unmapped =
     record {
@@ -91,13 +76,11 @@ unmapped_goes pages before after distance o large b a unmapped =
           ∙ sym (run_cell_at pages before v distance o b large) ∙ is;
       count = λ some. same_cells o distance (header_of after) (header_of before) a b;
       words = λ some. same_words o distance (header_of after) (header_of before) a b;
-      unscanned = λ some t. ap (λ u. is_leaf_header (header_of after) || u) unmapped
-          ∙ or-true (is_leaf_header (header_of after));
+      unscanned = λ some t. rw unmapped (or-true _);
     }
 
 unmaps_find : (c : Config) (w : Words) (freed : Option RunPages) (p n : ℕ)
-    → ((run : RunPages) → freed ≡ Some run → RunHasObject w run)
-    → Unmaps w freed p n → HeadFinds c.pages w p n
+    → ((run : RunPages) → freed ≡ Some run → RunHasObject w run) → Unmaps w freed p n → HeadFinds c.pages w p n
 unmaps_find c w freed p n runs u =
     Unmapped (part_not_free o.object distance n after)
     (unmapped_goes c.pages (header_at w p) n distance o.object o.large before after unmapped)
@@ -115,7 +98,7 @@ unmaps_find c w freed p n runs u =
     near = u.next.near
 
     within : p - u.run.page < pages_made o.object
-    within = subst (λ (k : ℕ). p - u.run.page < k) (sym o.count) near
+    within = rw o.count near
 
     here : u.run.page + (p - u.run.page) ≡ p
     here = let le = u.next.from in omega arith
@@ -123,7 +106,7 @@ unmaps_find c w freed p n runs u =
     before : ShowsPart o.object (p - u.run.page) (header_of (header_at w p))
     before =
         header_shows o.object (p - u.run.page) (header_at w p) o.sized within
-        (subst (λ q. IsHeaderOf o.object (p - u.run.page) (header_at w q)) here (o.headers (p - u.run.page) near))
+        (rw here at (o.headers (p - u.run.page) near))
 
     is : n ≡ unmapped_header (pages_made o.object) (p - u.run.page)
     is = u.next.is ∙ ap (λ (k : ℕ). unmapped_header k (p - u.run.page)) (sym o.count)
@@ -132,8 +115,8 @@ unmaps_find c w freed p n runs u =
     after = header_shows o.object (p - u.run.page) n o.sized within (inr (o.large, is))
 
     unmapped : is_unmapped_header (header_of n) ≡ true
-    unmapped = ap (λ (k : ℕ). is_unmapped_header (header_of k)) is
-        ∙ unmapped_is_unmapped (pages_made o.object) (p - u.run.page) (large_count o.object o.sized o.large) within
+    unmapped = rw is
+        (unmapped_is_unmapped (pages_made o.object) (p - u.run.page) (large_count o.object o.sized o.large) within)
 
 -- Carving: the cells that the headers make are marked first.
 
@@ -142,12 +125,11 @@ made_bit o k lt = elim (cases_Bool (is_small_object o)) [
   | inl small ↦
       let cells = small_cells o small in
       ap (λ n. has_bit n k) (cond-true (is_small_object o) (2 ^ cells_of (class_made o) - 1) 1 small)
-      ∙ ap (λ n. n == 1) (bit_at_ones (cells_of (class_made o)) k (omega arith))
+      ∙ rw (bit_at_ones (cells_of (class_made o)) k (omega arith))
   | inr large ↦
       let one = large_cells o large in
       let zero : k ≡ 0 = omega arith in
-      ap (λ n. has_bit n k) (cond-false (is_small_object o) (2 ^ cells_of (class_made o) - 1) 1 large)
-      ∙ ap (λ i. has_bit 1 i) zero
+      ap (λ n. has_bit n k) (cond-false (is_small_object o) (2 ^ cells_of (class_made o) - 1) 1 large) ∙ rw zero
 ]
 
 -- The cell of a value on such a page is one of the first page's.
@@ -166,9 +148,7 @@ made_cell pages o first distance value x sized lt on is = (page, index)
     page : x.page ≡ first
     page =
         let lies = lies_under under.0 (page_at_address value) (word_at_address value) x under.2 in
-        lies.head ∙ ap (λ (y : Option Header). head_page_under y (page_at_address value)) (sym under.1)
-        ∙ ap (λ (q : ℕ). head_page_under (header_of (header_made o distance)) q) on
-        ∙ part_head o distance first (header_of (header_made o distance)) part
+        lies.head ∙ rw (← under.1) (rw on (part_head o distance first (header_of (header_made o distance)) part))
 
     small_index : is_small_object o ≡ true → x.index < cells_made o
     small_index small =
@@ -177,8 +157,7 @@ made_cell pages o first distance value x sized lt on is = (page, index)
         let cells : cells_under (header_of (header_made o distance)) ≡ cells_made o
         = part_cells o (header_of (header_made o distance))
         (subst (λ d. ShowsPart o d (header_of (header_made o distance))) zero part) in
-        let shown : cells_under (Some under.0) ≡ cells_made o = ap (λ (y : Option Header). cells_under y) (sym under.1)
-        ∙ cells in
+        let shown : cells_under (Some under.0) ≡ cells_made o = rw (← under.1) cells in
         let class = small_cells o small in
         let some = some_cells (class_made o) (class_known o sized small).0 in
         let lies = lies_under under.0 (page_at_address value) (word_at_address value) x under.2 in
@@ -208,15 +187,12 @@ made_cell pages o first distance value x sized lt on is = (page, index)
     ]
 
 first_marked : (w : Words) (o : Object) (place : Place) (k : ℕ) → is_phase w 1 ≡ true → is_marked_first w o place ≡ true
-    → k < cells_made o
-    → has_bit (slice_index w.marks place.page) k ≡ true
+    → k < cells_made o → has_bit (slice_index w.marks place.page) k ≡ true
 first_marked w o place k one first lt =
-    elim (or_cases (not (is_phase w 1)) (without (bits_made o) (slice_index w.marks place.page) == 0) first) [
+    elim (or_cases (not (is_phase w 1)) _ first) [
       | inl out ↦ absurd (true≢false (sym one ∙ not-true (is_phase w 1) out))
       | inr none ↦
-          fewer_bits (bits_made o) (slice_index w.marks place.page) k
-          (without_none (bits_made o) (slice_index w.marks place.page)
-          (eqb-true (without (bits_made o) (slice_index w.marks place.page)) 0 none)) (made_bit o k lt)
+          fewer_bits (bits_made o) _ k (without_none (bits_made o) _ (eqb-true _ 0 none)) (made_bit o k lt)
     ]
 
 -- Its words are those of its pages.
@@ -228,22 +204,20 @@ word_within o k i sized lk li = elim (cases_Bool (is_small_object o)) [
       let words = small_words o small in
       let one = small_pages o small in
       let ends = cell_ends k (class_words_of (class_made o)) (omega arith) in
-      let product : k * words_made o ≡ k * class_words_of (class_made o) = ap (λ n. k * n) words in
+      let product : k * words_made o ≡ k * class_words_of (class_made o) = rw words in
       omega arith
   | inr large ↦
       let cells = large_cells o large in
       let words = large_words o large in
       let zero : k ≡ 0 = omega arith in
-      let product : k * words_made o ≡ 0 * words_made o = ap (λ n. n * words_made o) zero in
+      let product : k * words_made o ≡ 0 * words_made o = rw zero in
       omega arith
 ]
 
 carves_find : (c : Config) (w : Words) (o : Object) (found : Option Place) (p n : ℕ) → IsSized o → is_phase w 1 ≡ true
-    → ((place : Place) → found ≡ Some place → PlaceIsBare w o place)
-    → Carves w o found p n → HeadFinds c.pages w p n
+    → ((place : Place) → found ≡ Some place → PlaceIsBare w o place) → Carves w o found p n → HeadFinds c.pages w p n
 carves_find c w o found p n sized one bare k =
-    Carved free
-    (λ v x on is.
+    Carved free (λ v x on is.
     let cell = made_cell c.pages o k.place.page (p - k.place.page) v x sized near (on
     ∙ sym here) (subst (λ a. cell_at c.pages a v ≡ Some x) k.next.is is) in
     subst (λ q. has_bit (slice_index w.marks q) x.index ≡ true) (sym cell.0)
@@ -307,31 +281,27 @@ new_sized c f limits operands new = by f.op (undecided_new f new) operands
 -- While a cycle marks, a `head` comes before the stop is wanted.
 marking_phase : (n : ℕ) → ((n == 0) || (n == 1) || (n == 4)) ≡ true → (n ≡ 1) ⊎ (n ≡ 2) → n ≡ 1
 marking_phase n h (inl e) = e
-marking_phase n h (inr two) = elim (or_cases ((n == 0) || (n == 1)) (n == 4) h) [
+marking_phase n h (inr two) = elim (or_cases _ (n == 4) h) [
   | inl a ↦ elim (either_phase n 0 1 a) [ inl e ↦ absurd (omega arith) | inr e ↦ absurd (omega arith) ]
   | inr e ↦ let z = eqb-true n 4 e in absurd (omega arith)
 ]
 
 pub head_finds : (c : Config) (w : World) (seat : Seat) (p n : ℕ) → IsWithinLimits c → Known c w.now
-    → IsMarking w.now.words → GuardPremises c w
-    → Meets c w.now seat (step.Head p n) → HeadFinds c.pages w.now.words p n
+    → IsMarking w.now.words → GuardPremises c w → Meets c w.now seat (step.Head p n) → HeadFinds c.pages w.now.words p n
 head_finds c w seat p n limits known early say h = by (head_step c w.now (flight_of w.now seat) p n h.holder)
   where
     one : phase_of w.now.words ≡ 1
-    one = marking_phase (phase_of w.now.words) h.phase early
+    one = marking_phase _ h.phase early
 
     new_has : (place : Place) → place_now c w.now (flight_of w.now seat) ≡ Some place
         → IsSized (object_made c (flight_of w.now seat).op)
     new_has place now =
         let new = (placed_now c w.now (flight_of w.now seat) place now).new in
         let own = new_holds c w.now seat (step.Head p n) h new in
-        new_sized c (flight_of w.now seat) limits
-        (subst (λ (s : Seat). has_operands c (flight_of w.now s).op ≡ true) (sym own.2) (known.operands own.0)) new
+        new_sized c (flight_of w.now seat) limits (rw own.2 (known.operands own.0)) new
 
     by : HeadStep c w.now (flight_of w.now seat) p n → HeadFinds c.pages w.now.words p n
     by (ItCarves four k) =
-        carves_find c w.now.words (object_made c (flight_of w.now seat).op) (place_now c w.now (flight_of w.now seat)) p
-        n
-        (new_has k.place k.there) (eq-eqb (phase_of w.now.words) 1 one) (say.place early seat) k
+        carves_find c w.now.words _ _ p n (new_has k.place k.there) (eq-eqb _ 1 one) (say.place early seat) k
     by (ItUnmaps four u) = unmaps_find c w.now.words w.now.seats.holding.freed p n (say.freed early) u
-    by (ItEmpties four k) = let e = eqb-true (phase_of w.now.words) 4 four in absurd (omega arith)
+    by (ItEmpties four k) = let e = eqb-true _ 4 four in absurd (omega arith)

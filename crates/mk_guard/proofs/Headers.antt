@@ -4,20 +4,10 @@ use Rattle.std.specs.Prelude.{Some, None, slice_index, slice_index_or, slice_set
 use Rattle.std.proofs.lemmas.Option.{none-some}
 use Rattle.std.proofs.lemmas.Bool.{cases_eq, ltb-true}
 use Rattle.std.proofs.lemmas.List.{get_or-set_same, get_or-set_other}
-use Rattle.mk_geom.specs.declared.addresses.Cell.{Cell}
-use Rattle.mk_geom.specs.declared.pages.Page.{Page}
-use Rattle.mk_geom.specs.Storages.{free_page}
-use Rattle.mk_geom.specs.Headers.{header_of}
-use Rattle.mk_geom.specs.Addresses.{is_heap_address, cell_at, page_at_address}
-use Rattle.mk_core.specs.declared.config.Config.{Config}
-use Rattle.mk_core.specs.declared.events.Seat.{Seat}
-use Rattle.mk_core.specs.declared.events.Step.{Step}
+use Rattle.mk_protocol.proofs.Vocabulary.{AreOfPages, Cell, Config, IsGuarded, Moment, Page, Seat, Step, Words, cell_at}
+use Rattle.mk_protocol.proofs.Vocabulary.{cells_under, free_page, header_at, header_in, header_of, is_heap_address}
+use Rattle.mk_protocol.proofs.Vocabulary.{is_marked, page_at_address, used_at, words_under}
 use Rattle.mk_core.specs.declared.events.Step.TheVariants as step
-use Rattle.mk_core.specs.Layout.{AreOfPages}
-use Rattle.mk_core.specs.Words.{Words, header_at, used_at}
-use Rattle.mk_core.specs.Cells.{header_in, cells_under, words_under, is_marked}
-use Rattle.mk_core.specs.Moments.{Moment}
-use Rattle.mk_core.specs.ClosedMarks.{IsGuarded}
 use Rattle.mk_protocol.proofs.Actors.{Meets}
 use Rattle.mk_protocol.proofs.SameWords.{Behind}
 use Rattle.mk_guard.specs.Guard.{GoesOn}
@@ -39,7 +29,7 @@ pub data HeadFinds (pages : ℕ) (w : Words) (p header : ℕ) : Type 0 where
       → (cells_under (header_in w p) ≡ 0 → cells_under (header_of header) ≡ 0)
       → HeadFinds pages w p header
 
-free_shows : (pages v : ℕ) (y : Cell) → cell_at pages 0 v ≡ Some y → ⊥
+pub free_shows : (pages v : ℕ) (y : Cell) → cell_at pages 0 v ≡ Some y → ⊥
 free_shows pages v y is = by (is_heap_address pages v) is
   where
     by : (b : Bool) → (if b then None else None) ≡ Some y → ⊥
@@ -62,8 +52,7 @@ pub record HeadKeeps (c : Config) (m n : Moment) : Type 0 where
   pub new : NewCellsAreGuarded c m n
 
 pub head_keeps : (c : Config) (m : Moment) (seat : Seat) (p n : ℕ) → AreOfPages c.pages m.words
-    → Meets c m seat (step.Head p n)
-    → HeadFinds c.pages m.words p n → HeadKeeps c m (Behind c m seat (step.Head p n))
+    → Meets c m seat (step.Head p n) → HeadFinds c.pages m.words p n → HeadKeeps c m (Behind c m seat (step.Head p n))
 head_keeps c m seat p n len h finds =
     record {
       some = λ q not_free. elim (cases_eq q p) [
@@ -94,8 +83,7 @@ head_keeps c m seat p n len h finds =
     here q e =
         let lt = ltb-true p c.pages h.range in
         ap (λ j. (slice_index_or (slice_set m.words.pages p (record { header = n; used = used_at m.words p })) j
-        free_page).header) e
-        ∙ ap (λ (y : Page). y.header)
+        free_page).header) e ∙ ap (λ (y : Page). y.header)
         (get_or-set_same m.words.pages p (record { header = n; used = used_at m.words p }) free_page
         (omega (arith, lt, len.pages)))
 
@@ -112,21 +100,17 @@ head_keeps c m seat p n len h finds =
     goes (Unmapped some on back still) = on
 
     well : HeadFinds c.pages m.words p n → (v : ℕ) → page_at_address v ≡ p → IsWell c m.words v → (y : Cell)
-        → cell_at c.pages n v ≡ Some y
-        → is_marked m.words y ≡ true
+        → cell_at c.pages n v ≡ Some y → is_marked m.words y ≡ true
     well (Carved free marked bare) v e is y at = marked v y e at
     well (Unmapped some on back still) v e is y at =
         is y (subst (λ j. cell_at c.pages (header_at m.words j) v ≡ Some y) (sym e) (back v y e at))
 
     made : HeadFinds c.pages m.words p n → (q k i : ℕ) → q ≡ p → cells_under (header_in m.words p) ≡ 0
-        → k < cells_under (header_of n)
-        → i < words_under (header_of n)
-        → IsGuarded c (Behind c m seat (step.Head p n))
+        → k < cells_under (header_of n) → i < words_under (header_of n) → IsGuarded c (Behind c m seat (step.Head p n))
         (64 * q + k * words_under (header_in (Behind c m seat (step.Head p n)).words q) + i)
     made (Carved free marked bare) q k i e none lt li =
         let first : 64 * q + k * words_under (header_in (Behind c m seat (step.Head p n)).words q) + i
-        ≡ 64 * p + k * words_under (header_of n) + i
-        = ap (λ a. 64 * q + k * words_under (header_of a) + i) (here q e)
+        ≡ 64 * p + k * words_under (header_of n) + i = ap (λ a. 64 * q + k * words_under (header_of a) + i) (here q e)
         ∙ ap (λ j. 64 * j + k * words_under (header_of n) + i) e in
         bare_guarded c (Behind c m seat (step.Head p n)) _ (ap (λ j. slice_index m.words.heap j) first ∙ bare k i lt li)
     made (Unmapped some on back still) q k i e none lt li = let z = still none in absurd (omega arith)
@@ -135,5 +119,5 @@ head_keeps c m seat p n len h finds =
 pub no_new_cells : (c : Config) (m : Moment) (seat : Seat) (x : Step) → is_head x ≡ false
     → NewCellsAreGuarded c m (Behind c m seat x)
 no_new_cells c m seat x no_head p k i none lt li =
-    let bad : k < 0 = subst (λ n. k < n) (ap (λ n. cells_under (header_of n)) (headers_kind c m seat x no_head p)
-    ∙ none) lt in absurd (omega arith)
+    let bad : k < 0 = rw (ap (λ n. cells_under (header_of n)) (headers_kind c m seat x no_head p)
+    ∙ none) at lt in absurd (omega arith)

@@ -1,15 +1,10 @@
 -- What stands while a cycle marks and stops, after every enabled list.
-use Rattle.std.proofs.Common.{◌≡◌, ◌⊎◌, ℕ, List, [], ◌∷◌, inl, inr, arith}
+use Rattle.std.proofs.Common.{◌≡◌, ◌⊎◌, ℕ, List, ◌∷◌, inl, inr, arith, []}
 use Rattle.std.proofs.lemmas.Bool.{eqb-true}
-use Rattle.mk_core.specs.declared.config.Config.{Config}
-use Rattle.mk_core.specs.declared.events.Event.{Event}
+use Rattle.mk_protocol.proofs.Vocabulary.{AreEnabledFrom, AreOfPages, Config, Event, IsWithinLimits, World, access}
+use Rattle.mk_protocol.proofs.Vocabulary.{first_moment, first_world, left, left_from, phase_of, word_accessed}
+use Rattle.mk_protocol.proofs.Vocabulary.{world_behind}
 use Rattle.mk_core.specs.declared.events.Step.TheVariants as step
-use Rattle.mk_core.specs.Config.{IsWithinLimits}
-use Rattle.mk_core.specs.Words.{phase_of}
-use Rattle.mk_core.specs.Layout.{AreOfPages}
-use Rattle.mk_core.specs.Moments.{first_moment}
-use Rattle.mk_core.specs.Accesses.{word_accessed, access}
-use Rattle.mk_core.specs.History.{World, first_world, world_behind, left, left_from, AreEnabledFrom}
 use Rattle.mk_core.proofs.Conditions.{enabled_meets}
 use Rattle.mk_core.proofs.Lengths.{histories_keep_lengths, zero_lengths, accessed_lengths}
 use Rattle.mk_protocol.proofs.Known.{Known, known_behind, known_at_first, known_left}
@@ -50,7 +45,7 @@ marks_stand_behind_lists c es limits on say =
 pub close_finds_marks_closed : CloseFindsMarksClosed
 close_finds_marks_closed c es seat limits on enabled say g =
     let h = enabled_meets c (left c es).now (record { seat = seat; step = step.Close }) enabled in
-    let two = eqb-true (phase_of (left c es).now.words) 2 h.phase in
+    let two = eqb-true _ 2 h.phase in
     closed_allocations c (left c es) limits say.mapped
     (closed c (left c es).now seat (known_left c es limits on) (histories_keep_lengths c es) h
     (g.guarded (inr two)).black)

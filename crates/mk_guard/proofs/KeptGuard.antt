@@ -3,17 +3,10 @@ use Rattle.std.proofs.Common.{◌≡◌, ◌≢◌, ◌⊎◌, ℕ, ◌+◌, ◌
 use Rattle.std.proofs.Common.{inl, inr, arith}
 use Rattle.std.specs.Prelude.{Option, Some, slice_index}
 use Rattle.std.proofs.lemmas.Bool.{true≢false, cases_eq}
-use Rattle.mk_geom.specs.declared.addresses.Cell.{Cell}
-use Rattle.mk_geom.specs.Headers.{header_of}
-use Rattle.mk_core.specs.declared.config.Config.{Config}
+use Rattle.mk_protocol.proofs.Vocabulary.{BlackIsGuarded, Cell, Config, DirtyIsOwed, IsGuarded, Moment, OnlyGrow}
+use Rattle.mk_protocol.proofs.Vocabulary.{OwesDirty, PageIsDirty, PointsWell, Scan, Words, cells_under, first_word}
+use Rattle.mk_protocol.proofs.Vocabulary.{has_bit, has_no_pointers, header_at, header_in, header_of, words_under}
 use Rattle.mk_core.specs.declared.seats.Marker.{Marker}
-use Rattle.mk_core.specs.declared.seats.Scan.{Scan}
-use Rattle.mk_core.specs.Bits.{has_bit}
-use Rattle.mk_core.specs.Words.{Words, header_at}
-use Rattle.mk_core.specs.Cells.{header_in, cells_under, words_under, has_no_pointers, first_word}
-use Rattle.mk_core.specs.Moments.{Moment}
-use Rattle.mk_core.specs.Frames.{OnlyGrow}
-use Rattle.mk_core.specs.ClosedMarks.{OwesDirty, IsGuarded, PointsWell, PageIsDirty, DirtyIsOwed, BlackIsGuarded}
 use Rattle.mk_guard.specs.Guard.{GoesOn, cell_scanned, ScanStands, MarkerStands}
 use Rattle.mk_guard.proofs.Wells.{IsWell, is_well, well_guarded}
 
@@ -21,7 +14,7 @@ pub goes_same : (pages a : ℕ) → GoesOn pages a a
 goes_same pages a = record { cell = λ v y h. h; count = λ h. refl; words = λ h. refl; unscanned = λ h t. t }
 
 pub goes_equal : (pages a b : ℕ) → b ≡ a → GoesOn pages a b
-goes_equal pages a b e = subst (λ x. GoesOn pages a x) (sym e) (goes_same pages a)
+goes_equal pages a b e = rw e (goes_same pages a)
 
 pub goes_joined : (pages a b d : ℕ) → GoesOn pages a b → GoesOn pages b d → GoesOn pages a d
 goes_joined pages a b d g h =
@@ -48,14 +41,11 @@ pub record Keeps (c : Config) (m n : Moment) : Type 0 where
 abbrev pub NewCellsAreGuarded : Config → Moment → Moment → Type 0
 NewCellsAreGuarded c m n =
     (p k i : ℕ) → cells_under (header_in m.words p) ≡ 0 → k < cells_under (header_in n.words p)
-    → i < words_under (header_in n.words p)
-    → IsGuarded c n (64 * p + k * words_under (header_in n.words p) + i)
+    → i < words_under (header_in n.words p) → IsGuarded c n (64 * p + k * words_under (header_in n.words p) + i)
 
 pub guards : (c : Config) (m n : Moment) → Keeps c m n → (x : ℕ) → IsGuarded c m x → IsGuarded c n x
 guards c m n k x (PointsWell h) = elim (k.heap x) [
-  | inl e ↦ well_guarded c n x
-      (subst (λ v. IsWell c n.words v) (sym e)
-      (k.wells (slice_index m.words.heap x) (is_well c m.words (slice_index m.words.heap x) h)))
+  | inl e ↦ well_guarded c n x (rw e (k.wells _ (is_well c m.words _ h)))
   | inr g ↦ g
 ]
 guards c m n k x (PageIsDirty h) = PageIsDirty (k.dirty (x / 64) h)
@@ -68,7 +58,7 @@ pub passes : (c : Config) (m n : Moment) (hand : Option ℕ) → Keeps c m n →
     → IsGuarded c n x ⊎ (hand ≡ Some (slice_index n.words.heap x))
 passes c m n hand k x (inl g) = inl (guards c m n k x g)
 passes c m n hand k x (inr e) = elim (k.heap x) [
-  | inl same ↦ inr (e ∙ ap (λ v. Some v) (sym same))
+  | inl same ↦ inr (e ∙ rw (← same))
   | inr g ↦ inl g
 ]
 
@@ -78,15 +68,12 @@ not_true true h = absurd (h refl)
 
 -- what is scanned after was scanned before
 pub scanned_before : (pages a b : ℕ) → GoesOn pages a b → cells_under (header_of a) ≢ 0
-    → has_no_pointers (header_of b) ≡ false
-    → has_no_pointers (header_of a) ≡ false
-scanned_before pages a b g some f =
-    not_true (has_no_pointers (header_of a)) (λ t. true≢false (sym (g.unscanned some t) ∙ f))
+    → has_no_pointers (header_of b) ≡ false → has_no_pointers (header_of a) ≡ false
+scanned_before pages a b g some f = not_true _ (λ t. true≢false (sym (g.unscanned some t) ∙ f))
 
 pub first_goes : (pages : ℕ) (w v : Words) (cell : Cell) → GoesOn pages (header_at w cell.page) (header_at v cell.page)
-    → cells_under (header_in w cell.page) ≢ 0
-    → first_word v cell ≡ first_word w cell
-first_goes pages w v cell g some = ap (λ n. 64 * cell.page + cell.index * n) (g.words some)
+    → cells_under (header_in w cell.page) ≢ 0 → first_word v cell ≡ first_word w cell
+first_goes pages w v cell g some = rw (g.words some)
 
 pub scan_kept : (c : Config) (m n : Moment) (hand : Option ℕ) (x : Scan) → Keeps c m n → ScanStands c m hand x
     → ScanStands c n hand x
@@ -95,50 +82,41 @@ scan_kept c m n hand x k h =
     let some : cells_under (header_in m.words x.page) ≢ 0 = λ z. let lt = h.index in omega arith in
     let first = first_goes c.pages m.words n.words (cell_scanned x) g some in
     record {
-      index = subst (λ j. x.index < j) (sym (g.count some)) h.index;
+      index = rw (g.count some) h.index;
       marked = k.marks x.page x.index h.marked;
-      start = subst (λ j. j ≤ x.next) (sym first) h.start;
+      start = rw first h.start;
       next = h.next;
       end = elim h.end [
-        | inl e ↦ inl (e ∙ ap (λ j. j + words_under (header_in m.words x.page)) (sym first)
-            ∙ ap (λ j. first_word n.words (cell_scanned x) + j) (sym (g.words some)))
+        | inl e ↦ inl (e ∙ rw (← first) (rw (← (g.words some))))
         | inr e ↦ inr (e.0 ∙ sym first, g.unscanned some e.1)
       ];
-      passed = λ f i le lt. passes c m n hand k i
-          (h.passed (scanned_before c.pages (header_at m.words x.page) (header_at n.words x.page) g some f) i
-          (subst (λ j. j ≤ i) first le) lt);
+      passed = λ f i le lt. passes c m n hand k i (h.passed (scanned_before c.pages _ _ g some f) i
+          (rw first at le) lt);
     }
 
 pub marker_kept : (c : Config) (m n : Moment) (x : Marker) → Keeps c m n → MarkerStands c m x → MarkerStands c n x
 marker_kept c m n x k h =
     record {
       scan = λ s is. scan_kept c m n x.hand s k (h.scan s is);
-      seen = λ s is. goes_joined c.pages s.header (header_at m.words s.page) (header_at n.words s.page) (h.seen s is)
-          (k.headers s.page);
+      seen = λ s is. goes_joined c.pages s.header _ _ (h.seen s is) (k.headers s.page);
     }
 
 -- The guarded words of a cell stay so, where it is there and scanned before.
 pub cell_kept : (c : Config) (m n : Moment) (p k i : ℕ) → Keeps c m n → cells_under (header_in m.words p) ≢ 0
     → (k < cells_under (header_in m.words p) → has_no_pointers (header_in m.words p) ≡ false
-    → i < words_under (header_in m.words p)
-    → IsGuarded c m (64 * p + k * words_under (header_in m.words p) + i))
+    → i < words_under (header_in m.words p) → IsGuarded c m (64 * p + k * words_under (header_in m.words p) + i))
     → k < cells_under (header_in n.words p) → has_no_pointers (header_in n.words p) ≡ false
-    → i < words_under (header_in n.words p)
-    → IsGuarded c n (64 * p + k * words_under (header_in n.words p) + i)
+    → i < words_under (header_in n.words p) → IsGuarded c n (64 * p + k * words_under (header_in n.words p) + i)
 cell_kept c m n p k i keeps some before cell scanned lt =
     let g = keeps.headers p in
-    subst (λ j. IsGuarded c n (64 * p + k * j + i)) (sym (g.words some))
-    (guards c m n keeps (64 * p + k * words_under (header_in m.words p) + i)
-    (before (subst (λ j. k < j) (g.count some) cell)
-    (scanned_before c.pages (header_at m.words p) (header_at n.words p) g some scanned)
-    (subst (λ j. i < j) (g.words some) lt)))
+    rw (g.words some) (guards c m n keeps _ (before (rw (g.count some) at cell)
+    (scanned_before c.pages (header_at m.words p) (header_at n.words p) g some scanned) (rw (g.words some) at lt)))
 
 -- Cells that are black after were so before, or their words were guarded before.
 pub black_kept : (c : Config) (m n : Moment) → Keeps c m n → NewCellsAreGuarded c m n
     → ((p k : ℕ) → has_bit (slice_index n.words.blacks p) k ≡ true → (has_bit (slice_index m.words.blacks p) k ≡ true)
     ⊎ ((i : ℕ) → k < cells_under (header_in m.words p) → has_no_pointers (header_in m.words p) ≡ false
-    → i < words_under (header_in m.words p)
-    → IsGuarded c m (64 * p + k * words_under (header_in m.words p) + i)))
+    → i < words_under (header_in m.words p) → IsGuarded c m (64 * p + k * words_under (header_in m.words p) + i)))
     → BlackIsGuarded c m → BlackIsGuarded c n
 black_kept c m n keeps new more h p k i cell is scanned lt = elim (cases_eq (cells_under (header_in m.words p)) 0) [
   | inl none ↦ new p k i none cell lt

@@ -3,27 +3,15 @@ use Rattle.std.proofs.Common.{◌≡◌, ℕ, ◌<◌, Bool, true, false, List, 
 use Rattle.std.specs.Prelude.{Option, Some, None, is_none, is_some, slice_index, slice_set, bit_or, ◌&&◌, ◌==◌}
 use Rattle.std.specs.Prelude.{if◌then◌else◌}
 use Rattle.std.proofs.lemmas.Bool.{and_parts}
-use Rattle.mk_geom.specs.declared.addresses.Cell.{Cell}
-use Rattle.mk_geom.specs.Addresses.{cell_at, page_at_address}
-use Rattle.mk_core.specs.declared.config.Config.{Config}
-use Rattle.mk_core.specs.declared.events.Seat.{Seat}
-use Rattle.mk_core.specs.declared.events.Seat.TheVariants.{Caller, Marker, Host}
-use Rattle.mk_core.specs.declared.events.Step.{Step}
+use Rattle.mk_protocol.proofs.Vocabulary.{AreOfPages, Caller, Cell, Config, Host, Marker, MarkerState, Moment, Scan}
+use Rattle.mk_protocol.proofs.Vocabulary.{Seat, SeenHeader, Step, Word, behind_mlook, cell_at, cell_seen, found}
+use Rattle.mk_protocol.proofs.Vocabulary.{has_bit, has_next_word, has_seen_cell, header_at, is_attending, marker_behind}
+use Rattle.mk_protocol.proofs.Vocabulary.{marker_of, next_word, page_at_address, seen_bit, seen_page}
 use Rattle.mk_core.specs.declared.events.Step.TheVariants as step
-use Rattle.mk_core.specs.declared.events.Word.{Word}
 use Rattle.mk_core.specs.declared.events.Word.TheVariants as word
-use Rattle.mk_core.specs.declared.seats.Marker.{Marker as MarkerState}
 use Rattle.mk_core.specs.declared.seats.Presence.TheVariants.{Out}
-use Rattle.mk_core.specs.declared.seats.Scan.{Scan}
-use Rattle.mk_core.specs.declared.seats.SeenHeader.{SeenHeader}
-use Rattle.mk_core.specs.Bits.{has_bit, bit_for}
-use Rattle.mk_core.specs.Layout.{AreOfPages}
-use Rattle.mk_core.specs.Words.{header_at}
-use Rattle.mk_core.specs.Moments.{Moment, marker_of}
-use Rattle.mk_core.specs.Accesses.{found, next_word, seen_page, seen_bit}
-use Rattle.mk_core.specs.Effects.{marker_behind, behind_mlook}
-use Rattle.mk_core.specs.MarkerConditions.{cell_seen, has_seen_cell, has_next_word, is_markers_word}
-use Rattle.mk_core.specs.StopConditions.{is_attending}
+use Rattle.mk_core.specs.Bits.{bit_for}
+use Rattle.mk_core.specs.MarkerConditions.{is_markers_word}
 use Rattle.mk_core.proofs.PointedPages.{cell_within}
 use Rattle.mk_core.proofs.WordBits.{bit_for_has, bits_added}
 use Rattle.mk_protocol.proofs.Actors.{Meets}
@@ -54,8 +42,7 @@ seen_cell c x own = by x.seen x.hand refl refl own
         → is_some (cell_seen c seen hand) ≡ true → Seen c x
     by None hand es eh own = cc
     by (Some q) None es eh own = cc
-    by (Some q) (Some value) es eh own =
-        at (q.page == page_at_address value) refl (cell_at c.pages q.header value) refl own
+    by (Some q) (Some value) es eh own = at (q.page == page_at_address value) refl _ refl own
       where
         at : (b : Bool) → (q.page == page_at_address value) ≡ b → (y : Option Cell) → cell_at c.pages q.header value ≡ y
             → is_some (if b then y else None) ≡ true → Seen c x
@@ -68,8 +55,7 @@ seen_cell c x own = by x.seen x.hand refl refl own
               value = value;
               cell = y;
               hand = eh;
-              is = subst (λ (s : Option SeenHeader). cell_seen c s x.hand ≡ Some y) (sym es)
-                  (subst (λ (u : Option ℕ). cell_seen c (Some q) u ≡ Some y) (sym eh) there);
+              is = rw es (rw eh there);
               page = n.0;
               index = n.1;
             }
@@ -77,8 +63,7 @@ seen_cell c x own = by x.seen x.hand refl refl own
 looks : (c : Config) (m : Moment) (x : Word) (y : MarkerState) (f : ℕ)
     → ((p : ℕ) → x ≡ word.Head p → f ≡ header_at m.words p) → MarkerStands c m y
     → MarkerStands c m (behind_mlook c f x y)
-looks c m (word.Head p) y f is h = subst (λ n. MarkerStands c m (behind_mlook c n (word.Head p) y)) (sym (is p refl))
-    (look_stands c m p y h)
+looks c m (word.Head p) y f is h = rw (is p refl) (look_stands c m p y h)
 looks c m _ y f is h = unseen_stands c m y h
 
 -- the marks with these bits more on a page
@@ -90,38 +75,30 @@ own_marker : (c : Config) (m : Moment) (k : ℕ) (x : Step) → AreOfPages c.pag
     → Keeps c m (Behind c m (Marker k) x)
     → (is_attending (marker_of m k).presence ≡ true → MarkerStands c m (marker_of m k))
     → is_attending (marker_behind c (found c m (record { seat = Marker k; step = x })) x (marker_of m k)).presence
-    ≡ true
-    → MarkerStands c (Behind c m (Marker k) x)
+    ≡ true → MarkerStands c (Behind c m (Marker k) x)
     (marker_behind c (found c m (record { seat = Marker k; step = x })) x (marker_of m k))
-own_marker c m k step.Attend len h keeps before at = idle_stands c (Behind c m (Marker k) step.Attend) _
-own_marker c m k step.Quit len h keeps before at = idle_stands c (Behind c m (Marker k) step.Quit) Out
+own_marker c m k step.Attend len h keeps before at = idle_stands c _ _
+own_marker c m k step.Quit len h keeps before at = idle_stands c _ Out
 own_marker c m k (step.Mlook x) len h keeps before at =
-    let own = (and_parts (is_attending (marker_of m k).presence) (is_markers_word x) h.marker).0 in
-    marker_kept c m (Behind c m (Marker k) (step.Mlook x)) _ keeps
-    (looks c m x (marker_of m k) (found c m (record { seat = Marker k; step = step.Mlook x }))
-    (λ p e. ap (λ (y : Word). found c m (record { seat = Marker k; step = step.Mlook y })) e) (before own))
+    let own = (and_parts _ (is_markers_word x) h.marker).0 in
+    marker_kept c m _ _ keeps (looks c m x (marker_of m k) (found c m (record { seat = Marker k; step = step.Mlook x }))
+    (λ p e. rw e) (before own))
 own_marker c m k (step.Claim p i) len h keeps before at =
-    let a = and_parts (is_attending (marker_of m k).presence && is_none (marker_of m k).scan)
-    (has_seen_cell (marker_of m k).seen p i) h.marker in
-    marker_kept c m (Behind c m (Marker k) (step.Claim p i)) _ keeps
-    (claim_stands c m (marker_of m k) p i a.1 (before at))
+    let a = and_parts _ _ h.marker in
+    marker_kept c m _ _ keeps (claim_stands c m (marker_of m k) p i a.1 (before at))
 own_marker c m k step.Mload len h keeps before at =
-    let a = and_parts (has_next_word (marker_of m k).scan) (is_none (marker_of m k).hand) h.marker in
-    marker_kept c m (Behind c m (Marker k) step.Mload) _ keeps
-    (load_stands c m (marker_of m k) (next_word (marker_of m k).scan) a.0 (nothing_is (marker_of m k).hand a.1)
-    (λ y e. sym (ap (λ (z : Option Scan). next_word z) e)) (before at))
+    let a = and_parts _ _ h.marker in
+    marker_kept c m _ _ keeps (load_stands c m (marker_of m k) _ a.0 (nothing_is (marker_of m k).hand a.1)
+    (λ y e. sym (rw e)) (before at))
 own_marker c m k step.Mmark len h keeps before at =
     let s = seen_cell c (marker_of m k) h.marker in
     let n = Behind c m (Marker k) step.Mmark in
     let there : MarkerStands c n (marker_of m k) = marker_kept c m n (marker_of m k) keeps (before at) in
-    mark_stands c n (marker_of m k) s.value s.hand
-    (seen_well c n (marker_of m k) s.cell s.value s.hand s.is there
-    (subst (λ (y : Option Cell). has_bit (slice_index (marks_with m.words.marks (seen_page y) (seen_bit y)) s.cell.page)
-    s.cell.index ≡ true) (sym s.is)
-    (bits_added m.words.marks s.cell.page (bit_for s.cell.index) s.cell.index
+    mark_stands c n (marker_of m k) s.value s.hand (seen_well c n (marker_of m k) s.cell s.value s.hand s.is there
+    (rw s.is (bits_added m.words.marks s.cell.page _ s.cell.index
     (let lt = s.page in omega (arith, len.marks, lt)) (bit_for_has s.cell.index s.index)))) there
 own_marker c m k step.Mblack len h keeps before at =
-    marker_kept c m (Behind c m (Marker k) step.Mblack) _ keeps (unscanning_stands c m (marker_of m k) (before at))
+    marker_kept c m _ _ keeps (unscanning_stands c m (marker_of m k) (before at))
 own_marker c m k _ len h keeps before at = let kind = h.kind in cc
 
 -- all markers

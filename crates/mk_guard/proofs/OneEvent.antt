@@ -3,20 +3,10 @@ use Rattle.std.proofs.Common.{◌≡◌, ◌⊎◌, ℕ, ◌≤◌, true, false,
 use Rattle.std.specs.Prelude.{slice_index, ◌&&◌, ◌==◌}
 use Rattle.std.proofs.lemmas.Bool.{cases_lt, true≢false, eqb-true, and_parts}
 use Rattle.std.proofs.lemmas.List.{get_or_past}
-use Rattle.mk_core.specs.declared.config.Config.{Config}
-use Rattle.mk_core.specs.declared.events.Seat.{Seat}
-use Rattle.mk_core.specs.declared.events.Seat.TheVariants.{Caller, Marker, Host}
-use Rattle.mk_core.specs.declared.events.Step.{Step}
+use Rattle.mk_protocol.proofs.Vocabulary.{AreOfPages, BlackIsGuarded, Caller, Config, Host, IsWithinLimits, Marker}
+use Rattle.mk_protocol.proofs.Vocabulary.{MarkerState, Moment, Seat, Step, World, all_below, has_clean_page, header_at}
+use Rattle.mk_protocol.proofs.Vocabulary.{is_attending, marker_of, phase_of}
 use Rattle.mk_core.specs.declared.events.Step.TheVariants as step
-use Rattle.mk_core.specs.declared.seats.Marker.{Marker as MarkerState}
-use Rattle.mk_core.specs.Bounded.{all_below}
-use Rattle.mk_core.specs.Config.{IsWithinLimits}
-use Rattle.mk_core.specs.Words.{header_at, phase_of}
-use Rattle.mk_core.specs.Layout.{AreOfPages}
-use Rattle.mk_core.specs.Moments.{Moment, marker_of}
-use Rattle.mk_core.specs.StopConditions.{is_attending, has_clean_page}
-use Rattle.mk_core.specs.ClosedMarks.{BlackIsGuarded}
-use Rattle.mk_core.specs.History.{World}
 use Rattle.mk_core.proofs.AllBelow.{all_below-at}
 use Rattle.mk_core.proofs.WordBits.{no_bit}
 use Rattle.mk_protocol.proofs.Actors.{Meets}
@@ -40,9 +30,7 @@ use Rattle.mk_guard.proofs.Stopped.{stays_closed, leaves_closed}
 -- what a step keeps of the guarded words
 
 keeps_of : (c : Config) (m : Moment) (seat : Seat) (x : Step) → Known c m → AreOfPages c.pages m.words
-    → IsMarking m.words → Meets c m seat x
-    → is_head x ≡ false → is_undirty x ≡ false
-    → Keeps c m (Behind c m seat x)
+    → IsMarking m.words → Meets c m seat x → is_head x ≡ false → is_undirty x ≡ false → Keeps c m (Behind c m seat x)
 keeps_of c m seat x known len early h no_head no_clean =
     record {
       wells = wells_from c m.words (Behind c m seat x).words (headers_kind c m seat x no_head)
@@ -56,8 +44,7 @@ keeps_of c m seat x known len early h no_head no_clean =
     }
 
 keeps_head : (c : Config) (w : World) (seat : Seat) (p n : ℕ) → IsWithinLimits c → Known c w.now
-    → AreOfPages c.pages w.now.words
-    → IsMarking w.now.words → GuardPremises c w → Meets c w.now seat (step.Head p n)
+    → AreOfPages c.pages w.now.words → IsMarking w.now.words → GuardPremises c w → Meets c w.now seat (step.Head p n)
     → Keeps c w.now (Behind c w.now seat (step.Head p n))
 keeps_head c w seat p n limits known len early say h =
     let s = head_keeps c w.now seat p n len h (head_finds c w seat p n limits known early say h) in
@@ -71,8 +58,7 @@ keeps_head c w seat p n limits known len early say h =
     }
 
 black_behind : (c : Config) (w : World) (seat : Seat) (x : Step) → IsWithinLimits c → Known c w.now
-    → AreOfPages c.pages w.now.words
-    → IsMarking w.now.words → GuardPremises c w → Meets c w.now seat x → Guard c w.now
+    → AreOfPages c.pages w.now.words → IsMarking w.now.words → GuardPremises c w → Meets c w.now seat x → Guard c w.now
     → BlackIsGuarded c (Behind c w.now seat x)
 black_behind c w seat (step.Head p n) limits known len early say h g =
     black_kept c w.now (Behind c w.now seat (step.Head p n)) (keeps_head c w seat p n limits known len early say h)
@@ -92,19 +78,16 @@ black_behind c w seat x limits known len early say h g = rest x h refl refl refl
     rest : (x : Step) → Meets c w.now seat x → is_head x ≡ false → is_undirty x ≡ false → is_blackening x ≡ false
         → BlackIsGuarded c (Behind c w.now seat x)
     rest x h no_head no_clean no_black =
-        black_kept c w.now (Behind c w.now seat x) (keeps_of c w.now seat x known len early h no_head no_clean)
-        (no_new_cells c w.now seat x no_head)
-        (λ p k is. inl (blacks_kind c w.now seat x no_black p k is)) g.black
+        black_kept c w.now _ (keeps_of c w.now seat x known len early h no_head no_clean)
+        (no_new_cells c w.now seat x no_head) (λ p k is. inl (blacks_kind c w.now seat x no_black p k is)) g.black
 
 same_markers : (c : Config) (m : Moment) (seat : Seat) (q j : ℕ) → Meets c m seat (step.Undirty q)
     → marker_of (Behind c m seat (step.Undirty q)) j ≡ marker_of m j
-same_markers c m (Caller k) q j h = refl
-same_markers c m Host q j h = refl
 same_markers c m (Marker k) q j h = let kind = h.kind in cc
+same_markers c m _ q j h = refl
 
 markers_behind : (c : Config) (w : World) (seat : Seat) (x : Step) → IsWithinLimits c → Known c w.now
-    → AreOfPages c.pages w.now.words
-    → IsMarking w.now.words → GuardPremises c w → Meets c w.now seat x → Guard c w.now
+    → AreOfPages c.pages w.now.words → IsMarking w.now.words → GuardPremises c w → Meets c w.now seat x → Guard c w.now
     → (j : ℕ) → is_attending (marker_of (Behind c w.now seat x) j).presence ≡ true
     → MarkerStands c (Behind c w.now seat x) (marker_of (Behind c w.now seat x) j)
 markers_behind c w seat (step.Head p n) limits known len early say h g j at =
@@ -137,21 +120,19 @@ begun : (c : Config) (m : Moment) (seat : Seat) → Known c m → AreOfPages c.p
     → Guard c (Behind c m seat step.Begin)
 begun c m seat known len h =
     record {
-      black = λ p k i lt is sc li. absurd (true≢false (sym is ∙ no_bit (slice_index m.words.blacks p) k (white p)));
+      black = λ p k i lt is sc li. absurd (true≢false (sym is ∙ no_bit _ k (white p)));
       markers = λ j at. absurd (alone seat h j at);
     }
   where
     own : all_below c.pages (has_clean_page m.words) ≡ true
-    own = (and_parts (all_below c.pages (has_clean_page m.words)) (m.words.fresh == 0) h.holder).0
+    own = (and_parts _ (m.words.fresh == 0) h.holder).0
 
     white : (p : ℕ) → slice_index m.words.blacks p ≡ 0
     white p = elim (cases_lt p c.pages) [
       | inl lt ↦
-          let clean = all_below-at c.pages p (has_clean_page m.words) own lt in
-          let a = and_parts ((slice_index m.words.marks p == 0) && (slice_index m.words.blacks p == 0))
-          (slice_index m.words.freed p == slice_index m.words.snapshot p) clean in
-          eqb-true (slice_index m.words.blacks p) 0
-          (and_parts (slice_index m.words.marks p == 0) (slice_index m.words.blacks p == 0) a.0).1
+          let clean = all_below-at c.pages p _ own lt in
+          let a = and_parts _ _ clean in
+          eqb-true _ 0 (and_parts _ _ a.0).1
       | inr past ↦ get_or_past m.words.blacks p 0 (omega (arith, len.blacks))
     ]
 
@@ -183,31 +164,31 @@ pub marks_behind : (c : Config) (w : World) (seat : Seat) (x : Step) → IsWithi
     → AreOfPages c.pages w.now.words
     → GuardPremises c w → Meets c w.now seat x → MarksStand c w.now → MarksStand c (Behind c w.now seat x)
 marks_behind c w seat step.Begin limits known len say h g =
-    let z = eqb-true (phase_of w.now.words) 0 h.phase in
+    let z = eqb-true _ 0 h.phase in
     record { guarded = λ early. begun c w.now seat known len h; closed = λ three. absurd (omega arith) }
 marks_behind c w seat step.Want limits known len say h g =
-    let one = eqb-true (phase_of w.now.words) 1 h.phase in
+    let one = eqb-true _ 1 h.phase in
     record {
       guarded = λ early. guard_behind c w seat step.Want limits known len (inl one) say h (g.guarded (inl one));
       closed = λ three. absurd (omega arith);
     }
 marks_behind c w seat step.Close limits known len say h g =
-    let two = eqb-true (phase_of w.now.words) 2 h.phase in
+    let two = eqb-true _ 2 h.phase in
     record {
       guarded = λ early. guard_behind c w seat step.Close limits known len (inr two) say h (g.guarded (inr two));
-      closed = λ three. stays_closed c w.now.words (Behind c w.now seat step.Close).words
+      closed = λ three. stays_closed c w.now.words _
           (record { registers = refl; globals = refl; headers = λ p. refl; marks = refl; heap = λ n. inl refl })
           (closed c w.now seat known len h (g.guarded (inr two)).black);
     }
 marks_behind c w seat step.Release limits known len say h g =
-    let three = eqb-true (phase_of w.now.words) 3 h.phase in
-    past c (Behind c w.now seat step.Release) 4 (omega arith) (inr (omega arith))
+    let three = eqb-true _ 3 h.phase in
+    past c _ 4 (omega arith) (inr (omega arith))
 marks_behind c w seat step.End limits known len say h g =
-    let four = eqb-true (phase_of w.now.words) 4 h.phase in
-    past c (Behind c w.now seat step.End) 0 (omega arith) (inl refl)
+    let four = eqb-true _ 4 h.phase in
+    past c _ 0 (omega arith) (inl refl)
 marks_behind c w seat step.Over limits known len say h g =
     let zero = over_phase c w.now seat h in
-    past c (Behind c w.now seat step.Over) 5 (omega arith) (inr (omega arith))
+    past c _ 5 (omega arith) (inr (omega arith))
 marks_behind c w seat x limits known len say h g = rest x h refl
   where
     rest : (x : Step) → Meets c w.now seat x → is_phase_step x ≡ false → MarksStand c (Behind c w.now seat x)
@@ -215,10 +196,9 @@ marks_behind c w seat x limits known len say h g = rest x h refl
         let same = phase_stays c w.now seat x stays in
         record {
           guarded = λ early.
-              let before : IsMarking w.now.words = subst (λ n. (n ≡ 1) ⊎ (n ≡ 2)) same early in
+              let before : IsMarking w.now.words = rw same at early in
               guard_behind c w seat x limits known len before say h (g.guarded before);
           closed = λ three.
               let before : phase_of w.now.words ≡ 3 = sym same ∙ three in
-              stays_closed c w.now.words (Behind c w.now seat x).words (leaves_closed c w.now seat x known before h)
-              (g.closed before);
+              stays_closed c w.now.words _ (leaves_closed c w.now seat x known before h) (g.closed before);
         }

@@ -1,22 +1,11 @@
 -- Events of others take no header back while a marker attends, and what points well still does.
-use Rattle.std.proofs.Common.{◌≡◌, List, [], ◌∷◌, ◌++◌, false, refl, ◌∙◌, sym, ap, subst}
-use Rattle.mk_geom.specs.declared.pages.Page.{Page}
-use Rattle.mk_geom.specs.Storages.{free_page}
+use Rattle.std.proofs.Common.{◌≡◌, List, ◌∷◌, ◌++◌, false, refl, ◌∙◌, sym, ap, subst, []}
+use Rattle.mk_protocol.proofs.Vocabulary.{AreEnabledFrom, AreOfOthers, AreOfPages, Config, Event, IsWithinLimits}
+use Rattle.mk_protocol.proofs.Vocabulary.{Marker, Moment, Page, Seat, Steady, Step, World, access, cell_at, first_world}
+use Rattle.mk_protocol.proofs.Vocabulary.{free_page, left, left_from, word_accessed, world_behind}
 use Rattle.std.specs.Prelude.{slice_index_or, Some}
-use Rattle.mk_geom.specs.Addresses.{cell_at}
-use Rattle.mk_core.specs.declared.config.Config.{Config}
-use Rattle.mk_core.specs.declared.events.Event.{Event}
-use Rattle.mk_core.specs.declared.events.Seat.{Seat}
-use Rattle.mk_core.specs.declared.events.Seat.TheVariants.{Caller, Marker, Host}
-use Rattle.mk_core.specs.declared.events.Step.{Step}
 use Rattle.mk_core.specs.declared.events.Step.TheVariants as step
-use Rattle.mk_core.specs.Config.{IsWithinLimits}
-use Rattle.mk_core.specs.Layout.{AreOfPages}
-use Rattle.mk_core.specs.Moments.{Moment}
-use Rattle.mk_core.specs.Accesses.{word_accessed, access}
-use Rattle.mk_core.specs.Growing.{AreOfOthers}
-use Rattle.mk_core.specs.Frames.{Attends, HeadersAreLeft, Steady}
-use Rattle.mk_core.specs.History.{World, first_world, world_behind, left, left_from, AreEnabledFrom}
+use Rattle.mk_core.specs.Frames.{Attends, HeadersAreLeft}
 use Rattle.mk_core.proofs.Conditions.{enabled_meets}
 use Rattle.mk_core.proofs.Lengths.{histories_keep_lengths, accessed_lengths}
 use Rattle.mk_core.proofs.Histories.{left_append, enabled_parts}
@@ -62,7 +51,7 @@ headers_after c w seat x limits known len early say h = rest x h refl
         let same = headers_kind c w.now seat x none in
         record {
           some = λ p not_free z. not_free (sym (same p) ∙ z);
-          cells = λ p u cell is. subst (λ n. cell_at c.pages n u ≡ Some cell) (sym (same p)) is;
+          cells = λ p u cell is. rw (same p) is;
           well = λ u is. well_is c (WorldBehind c w seat x).now.words u
               (wells_from c w.now.words (WorldBehind c w seat x).now.words same (marks_kind c w.now seat x early h) u
               (is_well c w.now.words u is));
@@ -71,8 +60,7 @@ headers_after c w seat x limits known len early say h = rest x h refl
 -- While a marker attends, a cycle marks.
 attended : (c : Config) (m : Moment) (s : Seat) → Known c m → Attends m s → IsMarking m.words
 attended c m (Marker k) known a = known.orderly.attends k a
-attended c m (Caller k) known a = absurd a
-attended c m Host known a = absurd a
+attended c m _ known a = absurd a
 
 headers_from : (c : Config) (w : World) (s : Seat) (es : List Event) → IsWithinLimits c → Known c w.now
     → AreOfPages c.pages w.now.words → AreEnabledFrom c w es
@@ -91,7 +79,7 @@ headers_from c w s (e ∷ es) limits known len on others say a =
 pub others_leave_headers : OthersLeaveHeaders
 others_leave_headers c es more s limits on others say a =
     let parts = enabled_parts c (first_world c) es more on in
-    subst (λ (v : World). HeadersAreLeft c (left c es) v) (sym (left_append c (first_world c) es more))
+    rw (left_append c (first_world c) es more)
     (headers_from c (left c es) s more limits (known_left c es limits parts.0) (histories_keep_lengths c es) parts.1
     others say a)
 
@@ -100,7 +88,6 @@ pub others_leave_wells : OthersLeaveWells
 others_leave_wells c es more s limits on others holds u is =
     let turn = ((others_leave c es more s limits on others).turn holds).0 in
     let pages = ap (λ (x : Steady). x.pages) turn.steady in
-    well_is c (left c (es ++ more)).now.words u
-    (wells_from c (left c es).now.words (left c (es ++ more)).now.words
+    well_is c (left c (es ++ more)).now.words u (wells_from c (left c es).now.words (left c (es ++ more)).now.words
     (λ p. ap (λ (ps : List Page). (slice_index_or ps p free_page).header) pages) turn.marks_grow u
     (is_well c (left c es).now.words u is))

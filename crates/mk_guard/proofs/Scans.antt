@@ -4,21 +4,13 @@ use Rattle.std.proofs.Common.{inr, arith}
 use Rattle.std.specs.Prelude.{Option, Some, None, slice_index, nat_lt, ◌==◌, not, if◌then◌else◌}
 use Rattle.std.proofs.lemmas.Option.{none-some, same_Some}
 use Rattle.std.proofs.lemmas.Bool.{cases_eq, cases_lt, true≢false, eqb-true, and_parts, ltb-true, lt-ltb}
-use Rattle.mk_geom.specs.declared.addresses.Cell.{Cell}
-use Rattle.mk_geom.specs.Headers.{header_of}
-use Rattle.mk_geom.specs.Addresses.{is_heap_address, cell_at, page_at_address}
-use Rattle.mk_core.specs.declared.config.Config.{Config}
+use Rattle.mk_protocol.proofs.Vocabulary.{Cell, Config, IsGuarded, Moment, Presence, Scan, SeenHeader, Words, cell_at}
+use Rattle.mk_protocol.proofs.Vocabulary.{cell_seen, cells_under, has_bit, has_next_word, has_no_pointers}
+use Rattle.mk_protocol.proofs.Vocabulary.{has_seen_cell, header_at, header_in, header_of, is_heap_address, is_marked}
+use Rattle.mk_protocol.proofs.Vocabulary.{is_scanned, page_at_address, scan_begun, scan_claimed, scan_onward}
+use Rattle.mk_protocol.proofs.Vocabulary.{words_under}
 use Rattle.mk_core.specs.declared.seats.Marker.{Marker}
-use Rattle.mk_core.specs.declared.seats.Presence.{Presence}
-use Rattle.mk_core.specs.declared.seats.Scan.{Scan}
-use Rattle.mk_core.specs.declared.seats.SeenHeader.{SeenHeader}
-use Rattle.mk_core.specs.Bits.{has_bit}
-use Rattle.mk_core.specs.Words.{Words, header_at}
-use Rattle.mk_core.specs.Cells.{header_in, cells_under, words_under, has_no_pointers, is_marked}
-use Rattle.mk_core.specs.Moments.{Moment}
-use Rattle.mk_core.specs.MarkerConditions.{has_seen_cell, cell_seen, has_next_word, is_scanned}
-use Rattle.mk_core.specs.Effects.{open_hand, hand_behind_look, scan_begun, scan_claimed, scan_onward}
-use Rattle.mk_core.specs.ClosedMarks.{IsGuarded}
+use Rattle.mk_core.specs.Effects.{open_hand, hand_behind_look}
 use Rattle.mk_guard.specs.Guard.{GoesOn, EndsItsCell, ScanStands, MarkerStands}
 use Rattle.mk_guard.proofs.Wells.{IsWell, well_guarded}
 use Rattle.mk_guard.proofs.KeptGuard.{goes_same}
@@ -34,8 +26,7 @@ outside_well c w v out y is = absurd (by (is_heap_address c.pages v) _ out is)
 -- the same scan, with another hand
 other_hand : (c : Config) (m : Moment) (hand new : Option ℕ) (x : Scan) → ScanStands c m hand x
     → ((n : ℕ) → IsGuarded c m n ⊎ (hand ≡ Some (slice_index m.words.heap n))
-    → IsGuarded c m n ⊎ (new ≡ Some (slice_index m.words.heap n)))
-    → ScanStands c m new x
+    → IsGuarded c m n ⊎ (new ≡ Some (slice_index m.words.heap n))) → ScanStands c m new x
 other_hand c m hand new x h over =
     record {
       index = h.index;
@@ -62,21 +53,19 @@ look_passes c m p (Some value) n (inr e) =
     by true None at none =
         let there = ap (λ q. cell_at c.pages (header_at m.words q) value) (eqb-true p (page_at_address value) at) in
         let nothing : IsWell c m.words value = λ y is. absurd (none-some _ (sym none ∙ there ∙ is)) in
-        inl (well_guarded c m n (subst (λ v. IsWell c m.words v) (same_Some _ _ e) nothing))
+        inl (well_guarded c m n (rw (same_Some _ _ e) at nothing))
     by false x at is = inr (let k : hand_behind_look c p (header_at m.words p) (Some value) ≡ Some value = rw at in k
         ∙ e)
     by true (Some y) at is =
         inr (let k : hand_behind_look c p (header_at m.words p) (Some value) ≡ Some value = rw (at, is) in k ∙ e)
 
-pub look_stands : (c : Config) (m : Moment) (p : ℕ) (x : Marker) → MarkerStands c m x
-    → MarkerStands c m (record x {
-      hand = hand_behind_look c p (header_at m.words p) x.hand;
-      seen = Some (record { page = p; header = header_at m.words p });
-    })
+pub look_stands : (c : Config) (m : Moment) (p : ℕ) (x : Marker) → MarkerStands c m x → MarkerStands c m (record x {
+  hand = hand_behind_look c p (header_at m.words p) x.hand;
+  seen = Some (record { page = p; header = header_at m.words p });
+})
 look_stands c m p x h =
     record {
-      scan = λ s is. other_hand c m x.hand (hand_behind_look c p (header_at m.words p) x.hand) s (h.scan s is)
-          (look_passes c m p x.hand);
+      scan = λ s is. other_hand c m x.hand _ s (h.scan s is) (look_passes c m p x.hand);
       seen = λ s is. subst (λ (z : SeenHeader). GoesOn c.pages z.header (header_at m.words z.page)) (same_Some _ _ is)
           (goes_same c.pages (header_at m.words p));
     }
@@ -99,32 +88,28 @@ begun_stands : (c : Config) (m : Moment) (hand : Option ℕ) (p k header : ℕ) 
     → GoesOn c.pages header (header_at m.words p) → ScanStands c m hand (scan_begun p k header)
 begun_stands c m hand p k header lt is go =
     record {
-      index = subst (λ n. k < n) (sym (go.count some)) lt;
+      index = rw (go.count some) lt;
       marked = is;
-      start = subst (λ n. n ≤ 64 * p + k * words_under (header_of header)) (sym first) (omega arith);
+      start = rw first (omega arith);
       next = omega arith;
       end = ends (has_no_pointers (header_of header)) refl;
-      passed = λ f n le l. (let low = subst (λ i. i ≤ n) first le in absurd (omega arith));
+      passed = λ f n le l. (let low = rw first at le in absurd (omega arith));
     }
   where
     some : cells_under (header_of header) ≢ 0
     some z = omega (arith, lt, z)
 
     first : 64 * p + k * words_under (header_in m.words p) ≡ 64 * p + k * words_under (header_of header)
-    first = ap (λ n. 64 * p + k * n) (go.words some)
+    first = rw (go.words some)
 
-    ends : (b : Bool) → has_no_pointers (header_of header) ≡ b
-        → EndsItsCell m.words
-        (record (scan_begun p k header)
+    ends : (b : Bool) → has_no_pointers (header_of header) ≡ b → EndsItsCell m.words (record (scan_begun p k header)
         { end = 64 * p + k * words_under (header_of header) + (if b then 0 else words_under (header_of header)) })
     ends true e = inr (omega (arith, first), go.unscanned some e)
     ends false e =
-        inl (ap (λ n. n + words_under (header_of header)) (sym first)
-        ∙ ap (λ n. 64 * p + k * words_under (header_in m.words p) + n) (sym (go.words some)))
+        inl (rw (← first) (rw (← (go.words some))))
 
 pub claim_stands : (c : Config) (m : Moment) (x : Marker) (p k : ℕ) → has_seen_cell x.seen p k ≡ true
-    → MarkerStands c m x
-    → MarkerStands c m (record x { scan = scan_claimed p k (slice_index m.words.marks p) x.seen })
+    → MarkerStands c m x → MarkerStands c m (record x { scan = scan_claimed p k (slice_index m.words.marks p) x.seen })
 claim_stands c m x p k own h = record { scan = λ s is. by x.seen own h.seen s is; seen = h.seen }
   where
     by : (seen : Option SeenHeader) → has_seen_cell seen p k ≡ true
@@ -134,15 +119,12 @@ claim_stands c m x p k own h = record { scan = λ s is. by x.seen own h.seen s i
     by (Some seen) own goes s is = marked (has_bit (slice_index m.words.marks p) k) refl is
       where
         marked : (b : Bool) → has_bit (slice_index m.words.marks p) k ≡ b
-            → (if b then Some (scan_begun p k seen.header) else None) ≡ Some s
-            → ScanStands c m x.hand s
+            → (if b then Some (scan_begun p k seen.header) else None) ≡ Some s → ScanStands c m x.hand s
         marked false e is = absurd (none-some _ is)
         marked true e is =
-            let parts = and_parts (seen.page == p) (nat_lt k (cells_under (header_of seen.header))) own in
-            subst (λ (z : Scan). ScanStands c m x.hand z) (same_Some _ _ is)
-            (begun_stands c m x.hand p k seen.header (ltb-true k (cells_under (header_of seen.header)) parts.1) e
-            (subst (λ q. GoesOn c.pages seen.header (header_at m.words q)) (eqb-true seen.page p parts.0)
-            (goes seen refl)))
+            let parts = and_parts (seen.page == p) _ own in
+            rw (same_Some _ _ is) at (begun_stands c m x.hand p k seen.header (ltb-true k _ parts.1) e
+            (rw (eqb-true seen.page p parts.0) at (goes seen refl)))
 
 -- `mload`: the word loaded is the hand, or points into nothing
 pub load_stands : (c : Config) (m : Moment) (x : Marker) (next : ℕ) → has_next_word x.scan ≡ true → x.hand ≡ None
@@ -171,9 +153,7 @@ load_stands c m x next more none at h = record { scan = λ s is. by x.scan more 
           end = st.end;
           passed = λ f n le l. elim (cases_eq n z.next) [
             | inl e ↦
-                subst (λ i. IsGuarded c m i
-                ⊎ (open_hand c (slice_index m.words.heap next) ≡ Some (slice_index m.words.heap i))) (sym (e ∙ is))
-                (loaded next (is_heap_address c.pages (slice_index m.words.heap next)) refl)
+                rw (e ∙ is) (loaded next _ refl)
             | inr ne ↦ inl (old n (st.passed f n le (omega arith)))
           ];
         }
@@ -183,19 +163,17 @@ load_stands c m x next more none at h = record { scan = λ s is. by x.scan more 
         → (s : Scan) → scan_onward scan ≡ Some s → ScanStands c m (open_hand c (slice_index m.words.heap next)) s
     by None more at st s is = absurd (none-some _ is)
     by (Some z) more at st s is =
-        subst (λ (u : Scan). ScanStands c m (open_hand c (slice_index m.words.heap next)) u) (same_Some _ _ is)
-        (onward z (st z refl) (ltb-true z.next z.end more) (at z refl))
+        rw (same_Some _ _ is) at (onward z (st z refl) (ltb-true z.next z.end more) (at z refl))
 
 -- `mmark`: what the hand points into is marked, so the hand is closed
 pub mark_stands : (c : Config) (m : Moment) (x : Marker) (value : ℕ) → x.hand ≡ Some value → IsWell c m.words value
-    → MarkerStands c m x
-    → MarkerStands c m (record x { hand = None })
+    → MarkerStands c m x → MarkerStands c m (record x { hand = None })
 mark_stands c m x value is well h =
     record { scan = λ s at. other_hand c m x.hand None s (h.scan s at) (λ n g. inl (by n g)); seen = h.seen }
   where
     by : (n : ℕ) → IsGuarded c m n ⊎ (x.hand ≡ Some (slice_index m.words.heap n)) → IsGuarded c m n
     by n (inl g) = g
-    by n (inr e) = well_guarded c m n (subst (λ v. IsWell c m.words v) (same_Some _ _ (sym is ∙ e)) well)
+    by n (inr e) = well_guarded c m n (rw (same_Some _ _ (sym is ∙ e)) at well)
 
 -- the cell that was seen is the one of now
 pub seen_well : (c : Config) (m : Moment) (x : Marker) (cell : Cell) (value : ℕ) → x.hand ≡ Some value
@@ -211,28 +189,25 @@ seen_well c m x cell value is at h marked =
     by (Some seen) at goes = here (seen.page == page_at_address value) refl at
       where
         here : (b : Bool) → (seen.page == page_at_address value) ≡ b
-            → (if b then cell_at c.pages seen.header value else None) ≡ Some cell
-            → IsWell c m.words value
+            → (if b then cell_at c.pages seen.header value else None) ≡ Some cell → IsWell c m.words value
         here false e at = absurd (none-some _ at)
         here true e at =
             let now = (goes seen refl).cell value cell at in
-            let page = eqb-true seen.page (page_at_address value) e in
+            let page = eqb-true seen.page _ e in
             let there : cell_at c.pages (header_at m.words (page_at_address value)) value ≡ Some cell
-            = subst (λ q. cell_at c.pages (header_at m.words q) value ≡ Some cell) page now in
-            λ y is. subst (λ (z : Cell). is_marked m.words z ≡ true) (same_Some _ _ (sym there ∙ is)) marked
+            = rw page at now in
+            λ y is. rw (same_Some _ _ (sym there ∙ is)) at marked
 
 -- `mblack`: the scan is at its end, and no hand is open
 pub scanned_guarded : (c : Config) (m : Moment) (x : Scan) → ScanStands c m None x → is_scanned (Some x) ≡ true
-    → has_no_pointers (header_in m.words x.page) ≡ false
-    → (i : ℕ) → i < words_under (header_in m.words x.page)
+    → has_no_pointers (header_in m.words x.page) ≡ false → (i : ℕ) → i < words_under (header_in m.words x.page)
     → IsGuarded c m (64 * x.page + x.index * words_under (header_in m.words x.page) + i)
 scanned_guarded c m x st done f i lt = elim st.end [
   | inr e ↦ absurd (true≢false (sym e.1 ∙ f))
   | inl e ↦
       let le = past (nat_lt x.next x.end) refl done in
       let next = st.next in
-      by (64 * x.page + x.index * words_under (header_in m.words x.page) + i)
-      (st.passed f (64 * x.page + x.index * words_under (header_in m.words x.page) + i) (omega arith)
+      by (64 * x.page + x.index * words_under (header_in m.words x.page) + i) (st.passed f _ (omega arith)
       (omega (arith, le, next, e, lt)))
 ]
   where

@@ -4,28 +4,15 @@ use Rattle.std.proofs.Common.{inr, arith}
 use Rattle.std.specs.Prelude.{slice_index, slice_set, ◌==◌, ◌||◌}
 use Rattle.std.proofs.lemmas.Bool.{cases_Bool, cases_eq, cases_lt, true≢false, ltb-true, eqb-true, or_cases}
 use Rattle.std.proofs.lemmas.List.{get_or-set_same, get_or-set_other, set_past}
-use Rattle.mk_geom.specs.Headers.{header_of}
-use Rattle.mk_core.specs.declared.config.Config.{Config}
-use Rattle.mk_core.specs.declared.accesses.TableWord.TheVariants.{Named}
+use Rattle.mk_protocol.proofs.Vocabulary.{Caller, Config, Flight, Host, Marker, Moment, Named, Seat, Stage, Step, Store}
+use Rattle.mk_protocol.proofs.Vocabulary.{Tally, Words, accessed, cells_under, first_word, flight_of, group_of, has_bit}
+use Rattle.mk_protocol.proofs.Vocabulary.{has_no_pointers, header_at, header_of, is_open_to, marker_of, phase_of}
+use Rattle.mk_protocol.proofs.Vocabulary.{points_well, reg_access, register_met, word_points_well, words_under}
 use Rattle.mk_core.specs.declared.events.Word.TheVariants as word
-use Rattle.mk_core.specs.declared.events.Tally.{Tally}
-use Rattle.mk_core.specs.declared.events.Tally.TheVariants as tally
-use Rattle.mk_core.specs.declared.accesses.Access.TheVariants.{Store}
 use Rattle.mk_core.specs.declared.events.Group.{Group}
 use Rattle.mk_core.specs.declared.events.Group.TheVariants as group
-use Rattle.mk_core.specs.Order.{is_open_to, group_of}
-use Rattle.mk_core.specs.Accesses.{tally_word}
-use Rattle.mk_core.specs.declared.events.Seat.{Seat}
-use Rattle.mk_core.specs.declared.events.Seat.TheVariants.{Caller, Marker, Host}
-use Rattle.mk_core.specs.declared.events.Step.{Step}
 use Rattle.mk_core.specs.declared.events.Step.TheVariants as step
-use Rattle.mk_core.specs.declared.seats.Stage.{Stage}
 use Rattle.mk_core.specs.declared.seats.Stage.TheVariants as stage
-use Rattle.mk_core.specs.declared.seats.Flight.{Flight}
-use Rattle.mk_core.specs.Words.{Words, header_at, phase_of, accessed}
-use Rattle.mk_core.specs.Cells.{cells_under, words_under, has_no_pointers, first_word, points_well, word_points_well}
-use Rattle.mk_core.specs.Moments.{Moment, flight_of, marker_of}
-use Rattle.mk_core.specs.Accesses.{register_met, reg_access}
 use Rattle.mk_protocol.proofs.Standings.{InCall}
 use Rattle.mk_protocol.proofs.Stages.{is_call_stage, is_reg_stage, calls_stand}
 use Rattle.mk_protocol.proofs.NextSteps.{stage_of, has_stage_of_its_own, at_its_stage, at_reg}
@@ -37,10 +24,10 @@ use Rattle.mk_protocol.proofs.OrderlyLists.{not_astray}
 use Rattle.mk_protocol.proofs.Known.{Known}
 use Rattle.mk_protocol.proofs.IdleMarkers.{work_attends}
 use Rattle.mk_guard.specs.Guard.{CellsAreClosed}
-use Rattle.mk_core.specs.Bits.{has_bit}
 use Rattle.mk_guard.proofs.Phases.{either_phase}
 use Rattle.mk_guard.proofs.Wells.{well_is, is_well, bare_word_well, wells_from}
 use Rattle.mk_guard.proofs.Changes.{Table, reg_table, tally_table, is_head, headers_kind}
+use Rattle.mk_core.proofs.RegisterAccesses.{tally_leaves_registers}
 
 -- what leaves closed marks closed
 pub record LeavesClosed (w v : Words) : Type 0 where
@@ -53,42 +40,30 @@ pub record LeavesClosed (w v : Words) : Type 0 where
 pub stays_closed : (c : Config) (w v : Words) → LeavesClosed w v → CellsAreClosed c w → CellsAreClosed c v
 stays_closed c w v same h =
     record {
-      registers = λ i. subst (λ (rs : List ℕ). points_well c.pages v (slice_index rs i) ≡ true) (sym same.registers)
-          (over (slice_index w.registers i) (h.registers i));
-      globals = λ g. subst (λ (gs : List ℕ). points_well c.pages v (slice_index gs g) ≡ true) (sym same.globals)
-          (over (slice_index w.globals g) (h.globals g));
+      registers = λ i. rw same.registers (over _ (h.registers i));
+      globals = λ g. rw same.globals (over _ (h.globals g));
       words = λ cell i lt is scanned li.
-          let first : first_word v cell ≡ first_word w cell =
-          ap (λ a. 64 * cell.page + cell.index * words_under (header_of a)) (same.headers cell.page) in
-          subst (λ n. word_points_well c.pages v (n + i) ≡ true) (sym first)
-          (word (first_word w cell + i)
-          (h.words cell i (subst (λ a. cell.index < cells_under (header_of a)) (same.headers cell.page) lt)
-          (subst (λ (ms : List ℕ). has_bit (slice_index ms cell.page) cell.index ≡ true) same.marks is)
-          (subst (λ a. has_no_pointers (header_of a) ≡ false) (same.headers cell.page) scanned)
-          (subst (λ a. i < words_under (header_of a)) (same.headers cell.page) li)));
+          let first : first_word v cell ≡ first_word w cell = rw (same.headers cell.page) in
+          rw first (word _ (h.words cell i (rw (same.headers cell.page) at lt) (rw same.marks at is)
+          (rw (same.headers cell.page) at scanned) (rw (same.headers cell.page) at li)));
     }
   where
     over : (value : ℕ) → points_well c.pages w value ≡ true → points_well c.pages v value ≡ true
     over value is =
-        well_is c v value
-        (wells_from c w v same.headers
-        (λ p k bit. subst (λ (ms : List ℕ). has_bit (slice_index ms p) k ≡ true) (sym same.marks) bit) value
-        (is_well c w value is))
+        well_is c v value (wells_from c w v same.headers (λ p k bit. rw same.marks bit) value (is_well c w value is))
 
     word : (n : ℕ) → word_points_well c.pages w n ≡ true → word_points_well c.pages v n ≡ true
     word n is = elim (same.heap n) [
-      | inl e ↦ subst (λ value. points_well c.pages v value ≡ true) (sym e) (over (slice_index w.heap n) is)
-      | inr z ↦ well_is c v (slice_index v.heap n) (bare_word_well c v (slice_index v.heap n) z)
+      | inl e ↦ rw e (over _ is)
+      | inr z ↦ well_is c v _ (bare_word_well c v _ z)
     ]
 
 -- At this phase no caller is in a call outside the turn.
 
 no_call : (c : Config) (m : Moment) (k : ℕ) → Known c m → phase_of m.words ≡ 3 → k < c.callers
-    → is_call_stage (flight_of m (Caller k)).stage ≡ true
-    → ⊥
+    → is_call_stage (flight_of m (Caller k)).stage ≡ true → ⊥
 no_call c m k known three lt at =
-    let stands = calls_stand (flight_of m (Caller k)).stage (flight_of m (Caller k)).op at
-    (not_astray c m known.orderly k lt) in
+    let stands = calls_stand _ _ at (not_astray c m known.orderly k lt) in
     let s = shows_at c (view_of m) k InCall known.orderly lt stands in
     let one = s.0 in
     let two = known.orderly.stopped three k lt s.1 in
@@ -106,11 +81,9 @@ of_callers step.Dirty own = refl
 of_callers _ own = cc
 
 no_step : (c : Config) (m : Moment) (seat : Seat) (x : Step) → Known c m → phase_of m.words ≡ 3 → Meets c m seat x
-    → has_stage_of_its_own x ≡ true
-    → is_call_stage (stage_of x) ≡ true → ⊥
+    → has_stage_of_its_own x ≡ true → is_call_stage (stage_of x) ≡ true → ⊥
 no_step c m (Caller k) x known three h own at =
-    no_call c m k known three (ltb-true k c.callers h.seat)
-    (subst (λ (s : Stage). is_call_stage s ≡ true)
+    no_call c m k known three (ltb-true k c.callers h.seat) (subst (λ (s : Stage). is_call_stage s ≡ true)
     (sym (at_its_stage (flight_of m (Caller k)).stage (flight_of m (Caller k)).op x own h.order)) at)
 no_step c m (Marker k) x known three h own at =
     true≢false (sym (ap (λ (g : Group). is_open_to (Marker k) g) (sym (of_callers x own)) ∙ h.kind))
@@ -136,19 +109,12 @@ reg_still c m (Caller k) known three h = elim (cases_Bool (is_call_stage (flight
       (flight_of m (Caller k)) (flight_of m (Caller k)).stage
       (at_reg (flight_of m (Caller k)).stage (flight_of m (Caller k)).op h.order) out
 ]
-reg_still c m (Marker k) known three h = let kind = h.kind in cc
-reg_still c m Host known three h = let kind = h.kind in cc
-
-tally_registers : (w : Words) (n : Tally) (v : ℕ)
-    → (accessed w (Named (tally_word n)) (Store v)).registers ≡ w.registers
-tally_registers w tally.Held v = refl
-tally_registers w _ v = refl
+reg_still c m _ known three h = let kind = h.kind in cc
 
 registers_still : (c : Config) (m : Moment) (seat : Seat) (x : Step) → Known c m → phase_of m.words ≡ 3
-    → Meets c m seat x
-    → (Behind c m seat x).words.registers ≡ m.words.registers
+    → Meets c m seat x → (Behind c m seat x).words.registers ≡ m.words.registers
 registers_still c m seat step.Reg known three h = reg_still c m seat known three h
-registers_still c m seat (step.Tally n v) known three h = tally_registers m.words n v
+registers_still c m seat (step.Tally n v) known three h = tally_leaves_registers m.words n v
 registers_still c m seat step.Grant known three h =
     elim (either_phase (phase_of m.words) 0 1 h.phase) [ inl e ↦ absurd (omega arith) | inr e ↦ absurd (omega arith) ]
 registers_still c m seat _ known three h = refl
@@ -161,8 +127,7 @@ globals_still c m seat step.Setg known three h = absurd (no_step c m seat step.S
 globals_still c m seat _ known three h = refl
 
 heap_still : (c : Config) (m : Moment) (seat : Seat) (x : Step) → Known c m → phase_of m.words ≡ 3 → Meets c m seat x
-    → (n : ℕ)
-    → (slice_index (Behind c m seat x).words.heap n ≡ slice_index m.words.heap n)
+    → (n : ℕ) → (slice_index (Behind c m seat x).words.heap n ≡ slice_index m.words.heap n)
     ⊎ (slice_index (Behind c m seat x).words.heap n ≡ 0)
 heap_still c m seat step.Reg known three h n = inl (ap (λ (t : Table). slice_index t.heap n) (reg_table c m seat))
 heap_still c m seat (step.Tally t v) known three h n =
@@ -171,8 +136,8 @@ heap_still c m seat step.Write known three h n = absurd (no_step c m seat step.W
 heap_still c m seat step.Cas known three h n = absurd (no_step c m seat step.Cas known three h refl refl)
 heap_still c m seat (step.Wipe i) known three h n = elim (cases_eq n i) [
   | inl e ↦ elim (cases_lt i (length m.words.heap)) [
-    | inl lt ↦ inr (ap (λ j. slice_index (slice_set m.words.heap i 0) j) e ∙ get_or-set_same m.words.heap i 0 0 lt)
-    | inr past ↦ inl (ap (λ (ys : List ℕ). slice_index ys n) (set_past m.words.heap i 0 past))
+    | inl lt ↦ inr (rw e (get_or-set_same m.words.heap i 0 0 lt))
+    | inr past ↦ inl (rw (set_past m.words.heap i 0 past))
   ]
   | inr ne ↦ inl (get_or-set_other m.words.heap i n 0 0 ne)
 ]
@@ -183,8 +148,7 @@ no_mark : (c : Config) (m : Moment) (seat : Seat) → Known c m → phase_of m.w
 no_mark c m (Marker k) known three h =
     elim (known.orderly.attends k (work_attends c (marker_of m k) step.Mmark (known.orderly.idle k) h.marker refl))
     [ inl e ↦ absurd (omega arith) | inr e ↦ absurd (omega arith) ]
-no_mark c m (Caller k) known three h = true≢false (sym h.kind)
-no_mark c m Host known three h = true≢false (sym h.kind)
+no_mark c m _ known three h = true≢false (sym h.kind)
 
 marks_still : (c : Config) (m : Moment) (seat : Seat) (x : Step) → Known c m → phase_of m.words ≡ 3 → Meets c m seat x
     → (Behind c m seat x).words.marks ≡ m.words.marks
@@ -199,7 +163,7 @@ marks_still c m seat _ known three h = refl
 
 -- no header is stored
 no_head : (n : ℕ) → n ≡ 3 → ((n == 0) || (n == 1) || (n == 4)) ≡ true → ⊥
-no_head n three h = elim (or_cases ((n == 0) || (n == 1)) (n == 4) h) [
+no_head n three h = elim (or_cases _ (n == 4) h) [
   | inl a ↦ elim (either_phase n 0 1 a) [ inl e ↦ absurd (omega arith) | inr e ↦ absurd (omega arith) ]
   | inr e ↦ let z = eqb-true n 4 e in absurd (omega arith)
 ]
@@ -214,8 +178,7 @@ headers_still c m seat x three h p = rest x h refl
     rest x h none = headers_kind c m seat x none p
 
 pub leaves_closed : (c : Config) (m : Moment) (seat : Seat) (x : Step) → Known c m → phase_of m.words ≡ 3
-    → Meets c m seat x
-    → LeavesClosed m.words (Behind c m seat x).words
+    → Meets c m seat x → LeavesClosed m.words (Behind c m seat x).words
 leaves_closed c m seat x known three h =
     record {
       registers = registers_still c m seat x known three h;

@@ -1,9 +1,7 @@
 -- Bases are added after the others, and stay.
 use Rattle.std.proofs.Common.{◌≡◌, ℕ, Bool, List, [], ◌∷◌, ◌++◌, sym, ◌∙◌, append-nil}
 use Rattle.std.proofs.lemmas.List.{map-append}
-use Rattle.mk_never.specs.NeverHeap.{NeverState}
-use Rattle.mk_core.specs.Allocations.{PlacedAllocation}
-use Rattle.mk_core.specs.History.{bases_of}
+use Rattle.mk_protocol.proofs.Vocabulary.{NeverState, PlacedAllocation, bases_of}
 use Rattle.mk_images.specs.Images.{ImageScene}
 use Rattle.mk_images.proofs.Moves.{Move, Rests, Flies, Owes, Pays, Stores, Shares, Writes, Wipes, Grants, Frees, Renews}
 use Rattle.mk_images.proofs.Moves.{Releases}
@@ -22,11 +20,5 @@ bases_grow safe s t n m (Grants k d base ty f at long ld z) =
 bases_grow safe s t n m (Frees k a f xs at places released there others is quiet) = same _ _ places.bases
 bases_grow safe s t n m (Renews xs places released freed) = same _ _ places.bases
 bases_grow safe s t n m (Releases xs places released freed kept cut) = same _ _ places.bases
-bases_grow safe s t n m Rests = record { more = []; is = sym (append-nil _) }
-bases_grow safe s t n m (Flies k f e c p) = record { more = []; is = sym (append-nil _) }
-bases_grow safe s t n m (Owes k f v a b c d e g i) = record { more = []; is = sym (append-nil _) }
-bases_grow safe s t n m (Pays k f a b c d e) = record { more = []; is = sym (append-nil _) }
-bases_grow safe s t n m (Stores k d x f v a b c e g) = record { more = []; is = sym (append-nil _) }
-bases_grow safe s t n m (Shares k g x f v a b c d e) = record { more = []; is = sym (append-nil _) }
 bases_grow safe s t n m (Writes k a i x f v at u mm li inside is sv) = record { more = []; is = sym (append-nil _) }
-bases_grow safe s t n m (Wipes x out) = record { more = []; is = sym (append-nil _) }
+bases_grow safe s t n m _ = record { more = []; is = sym (append-nil _) }

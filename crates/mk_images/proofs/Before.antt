@@ -3,22 +3,13 @@ use Rattle.std.proofs.Common.{[], ◌≡◌, ◌≢◌, ℕ, ◌+◌, ◌/◌, �
 use Rattle.std.proofs.Common.{inl, inr, arith}
 use Rattle.std.specs.Prelude.{nat_lt, ◌&&◌, Option, Some, None}
 use Rattle.std.proofs.lemmas.Bool.{cases_Bool}
-use Rattle.mk_never.specs.declared.types.Kind.{Kind}
-use Rattle.mk_never.specs.Types.{kinds_of, is_large}
-use Rattle.mk_never.specs.NeverHeap.{NeverState, allocation_at, words_of, is_unmapped}
-use Rattle.mk_never.specs.Typed.{IsTypedAllocation}
-use Rattle.mk_geom.specs.declared.addresses.Cell.{Cell}
-use Rattle.mk_core.specs.declared.config.Config.{Config}
-use Rattle.mk_core.specs.declared.seats.Flight.{Flight}
-use Rattle.mk_geom.specs.Addresses.{address_of}
-use Rattle.mk_core.specs.Words.{Words, header_at}
-use Rattle.mk_core.specs.Cells.{pointed_cell, first_word, header_in, is_unmapped_header}
-use Rattle.mk_core.specs.Allocations.{storage_words, placed_at}
-use Rattle.mk_core.specs.History.{World}
+use Rattle.mk_protocol.proofs.Vocabulary.{Cell, Config, Flight, IsTypedAllocation, Kind, NeverState, Words, World}
+use Rattle.mk_protocol.proofs.Vocabulary.{address_of, allocation_at, cell_of_allocation, first_word, header_at}
+use Rattle.mk_protocol.proofs.Vocabulary.{header_in, is_large, is_unmapped, is_unmapped_header, kinds_of, placed_at}
+use Rattle.mk_protocol.proofs.Vocabulary.{pointed_cell, storage_words, words_of}
 use Rattle.mk_protocol.proofs.Operands.{HaveOperands, operands_of}
 use Rattle.mk_images.specs.Images.{image_scene_of, flight_among}
 use Rattle.mk_images.specs.SafeSets.{IsSafeSet}
-use Rattle.mk_core.specs.Allocations.{cell_of_allocation}
 use Rattle.mk_images.proofs.Stands.{Stands, is_gone}
 use Rattle.mk_core.proofs.StandingAllocations.{storage_holds}
 use Rattle.mk_images.proofs.KnownWorlds.{KnownWorld}
@@ -30,7 +21,7 @@ use Rattle.mk_images.proofs.Reached.{PagesShow}
 pub small_operands : (c : Config) (fs : List Flight) → HaveOperands c fs → AreSmall fs
 small_operands c fs h j = let o = operands_of c (flight_among fs j).op (h j) in (o.q, o.p, o.r, o.d)
 
-abbrev first_in : Words → Option Cell → ℕ
+abbrev pub first_in : Words → Option Cell → ℕ
 first_in w (Some cell) = first_word w cell
 first_in w None = 0
 
@@ -41,15 +32,13 @@ module _ (c : Config) (w : World) (n : NeverState) (known : KnownWorld c w) (mir
   words_are a lt =
       let count = mirrors.twins.count in
       let typed : IsTypedAllocation n (allocation_at n a) = mirrors.typed.allocations a (omega arith) in
-      typed.size ∙ ap (λ (types : List (List Kind)). length (kinds_of types (allocation_at n a).ty)) mirrors.types
-      ∙ ap (λ ty. length (kinds_of c.types ty)) (sym (mirrors.twins.ty a lt))
+      typed.size ∙ rw mirrors.types (rw (← (mirrors.twins.ty a lt)))
 
   pub type_is : (a : ℕ) → a < length w.allocations → (placed_at w.allocations a).ty < length c.types
   type_is a lt =
       let count = mirrors.twins.count in
       let typed : IsTypedAllocation n (allocation_at n a) = mirrors.typed.allocations a (omega arith) in
-      subst (λ (types : List (List Kind)). (placed_at w.allocations a).ty < length types) mirrors.types
-      (subst (λ ty. ty < length n.types) (sym (mirrors.twins.ty a lt)) typed.ty)
+      rw mirrors.types at (subst (λ ty. ty < length n.types) (sym (mirrors.twins.ty a lt)) typed.ty)
 
   pub words_fit : (a : ℕ) → a < length w.allocations
       → length (words_of n a) ≤ storage_words c (placed_at w.allocations a)
@@ -59,8 +48,7 @@ module _ (c : Config) (w : World) (n : NeverState) (known : KnownWorld c w) (mir
 
   pub unmapped_is : (a : ℕ) → a < length w.allocations
       → is_unmapped (allocation_at n a) ≡ is_gone c (placed_at w.allocations a)
-  unmapped_is a lt = ap (λ b. b && is_large (words_of n a)) (sym (mirrors.twins.freed a lt))
-      ∙ ap (λ l. (placed_at w.allocations a).freed && nat_lt 32 l) (words_are a lt)
+  unmapped_is a lt = rw (← (mirrors.twins.freed a lt)) (rw (words_are a lt))
 
   pub storages_apart : Stands c w.now.words w.allocations → (a b i j : ℕ) → (placed_at w.allocations a).released ≡ false
       → (placed_at w.allocations b).released ≡ false
@@ -91,8 +79,7 @@ module _ (c : Config) (w : World) (n : NeverState) (known : KnownWorld c w) (mir
         bound = λ a i u li. let f = words_fit a (exists_placed w.allocations a u) in let b =
             st.inside a u in omega (arith, known.lengths.heap);
         room = let p = known.limits.pages.1 in omega (arith, known.lengths.heap);
-        full = λ ty lt. subst (λ (types : List (List Kind)). 0 < length (kinds_of types ty)) (sym mirrors.types)
-            (known.limits.types ty [] (subst (λ (types : List (List Kind)). ty < length types) mirrors.types lt)).0.0;
+        full = λ ty lt. rw mirrors.types (known.limits.types ty [] (rw mirrors.types at lt)).0.0;
       }
 
   -- headers say what is unmapped

@@ -4,31 +4,21 @@ use Rattle.std.proofs.Common.{subst, ◌∙◌}
 use Rattle.std.specs.Prelude.{slice_index, slice_set, ◌==◌, Some, None, if◌then◌else◌}
 use Rattle.std.proofs.lemmas.List.{set-get_or}
 use Rattle.std.proofs.lemmas.Bool.{false≢true, true≢false}
-use Rattle.mk_never.specs.declared.types.Kind.{Kind}
-use Rattle.mk_never.specs.declared.operations.Op.{Op}
+use Rattle.mk_protocol.proofs.Vocabulary.{AccessIsAdmitted, Done, Flight, IsAdmitted, IsNumber, IsPointer, IsSound}
+use Rattle.mk_protocol.proofs.Vocabulary.{Kind, Meets, NeverState, Null, Num, Op, Ptr, Stage, Unmapped, Value}
+use Rattle.mk_protocol.proofs.Vocabulary.{allocation_at, answer_of, bases_of, bit, d_of, g_of, global_at, header_of}
+use Rattle.mk_protocol.proofs.Vocabulary.{i_of, image_of, is_same, is_unmapped, is_unmapped_header, number_of, one_if}
+use Rattle.mk_protocol.proofs.Vocabulary.{onward, placed_at, progress_read, q_of, refused, register_at, stage_behind}
+use Rattle.mk_protocol.proofs.Vocabulary.{steps_of, target_of, with_register, with_word, word_at, words_of}
 use Rattle.mk_never.specs.declared.operations.Op.TheVariants as op
-use Rattle.mk_never.specs.declared.operations.Reply.TheVariants.{Done, Num as Number, Val}
-use Rattle.mk_never.specs.declared.values.Value.{Value}
-use Rattle.mk_never.specs.declared.values.Value.TheVariants.{Null, Num, Ptr}
-use Rattle.mk_never.specs.declared.values.Target.TheVariants.{Unmapped}
-use Rattle.mk_never.specs.NeverHeap.{NeverState, register_at, global_at, allocation_at, words_of, word_at, is_unmapped}
-use Rattle.mk_never.specs.NeverHeap.{with_register, with_word, target_of, reply_at, left_at, number_of, bit, is_same}
-use Rattle.mk_never.specs.Admitted.{Meets, AccessIsAdmitted, IsAdmitted, IsNumber, IsPointer}
-use Rattle.mk_never.specs.Typed.{IsSound}
-use Rattle.mk_geom.specs.Headers.{header_of}
+use Rattle.mk_never.specs.declared.operations.Reply.TheVariants.{Num as Number, Val}
+use Rattle.mk_never.specs.NeverHeap.{reply_at, left_at}
 use Rattle.mk_core.specs.declared.events.Answer.TheVariants as answer
-use Rattle.mk_core.specs.declared.seats.Stage.{Stage}
 use Rattle.mk_core.specs.declared.seats.Stage.TheVariants as stage
-use Rattle.mk_core.specs.declared.seats.Flight.{Flight}
-use Rattle.mk_core.specs.Calls.{q_of, steps_of, stage_behind, refused, d_of, g_of, i_of, one_if, onward, progress_read}
 use Rattle.mk_core.specs.Calls.{progress_cas, progress_getg, value_written}
-use Rattle.mk_core.specs.Cells.{is_unmapped_header}
-use Rattle.mk_core.specs.Image.{image_of, answer_of}
 use Rattle.mk_core.specs.Effects.{progress_probe}
-use Rattle.mk_core.specs.History.{bases_of}
 use Rattle.mk_protocol.proofs.Standings.{standing_at, is_astray}
 use Rattle.mk_images.specs.Images.{has_p, has_some_p, has_r, ImageScene, flight_among, is_put, CarriesOwn, ProbedOwn}
-use Rattle.mk_core.specs.Allocations.{placed_at}
 use Rattle.mk_images.specs.SafeSets.{IsSafe}
 use Rattle.mk_images.proofs.Moves.{Move, Decides, Owes, Shares, Writes}
 use Rattle.mk_images.proofs.Ready.{Ready, image_test, bit_is, LeadsBy, either_leads, one_right}
@@ -40,11 +30,10 @@ use Rattle.mk_images.proofs.RegMoves.{flight, flies_on}
 
 -- the access of an operation, at whatever kind of word
 meets_some : (n : NeverState) (v : Value) (i : ℕ) (P : Kind → Type 0) → Meets n v i P → Meets n v i (λ kind. Unit {0})
-meets_some n Null i P h = tt
-meets_some n (Num m) i P h = tt
 meets_some n (Ptr a t o) i P h = (h.0, tt)
+meets_some n _ i P h = tt
 
-access_meets : (n : NeverState) (k : ℕ) (o : Op) → accesses o ≡ true → AccessIsAdmitted n k o
+pub access_meets : (n : NeverState) (k : ℕ) (o : Op) → accesses o ≡ true → AccessIsAdmitted n k o
     → Meets n (register_at n k (q_of o)) (i_of o) (λ kind. Unit {0})
 access_meets n k (op.GetNum q i) a h = meets_some n (register_at n k q) i IsNumber h
 access_meets n k (op.SetNum q i m) a h = meets_some n (register_at n k q) i IsNumber h
@@ -54,14 +43,14 @@ access_meets n k (op.CasPtr q i p r) a h = meets_some n (register_at n k q) i Is
 access_meets n k _ a h = absurd (false≢true a)
 
 -- after its `probe` an access carries what it did before
-record BehindProbe (s : Stage) (o : Op) : Type 0 where
+pub record BehindProbe (s : Stage) (o : Op) : Type 0 where
   pub access : accesses o ≡ true
   pub put : is_put s ≡ false
   pub p : has_p s o ≡ has_p stage.Probe o
   pub some_p : has_some_p s o ≡ false
   pub r : has_r s o ≡ has_r stage.Probe o
 
-at_probe : (o : Op) → is_astray (standing_at stage.Probe o) ≡ false
+pub at_probe : (o : Op) → is_astray (standing_at stage.Probe o) ≡ false
     → BehindProbe (stage_behind stage.Probe (steps_of o)) o
 at_probe (op.GetNum q i) h = record { access = refl; put = refl; p = refl; some_p = refl; r = refl }
 at_probe (op.SetNum q i m) h = record { access = refl; put = refl; p = refl; some_p = refl; r = refl }
@@ -92,21 +81,18 @@ module _ (listed : List ℕ) (safe : ℕ → Bool) (s : ImageScene) (n : NeverSt
       let next = flight (stage_behind stage.Probe (steps_of o)) o q p r l in
       let v = register_at n k (q_of o) in
       let unmapped = ap (λ y. is_unmapped_header (header_of y)) (sym e) in
-      either_leads safe s n k o s (is_unmapped_header (header_of x))
-      (refused (flight stage.Probe o q p r l) answer.Fault) (onward (flight stage.Probe o q p r l) None)
+      either_leads safe s n k o s _ _ _
       (λ u. refuses safe s n k o q p r answer.Fault Unmapped table.access there long was ld refl
       (unmapped_target listed safe s n h header show v q (i_of o) (λ kind. Unit {0}) (car.q refl) (car.some_q refl)
       (own_sound (q_of o)) (own_safe (q_of o))
       (access_meets n k o table.access (ad u).access) (unmapped ∙ u)) (λ bs. refl))
-      (λ u. flies_on safe s n k o next was table.put
-      (record {
+      (λ u. flies_on safe s n k o next was table.put (record {
         q = λ y. car.q refl;
         some_q = λ y. car.some_q refl;
         p = λ y. car.p (sym table.p ∙ y);
         some_p = λ y. absurd (false≢true (sym table.some_p ∙ y));
         r = λ y. car.r (sym table.r ∙ y);
-      })
-      (λ y. mapped_met listed safe s n h header show v q (i_of o) (car.q refl) (car.some_q refl) (own_sound (q_of o))
+      }) (λ y. mapped_met listed safe s n h header show v q (i_of o) (car.q refl) (car.some_q refl) (own_sound (q_of o))
       (own_safe (q_of o)) (unmapped ∙ u)))
 
   pub read_leads : (o : Op) (q p r l x : ℕ) → flight_among s.flights k ≡ flight stage.Read o q p r l → d_of o < 8
@@ -120,12 +106,9 @@ module _ (listed : List ℕ) (safe : ℕ → Bool) (s : ImageScene) (n : NeverSt
       (own_safe q') (pro refl) ad.access in
       let word = word_at n to.number to.place in
       let value : x ≡ number_of word = e ∙ ap (slice_index s.heap) to.word
-      ∙ h.images.heap to.number to.place to.unreleased to.mapped to.inside
-      ∙ of_number n (bases_of s.allocations) word _ to.kind
+      ∙ h.images.heap to.number to.place to.unreleased to.mapped to.inside ∙ of_number n _ word _ to.kind
       (suits listed safe s n h to.number to.place to.exists to.inside) in
-      decides_nothing safe s n k (op.GetNum q' i) (flight stage.Leave (op.GetNum q' i) q p r l) (answer.Num x) refl
-      (ap (λ (f : Flight). is_put f.stage) is) refl refl
-      (λ bs. ap answer.Num value
+      decides_nothing safe s n k (op.GetNum q' i) _ (answer.Num x) refl (rw is) refl refl (λ bs. ap answer.Num value
       ∙ ap (λ t. answer_of bs (reply_at t (λ a w. Number (number_of (word_at n a w))))) (sym to.target))
   read_leads (op.GetPtr d q' i) q p r l x is ld a car pro e ad =
       let to = reaches listed safe s n h (register_at n k q') q i IsPointer (car.q refl) (car.some_q refl)
@@ -134,13 +117,9 @@ module _ (listed : List ℕ) (safe : ℕ → Bool) (s : ImageScene) (n : NeverSt
       let value : x ≡ image_of (bases_of s.allocations) word = e ∙ ap (slice_index s.heap) to.word
       ∙ h.images.heap to.number to.place to.unreleased to.mapped to.inside in
       let sound = suited_is_sound n word _ to.kind (suits listed safe s n h to.number to.place to.exists to.inside) in (
-        subst (λ t. Move safe s n
-            (record s { flights = slice_set s.flights k (flight stage.Put (op.GetPtr d q' i) q p r x) })
-            (left_at t (with_register n k d Null) (λ a w. with_register n k d (word_at n a w)))) (sym to.target)
-            (Owes k (flight stage.Put (op.GetPtr d q' i) q p r x) word there long
-            (ap (λ (f : Flight). is_put f.stage) is) refl ld value
+        rw to.target (Owes k (flight stage.Put (op.GetPtr d q' i) q p r x) word there long (rw is) refl ld value
             (h.set.closed to.number to.place to.of_set to.mapped)),
-        λ more. one_right (bases_of s.allocations ++ more) (answer.Word x) n k (op.GetPtr d q' i)
+        λ more. one_right _ (answer.Word x) n k (op.GetPtr d q' i)
             (ap answer.Word (value ∙ sound_more listed safe s n h word more sound)
             ∙ ap (λ t. answer_of (bases_of s.allocations ++ more) (reply_at t (λ a w. Val (word_at n a w))))
             (sym to.target)),
@@ -153,8 +132,7 @@ module _ (listed : List ℕ) (safe : ℕ → Bool) (s : ImageScene) (n : NeverSt
   decides f st o q p r l is np = record {
     there = there;
     registers = long;
-    was = ap (λ (f : Flight). is_put f.stage) is
-        ∙ np;
+    was = rw is np;
     bare = refl;
   }
 
@@ -169,35 +147,20 @@ module _ (listed : List ℕ) (safe : ℕ → Bool) (s : ImageScene) (n : NeverSt
       let to = reaches listed safe s n h (register_at n k q') q i IsNumber (car.q refl) (car.some_q refl) (own_sound q')
       (own_safe q') (pro refl) ad.access in
       let f = flight stage.Dirty (op.SetNum q' i m) q p r l in (
-        subst (λ x. Move safe s n (record s { heap = slice_set s.heap x m; flights = slice_set s.flights k f })
-            (left_at (target_of n (register_at n k q') i) n (λ a w. with_word n a w (Num m)))) (sym to.word)
-            (subst (λ t. Move safe s n
-            (record s {
-              heap = slice_set s.heap ((placed_at s.allocations to.number).base + to.place) m;
-              flights = slice_set s.flights k f;
-            }) (left_at t n (λ a w. with_word n a w (Num m)))) (sym to.target)
+        rw to.word (rw to.target
             (Writes k to.number to.place m f (Num m) (decides f stage.Write (op.SetNum q' i m) q p r l is refl)
             to.unreleased to.mapped to.inside (h.bound to.number to.place to.unreleased to.inside) refl tt)),
-        λ more. one_right (bases_of s.allocations ++ more) answer.Done n k (op.SetNum q' i m)
+        λ more. one_right _ answer.Done n k (op.SetNum q' i m)
             (ap (λ t. answer_of (bases_of s.allocations ++ more) (reply_at t (λ a w. Done))) (sym to.target)),
       )
   write_leads (op.SetPtr q' i p') q p r l is a car pro ad =
       let to = reaches listed safe s n h (register_at n k q') q i IsPointer (car.q refl) (car.some_q refl)
       (own_sound q') (own_safe q') (pro refl) ad.access in
       let f = flight stage.Dirty (op.SetPtr q' i p') q p r l in (
-        subst (λ x. Move safe s n (record s { heap = slice_set s.heap x p; flights = slice_set s.flights k f })
-            (left_at (target_of n (register_at n k q') i) n (λ a w. with_word n a w (register_at n k p'))))
-            (sym to.word)
-            (subst (λ t. Move safe s n
-            (record s {
-              heap = slice_set s.heap ((placed_at s.allocations to.number).base + to.place) p;
-              flights = slice_set s.flights k f;
-            }) (left_at t n (λ a w. with_word n a w (register_at n k p'))))
-            (sym to.target)
-            (Writes k to.number to.place p f (register_at n k p')
+        rw to.word (rw to.target (Writes k to.number to.place p f (register_at n k p')
             (decides f stage.Write (op.SetPtr q' i p') q p r l is refl) to.unreleased to.mapped to.inside
             (h.bound to.number to.place to.unreleased to.inside) (car.p refl) (own_safe p'))),
-        λ more. one_right (bases_of s.allocations ++ more) answer.Done n k (op.SetPtr q' i p')
+        λ more. one_right _ answer.Done n k (op.SetPtr q' i p')
             (ap (λ t. answer_of (bases_of s.allocations ++ more) (reply_at t (λ a w. Done))) (sym to.target)),
       )
   write_leads (op.New d ty full) q p r l is a car pro ad = cc
@@ -214,16 +177,10 @@ module _ (listed : List ℕ) (safe : ℕ → Bool) (s : ImageScene) (n : NeverSt
       }) (if b then with_word n a i (register_at n k r')
       else n)
   cas_by true o q p r l r' a i w x ew ex u m inside er at =
-      subst (λ y. Move safe s n
-      (record s { heap = slice_set s.heap y r; flights = slice_set s.flights k (flight stage.Dirty o q p r l) })
-      (with_word n a i (register_at n k r'))) (sym ew)
-      (Writes k a i r (flight stage.Dirty o q p r l) (register_at n k r') at u m inside (h.bound a i u inside) er
+      rw ew (Writes k a i r (flight stage.Dirty o q p r l) (register_at n k r') at u m inside (h.bound a i u inside) er
       (own_safe r'))
   cas_by false o q p r l r' a i w x ew ex u m inside er at =
-      subst (λ (ys : List ℕ). Move safe s n
-      (record s { heap = ys; flights = slice_set s.flights k (flight stage.Dirty o q p r l) }) n)
-      (sym (ap (slice_set s.heap w) ex ∙ set-get_or s.heap w 0))
-      (goes_bare safe s n k (flight stage.Dirty o q p r l) at.was refl)
+      rw (ap (slice_set s.heap w) ex ∙ set-get_or s.heap w 0) (goes_bare safe s n k _ at.was refl)
 
   -- A compare and exchange reaches a word, and compares its value to that of its caller's register p.
   pub cas_compares : (q' i p' r' q p r l x : ℕ)
@@ -240,9 +197,8 @@ module _ (listed : List ℕ) (safe : ℕ → Bool) (s : ImageScene) (n : NeverSt
       ∙ h.images.heap to.number to.place to.unreleased to.mapped to.inside in
       let sound = suited_is_sound n word _ to.kind (suits listed safe s n h to.number to.place to.exists to.inside) in (
         to,
-        ap (λ y. y == p) value ∙ ap (λ y. image_of (bases_of s.allocations) word == y) (car.p refl)
-            ∙ image_test listed safe s n h word (register_at n k p') sound (own_sound p')
-            (h.set.closed to.number to.place to.of_set to.mapped) (own_safe p'),
+        rw value (rw (car.p refl) (image_test listed safe s n h word (register_at n k p') sound (own_sound p')
+            (h.set.closed to.number to.place to.of_set to.mapped) (own_safe p'))),
       )
 
   pub cas_leads : (o : Op) (q p r l x : ℕ) → flight_among s.flights k ≡ flight stage.Cas o q p r l
@@ -258,25 +214,16 @@ module _ (listed : List ℕ) (safe : ℕ → Bool) (s : ImageScene) (n : NeverSt
       let f = flight stage.Dirty (op.CasPtr q' i p' r') q p r l in
       let at : ℕ → ℕ → NeverState = λ a w. if is_same (word_at n a w) (register_at n k p')
       then with_word n a w (register_at n k r') else n in (
-        subst (λ t. Move safe s n
-            (record s {
-              heap = slice_set s.heap ((q - 65536) / 8 + i) (if x == p then r else x);
-              flights = slice_set s.flights k f;
-            }) (left_at t n at)) (sym to.target)
-            (subst (λ b. Move safe s n
-            (record s {
-              heap = slice_set s.heap ((q - 65536) / 8 + i) (if x == p then r else x);
-              flights = slice_set s.flights k f;
-            }) (if b then with_word n to.number to.place (register_at n k r')
-            else n)) compared.1
+        rw to.target (subst (λ b. Move safe s n (record s {
+          heap = slice_set s.heap ((q - 65536) / 8 + i) (if x == p then r else x);
+          flights = slice_set s.flights k f;
+        }) (if b then with_word n to.number to.place (register_at n k r') else n)) compared.1
             (cas_by (x == p) (op.CasPtr q' i p' r') q p r l r' to.number to.place ((q - 65536) / 8 + i) x to.word e
             to.unreleased to.mapped to.inside (car.r refl)
             (decides f stage.Cas (op.CasPtr q' i p' r') q p r l is refl))),
-        λ more. one_right (bases_of s.allocations ++ more) (answer.Num (one_if (x == p))) n k (op.CasPtr q' i p' r')
-            (ap (λ b. answer.Num (one_if b)) compared.1
-            ∙ ap answer.Num (bit_is (is_same (word_at n to.number to.place) (register_at n k p')))
-            ∙ ap (λ t. answer_of (bases_of s.allocations ++ more)
-            (reply_at t (λ a w. Number (bit (is_same (word_at n a w) (register_at n k p')))))) (sym to.target)),
+        λ more. one_right _ (answer.Num (one_if (x == p))) n k (op.CasPtr q' i p' r') (rw compared.1
+            (ap answer.Num (bit_is _) ∙ ap (λ t. answer_of (bases_of s.allocations ++ more)
+            (reply_at t (λ a w. Number (bit (is_same (word_at n a w) (register_at n k p')))))) (sym to.target))),
       )
   cas_leads (op.New d ty full) q p r l x is a car pro e ad = cc
   cas_leads _ q p r l x is a car pro e ad = cc
@@ -288,8 +235,8 @@ module _ (listed : List ℕ) (safe : ℕ → Bool) (s : ImageScene) (n : NeverSt
   getg_leads (op.GetGlobal d g) q p r l x is ld a e =
       let value : x ≡ image_of (bases_of s.allocations) (global_at n g) = e ∙ h.images.globals g in (
         Owes k (flight stage.Put (op.GetGlobal d g) q p r x) (global_at n g) there long
-            (ap (λ (f : Flight). is_put f.stage) is) refl ld value (h.set.globals g),
-        λ more. one_right (bases_of s.allocations ++ more) (answer.Word x) n k (op.GetGlobal d g)
+            (rw is) refl ld value (h.set.globals g),
+        λ more. one_right _ (answer.Word x) n k (op.GetGlobal d g)
             (ap answer.Word (value ∙ sound_more listed safe s n h (global_at n g) more (h.typed.globals g))),
       )
   getg_leads (op.New d ty full) q p r l x is ld a e = cc
@@ -303,8 +250,7 @@ module _ (listed : List ℕ) (safe : ℕ → Bool) (s : ImageScene) (n : NeverSt
       (onward (flight stage.Setg o q p r l) (Some answer.Done))
   setg_leads (op.SetGlobal g p') q p r l is a car lg ln = (
     Shares k g p (flight stage.Leave (op.SetGlobal g p') q p r l) (register_at n k p')
-        (record { there = there; registers = long; was = ap (λ (f : Flight). is_put f.stage) is; bare = refl }) lg ln
-        (car.p refl) (own_safe p'),
+        (record { there = there; registers = long; was = rw is; bare = refl }) lg ln (car.p refl) (own_safe p'),
     λ more. refl,
   )
   setg_leads (op.New d ty full) q p r l is a car lg ln = cc

@@ -2,30 +2,19 @@
 use Rattle.std.proofs.Common.{◌≡◌, ℕ, ◌+◌, ◌*◌, ◌<◌, Bool, true, false, List, length, refl, sym, ap, subst, ◌∙◌, arith}
 use Rattle.std.specs.Prelude.{slice_index, slice_set, ◌==◌, if◌then◌else◌, Some, None}
 use Rattle.std.proofs.lemmas.Bool.{ltb-true}
-use Rattle.mk_never.specs.declared.operations.Op.{Op}
+use Rattle.mk_protocol.proofs.Vocabulary.{Answer, AreAdmitted, Caller, Config, Flight, IsAdmitted, MeetsAll, Named}
+use Rattle.mk_protocol.proofs.Vocabulary.{NeverState, Op, Stage, Step, Words, World, accessed, answer_decided, asked}
+use Rattle.mk_protocol.proofs.Vocabulary.{at_rest, bases_of, begun, call_decided, d_of, entry_of, flagged, flight_of}
+use Rattle.mk_protocol.proofs.Vocabulary.{g_of, header_at, is_under_turn, onward, page_met, progress_read, progress_reg}
+use Rattle.mk_protocol.proofs.Vocabulary.{refused, reg_access, register_met, register_word, still, word_met}
+use Rattle.mk_protocol.proofs.Vocabulary.{world_behind}
 use Rattle.mk_never.specs.declared.operations.Op.TheVariants as op
-use Rattle.mk_never.specs.NeverHeap.{NeverState}
-use Rattle.mk_never.specs.Admitted.{AreAdmitted, IsAdmitted}
-use Rattle.mk_core.specs.declared.config.Config.{Config}
-use Rattle.mk_core.specs.declared.accesses.TableWord.TheVariants.{Named}
-use Rattle.mk_core.specs.declared.events.Answer.{Answer}
 use Rattle.mk_core.specs.declared.events.Answer.TheVariants as answer
-use Rattle.mk_core.specs.declared.events.Seat.TheVariants.{Caller}
 use Rattle.mk_core.specs.declared.events.Word.TheVariants as word
-use Rattle.mk_core.specs.declared.events.Step.{Step}
 use Rattle.mk_core.specs.declared.events.Step.TheVariants as step
-use Rattle.mk_core.specs.declared.seats.Stage.{Stage}
 use Rattle.mk_core.specs.declared.seats.Stage.TheVariants as stage
-use Rattle.mk_core.specs.declared.seats.Flight.{Flight}
-use Rattle.mk_core.specs.Words.{Words, header_at, register_word, accessed}
-use Rattle.mk_core.specs.Calls.{is_under_turn, d_of, g_of, word_met, page_met, value_written, at_rest, begun, still}
-use Rattle.mk_core.specs.Calls.{onward, refused, progress_reg, progress_read, progress_cas, progress_getg}
-use Rattle.mk_core.specs.Moments.{flight_of}
-use Rattle.mk_core.specs.Accesses.{register_met, reg_access}
-use Rattle.mk_core.specs.Effects.{progress_probe, begins_where_free, answer_decided}
-use Rattle.mk_core.specs.History.{World, world_behind, bases_of, call_decided}
-use Rattle.mk_core.specs.Decided.{flagged, entry_of, asked}
-use Rattle.mk_core.specs.Enabled.{MeetsAll}
+use Rattle.mk_core.specs.Calls.{value_written, progress_cas, progress_getg}
+use Rattle.mk_core.specs.Effects.{progress_probe, begins_where_free}
 use Rattle.mk_protocol.proofs.Standings.{standing_at, standing, is_astray}
 use Rattle.mk_protocol.proofs.Stages.{is_call_stage}
 use Rattle.mk_protocol.proofs.NextSteps.{at_its_stage, at_reg, at_enter}
@@ -80,7 +69,7 @@ call_outside _ _ h a = cc
 pub admitted_call : (listed : List ℕ) (n : NeverState) (k : ℕ) (o : Op) (a : Answer) → is_under_turn o ≡ false
     → AreAdmitted listed n (asked (entry_of k o (Some a)))
     → IsAdmitted listed n k o
-admitted_call listed n k o a out ad = subst (λ (x : Op). IsAdmitted listed n k x) (flag_is o a out) ad.0
+admitted_call listed n k o a out ad = rw (flag_is o a out) at ad.0
 
 read_admitted : (listed : List ℕ) (n : NeverState) (k : ℕ) (f : Flight) (o : Op) (x : ℕ) → is_under_turn o ≡ false
     → AreAdmitted listed n (asked (entry_of k o (progress_read f o x).answer)) → IsAdmitted listed n k o
@@ -93,7 +82,7 @@ read_admitted listed n k f o x out ad = admitted_call listed n k o (answer.Num x
     by _ ad = ad
 
 pub literal : (f : Flight) (st : Stage) → f.stage ≡ st → f ≡ flight st f.op f.q f.p f.r f.loaded
-literal f st e = ap (λ x. flight x f.op f.q f.p f.r f.loaded) e
+literal f st e = rw e
 
 -- the words after `reg`
 reg_registers : (w : Words) (k : ℕ) (f : Flight) (st : Stage)
@@ -154,9 +143,7 @@ module _ (c : Config) (w : World) (n : NeverState) (known : KnownWorld c w) (mir
         flight = begun next;
         answer =
             None;
-      })
-      (still (flight_of w.now (Caller k)))
-      (λ z. flies_on safe (image_scene_of w) n k o (begun next) was (begun_not_put next) (begun_carries _ next n k)
+      }) _ (λ z. flies_on safe (image_scene_of w) n k o (begun next) was (begun_not_put next) (begun_carries _ next n k)
       (λ past. let y : false ≡ true = sym (begun_unprobed next) ∙ past in cc))
       (λ z. flies_on safe (image_scene_of w) n k o (flight_of w.now (Caller k)) was was (ready.images.carried k)
       (ready.images.probed k))
@@ -197,22 +184,15 @@ module _ (c : Config) (w : World) (n : NeverState) (known : KnownWorld c w) (mir
       let f = flight_of w.now (Caller k) in
       let lt = ltb-true k c.callers h.seat in
       let e = literal f stage.Dirty (at_its_stage f.stage f.op step.Dirty refl h.order) in
-      subst (λ (g : Flight). Leads safe (image_scene_of w) n k g.op
-      (record (image_scene_of w) { flights = slice_set w.now.seats.flights k (onward g None).flight }) None) (sym e)
-      (dirty_by f.op f.q f.p f.r f.loaded (subst (λ (g : Flight). is_astray (standing g) ≡ false) e (own_astray k lt))
-      (ap (λ (g : Flight). is_put g.stage) e))
+      rw e (dirty_by f.op f.q f.p f.r f.loaded (rw e at (own_astray k lt)) (rw e))
     where
       dirty_by : (o : Op) (q p r l : ℕ) → is_astray (standing_at stage.Dirty o) ≡ false
-          → is_put (flight_of w.now (Caller k)).stage ≡ false
-          → Leads safe (image_scene_of w) n k o
+          → is_put (flight_of w.now (Caller k)).stage ≡ false → Leads safe (image_scene_of w) n k o
           (record (image_scene_of w)
           { flights = slice_set w.now.seats.flights k (onward (flight stage.Dirty o q p r l) None).flight }) None
-      dirty_by (op.SetNum q' i m) q p r l a was =
-          bare_on k (op.SetNum q' i m) (flight stage.Leave (op.SetNum q' i m) q p r l) was refl
-      dirty_by (op.SetPtr q' i p') q p r l a was =
-          bare_on k (op.SetPtr q' i p') (flight stage.Leave (op.SetPtr q' i p') q p r l) was refl
-      dirty_by (op.CasPtr q' i p' r') q p r l a was =
-          bare_on k (op.CasPtr q' i p' r') (flight stage.Leave (op.CasPtr q' i p' r') q p r l) was refl
+      dirty_by (op.SetNum q' i m) q p r l a was = bare_on k (op.SetNum q' i m) _ was refl
+      dirty_by (op.SetPtr q' i p') q p r l a was = bare_on k (op.SetPtr q' i p') _ was refl
+      dirty_by (op.CasPtr q' i p' r') q p r l a was = bare_on k (op.CasPtr q' i p' r') _ was refl
       dirty_by (op.New d ty full) q p r l a was = cc
       dirty_by _ q p r l a was = cc
 
@@ -221,40 +201,12 @@ module _ (c : Config) (w : World) (n : NeverState) (known : KnownWorld c w) (mir
       let f = flight_of w.now (Caller k) in
       let lt = ltb-true k c.callers h.seat in
       let x = register_word w.now.words k (register_met f f.stage) in
-      subst (λ (rs : List ℕ). Leads safe (image_scene_of w) n k f.op
-      (record {
-        registers = rs;
-        globals = (accessed w.now.words (Named (word.Reg k (register_met f f.stage))) (reg_access f f.stage)).globals;
-        heap = (accessed w.now.words (Named (word.Reg k (register_met f f.stage))) (reg_access f f.stage)).heap;
-        flights = slice_set w.now.seats.flights k (progress_reg f f.stage x).flight;
-        allocations = w.allocations;
-      })
-      (progress_reg f f.stage x).answer)
-      (sym (reg_registers w.now.words k f f.stage))
-      (subst (λ (gs : List ℕ). Leads safe (image_scene_of w) n k f.op
-      (record {
-        registers = registers_behind w.now.words.registers k f f.stage;
-        globals = gs;
-        heap = (accessed w.now.words (Named (word.Reg k (register_met f f.stage))) (reg_access f f.stage)).heap;
-        flights = slice_set w.now.seats.flights k (progress_reg f f.stage x).flight;
-        allocations = w.allocations;
-      })
-      (progress_reg f f.stage x).answer)
-      (sym (reg_globals w.now.words k f f.stage))
-      (subst (λ (hs : List ℕ). Leads safe (image_scene_of w) n k f.op
-      (record {
-        registers = registers_behind w.now.words.registers k f f.stage;
-        globals = w.now.words.globals;
-        heap = hs;
-        flights = slice_set w.now.seats.flights k (progress_reg f f.stage x).flight;
-        allocations = w.allocations;
-      }) (progress_reg f f.stage x).answer)
-      (sym (reg_heap w.now.words k f f.stage))
+      rw (reg_registers w.now.words k f f.stage) (rw (reg_globals w.now.words k f f.stage)
+      (rw (reg_heap w.now.words k f f.stage)
       (reg_leads c.globals safe (image_scene_of w) n k ready (there_is k lt) (own_registers k lt)
       (own_words k lt) f.stage
       f.op f.q f.p f.r f.loaded x refl (own_d k) (at_reg f.stage f.op h.order) (own_astray k lt)
-      (ready.images.carried k)
-      (λ np. own_plain (image_scene_of w) n ready.images k (register_met f f.stage)
+      (ready.images.carried k) (λ np. own_plain (image_scene_of w) n ready.images k _
       (register_small_here k f.stage) np) ad)))
     where
       register_small_here : (k : ℕ) (s : Stage) → register_met (flight_of w.now (Caller k)) s < 8
@@ -275,10 +227,8 @@ module _ (c : Config) (w : World) (n : NeverState) (known : KnownWorld c w) (mir
       (progress_probe g (header_at w.now.words (page_met f)))) (sym e)
       (probe_leads c.globals safe (image_scene_of w) n k ready (there_is k lt) (own_registers k lt)
       (header_at w.now.words) show f.op f.q f.p f.r f.loaded (header_at w.now.words (page_met f)) e (own_d k)
-      (subst (λ (g : Flight). is_astray (standing g) ≡ false) e (own_astray k lt))
-      (subst (λ (g : Flight). CarriesOwn (bases_of w.allocations) n k g) e (ready.images.carried k)) refl
-      (λ u. admitted_call c.globals n k f.op answer.Fault out
-      (subst (λ b. AreAdmitted c.globals n
+      (rw e at (own_astray k lt)) (rw e at (ready.images.carried k)) refl
+      (λ u. admitted_call c.globals n k f.op answer.Fault out (subst (λ b. AreAdmitted c.globals n
       (asked (entry_of k f.op (if b then refused f answer.Fault else onward f None).answer))) u ad)))
 
   pub read_leads_at : (k : ℕ) → Meets c w k step.Read → AdmittedAt c w n k step.Read → LeadsAt c w n safe k step.Read
@@ -290,13 +240,9 @@ module _ (c : Config) (w : World) (n : NeverState) (known : KnownWorld c w) (mir
       let out = call_outside f.op f.stage (ap is_call_stage st) (own_astray k lt) in
       let x = slice_index w.now.words.heap (word_met f) in
       subst (λ (g : Flight). LeadsBy safe (image_scene_of w) n k g.op (image_scene_of w) (progress_read g g.op x))
-      (sym e)
-      (read_leads c.globals safe (image_scene_of w) n k ready (there_is k lt)
-      (own_registers k lt) f.op f.q f.p f.r f.loaded x
-      e (own_d k)
-      (subst (λ (g : Flight). is_astray (standing g) ≡ false) e (own_astray k lt))
-      (subst (λ (g : Flight). CarriesOwn (bases_of w.allocations) n k g) e (ready.images.carried k))
-      (subst (λ (g : Flight). ProbedOwn n k g) e (ready.images.probed k)) refl
+      (sym e) (read_leads c.globals safe (image_scene_of w) n k ready (there_is k lt)
+      (own_registers k lt) f.op f.q f.p f.r f.loaded x e (own_d k) (rw e at (own_astray k lt))
+      (rw e at (ready.images.carried k)) (rw e at (ready.images.probed k)) refl
       (read_admitted c.globals n k f f.op x out ad))
 
   pub write_leads_at : (k : ℕ) → Meets c w k step.Write → AdmittedAt c w n k step.Write
@@ -307,16 +253,9 @@ module _ (c : Config) (w : World) (n : NeverState) (known : KnownWorld c w) (mir
       let st = at_its_stage f.stage f.op step.Write refl h.order in
       let e = literal f stage.Write st in
       let out = call_outside f.op f.stage (ap is_call_stage st) (own_astray k lt) in
-      subst (λ (g : Flight). LeadsBy safe (image_scene_of w) n k g.op
-      (record (image_scene_of w) { heap = slice_set w.now.words.heap (word_met g) (value_written g g.op) })
-      (onward g (Some answer.Done))) (sym e)
-      (write_leads c.globals safe (image_scene_of w) n k ready (there_is k lt)
-      (own_registers k lt) f.op f.q f.p f.r f.loaded
-      e
-      (subst (λ (g : Flight). is_astray (standing g) ≡ false) e (own_astray k lt))
-      (subst (λ (g : Flight). CarriesOwn (bases_of w.allocations) n k g) e (ready.images.carried k))
-      (subst (λ (g : Flight). ProbedOwn n k g) e (ready.images.probed k))
-      (admitted_call c.globals n k f.op answer.Done out ad))
+      rw e (write_leads c.globals safe (image_scene_of w) n k ready (there_is k lt)
+      (own_registers k lt) f.op f.q f.p f.r f.loaded e (rw e at (own_astray k lt)) (rw e at (ready.images.carried k))
+      (rw e at (ready.images.probed k)) (admitted_call c.globals n k f.op answer.Done out ad))
 
   pub cas_leads_at : (k : ℕ) → Meets c w k step.Cas → AdmittedAt c w n k step.Cas → LeadsAt c w n safe k step.Cas
   cas_leads_at k h ad =
@@ -326,16 +265,9 @@ module _ (c : Config) (w : World) (n : NeverState) (known : KnownWorld c w) (mir
       let e = literal f stage.Cas st in
       let out = call_outside f.op f.stage (ap is_call_stage st) (own_astray k lt) in
       let x = slice_index w.now.words.heap (word_met f) in
-      subst (λ (g : Flight). LeadsBy safe (image_scene_of w) n k g.op
-      (record (image_scene_of w) { heap = slice_set w.now.words.heap (word_met g) (if x == g.p then g.r else x) })
-      (progress_cas g x)) (sym e)
-      (cas_leads c.globals safe (image_scene_of w) n k ready (there_is k lt)
-      (own_registers k lt) f.op f.q f.p f.r f.loaded x
-      e
-      (subst (λ (g : Flight). is_astray (standing g) ≡ false) e (own_astray k lt))
-      (subst (λ (g : Flight). CarriesOwn (bases_of w.allocations) n k g) e (ready.images.carried k))
-      (subst (λ (g : Flight). ProbedOwn n k g) e (ready.images.probed k)) refl
-      (admitted_call c.globals n k f.op _ out ad))
+      rw e (cas_leads c.globals safe (image_scene_of w) n k ready (there_is k lt)
+      (own_registers k lt) f.op f.q f.p f.r f.loaded x e (rw e at (own_astray k lt)) (rw e at (ready.images.carried k))
+      (rw e at (ready.images.probed k)) refl (admitted_call c.globals n k f.op _ out ad))
 
   pub getg_leads_at : (k : ℕ) → Meets c w k step.Getg → LeadsAt c w n safe k step.Getg
   getg_leads_at k h =
@@ -343,10 +275,8 @@ module _ (c : Config) (w : World) (n : NeverState) (known : KnownWorld c w) (mir
       let lt = ltb-true k c.callers h.seat in
       let e = literal f stage.Getg (at_its_stage f.stage f.op step.Getg refl h.order) in
       let x = slice_index w.now.words.globals (g_of f.op) in
-      subst (λ (g : Flight). LeadsBy safe (image_scene_of w) n k g.op (image_scene_of w) (progress_getg g x)) (sym e)
-      (getg_leads c.globals safe (image_scene_of w) n k ready (there_is k lt)
-      (own_registers k lt) f.op f.q f.p f.r f.loaded x
-      e (own_d k) (subst (λ (g : Flight). is_astray (standing g) ≡ false) e (own_astray k lt)) refl)
+      rw e (getg_leads c.globals safe (image_scene_of w) n k ready (there_is k lt)
+      (own_registers k lt) f.op f.q f.p f.r f.loaded x e (own_d k) (rw e at (own_astray k lt)) refl)
 
   pub setg_leads_at : (k : ℕ) → Meets c w k step.Setg → LeadsAt c w n safe k step.Setg
   setg_leads_at k h =
@@ -357,11 +287,6 @@ module _ (c : Config) (w : World) (n : NeverState) (known : KnownWorld c w) (mir
       let small = parts.g in
       let lg = known.lengths.globals in
       let ln = mirrors.global_count in
-      subst (λ (g : Flight). LeadsBy safe (image_scene_of w) n k g.op
-      (record (image_scene_of w) { globals = slice_set w.now.words.globals (g_of g.op) g.p })
-      (onward g (Some answer.Done))) (sym e)
-      (setg_leads c.globals safe (image_scene_of w) n k ready (there_is k lt)
-      (own_registers k lt) f.op f.q f.p f.r f.loaded e
-      (subst (λ (g : Flight). is_astray (standing g) ≡ false) e (own_astray k lt))
-      (subst (λ (g : Flight). CarriesOwn (bases_of w.allocations) n k g) e (ready.images.carried k))
+      rw e (setg_leads c.globals safe (image_scene_of w) n k ready (there_is k lt)
+      (own_registers k lt) f.op f.q f.p f.r f.loaded e (rw e at (own_astray k lt)) (rw e at (ready.images.carried k))
       (omega arith) (omega arith))

@@ -4,36 +4,16 @@ use Rattle.std.proofs.Common.{arith}
 use Rattle.std.specs.Prelude.{slice_set, ◌&&◌, ◌||◌, ◌==◌, not, if◌then◌else◌, Option, Some, None}
 use Rattle.std.proofs.lemmas.Bool.{cases_Bool, cases_eq, cases_lt, eqb-true, or_cases, ltb-true, false≢true}
 use Rattle.std.proofs.lemmas.List.{set-get_or, get_or_past}
-use Rattle.mk_never.specs.NeverHeap.{NeverState}
-use Rattle.mk_never.specs.Admitted.{AreAdmitted}
-use Rattle.mk_geom.specs.declared.addresses.Cell.{Cell}
-use Rattle.mk_core.specs.declared.config.Config.{Config}
-use Rattle.mk_core.specs.declared.accesses.Access.TheVariants.{Store}
-use Rattle.mk_core.specs.declared.accesses.TableWord.TheVariants.{Named}
-use Rattle.mk_core.specs.declared.events.Event.{Event}
-use Rattle.mk_core.specs.declared.events.Seat.{Seat}
-use Rattle.mk_core.specs.declared.events.Seat.TheVariants.{Caller, Marker, Host}
+use Rattle.mk_protocol.proofs.Vocabulary.{AreAdmitted, Caller, Cell, Config, Event, Flight, Host, Marker, MeetsAll}
+use Rattle.mk_protocol.proofs.Vocabulary.{Named, NeverState, PlacedAllocation, Seat, Stage, Step, Store, Tally, World}
+use Rattle.mk_protocol.proofs.Vocabulary.{accessed, answer_decided, asked, at_rest, call_decided, caller_number}
+use Rattle.mk_protocol.proofs.Vocabulary.{cell_freed, flight_of, freed_where_it_stands, frees, host_has_turn}
+use Rattle.mk_protocol.proofs.Vocabulary.{is_open_to, is_phase, is_run_cell, is_run_gone, no_longer_fresh}
+use Rattle.mk_protocol.proofs.Vocabulary.{others_are_held, tally_word, target, world_behind}
 use Rattle.mk_core.specs.declared.events.Group.TheVariants as group
-use Rattle.mk_core.specs.declared.events.Step.{Step}
 use Rattle.mk_core.specs.declared.events.Step.TheVariants as step
-use Rattle.mk_core.specs.declared.events.Tally.{Tally}
 use Rattle.mk_core.specs.declared.events.Tally.TheVariants as tally
-use Rattle.mk_core.specs.declared.seats.Stage.{Stage}
 use Rattle.mk_core.specs.declared.seats.Stage.TheVariants as stage
-use Rattle.mk_core.specs.declared.seats.Flight.{Flight}
-use Rattle.mk_core.specs.Words.{accessed}
-use Rattle.mk_core.specs.Calls.{at_rest}
-use Rattle.mk_core.specs.Moments.{flight_of, others_are_held, is_phase}
-use Rattle.mk_core.specs.NewPlaces.{target, is_run_gone}
-use Rattle.mk_core.specs.Order.{is_open_to, host_has_turn}
-use Rattle.mk_core.specs.Ranges.{is_run_cell}
-use Rattle.mk_core.specs.Accesses.{caller_number, tally_word}
-use Rattle.mk_core.specs.TurnConditions.{cell_freed, frees}
-use Rattle.mk_core.specs.Effects.{answer_decided}
-use Rattle.mk_core.specs.Allocations.{PlacedAllocation, freed_where_it_stands, no_longer_fresh}
-use Rattle.mk_core.specs.History.{World, world_behind, call_decided}
-use Rattle.mk_core.specs.Decided.{asked}
-use Rattle.mk_core.specs.Enabled.{MeetsAll}
 use Rattle.mk_protocol.proofs.Views.{view_of, gate_in}
 use Rattle.mk_protocol.proofs.Standings.{InCall, standing, Shows, is_astray}
 use Rattle.mk_core.proofs.ChangedAllocations.{changed_at, fresh_leaves, none_freed}
@@ -43,11 +23,10 @@ use Rattle.mk_protocol.proofs.Asked.{others_held}
 use Rattle.mk_protocol.proofs.Actors.{grants_new}
 use Rattle.mk_protocol.proofs.OrderlyLists.{not_astray}
 use Rattle.mk_images.proofs.KeptPlaces.{same_places}
-use Rattle.mk_images.proofs.Stands.{gone_shows}
+use Rattle.mk_images.proofs.Stands.{gone_shows, Stands}
 use Rattle.mk_images.specs.Images.{ImageScene, image_scene_of, flight_among, is_put, is_past_probe}
 use Rattle.mk_images.proofs.KnownWorlds.{KnownWorld}
 use Rattle.mk_images.specs.Mirrors.{Mirrors}
-use Rattle.mk_images.proofs.Stands.{Stands}
 use Rattle.mk_images.specs.ImagePremises.{ImagePremises}
 use Rattle.mk_images.proofs.Moves.{Move, Rests, Wipes, Renews}
 use Rattle.mk_images.proofs.Ready.{Ready, Leads}
@@ -120,8 +99,7 @@ module _ (c : Config) (w : World) (n : NeverState) (known : KnownWorld c w) (mir
   plain_at (Caller k) o h j = elim (cases_eq j k) [
     | inl e ↦
         let f = flight_of w.now (Caller k) in
-        ap (λ i. is_put (flight_among w.now.seats.flights i).stage) e
-        ∙ turn_plain f.stage (of_turn f.stage f.op step.Release refl refl h.order)
+        rw e (turn_plain f.stage (of_turn f.stage f.op step.Release refl refl h.order))
     | inr ne ↦ idle_plain _
         (others_idle c (view_of w.now) k known.now.orderly (others_held c w.now (Caller k) h.gates) j ne)
   ]
@@ -129,8 +107,7 @@ module _ (c : Config) (w : World) (n : NeverState) (known : KnownWorld c w) (mir
     | inl lt ↦ idle_plain _
         (others_idle c (view_of w.now) c.callers known.now.orderly (others_held c w.now Host h.gates) j
         (λ e. absurd (omega arith)))
-    | inr le ↦ ap (λ (f : Flight). is_put f.stage)
-        (get_or_past w.now.seats.flights j at_rest (let e = known.now.orderly.flights in omega (arith, e)))
+    | inr le ↦ rw (get_or_past w.now.seats.flights j at_rest (let e = known.now.orderly.flights in omega (arith, e)))
   ]
   plain_at (Marker k) o h j = absurd (false≢true o)
 
@@ -147,11 +124,10 @@ module _ (c : Config) (w : World) (n : NeverState) (known : KnownWorld c w) (mir
   still_moves seat (step.Wipe x) s h = Wipes x (wiped_outside c w n known mirrors others st x (h.holder))
   still_moves seat step.Begin s h =
       Renews (map no_longer_fresh w.allocations) (same_places no_longer_fresh w.allocations fresh_leaves)
-      (λ a. ap (λ (y : PlacedAllocation). y.released) (changed_at no_longer_fresh w.allocations a refl))
-      (λ a. ap (λ (y : PlacedAllocation). y.freed) (changed_at no_longer_fresh w.allocations a refl))
+      (λ a. rw (changed_at no_longer_fresh w.allocations a refl))
+      (λ a. rw (changed_at no_longer_fresh w.allocations a refl))
   still_moves seat step.Release s h =
-      releases c w n known mirrors safe ready st (others.marks (eqb-true (w.now.words.phase % 8) 3 h.phase))
-      (plain_at seat h.kind h)
+      releases c w n known mirrors safe ready st (others.marks (eqb-true _ 3 h.phase)) (plain_at seat h.kind h)
   still_moves seat _ s h = Rests
 
   -- of a caller, whose flight stays
@@ -159,8 +135,7 @@ module _ (c : Config) (w : World) (n : NeverState) (known : KnownWorld c w) (mir
       → Leads safe (image_scene_of w) n k (flight_of w.now (Caller k)).op
       (record t { flights = slice_set w.now.seats.flights k (flight_of w.now (Caller k)) }) None
   still_leads k t m e = (
-    subst (λ (fs : List Flight). Move safe (image_scene_of w) n (record t { flights = fs }) n) (e
-        ∙ sym (set-get_or w.now.seats.flights k at_rest)) m,
+    rw (e ∙ sym (set-get_or w.now.seats.flights k at_rest)) at m,
     λ more. refl,
   )
 
@@ -174,7 +149,7 @@ module _ (c : Config) (w : World) (n : NeverState) (known : KnownWorld c w) (mir
     | inl e ↦ e
     | inr e ↦
         let s : Shows w.now.words.turn (gate_in (view_of w.now) k) k InCall =
-        subst (λ s. Shows w.now.words.turn (gate_in (view_of w.now) k) k s) in_call (known.now.orderly.each k lt) in
+        rw in_call at (known.now.orderly.each k lt) in
         let g = others.gates e k lt s.1 in
         let one = s.0 in
         absurd (omega arith)
@@ -185,8 +160,7 @@ module _ (c : Config) (w : World) (n : NeverState) (known : KnownWorld c w) (mir
       → is_past_probe (flight_among w.now.seats.flights j).stage ≡ false
   quiet_at k p v h run j ne =
       let held : others_are_held c.callers w.now.words (Caller k) ≡ true =
-      either_held (is_run_cell w.now.words (target c.pages w.now.words (flight_of w.now (Caller k))))
-      (others_are_held c.callers w.now.words (Caller k)) run h.gates in
+      either_held _ _ run h.gates in
       ap is_past_probe (others_idle c (view_of w.now) k known.now.orderly (others_held c w.now (Caller k) held) j ne)
     where
       either_held : (a b : Bool) → a ≡ true → (not a || b) ≡ true → b ≡ true
@@ -220,23 +194,21 @@ module _ (c : Config) (w : World) (n : NeverState) (known : KnownWorld c w) (mir
   caller_goes k (step.Take (Some o)) h ad =
       let f = flight_of w.now (Caller k) in
       begins c w n known mirrors safe ready k f.op o _ (ap is_put (at_take f.stage f.op o h.order).0)
-  caller_goes k (step.Take None) h ad =
-      absurd (at_no_take (flight_of w.now (Caller k)).stage (flight_of w.now (Caller k)).op h.order)
+  caller_goes k (step.Take None) h ad = absurd (at_no_take _ _ h.order)
   caller_goes k step.Give h ad = let f =
       flight_of w.now (Caller k) in bare_on c w n known mirrors safe ready k f.op at_rest
       (turn_plain f.stage (of_turn f.stage f.op step.Give refl refl h.order)) refl
   caller_goes k (step.Look x) h ad = look_by c w n known mirrors others safe ready st k (ltb-true k c.callers h.seat)
-      (flight_of w.now (Caller k)) x refl
+      _ x refl
   caller_goes k (step.Quar p v) h ad =
-      quar_by c w n known mirrors others safe ready st k (ltb-true k c.callers h.seat) (flight_of w.now (Caller k)) p v
-      (cell_freed c.pages w.now.words (flight_of w.now (Caller k)) p v) refl refl (quiet_at k p v h)
+      quar_by c w n known mirrors others safe ready st k (ltb-true k c.callers h.seat) _ p v
+      _ refl refl (quiet_at k p v h)
   caller_goes k step.Grant h ad =
       let f = flight_of w.now (Caller k) in
       let lt = ltb-true k c.callers h.seat in
       grant_by c w n known mirrors others safe ready st k lt f.stage f.op f.q f.p f.r f.loaded
       w.now.seats.holding.placing refl h.order (h.holder) refl
-      (lt, new_stands f.stage f.op (grants_new c w.now (Caller k) h)) (grant_phase (w.now.words.phase % 8) h.phase)
-      (known.now.operands k)
+      (lt, new_stands f.stage f.op (grants_new c w.now (Caller k) h)) (grant_phase _ h.phase) (known.now.operands k)
   caller_goes k step.Full h ad =
       let f = flight_of w.now (Caller k) in
       full_by c w n known mirrors others safe ready st k (ltb-true k c.callers h.seat) f.stage f.op f.q f.p f.r f.loaded
@@ -249,25 +221,20 @@ module _ (c : Config) (w : World) (n : NeverState) (known : KnownWorld c w) (mir
   caller_goes k step.Mmark h ad = absurd (false≢true h.kind)
   caller_goes k step.Mblack h ad = absurd (false≢true h.kind)
   caller_goes k step.Over h ad = absurd (false≢true h.kind)
-  caller_goes k x h ad = still_leads k (still_scene c w (Caller k) x) (still_moves (Caller k) x refl h) refl
+  caller_goes k x h ad = still_leads k _ (still_moves (Caller k) x refl h) refl
 
   host_goes : (x : Step) → MeetsOf c w Host x → Goes c w n safe (record { seat = Host; step = x })
   host_goes step.Reg h = absurd (false≢true h.kind)
   host_goes step.Write h = absurd (false≢true h.kind)
   host_goes step.Cas h = absurd (false≢true h.kind)
   host_goes step.Setg h = absurd (false≢true h.kind)
-  host_goes step.Grant h = absurd (no_holder (host_has_turn c w.now) h.order)
+  host_goes step.Grant h = absurd (no_holder _ h.order)
     where
       no_holder : (b : Bool) → (b && false) ≡ true → ⊥
       no_holder true e = false≢true e
       no_holder false e = false≢true e
   host_goes (step.Quar p v) h = (
-    subst (λ (x : Option Cell). Move safe (image_scene_of w) n
-        (record (image_scene_of w) { allocations = map (freed_where_it_stands w.now.words x) w.allocations }) n)
-        (sym (none_target (not (is_phase w.now.words 4) && frees w.now.words None p v)))
-        (subst (λ (xs : List PlacedAllocation). Move safe (image_scene_of w) n (record
-        (image_scene_of w) { allocations = xs }) n)
-        (sym (none_freed w.now.words w.allocations)) Rests),
+    rw (none_target _) (rw (none_freed w.now.words w.allocations) Rests),
     λ more. refl,
   )
   host_goes x h = (still_moves Host x refl h, λ more. refl)

@@ -3,27 +3,15 @@
 use Rattle.std.proofs.Common.{◌≡◌, ◌↔◌, ℕ, Bool, true, false, List, ◌∷◌, ◌++◌, refl, sym, ap, subst, ◌∙◌}
 use Rattle.std.specs.Prelude.{slice_index, ◌==◌, Some}
 use Rattle.std.proofs.lemmas.Bool.{ltb-true}
-use Rattle.mk_never.specs.declared.operations.Op.{Op}
+use Rattle.mk_protocol.proofs.Vocabulary.{AreAdmitted, AreEnabledFrom, Caller, Config, Event, Flight, IsAdmitted}
+use Rattle.mk_protocol.proofs.Vocabulary.{IsHistory, MeetsAll, NeverState, Op, Value, WordOf, World, answer_decided}
+use Rattle.mk_protocol.proofs.Vocabulary.{asked, bases_of, call_decided, calls_from, flight_of, is_same, is_under_turn}
+use Rattle.mk_protocol.proofs.Vocabulary.{left, never_behind, one_if, register_at, target_of, word_at, word_met}
 use Rattle.mk_never.specs.declared.operations.Op.TheVariants as op
-use Rattle.mk_never.specs.declared.values.Value.{Value}
-use Rattle.mk_never.specs.declared.values.Target.TheVariants.{WordOf}
-use Rattle.mk_never.specs.NeverHeap.{NeverState, register_at, word_at, target_of, is_same}
-use Rattle.mk_never.specs.Admitted.{AreAdmitted, IsAdmitted}
 use Rattle.mk_never.proofs.Sameness.{equal_from_same, same_from_equal}
-use Rattle.mk_core.specs.declared.config.Config.{Config}
 use Rattle.mk_core.specs.declared.events.Answer.TheVariants as answer
-use Rattle.mk_core.specs.declared.events.Event.{Event}
-use Rattle.mk_core.specs.declared.events.Seat.TheVariants.{Caller}
 use Rattle.mk_core.specs.declared.events.Step.TheVariants as step
 use Rattle.mk_core.specs.declared.seats.Stage.TheVariants as stage
-use Rattle.mk_core.specs.declared.seats.Flight.{Flight}
-use Rattle.mk_core.specs.Calls.{is_under_turn, one_if, word_met}
-use Rattle.mk_core.specs.Decided.{asked}
-use Rattle.mk_core.specs.Moments.{flight_of}
-use Rattle.mk_core.specs.Enabled.{MeetsAll}
-use Rattle.mk_core.specs.Effects.{answer_decided}
-use Rattle.mk_core.specs.History.{World, left, never_behind, call_decided, calls_from, bases_of, IsHistory}
-use Rattle.mk_core.specs.History.{AreEnabledFrom}
 use Rattle.mk_core.proofs.Conditions.{enabled_meets}
 use Rattle.mk_core.proofs.HistoryParts.{enabled_in_parts, admitted_in_parts, earlier_part_is_history}
 use Rattle.mk_protocol.proofs.NextSteps.{at_its_stage}
@@ -42,8 +30,7 @@ use Rattle.mk_images.proofs.Histories.{say_along, histories_mirror}
 told : (b : Bool) (u v : Value) → b ≡ is_same u v → (Some (answer.Num (one_if b)) ≡ Some (answer.Num 1)) ↔ (u ≡ v)
 told b u v is = (
   λ e. equal_from_same u v (sym is ∙ one b e),
-  λ e. ap (λ (x : Bool). Some (answer.Num (one_if x))) (is
-      ∙ same_from_equal u v e),
+  λ e. rw (is ∙ same_from_equal u v e),
 )
   where
     one : (b : Bool) → Some (answer.Num (one_if b)) ≡ Some (answer.Num 1) → b ≡ true
@@ -75,35 +62,31 @@ compares_values c w n k q i p r known others mirrors h is ad =
     let lt = ltb-true k c.callers h.seat in
     let st = at_its_stage f.stage f.op step.Cas refl h.order in
     let o = op.CasPtr q i p r in
-    let lit : f ≡ flight stage.Cas o f.q f.p f.r f.loaded = ap (λ s. flight s f.op f.q f.p f.r f.loaded) st
-    ∙ ap (λ (y : Op). flight stage.Cas y f.q f.p f.r f.loaded) is in
+    let lit : f ≡ flight stage.Cas o f.q f.p f.r f.loaded = ap (λ s. flight s f.op f.q f.p f.r f.loaded) st ∙ rw is in
     let admitted : IsAdmitted c.globals n k o =
-    subst (λ (y : Op). IsAdmitted c.globals n k y) is (admitted_call c.globals n k f.op _ (ap is_under_turn is) ad)
+    rw is at (admitted_call c.globals n k f.op _ (ap is_under_turn is) ad)
     in
     let compared = cas_compares c.globals safe.0 (image_scene_of w) n k ready
     (there_is c w n known mirrors safe.0 ready k lt)
     (own_registers c w n known mirrors safe.0 ready k lt) q i p r f.q f.p f.r f.loaded x
-    (subst (λ (g : Flight). CarriesOwn (bases_of w.allocations) n k g) lit (ready.images.carried k))
-    (subst (λ (g : Flight). ProbedOwn n k g) lit (ready.images.probed k))
-    (ap (λ (g : Flight). slice_index w.now.words.heap (word_met g)) lit) admitted in
+    (rw lit at (ready.images.carried k)) (rw lit at (ready.images.probed k)) (rw lit) admitted in
     record {
       number = compared.0.number;
       place = compared.0.place;
       target = compared.0.target;
-      answered = told (x == f.p) (word_at n compared.0.number compared.0.place) (register_at n k p) compared.1;
+      answered = told (x == f.p) _ (register_at n k p) compared.1;
     }
 
 pub histories_compare : HistoriesCompareValues
 unfolding AreEnabledFrom calls_from
 histories_compare c es h others before behind k q i p r whole is =
-    let parts : IsHistory c (before ++ cas_of k ∷ behind) = subst (λ (xs : List Event). IsHistory c xs) whole h in
-    let say : ImagePremisesAlong c (before ++ cas_of k ∷ behind) =
-    subst (λ (xs : List Event). ImagePremisesAlong c xs) whole others in
+    let parts : IsHistory c (before ++ cas_of k ∷ behind) = rw whole at h in
+    let say : ImagePremisesAlong c (before ++ cas_of k ∷ behind) = rw whole at others in
     let earlier = earlier_part_is_history c before (cas_of k ∷ behind) parts in
     let mirrors = histories_mirror c before earlier (say_along c before (cas_of k ∷ behind) say) in
     let on = ((enabled_in_parts c before (cas_of k ∷ behind)).0 parts.enabled).1.0 in
     let admitted = ((admitted_in_parts c before (cas_of k ∷ behind)).0 parts.admitted).1 in
-    let compares = compares_values c (left c before) (never_behind c before) k q i p r
+    let compares = compares_values c (left c before) _ k q i p r
     (known_world c before earlier.within_limits earlier.enabled)
     (say before (cas_of k ∷ behind) refl) mirrors (enabled_meets c (left c before).now (cas_of k) on) is
     (admitted.0, tt) in

@@ -3,14 +3,12 @@ use Rattle.std.proofs.Common.{◌≡◌, ℕ, ◌*◌, false, sym, ap, ◌∙◌
 use Rattle.std.specs.Prelude.{◌==◌}
 use Rattle.std.proofs.lemmas.Bool.{false≢true}
 use Rattle.std.proofs.lemmas.Nat.Bits.{bit_at-zero}
-use Rattle.mk_core.specs.declared.config.Config.{Config}
-use Rattle.mk_core.specs.Bits.{has_bit}
-use Rattle.mk_core.specs.History.{first_world}
+use Rattle.mk_protocol.proofs.Vocabulary.{Config, first_world, has_bit}
 use Rattle.mk_protocol.proofs.OrderlyLists.{at_first}
 use Rattle.mk_images.specs.ImagePremises.{ImagePremises}
 
 bare_word : (k : ℕ) → has_bit 0 k ≡ false
-bare_word k = ap (λ x. x == 1) (bit_at-zero k)
+bare_word k = rw (bit_at-zero k)
 
 pub others_at_first : (c : Config) → ImagePremises c (first_world c)
 others_at_first c =

@@ -3,26 +3,15 @@ use Rattle.std.proofs.Common.{◌≡◌, ◌≢◌, ℕ, ◌+◌, Bool, true, fa
 use Rattle.std.specs.Prelude.{slice_set, ◌==◌, not, nat_lt, if◌then◌else◌, Option, Some, None}
 use Rattle.std.proofs.lemmas.Bool.{false≢true, cases_Bool, cases_eq, and_parts, and_from, eqb-true, eq-eqb, not-true}
 use Rattle.std.proofs.lemmas.List.{set-get_or}
-use Rattle.mk_never.specs.declared.operations.Op.{Op}
+use Rattle.mk_protocol.proofs.Vocabulary.{Cell, Config, Flight, IsSound, NeverAllocation, NeverState, Null, Num, Op}
+use Rattle.mk_protocol.proofs.Vocabulary.{PlacedAllocation, Ptr, Value, Words, World, address_of, after_free}
+use Rattle.mk_protocol.proofs.Vocabulary.{allocation_at, bases_of, cell_of_allocation, first_word}
+use Rattle.mk_protocol.proofs.Vocabulary.{freed_where_it_stands, image_of, is_freed, is_released_cell, is_run_cell}
+use Rattle.mk_protocol.proofs.Vocabulary.{no_allocation, placed_at, pointed_cell, stands_in, with_freed as never_freed}
 use Rattle.mk_never.specs.declared.operations.Reply.TheVariants as reply
-use Rattle.mk_never.specs.declared.values.Value.{Value}
-use Rattle.mk_never.specs.declared.values.Value.TheVariants.{Null, Num, Ptr}
-use Rattle.mk_never.specs.NeverHeap.{NeverState, Allocation as NeverAllocation, no_allocation, allocation_at}
-use Rattle.mk_never.specs.NeverHeap.{with_freed as never_freed, free_reply, after_free}
-use Rattle.mk_never.specs.Typed.{IsSound}
-use Rattle.mk_geom.specs.declared.addresses.Cell.{Cell}
-use Rattle.mk_core.specs.declared.config.Config.{Config}
-use Rattle.mk_core.specs.declared.seats.Flight.{Flight}
-use Rattle.mk_geom.specs.Addresses.{address_of}
-use Rattle.mk_core.specs.Image.{image_of}
-use Rattle.mk_core.specs.Words.{Words}
-use Rattle.mk_core.specs.Cells.{pointed_cell, first_word, is_freed, is_released_cell}
-use Rattle.mk_core.specs.Allocations.{PlacedAllocation, stands_in, freed_where_it_stands, placed_at}
-use Rattle.mk_core.specs.History.{World, bases_of}
-use Rattle.mk_core.specs.Ranges.{is_run_cell}
+use Rattle.mk_never.specs.NeverHeap.{free_reply}
 use Rattle.mk_images.specs.Images.{image_scene_of, flight_among, is_put, is_past_probe}
 use Rattle.mk_images.specs.SafeSets.{IsSafe}
-use Rattle.mk_core.specs.Allocations.{cell_of_allocation}
 use Rattle.mk_images.proofs.Stands.{Stands}
 use Rattle.mk_images.proofs.KnownWorlds.{KnownWorld}
 use Rattle.mk_images.specs.Mirrors.{Mirrors}
@@ -31,13 +20,9 @@ use Rattle.mk_images.proofs.Moves.{is_bare, Move, Decides, Frees}
 use Rattle.mk_images.proofs.Kept.{base_at, exists_placed}
 use Rattle.mk_images.proofs.Ready.{Ready, pointed_word}
 use Rattle.mk_images.proofs.Refusals.{goes_bare}
-use Rattle.mk_images.proofs.Before.{words_fit, words_are}
+use Rattle.mk_images.proofs.Before.{words_fit, words_are, first_in}
 use Rattle.mk_core.proofs.ChangedAllocations.{changed_at, freed_leaves, freed_released}
 use Rattle.mk_images.proofs.KeptPlaces.{same_places}
-
-abbrev first_in : Words → Option Cell → ℕ
-first_in w (Some cell) = first_word w cell
-first_in w None = 0
 
 abbrev is_freed_in : Words → Option Cell → Bool
 is_freed_in w (Some cell) = is_freed w cell

@@ -4,51 +4,25 @@ use Rattle.std.proofs.Common.{subst, ◌∙◌, inl, inr, arith}
 use Rattle.std.specs.Prelude.{slice_index, slice_index_or, slice_set, ◌&&◌, not, if◌then◌else◌, Option, Some, None}
 use Rattle.std.proofs.lemmas.Bool.{cases_Bool, cases_eq, cases_lt, ltb-true, false≢true}
 use Rattle.std.proofs.lemmas.List.{get_or-set_same, get_or-set_other, get_or_append_left, length-map, get_or_past}
-use Rattle.mk_never.specs.declared.operations.Op.{Op}
+use Rattle.mk_protocol.proofs.Vocabulary.{Answer, AreAdmitted, Caller, Cell, Config, Event, Flight, Header, Holding}
+use Rattle.mk_protocol.proofs.Vocabulary.{Host, IsSound, LeafRun, Marker, Moment, NeverState, Null, Num, Op}
+use Rattle.mk_protocol.proofs.Vocabulary.{PlacedAllocation, Progress, Ptr, Run, RunPages, Seat, Stage, Step, Value}
+use Rattle.mk_protocol.proofs.Vocabulary.{Word, Words, World, after_calls, after_free, answer_decided, asked, at_rest}
+use Rattle.mk_protocol.proofs.Vocabulary.{bases_of, call_decided, cell_freed, cell_of_allocation, comes_next, decided}
+use Rattle.mk_protocol.proofs.Vocabulary.{entry_of, flight_of, found, header_in, heads_run, image_of, is_phase}
+use Rattle.mk_protocol.proofs.Vocabulary.{is_small_object, is_undecided_free, nothing_done, object_placed, or_else}
+use Rattle.mk_protocol.proofs.Vocabulary.{p_of, placed_at, pointed_cell, progress, progress_freed, register_at}
+use Rattle.mk_protocol.proofs.Vocabulary.{run_headed, run_of_cell, sees_double, still, world_behind}
 use Rattle.mk_never.specs.declared.operations.Op.TheVariants as op
-use Rattle.mk_never.specs.declared.values.Value.{Value}
-use Rattle.mk_never.specs.declared.values.Value.TheVariants.{Null, Num, Ptr}
-use Rattle.mk_never.specs.NeverHeap.{NeverState, register_at, after_calls, after_free}
-use Rattle.mk_never.specs.Admitted.{AreAdmitted}
 use Rattle.mk_never.specs.Laws.{AreNotBy}
-use Rattle.mk_never.specs.Typed.{IsSound}
 use Rattle.mk_never.proofs.Registers.{admitted_keep}
 use Rattle.mk_never.proofs.Edits.{set_by}
-use Rattle.mk_geom.specs.declared.addresses.Cell.{Cell}
-use Rattle.mk_geom.specs.declared.headers.Header.{Header}
-use Rattle.mk_geom.specs.declared.headers.Header.TheVariants.{Run, LeafRun}
-use Rattle.mk_geom.specs.PageUses.{or_else}
-use Rattle.mk_core.specs.declared.config.Config.{Config}
-use Rattle.mk_core.specs.declared.events.Answer.{Answer}
 use Rattle.mk_core.specs.declared.events.Answer.TheVariants as answer
-use Rattle.mk_core.specs.declared.events.Event.{Event}
-use Rattle.mk_core.specs.declared.events.Seat.{Seat}
-use Rattle.mk_core.specs.declared.events.Seat.TheVariants.{Caller, Marker, Host}
-use Rattle.mk_core.specs.declared.events.Word.{Word}
 use Rattle.mk_core.specs.declared.events.Word.TheVariants as word
-use Rattle.mk_core.specs.declared.events.Step.{Step}
 use Rattle.mk_core.specs.declared.events.Step.TheVariants as step
-use Rattle.mk_core.specs.declared.seats.Stage.{Stage}
 use Rattle.mk_core.specs.declared.seats.Stage.TheVariants as stage
-use Rattle.mk_core.specs.declared.seats.Flight.{Flight}
-use Rattle.mk_core.specs.declared.seats.Progress.{Progress}
-use Rattle.mk_core.specs.declared.seats.Holding.{Holding}
-use Rattle.mk_core.specs.declared.seats.RunPages.{RunPages}
-use Rattle.mk_core.specs.Words.{Words}
-use Rattle.mk_core.specs.Image.{image_of}
-use Rattle.mk_core.specs.Calls.{at_rest, p_of, still}
-use Rattle.mk_core.specs.Cells.{header_in, run_headed, pointed_cell, heads_run}
-use Rattle.mk_core.specs.Decided.{entry_of, asked}
-use Rattle.mk_core.specs.Moments.{Moment, flight_of, is_phase, nothing_done}
-use Rattle.mk_core.specs.NewPlaces.{is_undecided_free, is_small_object}
-use Rattle.mk_core.specs.Order.{comes_next, is_of_any_holder}
-use Rattle.mk_core.specs.TurnConditions.{cell_freed}
-use Rattle.mk_core.specs.Accesses.{found}
-use Rattle.mk_core.specs.Allocations.{PlacedAllocation, placed_at, cell_of_allocation}
-use Rattle.mk_core.specs.StandingAllocations.{object_placed}
-use Rattle.mk_core.specs.Effects.{decided, sees_double, progress, progress_freed, holding_behind, run_of_cell}
-use Rattle.mk_core.specs.Effects.{answer_decided}
-use Rattle.mk_core.specs.History.{World, world_behind, bases_of, call_decided}
+use Rattle.mk_core.specs.Order.{is_of_any_holder}
+use Rattle.mk_core.specs.Effects.{holding_behind}
 use Rattle.mk_core.proofs.PlacesNow.{freed_cell}
 use Rattle.mk_core.proofs.ObjectHeaders.{small_heads_none}
 use Rattle.mk_core.proofs.StandingAllocations.{typed_size, run_begins, first_page_shows}
@@ -114,7 +88,7 @@ was_freed : (c : Config) (w : World) (seat : Seat) (f : Flight) (x : Step) (run 
 was_freed c w seat f (step.Take o) run e = Before (take_freed _ w.now.seats.holding run e) refl
 was_freed c w seat f step.Give run e = cc
 was_freed c w seat f (step.Quar p v) run e =
-    elim (else_freed (run_of_cell w.now.words (cell_freed c.pages w.now.words f p v)) w.now.seats.holding.freed run e) [
+    elim (else_freed _ w.now.seats.holding.freed run e) [
       | inl new ↦ Now p v new
       | inr old ↦ Before old refl
     ]
@@ -124,7 +98,7 @@ was_freed c w seat f _ run e = Before e refl
 
 holds_now : (c : Config) (v : View) (seat : Seat) (k : ℕ) → seat ≡ Caller k → HoldsTurn c v seat
     → standing (flight_in v k) ≡ UnderTurn
-holds_now c v seat k e hold = by (subst (λ (s : Seat). HoldsTurn c v s) e hold)
+holds_now c v seat k e hold = by (rw e at hold)
   where
     by : HoldsTurn c v (Caller k) → standing (flight_in v k) ≡ UnderTurn
     by h = h.1
@@ -138,7 +112,6 @@ set_under v j k f s is ne =
 was_under : (c : Config) (v : View) (seat : Seat) (u : View) (k : ℕ) → ProtocolMove c v seat u → seat ≡ Caller k
     → v.turn ≢ 0
     → standing (flight_in u k) ≡ UnderTurn → standing (flight_in v k) ≡ UnderTurn
-was_under c v seat u k Stays e t h = h
 was_under c v seat u k (Enters {k = j} f a b d g) e t h = set_under v j k f InCall g (λ x. cc) h
 was_under c v seat u k (GoesOn {k = j} f a b d) e t h = set_under v j k f InCall d (λ x. cc) h
 was_under c v seat u k (Leaves {k = j} a b) e t h = set_under v j k at_rest Resting refl (λ x. cc) h
@@ -148,9 +121,7 @@ was_under c v seat u k (Works f g hold s) e t h = holds_now c v seat k e hold
 was_under c v seat u k (Holds j hold a b d) e t h = holds_now c v seat k e hold
 was_under c v seat u k (Opens j hold a b d g) e t h = holds_now c v seat k e hold
 was_under c v seat u k (Phases g hold a b p) e t h = holds_now c v seat k e hold
-was_under c v seat u k (Attends x a b d g i) e t h = h
-was_under c v seat u k (Quits a b) e t h = h
-was_under c v seat u k (Scans x a b d) e t h = h
+was_under c v seat u k _ e t h = h
 
 -- At Give a holder's step but `give` leaves the call as it is.
 
@@ -178,7 +149,7 @@ give_still c m o q p r l n (step.Take y) h g = absurd (false≢true h)
 give_still c m o q p r l n step.Grant h g = absurd (false≢true h)
 give_still c m o q p r l n step.Full h g = absurd (false≢true h)
 give_still c m o q p r l n step.Give h g = absurd (false≢true (sym g))
-give_still c m o q p r l n (step.Quar y v) h g = none_freed_at (not (is_phase m.words 4)) (flight stage.Give o q p r l)
+give_still c m o q p r l n (step.Quar y v) h g = none_freed_at _ _
 give_still c m o q p r l n (step.Look x) h g =
     let f = flight stage.Give o q p r l in
     ap (λ (b : Bool). if b then decided f answer.Double else still f) (none_seen m.words x)
@@ -205,7 +176,7 @@ free_keeps n Null k r = refl
 free_keeps n (Num m) k r = refl
 free_keeps n (Ptr a t o) k r = refl
 
-not_by : (j k : ℕ) (o : Op) (a : Option Answer) → j ≢ k → AreNotBy k (asked (entry_of j o a))
+pub not_by : (j k : ℕ) (o : Op) (a : Option Answer) → j ≢ k → AreNotBy k (asked (entry_of j o a))
 not_by j k o None ne = tt
 not_by j k o (Some a) ne = (ne, tt)
 
@@ -220,7 +191,7 @@ module _ (c : Config) (w : World) (n : NeverState) (known : KnownWorld c w) (oth
   -- who is in a decided Free holds the turn
   holds : (k : ℕ) → k < c.callers → is_decided_free (flight_of w.now (Caller k)) ≡ true
       → HoldsTurn c (view_of w.now) (Caller k)
-  holds k lt free = (lt, decided_free_stands (flight_of w.now (Caller k)).stage (flight_of w.now (Caller k)).op free)
+  holds k lt free = (lt, decided_free_stands _ _ free)
 
   -- what a register points at is there after the event
   points_on : (e : Event) (k r : ℕ) (run : RunPages)
@@ -228,8 +199,7 @@ module _ (c : Config) (w : World) (n : NeverState) (known : KnownWorld c w) (oth
       → register_at (never_after c w n e) k r ≡ register_at n k r → PointsAtRun w n k r run
       → PointsAtRun (world_behind c w e) (never_after c w n e) k r run
   points_on e k r run grows same h =
-      let sound : IsSound n (Ptr h.number h.ty h.offset) =
-      subst (λ (v : Value). IsSound n v) h.is (mirrors.typed.registers (8 * k + r)) in
+      let sound : IsSound n (Ptr h.number h.ty h.offset) = rw h.is at (mirrors.typed.registers (8 * k + r)) in
       let there : h.number < length n.allocations = sound.0 in
       let longs = length-map w.allocations (λ (x : PlacedAllocation). x.base) in
       let count = mirrors.twins.count in
@@ -238,9 +208,8 @@ module _ (c : Config) (w : World) (n : NeverState) (known : KnownWorld c w) (oth
         ty = h.ty;
         offset = h.offset;
         is = same ∙ h.is;
-        base = sym (base_at (world_behind c w e).allocations h.number) ∙ ap (λ bs. slice_index bs h.number) grows.is
-            ∙ get_or_append_left (bases_of w.allocations) grows.more 0 h.number (omega arith)
-            ∙ base_at w.allocations h.number ∙ h.base;
+        base = sym (base_at _ h.number) ∙ rw grows.is (get_or_append_left _ grows.more 0 h.number (omega arith)
+            ∙ base_at w.allocations h.number ∙ h.base);
       }
 
   -- the target of a Free that is a run
@@ -305,25 +274,20 @@ module _ (c : Config) (w : World) (n : NeverState) (known : KnownWorld c w) (oth
       let f = flight_of w.now (Caller k) in
       let behind = flight_of (world_behind c w e).now (Caller k) in
       let under = decided_free_stands behind.stage behind.op free in
-      let was = was_under c (view_of w.now) (Caller k) (view_of (world_behind c w e).now) k
+      let was = was_under c (view_of w.now) (Caller k) _ k
       (moves c w.now (Caller k) x (not_astray c w.now known.now.orderly)
-      (actor_of c w.now (Caller k) x known.now.orderly h) h)
-      refl (turn_taken run old) under in
+      (actor_of c w.now (Caller k) x known.now.orderly h) h) refl (turn_taken run old) under in
       let was_free = frees_run c w.now k run known.now.orderly (lt, was) old in
       let at_give = decided_free_gives f.stage f.op was_free in
       let lit = literal f stage.Give at_give in
-      let any : is_of_any_holder x ≡ true = subst (λ (s : Stage). comes_next s f.op x ≡ true) at_give h.order in
+      let any : is_of_any_holder x ≡ true = rw at_give at h.order in
       let stays : progress c w.now f (found c w.now e) x ≡ still f =
       subst (λ (y : Flight). progress c w.now y (found c w.now e) x ≡ still y) (sym lit)
       (give_still c w.now f.op f.q f.p f.r f.loaded (found c w.now e) x any g) in
       let there : k < length w.now.seats.flights = (let l = known.now.orderly.flights in omega (arith, l)) in
-      let same : behind ≡ f = get_or-set_same w.now.seats.flights k _ at_rest there
-      ∙ ap (λ (y : Progress). y.flight) stays in
-      let never : never_after c w n e ≡ n =
-      ap (λ (y : Progress). after_calls n (asked (entry_of k f.op y.answer))) stays in
-      subst (λ (y : Flight). PointsAtRun (world_behind c w e) (never_after c w n e) k (p_of y.op) run) (sym same)
-      (points_on e k (p_of f.op) run grows (ap (λ m. register_at m k (p_of f.op)) never)
-      (mirrors.freed_run run old k was_free))
+      let same : behind ≡ f = get_or-set_same w.now.seats.flights k _ at_rest there ∙ rw stays in
+      let never : never_after c w n e ≡ n = rw stays in
+      rw same (points_on e k (p_of f.op) run grows (rw never) (mirrors.freed_run run old k was_free))
 
   -- the step of another caller
   other_old : (j k : ℕ) (x : Step) (run : RunPages) → j ≢ k → GrowsBehind (Caller j) x
@@ -333,12 +297,8 @@ module _ (c : Config) (w : World) (n : NeverState) (known : KnownWorld c w) (oth
       let e = event_of (Caller j) x in
       let same : flight_of (world_behind c w e).now (Caller k) ≡ flight_of w.now (Caller k) =
       get_or-set_other w.now.seats.flights j k _ at_rest (λ y. ne (sym y)) in
-      subst (λ (y : Flight). PointsAtRun (world_behind c w e) (never_after c w n e) k (p_of y.op) run) (sym same)
-      (points_on e k (p_of (flight_of w.now (Caller k)).op) run grows
-      (admitted_keep c.globals n k (asked (call_decided c w.now e)) ad
-      (not_by j k (flight_of w.now (Caller j)).op (answer_decided c w.now e) ne)
-      (p_of (flight_of w.now (Caller k)).op) (ready.small k).1)
-      (mirrors.freed_run run old k (subst (λ (y : Flight). is_decided_free y ≡ true) same free)))
+      rw same (points_on e k _ run grows (admitted_keep c.globals n k _ ad (not_by j k _ _ ne) _ (ready.small k).1)
+      (mirrors.freed_run run old k (rw same at free)))
 
   -- a run that is freed by this step
   own_new : (k p v : ℕ) (run : RunPages) (y : Option Cell) → k < c.callers → GrowsBehind (Caller k) (step.Quar p v)
@@ -368,8 +328,7 @@ module _ (c : Config) (w : World) (n : NeverState) (known : KnownWorld c w) (oth
       let lj = ltb-true j c.callers h.seat in
       let same : flight_of (world_behind c w (event_of (Caller j) (step.Quar p v))).now (Caller k)
       ≡ flight_of w.now (Caller k) = get_or-set_other w.now.seats.flights j k _ at_rest (λ y. ne (sym y)) in
-      let was : is_decided_free (flight_of w.now (Caller k)) ≡ true =
-      subst (λ (y : Flight). is_decided_free y ≡ true) same free in
+      let was : is_decided_free (flight_of w.now (Caller k)) ≡ true = rw same at free in
       let lk : k < c.callers = there k was in
       let tj = turn_of c (view_of w.now) (Caller j) known.now.orderly (
         lj,
@@ -382,8 +341,7 @@ module _ (c : Config) (w : World) (n : NeverState) (known : KnownWorld c w) (oth
       there : (k : ℕ) → is_decided_free (flight_of w.now (Caller k)) ≡ true → k < c.callers
       there k free = elim (cases_lt k c.callers) [
         | inl lt ↦ lt
-        | inr le ↦ absurd (false≢true
-            (ap (λ (y : Flight). is_decided_free y)
+        | inr le ↦ absurd (false≢true (ap (λ (y : Flight). is_decided_free y)
             (sym (get_or_past w.now.seats.flights k at_rest (let e = known.now.orderly.flights in omega (arith, e))))
             ∙ free))
       ]
@@ -406,7 +364,7 @@ module _ (c : Config) (w : World) (n : NeverState) (known : KnownWorld c w) (oth
       → OwnsBehind Host x run k
   host_owns x grows run (Before old g) k free =
       points_on (event_of Host x) k _ run grows refl (mirrors.freed_run run old k free)
-  host_owns x grows run (Now p v heads) k free = absurd (no_run w.now.words (not (is_phase w.now.words 4)) run heads)
+  host_owns x grows run (Now p v heads) k free = absurd (no_run w.now.words _ run heads)
 
   owns : (seat : Seat) (x : Step) → Meets c w.now seat x → GrowsBehind seat x
       → AreAdmitted c.globals n (asked (call_decided c w.now (event_of seat x)))

@@ -1,16 +1,10 @@
 -- Only a Free that is decided unmaps a run, and that call holds the turn.
 use Rattle.std.proofs.Common.{◌≡◌, ◌≢◌, ℕ, ◌-◌, true, refl, ap, subst}
 use Rattle.std.specs.Prelude.{Option, Some, is_some}
-use Rattle.mk_never.specs.declared.operations.Op.{Op}
+use Rattle.mk_protocol.proofs.Vocabulary.{Caller, Config, Flight, Moment, Op, RunPages, Stage, flight_of, is_new_at}
+use Rattle.mk_protocol.proofs.Vocabulary.{is_undecided_new}
 use Rattle.mk_never.specs.declared.operations.Op.TheVariants as op
-use Rattle.mk_core.specs.declared.config.Config.{Config}
-use Rattle.mk_core.specs.declared.events.Seat.TheVariants.{Caller}
-use Rattle.mk_core.specs.declared.seats.Stage.{Stage}
 use Rattle.mk_core.specs.declared.seats.Stage.TheVariants as stage
-use Rattle.mk_core.specs.declared.seats.Flight.{Flight}
-use Rattle.mk_core.specs.declared.seats.RunPages.{RunPages}
-use Rattle.mk_core.specs.NewPlaces.{is_new_at, is_undecided_new}
-use Rattle.mk_core.specs.Moments.{Moment, flight_of}
 use Rattle.mk_protocol.specs.Protocol.{is_decided_free_at, is_decided_free}
 use Rattle.mk_protocol.proofs.Standings.{UnderTurn, standing_at}
 use Rattle.mk_protocol.proofs.Views.{view_of, flight_in, HoldsTurn}
@@ -32,13 +26,11 @@ pub frees_run : (c : Config) (m : Moment) (k : ℕ) (run : RunPages) → Orderly
     → HoldsTurn c (view_of m) (Caller k) → m.seats.holding.freed ≡ Some run
     → is_decided_free (flight_of m (Caller k)) ≡ true
 frees_run c m k run o hold e =
-    let freed : is_decided_free (flight_in (view_of m) (m.words.turn - 1)) ≡ true =
-    o.served.freed (ap (λ (x : Option RunPages). is_some x) e) in
-    subst (λ (f : Flight). is_decided_free f ≡ true) (holders_flight c (view_of m) (Caller k) o hold) freed
+    let freed : is_decided_free (flight_in (view_of m) (m.words.turn - 1)) ≡ true = o.served.freed (rw e) in
+    rw (holders_flight c (view_of m) (Caller k) o hold) at freed
 
 -- While a New is undecided no run is freed.
 pub new_frees_none : (c : Config) (m : Moment) (k : ℕ) (run : RunPages) → Orderly c (view_of m)
     → HoldsTurn c (view_of m) (Caller k)
     → is_undecided_new (flight_of m (Caller k)) ≡ true → m.seats.holding.freed ≢ Some run
-new_frees_none c m k run o hold new e =
-    new_is_undecided (flight_of m (Caller k)).stage (flight_of m (Caller k)).op new (frees_run c m k run o hold e)
+new_frees_none c m k run o hold new e = new_is_undecided _ _ new (frees_run c m k run o hold e)

@@ -3,23 +3,14 @@ use Rattle.std.proofs.Common.{◌≡◌, ◌≢◌, ℕ, ◌+◌, ◌-◌, ◌*�
 use Rattle.std.proofs.Common.{inl, inr, arith}
 use Rattle.std.specs.Prelude.{slice_index, nat_le, nat_lt, ◌&&◌, not, Option, Some, None}
 use Rattle.std.proofs.lemmas.Bool.{cases_eq, and_parts, leb-true, eqb-true, or_cases, ltb-true, false≢true, true≢false}
-use Rattle.mk_never.specs.NeverHeap.{NeverState, allocation_at, words_of, is_unmapped}
-use Rattle.mk_geom.specs.declared.addresses.Cell.{Cell}
-use Rattle.mk_geom.specs.declared.pages.Place.{Place}
-use Rattle.mk_geom.specs.Addresses.{address_of}
-use Rattle.mk_geom.specs.Headers.{header_of}
-use Rattle.mk_core.specs.declared.config.Config.{Config}
-use Rattle.mk_core.specs.declared.seats.RunPages.{RunPages}
-use Rattle.mk_core.specs.Words.{Words, header_at, phase_of}
-use Rattle.mk_core.specs.Bounded.{is_some_and}
-use Rattle.mk_core.specs.Cells.{pointed_cell, first_word, header_in, is_released_cell, is_left_unmarked, is_in_run}
-use Rattle.mk_core.specs.Cells.{is_unmapped_header}
-use Rattle.mk_core.specs.Moments.{is_phase}
-use Rattle.mk_core.specs.NewPlaces.{pages_made, base_made, stands, unmapped_header, is_run_unmapped}
-use Rattle.mk_core.specs.Allocations.{PlacedAllocation, placed_at, storage_words, cell_of_allocation}
-use Rattle.mk_core.specs.StandingAllocations.{object_placed}
+use Rattle.mk_protocol.proofs.Vocabulary.{Cell, Config, NeverState, Place, PlacedAllocation, RunPages, Words, World}
+use Rattle.mk_protocol.proofs.Vocabulary.{address_of, allocation_at, base_made, cell_of_allocation, first_word}
+use Rattle.mk_protocol.proofs.Vocabulary.{header_at, header_in, header_of, is_left_unmarked, is_phase, is_released_cell}
+use Rattle.mk_protocol.proofs.Vocabulary.{is_run_unmapped, is_some_and, is_unmapped, is_unmapped_header, object_placed}
+use Rattle.mk_protocol.proofs.Vocabulary.{pages_made, phase_of, placed_at, pointed_cell, stands, storage_words}
+use Rattle.mk_protocol.proofs.Vocabulary.{unmapped_header, words_of}
+use Rattle.mk_core.specs.Cells.{is_in_run}
 use Rattle.mk_core.specs.TurnConditions.{may_wipe, is_in_gone_run}
-use Rattle.mk_core.specs.History.{World}
 use Rattle.mk_core.proofs.AllBelow.{all_below-at}
 use Rattle.mk_core.proofs.Sizes.{large_count}
 use Rattle.mk_core.proofs.ObjectHeaders.{unmapped_is_unmapped}
@@ -31,7 +22,7 @@ use Rattle.mk_images.specs.ImagePremises.{IsPlaceOfNone, MayHoldWords, OfMapped,
 use Rattle.mk_images.proofs.KnownWorlds.{KnownWorld}
 use Rattle.mk_images.proofs.Kept.{exists_placed}
 use Rattle.mk_images.proofs.Stands.{is_gone, Stands}
-use Rattle.mk_images.proofs.Before.{words_fit, unmapped_is}
+use Rattle.mk_images.proofs.Before.{words_fit, unmapped_is, first_in}
 
 -- the cell of a place, by the allocation that is granted there
 pub record FillsCell (c : Config) (w : Words) (a : PlacedAllocation) : Type 0 where
@@ -53,10 +44,6 @@ fills_cell c w a place known typed unreleased base h =
       inside = st.within;
     }
 
-abbrev first_in : Words → Option Cell → ℕ
-first_in w (Some cell) = first_word w cell
-first_in w None = 0
-
 module _ (c : Config) (w : World) (n : NeverState) (known : KnownWorld c w) (mirrors : Mirrors c w n)
     (others : ImagePremises c w) (st : Stands c w.now.words w.allocations) where
   -- the words of a place that is granted, while no run is freed
@@ -77,8 +64,7 @@ module _ (c : Config) (w : World) (n : NeverState) (known : KnownWorld c w) (mir
           let low = is.0 in
           let there : x.base + (a.base + i - x.base) ≡ a.base + i = omega arith in
           let cells : Some (cell_of_allocation c x) ≡ Some (cell_of_allocation c a) =
-          sym (st.cell j (a.base + i - x.base) u (let high = is.1 in omega arith))
-          ∙ ap (λ y. pointed_cell c.pages w.now.words.pages (address_of y)) there ∙ fills.cell i lt in
+          sym (st.cell j (a.base + i - x.base) u (let high = is.1 in omega arith)) ∙ rw there (fills.cell i lt) in
           h.alone j u (sym (st.first j u) ∙ ap (first_in w.now.words) cells ∙ fills.first ∙ base)
         where
           unreleased_of : (r g : Bool) → (not r && not g) ≡ true → r ≡ false
@@ -99,20 +85,18 @@ module _ (c : Config) (w : World) (n : NeverState) (known : KnownWorld c w) (mir
       let un = sym (unmapped_is c w n known mirrors a lt) ∙ m in
       let cell : pointed_cell c.pages w.now.words.pages (address_of x)
       ≡ Some (cell_of_allocation c (placed_at w.allocations a)) =
-      ap (λ y. pointed_cell c.pages w.now.words.pages (address_of y)) (sym e) ∙ st.cell a i u (omega arith) in
+      rw (← e) (st.cell a i u (omega arith)) in
       let mapped : is_unmapped_header (header_in w.now.words (x / 64)) ≡ false =
-      ap (λ y. is_unmapped_header (header_in w.now.words (y / 64))) (sym e) ∙ st.mapped a i u un (omega arith) in
+      rw (← e) (st.mapped a i u un (omega arith)) in
       elim (or_cases (is_some_and (is_released_cell w.now.words) (pointed_cell c.pages w.now.words.pages
-      (address_of x)))
-      (is_in_gone_run w.now.words w.now.seats.holding.freed x) h) [
+      (address_of x))) (is_in_gone_run w.now.words w.now.seats.holding.freed x) h) [
         | inl r ↦ absurd (false≢true (sym (others.kept a u)
             ∙ ap (λ (y : Option Cell). is_some_and (is_released_cell w.now.words) y) (sym cell) ∙ r))
         | inr g ↦ absurd (true≢false (sym (gone_word w.now.seats.holding.freed refl g) ∙ mapped))
       ]
     where
       gone_word : (freed : Option RunPages) → w.now.seats.holding.freed ≡ freed
-          → is_in_gone_run w.now.words freed x ≡ true
-          → is_unmapped_header (header_in w.now.words (x / 64)) ≡ true
+          → is_in_gone_run w.now.words freed x ≡ true → is_unmapped_header (header_in w.now.words (x / 64)) ≡ true
       gone_word None is g = cc
       gone_word (Some run) is g =
           let at = others.freed_run run is in

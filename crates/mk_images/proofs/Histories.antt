@@ -3,25 +3,16 @@ use Rattle.std.proofs.Common.{◌≡◌, ℕ, ◌*◌, ◌/◌, ◌%◌, Bool, t
 use Rattle.std.proofs.Common.{subst, ◌∙◌, append-nil, append_assoc, arith}
 use Rattle.std.specs.Prelude.{slice_index, slice_index_or}
 use Rattle.std.proofs.lemmas.List.{map-append, length-replicate}
-use Rattle.mk_never.specs.declared.values.Value.{Value}
-use Rattle.mk_never.specs.declared.values.Value.TheVariants.{Null, Num, Ptr}
-use Rattle.mk_never.specs.NeverHeap.{NeverState, Call, after_calls, replies_of}
-use Rattle.mk_never.specs.Admitted.{AreAdmitted}
+use Rattle.mk_protocol.proofs.Vocabulary.{Answer, AreAdmitted, AreEnabled, AreEnabledFrom, Call, Config, Decided, Event}
+use Rattle.mk_protocol.proofs.Vocabulary.{Flight, IsEnabled, IsHistory, IsWithinLimits, NeverState, Null, Num, Ptr}
+use Rattle.mk_protocol.proofs.Vocabulary.{Value, World, after_calls, answer_of, answered, answers_of, asked, at_rest}
+use Rattle.mk_protocol.proofs.Vocabulary.{bases_of, call_decided, calls_from, first_world, image_of, left, left_from}
+use Rattle.mk_protocol.proofs.Vocabulary.{never_behind, replies_of, world_behind}
 use Rattle.mk_never.specs.Reach.{LeadsTo}
 use Rattle.mk_never.proofs.TypedCalls.{start_is_typed}
 use Rattle.mk_never.proofs.Parts.{after_append, replies_append, admitted_split}
 use Rattle.mk_never.proofs.Reached.{reached_is_in}
-use Rattle.mk_core.specs.declared.config.Config.{Config}
-use Rattle.mk_core.specs.declared.events.Answer.{Answer}
-use Rattle.mk_core.specs.declared.events.Event.{Event}
-use Rattle.mk_core.specs.declared.seats.Flight.{Flight}
-use Rattle.mk_core.specs.Config.{IsWithinLimits}
-use Rattle.mk_core.specs.Calls.{at_rest}
-use Rattle.mk_core.specs.Enabled.{IsEnabled}
-use Rattle.mk_core.specs.Image.{image_of, answer_of, answers_of}
-use Rattle.mk_core.specs.Decided.{Decided, asked, answered}
-use Rattle.mk_core.specs.History.{World, first_world, world_behind, left_from, left, AreEnabledFrom, AreEnabled}
-use Rattle.mk_core.specs.History.{call_decided, calls_from, never_first, never_behind, bases_of, IsHistory}
+use Rattle.mk_core.specs.History.{never_first}
 use Rattle.mk_core.proofs.Histories.{left_more, enabled_more}
 use Rattle.mk_protocol.proofs.OrderlyLists.{at_first}
 use Rattle.mk_images.specs.Images.{shown, CarriesOwn, ProbedOwn}
@@ -55,11 +46,9 @@ joined_right : (bs : List ℕ) (n : NeverState) (xs ys : List Decided)
     → answered ys ≡ answers_of bs (replies_of (after_calls n (asked xs)) (asked ys))
     → answered (xs ++ ys) ≡ answers_of bs (replies_of n (asked (xs ++ ys)))
 joined_right bs n xs ys hx hy =
-    map-append answer_in xs ys ∙ ap (λ zs. zs ++ answered ys) hx
-    ∙ ap (λ zs. answers_of bs (replies_of n (asked xs)) ++ zs) hy
-    ∙ sym (map-append (answer_of bs) (replies_of n (asked xs)) (replies_of (after_calls n (asked xs)) (asked ys)))
+    map-append answer_in xs ys ∙ rw hx (rw hy (sym (map-append (answer_of bs) _ _)
     ∙ ap (answers_of bs) (sym (replies_append n (asked xs) (asked ys))
-    ∙ ap (replies_of n) (sym (map-append call_of xs ys)))
+    ∙ ap (replies_of n) (sym (map-append call_of xs ys)))))
 
 -- The list is in two parts: the events that are done, and those that come.
 follows_from : (c : Config) (whole done es : List Event) (w : World) (n : NeverState) → IsWithinLimits c
@@ -75,30 +64,24 @@ follows_from c whole done (x ∷ es) w n limits is was on e others mirrors ad =
     let v = world_behind c w x in
     let ys = calls_from c v es in
     let split : asked (xs ++ ys) ≡ asked xs ++ asked ys = map-append call_of xs ys in
-    let admitted = admitted_split c.globals n (asked xs) (asked ys)
-    (subst (λ (zs : List Call). AreAdmitted c.globals n zs) split ad) in
-    let known : KnownWorld c w = subst (λ (y : World). KnownWorld c y) (sym is) (known_world c done limits was) in
-    let here : ImagePremises c w = subst (λ (y : World). ImagePremises c y) (sym is) (others done (x ∷ es) e) in
+    let admitted = admitted_split c.globals n (asked xs) (asked ys) (rw split at ad) in
+    let known : KnownWorld c w = rw is (known_world c done limits was) in
+    let here : ImagePremises c w = rw is (others done (x ∷ es) e) in
     let one : Follows c w n x = one_event c w n x known here mirrors on.0 admitted.0 in
-    let behind : v ≡ left c (done ++ x ∷ []) = ap (λ y. world_behind c y x) is
-    ∙ sym (left_more c (first_world c) done x) in
-    let enabled : AreEnabled c (done ++ x ∷ []) =
-    enabled_more c (first_world c) done x was (subst (λ (y : World). IsEnabled c y.now x) is on.0) in
+    let behind : v ≡ left c (done ++ x ∷ []) = rw is (sym (left_more c (first_world c) done x)) in
+    let enabled : AreEnabled c (done ++ x ∷ []) = enabled_more c (first_world c) done x was (rw is at on.0) in
     let rest : FollowsAll c v (never_after c w n x) es =
     follows_from c whole (done ++ x ∷ []) es v (never_after c w n x) limits behind enabled on.1
     (append_assoc done (x ∷ []) es ∙ e) others one.mirrors admitted.1 in
     let after : after_calls n (asked (xs ++ ys)) ≡ after_calls (never_after c w n x) (asked ys) =
     ap (after_calls n) split ∙ after_append n (asked xs) (asked ys) in
     record {
-      mirrors = subst (λ (m : NeverState). Mirrors c (left_from c v es) m) (sym after) rest.mirrors;
+      mirrors = rw after rest.mirrors;
       bases = record {
         more = one.bases.more ++ rest.bases.more;
-        is = rest.bases.is ∙ ap (λ zs. zs ++ rest.bases.more) one.bases.is
-            ∙ append_assoc (bases_of w.allocations) one.bases.more rest.bases.more;
+        is = rest.bases.is ∙ rw one.bases.is (append_assoc _ one.bases.more rest.bases.more);
       };
-      right = joined_right (bases_of (left_from c v es).allocations) n xs ys
-          (subst (λ (bs : List ℕ). answered xs ≡ answers_of bs (replies_of n (asked xs))) (sym rest.bases.is)
-          (one.right rest.bases.more)) rest.right;
+      right = joined_right _ n xs ys (rw rest.bases.is (one.right rest.bases.more)) rest.right;
     }
 
 -- the first world
@@ -106,8 +89,8 @@ first_safe : (c : Config) → HasSafeSet [] (never_first c)
 first_safe c = (
   λ a. false,
   record {
-    registers = λ k. subst (λ (v : Value). IsSafe (λ a. false) v) (sym (at_first (8 * c.callers) k Null)) tt;
-    globals = λ g. subst (λ (v : Value). IsSafe (λ a. false) v) (sym (at_first 64 g Null)) tt;
+    registers = λ k. rw (at_first (8 * c.callers) k Null) tt;
+    globals = λ g. rw (at_first 64 g Null) tt;
     closed = λ a i s m. cc;
     unreleased = λ a s. cc;
   },
@@ -122,16 +105,12 @@ first_mirrors c =
       typed = start_is_typed c.globals c.types c.callers;
       twins = record { count = refl; ty = λ a lt. absurd (omega arith); freed = λ a lt. absurd (omega arith) };
       images = record {
-        registers = λ k. subst (λ (f : Flight). shown f (k % 8) (slice_index (replicate 128 0) k)
-            ≡ image_of [] (slice_index_or (replicate (8 * c.callers) Null) k Null))
-            (sym (at_first c.callers (k / 8) at_rest))
+        registers = λ k. rw (at_first c.callers (k / 8) at_rest)
             (at_first 128 k 0 ∙ sym (ap (image_of []) (at_first (8 * c.callers) k Null)));
         globals = λ g. at_first 64 g 0 ∙ sym (ap (image_of []) (at_first 64 g Null));
         heap = λ a i u m lt. absurd (omega arith);
-        carried = λ j. subst (λ (f : Flight). CarriesOwn [] (never_first c) j f) (sym (at_first c.callers j at_rest))
-            (bare_carries [] at_rest _ _ _ refl);
-        probed = λ j. subst (λ (f : Flight). ProbedOwn (never_first c) j f) (sym (at_first c.callers j at_rest))
-            (λ past. cc);
+        carried = λ j. rw (at_first c.callers j at_rest) (bare_carries [] at_rest _ _ _ refl);
+        probed = λ j. rw (at_first c.callers j at_rest) (λ past. cc);
       };
       freed_run = λ run e. cc;
       safe = first_safe c;
@@ -153,8 +132,7 @@ histories_mirror c es h others = (all_follow c es h others).mirrors
 -- The premises hold along each front.
 pub say_along : (c : Config) (front rest : List Event) → ImagePremisesAlong c (front ++ rest)
     → ImagePremisesAlong c front
-say_along c front rest others xs ys e = others xs (ys ++ rest) (sym (append_assoc xs ys rest)
-    ∙ ap (λ (zs : List Event). zs ++ rest) e)
+say_along c front rest others xs ys e = others xs (ys ++ rest) (sym (append_assoc xs ys rest) ∙ rw e)
 
 -- A list is the last of its own fronts.
 others_behind : (c : Config) (es : List Event) → ImagePremisesAlong c es → ImagePremises c (left c es)
@@ -167,9 +145,8 @@ histories_tell c es h others =
 
 -- What is reached is in a safe set.
 safe_leads : (safe : ℕ → Bool) (v : Value) (number : ℕ) → IsSafe safe v → LeadsTo v number → safe number ≡ true
-safe_leads safe Null number is leads = absurd leads
-safe_leads safe (Num m) number is leads = absurd leads
 safe_leads safe (Ptr a t o) number is leads = ap safe (sym leads) ∙ is
+safe_leads safe _ number is leads = absurd leads
 
 pub reached_is_unreleased : ReachedIsUnreleased
 reached_is_unreleased c es h others number reached =

@@ -3,28 +3,19 @@ use Rattle.std.proofs.Common.{◌≡◌, ◌≢◌, ℕ, zero, suc, ◌+◌, ◌
 use Rattle.std.proofs.Common.{length, map, get_or, refl, sym, ap, subst, ◌∙◌, inl, inr, arith, length-set}
 use Rattle.std.proofs.Common.{length-append}
 use Rattle.std.specs.Prelude.{slice_index, slice_index_or, slice_set, ◌&&◌, nat_lt}
-use Rattle.std.proofs.lemmas.Bool.{cases_eq, cases_lt, cases_Bool}
+use Rattle.std.proofs.lemmas.Bool.{cases_eq, cases_lt, cases_Bool, and_right}
 use Rattle.std.proofs.lemmas.List.{get_or-set_same, get_or-set_other, get_or_append_left, get_or_at, get_or_past}
 use Rattle.std.proofs.lemmas.List.{map-append, length-map}
 use Rattle.std.proofs.Math.ListN.{get_or-map as get_or-map-default}
-use Rattle.mk_never.specs.declared.types.Kind.{Kind}
-use Rattle.mk_never.specs.declared.types.Kind.TheVariants.{Num as Number, To}
-use Rattle.mk_never.specs.declared.values.Value.{Value}
-use Rattle.mk_never.specs.declared.values.Value.TheVariants.{Null, Num, Ptr}
-use Rattle.mk_never.specs.Types.{kinds_of, is_large, zero_of, zero_words}
-use Rattle.mk_never.specs.NeverHeap.{NeverState, Allocation as NeverAllocation, no_allocation, allocation_at, words_of}
-use Rattle.mk_never.specs.NeverHeap.{word_at, register_at, global_at, is_unmapped, with_register, with_global}
-use Rattle.mk_never.specs.NeverHeap.{with_word, with_new, with_freed}
-use Rattle.mk_never.specs.Typed.{IsSound, Suits, kind_in, IsTyped, IsTypedAllocation}
+use Rattle.mk_protocol.proofs.Vocabulary.{Flight, IsSound, IsTyped, IsTypedAllocation, Kind, NeverAllocation}
+use Rattle.mk_protocol.proofs.Vocabulary.{NeverState, Null, Num, Number, PlacedAllocation, Ptr, Stage, Suits, To, Value}
+use Rattle.mk_protocol.proofs.Vocabulary.{address_of, allocation_at, at_rest, bases_of, d_of, global_at, i_of, image_of}
+use Rattle.mk_protocol.proofs.Vocabulary.{is_large, is_unmapped, kind_in, kinds_of, never_granted, no_allocation, p_of}
+use Rattle.mk_protocol.proofs.Vocabulary.{placed_at, q_of, r_of, register_at, with_freed, with_global, with_new}
+use Rattle.mk_protocol.proofs.Vocabulary.{with_register, with_word, word_at, words_of}
+use Rattle.mk_never.specs.Types.{zero_of, zero_words}
 use Rattle.mk_never.proofs.Edits.{set_by, exists}
-use Rattle.mk_core.specs.declared.seats.Stage.{Stage}
 use Rattle.mk_core.specs.declared.seats.Stage.TheVariants as stage
-use Rattle.mk_core.specs.declared.seats.Flight.{Flight}
-use Rattle.mk_core.specs.Calls.{at_rest, d_of, q_of, p_of, r_of, i_of}
-use Rattle.mk_geom.specs.Addresses.{address_of}
-use Rattle.mk_core.specs.Image.{image_of}
-use Rattle.mk_core.specs.Allocations.{PlacedAllocation, never_granted, placed_at}
-use Rattle.mk_core.specs.History.{bases_of}
 use Rattle.mk_images.specs.Images.{ImageScene, flight_among, is_put, shown, is_past_probe, Carries, CarriesOwn, IsMet}
 use Rattle.mk_images.specs.Images.{ProbedOwn, AreImages}
 use Rattle.mk_images.proofs.Moves.{is_bare, Decides, Move, Rests, Flies, Owes, Pays, Stores, Shares, Writes, Wipes}
@@ -60,12 +51,9 @@ registers_from : (cs : List ℕ) (fs : List Flight) (k : ℕ) (f : Flight) (ys :
 registers_from cs fs k f ys vs there own others i = elim (cases_eq (i / 8) k) [
   | inl e ↦
       let is : 8 * k + i % 8 ≡ i = omega arith in
-      subst (λ (x : Flight). shown x (i % 8) (slice_index ys i) ≡ image_of cs (slice_index_or vs i Null))
-      (sym (ap (λ j. flight_among (slice_set fs k f) j) e ∙ get_or-set_same fs k f at_rest there))
-      (subst (λ (j : ℕ). shown f (i % 8) (slice_index ys j) ≡ image_of cs (slice_index_or vs j Null)) is
+      rw (ap (λ j. flight_among (slice_set fs k f) j) e ∙ get_or-set_same fs k f at_rest there) (rw is at
       (own (i % 8) (omega arith)))
-  | inr ne ↦ subst (λ (x : Flight). shown x (i % 8) (slice_index ys i) ≡ image_of cs (slice_index_or vs i Null))
-      (sym (get_or-set_other fs k (i / 8) f at_rest ne)) (others i ne)
+  | inr ne ↦ rw (get_or-set_other fs k (i / 8) f at_rest ne) (others i ne)
 ]
 
 -- a caller's own register
@@ -75,10 +63,7 @@ own_shown : (s : ImageScene) (n : NeverState) → AreImages s n → (k r : ℕ) 
 own_shown s n h k r lt =
     let a : (8 * k + r) / 8 ≡ k = omega arith in
     let b : (8 * k + r) % 8 ≡ r = omega arith in
-    subst (λ (j : ℕ). shown (flight_among s.flights j) r (slice_index s.registers (8 * k + r))
-    ≡ image_of (bases_of s.allocations) (register_at n k r)) a
-    (subst (λ (j : ℕ). shown (flight_among s.flights ((8 * k + r) / 8)) j (slice_index s.registers (8 * k + r))
-    ≡ image_of (bases_of s.allocations) (register_at n k r)) b (h.registers (8 * k + r)))
+    rw a at (rw b at (h.registers (8 * k + r)))
 
 pub own_plain : (s : ImageScene) (n : NeverState) → AreImages s n → (k r : ℕ) → r < 8
     → is_put (flight_among s.flights k).stage ≡ false
@@ -93,9 +78,8 @@ others_carry : (bs cs : List ℕ) (fs : List Flight) (k : ℕ) (f : Flight) (n m
     → ((j : ℕ) → CarriesOwn bs n j (flight_among fs j))
     → (j : ℕ) → CarriesOwn cs m j (flight_among (slice_set fs k f) j)
 others_carry bs cs fs k f n m there small own same h j = elim (cases_eq j k) [
-  | inl e ↦ subst (λ (x : Flight). CarriesOwn cs m j x)
-      (sym (ap (λ i. flight_among (slice_set fs k f) i) e ∙ get_or-set_same fs k f at_rest there)) (own _ _ _)
-  | inr ne ↦ subst (λ (x : Flight). CarriesOwn cs m j x) (sym (get_or-set_other fs k j f at_rest ne))
+  | inl e ↦ rw (ap (λ i. flight_among (slice_set fs k f) i) e ∙ get_or-set_same fs k f at_rest there) (own _ _ _)
+  | inr ne ↦ rw (get_or-set_other fs k j f at_rest ne)
       (carries_same bs cs (flight_among fs j) _ _ _ _ _ _ (same j _ ne (small j).0) (same j _ ne (small j).1)
       (same j _ ne (small j).2) (h j))
 ]
@@ -107,11 +91,9 @@ others_probed : (fs : List Flight) (k : ℕ) (f : Flight) (n m : NeverState) →
     → IsMet m v i)
     → ((j : ℕ) → ProbedOwn n j (flight_among fs j)) → (j : ℕ) → ProbedOwn m j (flight_among (slice_set fs k f) j)
 others_probed fs k f n m there small own same meets h j = elim (cases_eq j k) [
-  | inl e ↦ subst (λ (x : Flight). ProbedOwn m j x)
-      (sym (ap (λ i. flight_among (slice_set fs k f) i) e ∙ get_or-set_same fs k f at_rest there))
+  | inl e ↦ rw (ap (λ i. flight_among (slice_set fs k f) i) e ∙ get_or-set_same fs k f at_rest there)
       (λ past. let x : false ≡ true = sym own ∙ past in cc)
-  | inr ne ↦ subst (λ (x : Flight). ProbedOwn m j x) (sym (get_or-set_other fs k j f at_rest ne))
-      (λ past. subst (λ (v : Value). IsMet m v (i_of (flight_among fs j).op)) (sym (same j _ ne (small j).0))
+  | inr ne ↦ rw (get_or-set_other fs k j f at_rest ne) (λ past. rw (same j _ ne (small j).0)
       (meets j ne past _ _ (h j past)))
 ]
 
@@ -135,15 +117,12 @@ module _ (s : ImageScene) (n : NeverState) (h : AreImages s n) (small : AreSmall
       record {
         registers = λ i. set_by (λ (x : Flight). shown x (i % 8) (slice_index s.registers i)
             ≡ image_of (bases_of s.allocations) (slice_index_or n.registers i Null)) s.flights k (i / 8) f at_rest
-            (λ e. same (i % 8) (slice_index s.registers i)
-            ∙ ap (λ j. shown (flight_among s.flights j) (i % 8) (slice_index s.registers i)) (sym e)
-            ∙ h.registers i) (h.registers i);
+            (λ e. same (i % 8) _ ∙ rw (← e) (h.registers i)) (h.registers i);
         globals = h.globals;
         heap = h.heap;
         carried = λ j. set_by (λ (x : Flight). CarriesOwn (bases_of s.allocations) n j x) s.flights k j f at_rest
-            (λ e. subst (λ i. CarriesOwn (bases_of s.allocations) n i f) (sym e) carries) (h.carried j);
-        probed = λ j. set_by (λ (x : Flight). ProbedOwn n j x) s.flights k j f at_rest
-            (λ e. subst (λ i. ProbedOwn n i f) (sym e) probed) (h.probed j);
+            (λ e. rw e carries) (h.carried j);
+        probed = λ j. set_by (λ (x : Flight). ProbedOwn n j x) s.flights k j f at_rest (λ e. rw e probed) (h.probed j);
       }
 
   owes_one : (k : ℕ) (f : Flight) (v : Value) → k < length s.flights → 8 * k + 7 < length n.registers
@@ -274,8 +253,7 @@ module _ (s : ImageScene) (n : NeverState) (h : AreImages s n) (small : AreSmall
       record {
         registers = h.registers;
         globals = h.globals;
-        heap = λ a i u m lt. get_or-set_other s.heap x ((placed_at s.allocations a).base + i) 0 0 (out a i u m lt)
-            ∙ h.heap a i u m lt;
+        heap = λ a i u m lt. get_or-set_other s.heap x _ 0 0 (out a i u m lt) ∙ h.heap a i u m lt;
         carried = h.carried;
         probed = h.probed;
       }
@@ -285,13 +263,10 @@ pub written_alike : (n : NeverState) (a i : ℕ) (v : Value) → AreAlike n (wit
 written_alike n a i v b =
     set_by (λ (x : NeverAllocation). (length x.words ≡ length (words_of n b))
     × (is_unmapped x ≡ is_unmapped (allocation_at n b))) n.allocations a b
-    (record (allocation_at n a) { words = slice_set (words_of n a) i v }) no_allocation
-    (λ e. (
-      length-set (words_of n a) i v ∙ ap (λ j. length (words_of n j)) (sym e),
-      ap (λ l. (allocation_at n a).freed && nat_lt 32 l) (length-set (words_of n a) i v)
-          ∙ ap (λ j. is_unmapped (allocation_at n j)) (sym e),
-    ))
-    (refl, refl)
+    (record (allocation_at n a) { words = slice_set (words_of n a) i v }) no_allocation (λ e. (
+      length-set (words_of n a) i v ∙ rw (← e),
+      rw (length-set (words_of n a) i v) (rw (← e)),
+    )) (refl, refl)
 
 word_same : (n : NeverState) (a i : ℕ) (v : Value) → i < length (words_of n a) → word_at (with_word n a i v) a i ≡ v
 word_same n a i v lt =
@@ -367,7 +342,7 @@ base_at xs a = get_or-map-default (λ (x : PlacedAllocation). x.base) xs a never
 
 pub same_base : (xs ys : List PlacedAllocation) → bases_of ys ≡ bases_of xs → (a : ℕ)
     → (placed_at ys a).base ≡ (placed_at xs a).base
-same_base xs ys e a = sym (base_at ys a) ∙ ap (λ bs. slice_index bs a) e ∙ base_at xs a
+same_base xs ys e a = sym (base_at ys a) ∙ rw e (base_at xs a)
 
 module _ (s : ImageScene) (n : NeverState) (h : AreImages s n) where
   pub rebased : (xs : List PlacedAllocation) → bases_of xs ≡ bases_of s.allocations
@@ -375,30 +350,23 @@ module _ (s : ImageScene) (n : NeverState) (h : AreImages s n) where
       → AreImages (record s { allocations = xs }) n
   rebased xs e u =
       record {
-        registers = λ k. h.registers k ∙ ap (λ bs. image_of bs (slice_index_or n.registers k Null)) (sym e);
-        globals = λ g. h.globals g ∙ ap (λ bs. image_of bs (global_at n g)) (sym e);
-        heap = λ a i r m lt. ap (λ b. slice_index s.heap (b + i)) (same_base s.allocations xs e a)
-            ∙ h.heap a i (u a r) m lt ∙ ap (λ bs. image_of bs (word_at n a i)) (sym e);
-        carried = λ j. subst (λ bs. CarriesOwn bs n j (flight_among s.flights j)) (sym e) (h.carried j);
+        registers = λ k. h.registers k ∙ rw (← e);
+        globals = λ g. h.globals g ∙ rw (← e);
+        heap = λ a i r m lt. rw (same_base s.allocations xs e a) (h.heap a i (u a r) m lt ∙ rw (← e));
+        carried = λ j. rw e (h.carried j);
         probed = h.probed;
       }
 
 -- an allocation is freed
 pub freed_words : (n : NeverState) (a b : ℕ) → words_of (with_freed n a) b ≡ words_of n b
 freed_words n a b = set_by (λ (x : NeverAllocation). x.words ≡ words_of n b) n.allocations a b
-    (record (allocation_at n a) { freed = true }) no_allocation (λ e. ap (λ j. words_of n j) (sym e)) refl
-
-and_no : (b x : Bool) → x ≡ false → (b && x) ≡ false
-and_no true x h = h
-and_no false x h = refl
+    (record (allocation_at n a) { freed = true }) no_allocation (λ e. rw (← e)) refl
 
 pub freed_was : (n : NeverState) (a b : ℕ) → is_unmapped (allocation_at (with_freed n a) b) ≡ false
     → is_unmapped (allocation_at n b) ≡ false
 freed_was n a b = set_by (λ (x : NeverAllocation). is_unmapped x ≡ false
     → is_unmapped (allocation_at n b) ≡ false) n.allocations a b (record (allocation_at n a) { freed = true })
-    no_allocation
-    (λ e u. ap (λ j. is_unmapped (allocation_at n j)) e
-    ∙ and_no (allocation_at n a).freed (is_large (words_of n a)) u) (λ u. u)
+    no_allocation (λ e u. rw e (and_right _ (is_large (words_of n a)) u)) (λ u. u)
 
 freed_is : (n : NeverState) (a b : ℕ) → is_unmapped (record (allocation_at n a) { freed = true }) ≡ false
     → is_unmapped (allocation_at n b) ≡ false
@@ -415,20 +383,16 @@ module _ (s : ImageScene) (n : NeverState) (h : AreImages s n) (small : AreSmall
       record {
         registers = plain_registers s n h small k f at;
         globals = h.globals;
-        heap = λ b j u m lt. h.heap b j u (freed_was n a b m)
-            (subst (λ (ws : List Value). j < length ws) (freed_words n a b) lt)
-            ∙ ap (λ (ws : List Value). image_of (bases_of s.allocations) (slice_index_or ws j Null))
-            (sym (freed_words n a b));
+        heap = λ b j u m lt. h.heap b j u (freed_was n a b m) (rw (freed_words n a b) at lt)
+            ∙ rw (← (freed_words n a b));
         carried = others_carry _ _ s.flights k f n (with_freed n a) at.there small
             (λ a b d. bare_carries _ f a b d at.bare) (λ j r ne lr. refl) h.carried;
         probed = others_probed s.flights k f n (with_freed n a) at.there small (bare_unprobed f.stage at.bare)
             (λ j r ne lr. refl)
             (λ j ne past v i m. elim (cases_Bool (is_unmapped (record (allocation_at n a) { freed = true }))) [
               | inl e ↦ let x : false ≡ true = sym (quiet e j ne) ∙ past in cc
-              | inr e ↦ met_same n (with_freed n a) v i (λ b. ap (λ (ws : List Value). length ws) (freed_words n a b))
-                  (λ b u. freed_is n a b e u) m
-            ])
-            h.probed;
+              | inr e ↦ met_same n (with_freed n a) v i (λ b. rw (freed_words n a b)) (λ b u. freed_is n a b e u) m
+            ]) h.probed;
       }
 
 -- a new allocation
@@ -436,8 +400,8 @@ image_grown : (n : NeverState) (xs : List PlacedAllocation) (y : PlacedAllocatio
     → length xs ≡ length n.allocations → IsSound n v
     → image_of (bases_of (xs ++ y ∷ [])) v ≡ image_of (bases_of xs) v
 image_grown n xs y v e s =
-    ap (λ bs. image_of bs v) (map-append (λ (x : PlacedAllocation). x.base) xs (y ∷ []))
-    ∙ image_more n (bases_of xs) (y.base ∷ []) v (length-map xs (λ (x : PlacedAllocation). x.base) ∙ e) s
+    rw (map-append (λ (x : PlacedAllocation). x.base) xs (y ∷ []))
+    (image_more n (bases_of xs) (y.base ∷ []) v (length-map xs (λ (x : PlacedAllocation). x.base) ∙ e) s)
 
 suits_grown : (n : NeverState) (xs : List PlacedAllocation) (y : PlacedAllocation) (v : Value) (kind : Kind)
     → length xs ≡ length n.allocations → Suits n v kind
@@ -451,8 +415,8 @@ new_image : (xs : List PlacedAllocation) (y : PlacedAllocation) (m ty : ℕ) →
     → image_of (bases_of (xs ++ y ∷ [])) (Ptr m ty 0) ≡ address_of y.base
 new_image xs y m ty e =
     let at : slice_index (bases_of (xs ++ y ∷ [])) m ≡ y.base =
-    ap (λ bs. slice_index bs m) (map-append (λ (x : PlacedAllocation). x.base) xs (y ∷ []))
-    ∙ get_or_at (bases_of xs) y.base [] 0 m (length-map xs (λ (x : PlacedAllocation). x.base) ∙ e) in
+    rw (map-append (λ (x : PlacedAllocation). x.base) xs (y ∷ []))
+    (get_or_at (bases_of xs) y.base [] 0 m (length-map xs (λ (x : PlacedAllocation). x.base) ∙ e)) in
     ap (λ b. address_of (b + 0)) at ∙ (omega arith)
 
 zero_image : (bs : List ℕ) (kinds : List Kind) (i : ℕ) → image_of bs (get_or (map zero_of kinds) i Null) ≡ 0
@@ -492,14 +456,12 @@ pub new_placed : (xs : List PlacedAllocation) (y : PlacedAllocation) → placed_
 new_placed xs y = get_or_at xs y [] never_granted (length xs) refl
 
 meets_new : (n : NeverState) (ty : ℕ) (v : Value) (i : ℕ) → IsMet n v i → IsMet (with_new n ty) v i
-meets_new n ty Null i h = tt
-meets_new n ty (Num m) i h = tt
 meets_new n ty (Ptr a t o) i h = λ lt. elim (cases_eq a (length n.allocations)) [
-  | inl e ↦ ap (λ j. is_unmapped (allocation_at (with_new n ty) j)) e
-      ∙ ap (λ (x : NeverAllocation). is_unmapped x) (new_never n ty)
-  | inr ne ↦ ap (λ (x : NeverAllocation). is_unmapped x) (old_never n ty a ne)
-      ∙ h (subst (λ (x : NeverAllocation). o + i < length x.words) (old_never n ty a ne) lt)
+  | inl e ↦ rw e (rw (new_never n ty))
+  | inr ne ↦ rw (old_never n ty a ne)
+      (h (subst (λ (x : NeverAllocation). o + i < length x.words) (old_never n ty a ne) lt))
 ]
+meets_new n ty _ i h = tt
 
 -- a word of what is granted, and of what was
 pub exists_placed : (xs : List PlacedAllocation) (a : ℕ) → (placed_at xs a).released ≡ false → a < length xs
@@ -523,8 +485,7 @@ module _ (globals : List ℕ) (s : ImageScene) (n : NeverState) (h : AreImages s
       let v = Ptr (length n.allocations) ty 0 in
       let bs = bases_of (s.allocations ++ y ∷ []) in
       let long_n = at.registers in
-      let grown : (w : Value) → IsSound n w
-      → image_of bs w ≡ image_of (bases_of s.allocations) w =
+      let grown : (w : Value) → IsSound n w → image_of bs w ≡ image_of (bases_of s.allocations) w =
       λ w sound. image_grown n s.allocations y w same sound in
       record {
         registers = registers_from bs s.flights k f _ _ at.there
@@ -532,11 +493,9 @@ module _ (globals : List ℕ) (s : ImageScene) (n : NeverState) (h : AreImages s
             ∙ set_both (λ z u. z ≡ image_of bs u) s.registers n.registers (8 * k + d) (8 * k + r)
             (address_of base) 0 v Null (omega arith) (omega arith)
             (λ e. sym (new_image s.allocations y (length n.allocations) ty same)) (λ ne. own_plain s n h k r lr at.was
-            ∙ sym (grown _ (typed.registers (8 * k + r)))))
-            (λ i ne. ap (shown (flight_among s.flights (i / 8)) (i % 8))
+            ∙ sym (grown _ (typed.registers (8 * k + r))))) (λ i ne. ap (shown (flight_among s.flights (i / 8)) (i % 8))
             (get_or-set_other s.registers (8 * k + d) i (address_of base) 0 (λ e. absurd (ne (omega arith))))
-            ∙ h.registers i ∙ sym (grown _ (typed.registers i))
-            ∙ ap (image_of bs) (sym
+            ∙ h.registers i ∙ sym (grown _ (typed.registers i)) ∙ ap (image_of bs) (sym
             (get_or-set_other n.registers (8 * k + d) i v Null (λ e. absurd (ne (omega arith))))));
         globals = λ g. h.globals g ∙ sym (grown _ (typed.globals g));
         heap = λ b j u m lj. elim (cases_eq b (length n.allocations)) [
@@ -547,23 +506,19 @@ module _ (globals : List ℕ) (s : ImageScene) (n : NeverState) (h : AreImages s
               ∙ sym same) ∙ new_placed s.allocations y in
               let lj' : j < length (zero_words (kinds_of n.types ty)) =
               subst (λ (x : NeverAllocation). j < length x.words) na lj in
-              ap (λ (x : PlacedAllocation). slice_index s.heap (x.base + j)) ga
-              ∙ zero_there j (omega (arith, length-map (kinds_of n.types ty) zero_of))
+              rw ga (zero_there j (omega (arith, length-map (kinds_of n.types ty) zero_of))
               ∙ sym (zero_image bs (kinds_of n.types ty) j)
-              ∙ ap (λ (x : NeverAllocation). image_of bs (slice_index_or x.words j Null)) (sym na)
+              ∙ ap (λ (x : NeverAllocation). image_of bs (slice_index_or x.words j Null)) (sym na))
           | inr ne ↦
               let na = old_never n ty b ne in
               let ga = old_placed s.allocations y b (λ e. ne (e ∙ same)) in
-              let u' : (placed_at s.allocations b).released ≡ false = sym (ap (λ (x : PlacedAllocation). x.released) ga)
-              ∙ u in
+              let u' : (placed_at s.allocations b).released ≡ false = sym (rw ga) ∙ u in
               let lj' : j < length (words_of n b) = subst (λ (x : NeverAllocation). j < length x.words) na lj in
               let there : b < length n.allocations = exists n b j lj' in
               let t : IsTypedAllocation n (allocation_at n b) = typed.allocations b there in
-              ap (λ (x : PlacedAllocation). slice_index s.heap (x.base + j)) ga
-              ∙ h.heap b j u' (sym (ap (λ (x : NeverAllocation). is_unmapped x) na) ∙ m) lj'
+              rw ga (h.heap b j u' (sym (rw na) ∙ m) lj'
               ∙ sym (suits_grown n s.allocations y (word_at n b j) (kind_in n (allocation_at n b) j) same
-              (t.words j lj'))
-              ∙ ap (λ (x : NeverAllocation). image_of bs (slice_index_or x.words j Null)) (sym na)
+              (t.words j lj')) ∙ ap (λ (x : NeverAllocation). image_of bs (slice_index_or x.words j Null)) (sym na))
         ];
         carried = others_carry (bases_of s.allocations) bs s.flights k f n (with_register (with_new n ty) k d v)
             at.there small (λ a b d. bare_carries _ f a b d at.bare)

@@ -1,10 +1,6 @@
 -- All that is known of a world after an enabled list, of whatever calls.
 use Rattle.std.proofs.Common.{List}
-use Rattle.mk_core.specs.declared.config.Config.{Config}
-use Rattle.mk_core.specs.declared.events.Event.{Event}
-use Rattle.mk_core.specs.Config.{IsWithinLimits}
-use Rattle.mk_core.specs.Layout.{AreOfPages}
-use Rattle.mk_core.specs.History.{World, left, AreEnabled}
+use Rattle.mk_protocol.proofs.Vocabulary.{AreEnabled, AreOfPages, Config, Event, IsWithinLimits, World, left}
 use Rattle.mk_core.proofs.Lengths.{histories_keep_lengths}
 use Rattle.mk_protocol.proofs.Known.{Known, known_left}
 

@@ -1,19 +1,10 @@
 -- The moves of the images: what an event may do to what they read.
 use Rattle.std.proofs.Common.{List, [], ◌∷◌, ◌++◌, ◌≡◌, ◌≢◌, ℕ, ◌+◌, ◌*◌, ◌<◌, true, false, length}
 use Rattle.std.specs.Prelude.{slice_set, slice_index, Bool}
-use Rattle.mk_never.specs.declared.values.Value.{Value}
-use Rattle.mk_never.specs.declared.values.Value.TheVariants.{Ptr}
-use Rattle.mk_never.specs.Types.{kinds_of}
-use Rattle.mk_never.specs.NeverHeap.{NeverState, allocation_at, words_of, is_unmapped, with_register, with_global}
-use Rattle.mk_never.specs.NeverHeap.{with_word, with_new, with_freed}
-use Rattle.mk_core.specs.declared.seats.Stage.{Stage}
+use Rattle.mk_protocol.proofs.Vocabulary.{Flight, NeverState, PlacedAllocation, Ptr, Stage, Value, address_of}
+use Rattle.mk_protocol.proofs.Vocabulary.{allocation_at, bases_of, d_of, image_of, is_unmapped, kinds_of, placed_at}
+use Rattle.mk_protocol.proofs.Vocabulary.{with_freed, with_global, with_new, with_register, with_word, words_of}
 use Rattle.mk_core.specs.declared.seats.Stage.TheVariants as stage
-use Rattle.mk_core.specs.declared.seats.Flight.{Flight}
-use Rattle.mk_core.specs.Calls.{d_of}
-use Rattle.mk_geom.specs.Addresses.{address_of}
-use Rattle.mk_core.specs.Image.{image_of}
-use Rattle.mk_core.specs.Allocations.{PlacedAllocation, placed_at}
-use Rattle.mk_core.specs.History.{bases_of}
 use Rattle.mk_images.specs.Images.{ImageScene, flight_among, is_put, shown, CarriesOwn, ProbedOwn, is_past_probe}
 use Rattle.mk_images.specs.SafeSets.{IsSafe, IsSafeSet}
 

@@ -1,16 +1,9 @@
 -- One event: the world mirrors the heap that never reuses storage after it, and the answer that it decides is right.
 use Rattle.std.proofs.Common.{◌≡◌, ℕ, List, ◌++◌, ◌∙◌}
-use Rattle.mk_never.specs.NeverHeap.{NeverState, replies_of}
-use Rattle.mk_never.specs.Admitted.{AreAdmitted}
-use Rattle.mk_never.specs.Laws.{Continues}
+use Rattle.mk_protocol.proofs.Vocabulary.{AreAdmitted, Config, Continues, Event, IsEnabled, NeverState, World, answered}
+use Rattle.mk_protocol.proofs.Vocabulary.{answers_of, asked, bases_of, call_decided, replies_of, world_behind}
 use Rattle.mk_never.proofs.Later.{calls_stay}
 use Rattle.mk_never.proofs.TypedCalls.{calls_keep}
-use Rattle.mk_core.specs.declared.config.Config.{Config}
-use Rattle.mk_core.specs.declared.events.Event.{Event}
-use Rattle.mk_core.specs.Image.{answers_of}
-use Rattle.mk_core.specs.Decided.{asked, answered}
-use Rattle.mk_core.specs.Enabled.{IsEnabled}
-use Rattle.mk_core.specs.History.{World, world_behind, call_decided, bases_of}
 use Rattle.mk_core.proofs.Conditions.{enabled_meets}
 use Rattle.mk_images.specs.Images.{image_scene_of}
 use Rattle.mk_images.specs.ImagePremises.{ImagePremises}

@@ -4,17 +4,9 @@ use Rattle.std.proofs.Common.{◌∙◌, inl, inr, arith}
 use Rattle.std.specs.Prelude.{if◌then◌else◌}
 use Rattle.std.proofs.lemmas.Bool.{cases_eq, eq-eqb, ne_eqb}
 use Rattle.std.proofs.lemmas.List.{get_or-set_same, get_or-set_other, get_or_append_left}
-use Rattle.mk_never.specs.declared.operations.Op.{Op}
-use Rattle.mk_never.specs.declared.values.Value.{Value}
-use Rattle.mk_never.specs.declared.values.Value.TheVariants.{Null, Num, Ptr}
-use Rattle.mk_never.specs.NeverHeap.{NeverState, allocation_at, words_of, is_unmapped}
-use Rattle.mk_never.specs.Typed.{IsSound}
-use Rattle.mk_core.specs.declared.seats.Stage.{Stage}
+use Rattle.mk_protocol.proofs.Vocabulary.{Flight, IsSound, NeverState, Null, Num, Op, Ptr, Stage, Value, address_of}
+use Rattle.mk_protocol.proofs.Vocabulary.{allocation_at, d_of, image_of, is_unmapped, words_of}
 use Rattle.mk_core.specs.declared.seats.Stage.TheVariants as stage
-use Rattle.mk_core.specs.declared.seats.Flight.{Flight}
-use Rattle.mk_geom.specs.Addresses.{address_of}
-use Rattle.mk_core.specs.Image.{image_of}
-use Rattle.mk_core.specs.Calls.{d_of}
 use Rattle.mk_images.specs.Images.{has_q, has_some_q, has_p, has_some_p, has_r, is_put, owes, shown, is_past_probe}
 use Rattle.mk_images.specs.Images.{Carries, IsMet}
 use Rattle.mk_images.proofs.Moves.{is_bare}
@@ -24,11 +16,8 @@ pub set_both : {A B : Type 0} (P : A → B → Type 0) (xs : List A) (ys : List 
     → (i ≡ k → P x y) → (i ≢ k → P (get_or xs i dx) (get_or ys i dy))
     → P (get_or (set xs k x) i dx) (get_or (set ys k y) i dy)
 set_both P xs ys k i x dx y dy lx ly new old = elim (cases_eq i k) [
-  | inl e ↦ subst (λ (j : ℕ). P (get_or (set xs k x) j dx) (get_or (set ys k y) j dy)) (sym e)
-      (subst (λ a. P a (get_or (set ys k y) k dy)) (sym (get_or-set_same xs k x dx lx))
-      (subst (λ b. P x b) (sym (get_or-set_same ys k y dy ly)) (new e)))
-  | inr ne ↦ subst (λ a. P a (get_or (set ys k y) i dy)) (sym (get_or-set_other xs k i x dx ne))
-      (subst (λ b. P (get_or xs i dx) b) (sym (get_or-set_other ys k i y dy ne)) (old ne))
+  | inl e ↦ rw e (rw (get_or-set_same xs k x dx lx) (rw (get_or-set_same ys k y dy ly) (new e)))
+  | inr ne ↦ rw (get_or-set_other xs k i x dx ne) (rw (get_or-set_other ys k i y dy ne) (old ne))
 ]
 
 -- a stage that carries nothing
@@ -56,11 +45,11 @@ bare_carries bs f a b d h =
 pub put_carries : (bs : List ℕ) (f : Flight) (a b d : Value) → f.stage ≡ stage.Put → Carries bs f a b d
 put_carries bs f a b d h =
     record {
-      q = λ e. let x : has_q stage.Put f.op ≡ true = subst (λ s. has_q s f.op ≡ true) h e in cc;
-      some_q = λ e. let x : has_some_q stage.Put f.op ≡ true = subst (λ s. has_some_q s f.op ≡ true) h e in cc;
-      p = λ e. let x : has_p stage.Put f.op ≡ true = subst (λ s. has_p s f.op ≡ true) h e in cc;
-      some_p = λ e. let x : has_some_p stage.Put f.op ≡ true = subst (λ s. has_some_p s f.op ≡ true) h e in cc;
-      r = λ e. let x : has_r stage.Put f.op ≡ true = subst (λ s. has_r s f.op ≡ true) h e in cc;
+      q = λ e. let x : has_q stage.Put f.op ≡ true = rw h at e in cc;
+      some_q = λ e. let x : has_some_q stage.Put f.op ≡ true = rw h at e in cc;
+      p = λ e. let x : has_p stage.Put f.op ≡ true = rw h at e in cc;
+      some_p = λ e. let x : has_some_p stage.Put f.op ≡ true = rw h at e in cc;
+      r = λ e. let x : has_r stage.Put f.op ≡ true = rw h at e in cc;
     }
 
 pub bare_unprobed : (s : Stage) → is_bare s ≡ true → is_past_probe s ≡ false
@@ -69,19 +58,17 @@ bare_unprobed _ h = cc
 
 -- what a flight shows of a register
 pub shows_plain : (f : Flight) (r x : ℕ) → is_put f.stage ≡ false → shown f r x ≡ x
-shows_plain f r x h = ap (λ b. if b then f.loaded else x) (none f.stage (d_of f.op) r h)
+shows_plain f r x h = rw (none f.stage (d_of f.op) r h)
   where
     none : (s : Stage) (d r : ℕ) → is_put s ≡ false → owes s d r ≡ false
     none stage.Put d r h = cc
     none _ d r h = refl
 
 pub shows_owed : (f : Flight) (x : ℕ) → f.stage ≡ stage.Put → shown f (d_of f.op) x ≡ f.loaded
-shows_owed f x h = ap (λ (s : Stage). if owes s (d_of f.op) (d_of f.op) then f.loaded else x) h
-    ∙ ap (λ b. if b then f.loaded else x) (eq-eqb (d_of f.op) (d_of f.op) refl)
+shows_owed f x h = rw h (rw (eq-eqb (d_of f.op) (d_of f.op) refl))
 
 pub shows_other : (f : Flight) (r x : ℕ) → f.stage ≡ stage.Put → d_of f.op ≢ r → shown f r x ≡ x
-shows_other f r x h ne = ap (λ (s : Stage). if owes s (d_of f.op) r then f.loaded else x) h
-    ∙ ap (λ b. if b then f.loaded else x) (ne_eqb (d_of f.op) r ne)
+shows_other f r x h ne = rw h (rw (ne_eqb (d_of f.op) r ne))
 
 pub bare_owes_nothing : (s : Stage) → is_bare s ≡ true → is_put s ≡ false
 bare_owes_nothing stage.Put h = cc
@@ -90,11 +77,10 @@ bare_owes_nothing _ h = refl
 -- images with one more base
 pub image_more : (n : NeverState) (bs more : List ℕ) (v : Value) → length bs ≡ length n.allocations → IsSound n v
     → image_of (bs ++ more) v ≡ image_of bs v
-image_more n bs more Null e s = refl
-image_more n bs more (Num m) e s = refl
 image_more n bs more (Ptr a t o) e s =
     ap (λ x. address_of (x + o))
     (get_or_append_left bs more 0 a (let lt : a < length n.allocations = s.0 in omega (arith, e)))
+image_more n bs more _ e s = refl
 
 -- what is carried, where the values are others with the same images
 pub carries_same : (bs cs : List ℕ) (f : Flight) (a b d a2 b2 d2 : Value) → image_of cs a2 ≡ image_of bs a
@@ -114,6 +100,5 @@ carries_same bs cs f a b d a2 b2 d2 ea eb ed h =
 pub met_same : (n m : NeverState) (v : Value) (i : ℕ) → ((a : ℕ) → length (words_of m a) ≡ length (words_of n a))
     → ((a : ℕ) → is_unmapped (allocation_at n a) ≡ false → is_unmapped (allocation_at m a) ≡ false)
     → IsMet n v i → IsMet m v i
-met_same n m Null i l u h = tt
-met_same n m (Num k) i l u h = tt
 met_same n m (Ptr a t o) i l u h = λ lt. u a (h (let e = l a in omega (arith, e)))
+met_same n m _ i l u h = tt

@@ -4,19 +4,10 @@ use Rattle.std.proofs.Common.{◌∙◌, arith}
 use Rattle.std.specs.Prelude.{if◌then◌else◌}
 use Rattle.std.proofs.lemmas.Bool.{false≢true}
 use Rattle.std.proofs.lemmas.List.{length-map}
-use Rattle.mk_never.specs.declared.types.Kind.{Kind}
-use Rattle.mk_never.specs.declared.types.Kind.TheVariants.{Num as Number, To}
-use Rattle.mk_never.specs.declared.values.Value.{Value}
-use Rattle.mk_never.specs.declared.values.Value.TheVariants.{Null, Num, Ptr}
-use Rattle.mk_never.specs.declared.values.Target.TheVariants.{Unmapped, WordOf}
-use Rattle.mk_never.specs.NeverHeap.{NeverState, allocation_at, words_of, word_at, is_unmapped, target_of, number_of}
-use Rattle.mk_never.specs.Admitted.{Meets, IsNumber}
-use Rattle.mk_never.specs.Typed.{IsSound, Suits, kind_in, IsTypedAllocation}
-use Rattle.mk_core.specs.Image.{image_of}
-use Rattle.mk_core.specs.Allocations.{PlacedAllocation, placed_at}
-use Rattle.mk_core.specs.History.{bases_of}
-use Rattle.mk_geom.specs.Headers.{header_of}
-use Rattle.mk_core.specs.Cells.{is_unmapped_header}
+use Rattle.mk_protocol.proofs.Vocabulary.{IsNumber, IsSound, IsTypedAllocation, Kind, Meets, NeverState, Null, Num}
+use Rattle.mk_protocol.proofs.Vocabulary.{Number, PlacedAllocation, Ptr, Suits, To, Unmapped, Value, WordOf}
+use Rattle.mk_protocol.proofs.Vocabulary.{allocation_at, bases_of, header_of, image_of, is_unmapped, is_unmapped_header}
+use Rattle.mk_protocol.proofs.Vocabulary.{kind_in, number_of, placed_at, target_of, word_at, words_of}
 use Rattle.mk_images.specs.Images.{ImageScene, IsMet}
 use Rattle.mk_images.specs.SafeSets.{IsSafe}
 use Rattle.mk_images.proofs.Pairs.{image_more}
@@ -59,7 +50,7 @@ module _ (listed : List ℕ) (safe : ℕ → Bool) (s : ImageScene) (n : NeverSt
       record {
         number = a;
         place = o + i;
-        target = ap (λ b. if b then Unmapped else WordOf a (o + i)) mapped;
+        target = rw mapped;
         word = word_is a t o q i e;
         inside = meets.0;
         exists = sound.0;
@@ -78,18 +69,16 @@ module _ (listed : List ℕ) (safe : ℕ → Bool) (s : ImageScene) (n : NeverSt
   unmapped_target header show (Num m) q i P e ne sound is meets u = absurd sound
   unmapped_target header show (Ptr a t o) q i P e ne sound is meets u =
       let un : is_unmapped (allocation_at n a) ≡ true =
-      sym (show a (o + i) (h.set.unreleased a is) meets.0)
-      ∙ ap (λ x. is_unmapped_header (header_of (header (x / 64)))) (sym (word_is a t o q i e)) ∙ u in
-      ap (λ b. if b then Unmapped else WordOf a (o + i)) un
+      sym (show a (o + i) (h.set.unreleased a is) meets.0) ∙ rw (← (word_is a t o q i e)) u in
+      rw un
 
   pub mapped_met : (header : ℕ → ℕ) → PagesShow header s n → (v : Value) (q i : ℕ)
       → q ≡ image_of (bases_of s.allocations) v → q ≢ 0 → IsSound n v → IsSafe safe v
       → is_unmapped_header (header_of (header (((q - 65536) / 8 + i) / 64))) ≡ false → IsMet n v i
-  mapped_met header show Null q i e ne sound is u = tt
-  mapped_met header show (Num m) q i e ne sound is u = tt
   mapped_met header show (Ptr a t o) q i e ne sound is u = λ inside.
       sym (show a (o + i) (h.set.unreleased a is) inside)
       ∙ ap (λ x. is_unmapped_header (header_of (header (x / 64)))) (sym (word_is a t o q i e)) ∙ u
+  mapped_met header show _ q i e ne sound is u = tt
 
   -- a word of a mapped allocation
   pub suits : (a i : ℕ) → a < length n.allocations → i < length (words_of n a)
@@ -99,8 +88,7 @@ module _ (listed : List ℕ) (safe : ℕ → Bool) (s : ImageScene) (n : NeverSt
   pub sound_more : (v : Value) (more : List ℕ) → IsSound n v
       → image_of (bases_of s.allocations) v ≡ image_of (bases_of s.allocations ++ more) v
   sound_more v more sound =
-      sym (image_more n (bases_of s.allocations) more v (length-map s.allocations (λ (x : PlacedAllocation). x.base)
-      ∙ h.count) sound)
+      sym (image_more n _ more v (length-map s.allocations (λ (x : PlacedAllocation). x.base) ∙ h.count) sound)
 
 pub of_number : (n : NeverState) (bs : List ℕ) (v : Value) (kind : Kind) → IsNumber kind → Suits n v kind
     → image_of bs v ≡ number_of v

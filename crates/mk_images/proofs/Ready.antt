@@ -3,23 +3,14 @@ use Rattle.std.proofs.Common.{◌≡◌, ℕ, ◌+◌, ◌^◌, ◌<◌, Bool, t
 use Rattle.std.proofs.Common.{subst, ◌∙◌, inl, inr, arith}
 use Rattle.std.specs.Prelude.{slice_set, ◌==◌, Option, Some, if◌then◌else◌}
 use Rattle.std.proofs.lemmas.Bool.{cases_eq, cases_Bool, eq-eqb, ne_eqb}
-use Rattle.mk_never.specs.declared.operations.Op.{Op}
-use Rattle.mk_never.specs.declared.values.Value.{Value}
-use Rattle.mk_never.specs.declared.values.Value.TheVariants.{Null, Num, Ptr}
-use Rattle.mk_never.specs.Types.{kinds_of}
-use Rattle.mk_never.specs.NeverHeap.{NeverState, allocation_at, words_of, is_same, bit, after_calls, replies_of}
+use Rattle.mk_protocol.proofs.Vocabulary.{Answer, IsSound, IsTyped, IsTypedAllocation, NeverState, Null, Num, Op}
+use Rattle.mk_protocol.proofs.Vocabulary.{Progress, Ptr, Value, after_calls, allocation_at, answer_of, answered}
+use Rattle.mk_protocol.proofs.Vocabulary.{answers_of, asked, bases_of, bit, entry_of, flagged, image_of, is_same}
+use Rattle.mk_protocol.proofs.Vocabulary.{kinds_of, one_if, placed_at, replies_of, words_of}
 use Rattle.mk_never.specs.NeverHeap.{reply_of}
-use Rattle.mk_never.specs.Typed.{IsSound, IsTyped, IsTypedAllocation}
 use Rattle.mk_never.proofs.Soundness.{place_is_inside}
 use Rattle.mk_never.proofs.Sameness.{equal_from_same, same_from_equal}
-use Rattle.mk_core.specs.declared.events.Answer.{Answer}
-use Rattle.mk_core.specs.declared.seats.Progress.{Progress}
-use Rattle.mk_core.specs.Calls.{one_if}
-use Rattle.mk_core.specs.Image.{image_of, answer_of, answers_of}
-use Rattle.mk_core.specs.History.{bases_of}
-use Rattle.mk_core.specs.Decided.{entry_of, flagged, asked, answered}
 use Rattle.mk_images.specs.Images.{ImageScene, AreImages}
-use Rattle.mk_core.specs.Allocations.{placed_at}
 use Rattle.mk_images.specs.SafeSets.{IsSafe, IsSafeSet}
 use Rattle.mk_images.proofs.Moves.{Move}
 use Rattle.mk_images.proofs.Kept.{AreApart, AreSmall, base_at}
@@ -41,10 +32,8 @@ pub pointed_word : (listed : List ℕ) (safe : ℕ → Bool) (s : ImageScene) (n
     → (a t o : ℕ) → IsSound n (Ptr a t o) → o < length (words_of n a)
 pointed_word listed safe s n h a t o sound =
     let typed : IsTypedAllocation n (allocation_at n a) = h.typed.allocations a sound.0 in
-    let place = place_is_inside (kinds_of n.types t) o sound.2
-    (h.full t (subst (λ x. x < length n.types) (sym sound.1) typed.ty)) in
-    let place' : o < length (kinds_of n.types (allocation_at n a).ty) =
-    subst (λ x. o < length (kinds_of n.types x)) sound.1 place in
+    let place = place_is_inside (kinds_of n.types t) o sound.2 (h.full t (rw sound.1 typed.ty)) in
+    let place' : o < length (kinds_of n.types (allocation_at n a).ty) = rw sound.1 at place in
     omega (arith, typed.size)
 
 pub image_zero : (n : NeverState) (bs : List ℕ) (v : Value) → IsSound n v → image_of bs v ≡ 0 → v ≡ Null
@@ -56,7 +45,7 @@ pub image_same : (listed : List ℕ) (safe : ℕ → Bool) (s : ImageScene) (n :
     → (u v : Value) → IsSound n u → IsSound n v → IsSafe safe u
     → IsSafe safe v
     → image_of (bases_of s.allocations) u ≡ image_of (bases_of s.allocations) v → u ≡ v
-image_same listed safe s n h Null v su sv fu fv e = sym (image_zero n (bases_of s.allocations) v sv (sym e))
+image_same listed safe s n h Null v su sv fu fv e = sym (image_zero n _ v sv (sym e))
 image_same listed safe s n h (Num m) v su sv fu fv e = absurd su
 image_same listed safe s n h (Ptr a t o) Null su sv fu fv e = absurd (omega arith)
 image_same listed safe s n h (Ptr a t o) (Num m) su sv fu fv e = absurd sv
@@ -66,10 +55,9 @@ image_same listed safe s n h (Ptr a t o) (Ptr b u i) su sv fu fv e =
     let places : (placed_at s.allocations a).base + o ≡ (placed_at s.allocations b).base + i = omega arith in
     elim (cases_eq a b) [
       | inl ab ↦
-          let bases : (placed_at s.allocations a).base ≡ (placed_at s.allocations b).base =
-          ap (λ x. (placed_at s.allocations x).base) ab in
+          let bases : (placed_at s.allocations a).base ≡ (placed_at s.allocations b).base = rw ab in
           let oi : o ≡ i = omega arith in
-          let tu : t ≡ u = su.1 ∙ ap (λ x. (allocation_at n x).ty) ab ∙ sym sv.1 in
+          let tu : t ≡ u = su.1 ∙ rw ab (sym sv.1) in
           cc
       | inr ne ↦ absurd (h.apart a b o i (h.set.unreleased a fu) (h.set.unreleased b fv)
           (pointed_word listed safe s n h a t o su) (pointed_word listed safe s n h b u i sv) ne places)

@@ -2,23 +2,16 @@
 use Rattle.std.proofs.Common.{◌≡◌, ℕ, ◌+◌, ◌*◌, ◌<◌, Bool, true, false, List, ◌++◌, length, refl, sym, ap, subst, ◌∙◌}
 use Rattle.std.proofs.Common.{arith}
 use Rattle.std.specs.Prelude.{slice_set, Some, if◌then◌else◌}
-use Rattle.mk_never.specs.declared.operations.Op.{Op}
+use Rattle.mk_protocol.proofs.Vocabulary.{Answer, Done, Flight, NeverState, Null, Num, Op, Stage, Unmapped, WordOf}
+use Rattle.mk_protocol.proofs.Vocabulary.{answer_of, bases_of, bit, d_of, flagged, i_of, is_same, number_of, q_of}
+use Rattle.mk_protocol.proofs.Vocabulary.{register_at, stage_refused, target_of, with_register, with_word, word_at}
 use Rattle.mk_never.specs.declared.operations.Op.TheVariants as op
 use Rattle.mk_never.specs.declared.operations.Reply.{Reply}
-use Rattle.mk_never.specs.declared.operations.Reply.TheVariants.{Done, Num as Number, Val}
-use Rattle.mk_never.specs.declared.values.Value.TheVariants.{Null, Num}
+use Rattle.mk_never.specs.declared.operations.Reply.TheVariants.{Num as Number, Val}
 use Rattle.mk_never.specs.declared.values.Target.{Target}
-use Rattle.mk_never.specs.declared.values.Target.TheVariants.{Nothing, Unmapped, WordOf}
-use Rattle.mk_never.specs.NeverHeap.{NeverState, register_at, with_register, number_of, bit, is_same, word_at}
-use Rattle.mk_never.specs.NeverHeap.{with_word, target_of, reply_at, left_at, reply_of, after_op}
-use Rattle.mk_core.specs.declared.events.Answer.{Answer}
-use Rattle.mk_core.specs.declared.seats.Stage.{Stage}
+use Rattle.mk_never.specs.declared.values.Target.TheVariants.{Nothing}
+use Rattle.mk_never.specs.NeverHeap.{reply_at, left_at, reply_of, after_op}
 use Rattle.mk_core.specs.declared.seats.Stage.TheVariants as stage
-use Rattle.mk_core.specs.declared.seats.Flight.{Flight}
-use Rattle.mk_core.specs.Calls.{q_of, i_of, d_of, stage_refused}
-use Rattle.mk_core.specs.Image.{answer_of}
-use Rattle.mk_core.specs.History.{bases_of}
-use Rattle.mk_core.specs.Decided.{flagged}
 use Rattle.mk_images.specs.Images.{ImageScene, flight_among, is_put}
 use Rattle.mk_images.proofs.Moves.{is_bare, Move, Flies, Owes}
 use Rattle.mk_images.proofs.Pairs.{bare_carries, bare_unprobed, shows_plain, bare_owes_nothing}
@@ -66,8 +59,7 @@ pub owes_null : (safe : ℕ → Bool) (s : ImageScene) (n : NeverState) (k d : �
     → ((bs : List ℕ) → a ≡ answer_of bs (reply_of n k o))
     → Leads safe s n k o (record s { flights = slice_set s.flights k f }) (Some a)
 owes_null safe s n k d o f a flag there long was put isd ld zero stays is = (
-  subst (λ (m : NeverState). Move safe s n (record s { flights = slice_set s.flights k f }) m)
-      (sym (ap (after_op n k) flag ∙ stays ∙ ap (λ x. with_register n k x Null) (sym isd)))
+  rw (ap (after_op n k) flag ∙ stays ∙ ap (λ x. with_register n k x Null) (sym isd))
       (Owes k f Null there long was put (omega (arith, isd)) zero tt),
   λ more. one_right _ a n k o (is _
       ∙ ap (λ (x : Op). answer_of (bases_of s.allocations ++ more) (reply_of n k x)) (sym flag)),
@@ -75,7 +67,7 @@ owes_null safe s n k d o f a flag there long was put isd ld zero stays is = (
 
 refused_reply : (x t : Target) (at : ℕ → ℕ → Reply) → x ≡ t → is_word t ≡ false
     → reply_at x at ≡ reply_at t (λ a w. Done)
-refused_reply x t at e none = ap (λ (y : Target). reply_at y at) e ∙ by t none
+refused_reply x t at e none = rw e (by t none)
   where
     by : (t : Target) → is_word t ≡ false → reply_at t at ≡ reply_at t (λ a w. Done)
     by Nothing none = refl
@@ -84,16 +76,12 @@ refused_reply x t at e none = ap (λ (y : Target). reply_at y at) e ∙ by t non
 
 refused_left : (x t : Target) (left : NeverState) (at : ℕ → ℕ → NeverState) → x ≡ t → is_word t ≡ false
     → left_at x left at ≡ left
-refused_left x t left at e none = ap (λ (y : Target). left_at y left at) e ∙ by t none
+refused_left x t left at e none = rw e (by t none)
   where
     by : (t : Target) → is_word t ≡ false → left_at t left at ≡ left
     by Nothing none = refl
     by Unmapped none = refl
     by (WordOf a i) none = cc
-
-abbrev pub is_bare_refusal : Op → Bool
-is_bare_refusal (op.GetPtr d q i) = false
-is_bare_refusal o = accesses o
 
 abbrev flight : Stage → Op → ℕ → ℕ → ℕ → ℕ → Flight
 flight st o q p r l = record { stage = st; op = o; q = q; p = p; r = r; loaded = l }
@@ -111,33 +99,24 @@ pub refuses : (safe : ℕ → Bool) (s : ImageScene) (n : NeverState) (k : ℕ) 
           (record { stage = stage_refused o; op = o; q = q; p = p; r = r; loaded = 0 });
     }) (Some a)
 refuses safe s n k (op.GetNum q' i) q p r a t is there long was ld none e answer =
-    decides_nothing safe s n k (op.GetNum q' i) (flight stage.Leave (op.GetNum q' i) q p r 0) a refl was refl refl
-    (λ bs. answer bs ∙ ap (answer_of bs)
-    (sym (refused_reply (target_of n (register_at n k q') i) t (λ a w. Number (number_of (word_at n a w))) e none)))
+    decides_nothing safe s n k (op.GetNum q' i) _ a refl was refl refl (λ bs. answer bs ∙ ap (answer_of bs)
+    (sym (refused_reply _ t (λ a w. Number (number_of (word_at n a w))) e none)))
 refuses safe s n k (op.SetNum q' i m) q p r a t is there long was ld none e answer =
-    decides_nothing safe s n k (op.SetNum q' i m) (flight stage.Leave (op.SetNum q' i m) q p r 0) a refl was refl
-    (refused_left (target_of n (register_at n k q') i) t n (λ a w. with_word n a w (Num m)) e none)
-    (λ bs. answer bs ∙ ap (answer_of bs)
-    (sym (refused_reply (target_of n (register_at n k q') i) t (λ a w. Done) e none)))
+    decides_nothing safe s n k (op.SetNum q' i m) _ a refl was refl
+    (refused_left _ t n (λ a w. with_word n a w (Num m)) e none) (λ bs. answer bs ∙ ap (answer_of bs)
+    (sym (refused_reply _ t (λ a w. Done) e none)))
 refuses safe s n k (op.SetPtr q' i p') q p r a t is there long was ld none e answer =
-    decides_nothing safe s n k (op.SetPtr q' i p') (flight stage.Leave (op.SetPtr q' i p') q p r 0) a refl was refl
-    (refused_left (target_of n (register_at n k q') i) t n (λ a w. with_word n a w (register_at n k p')) e none)
-    (λ bs. answer bs ∙ ap (answer_of bs)
-    (sym (refused_reply (target_of n (register_at n k q') i) t (λ a w. Done) e none)))
+    decides_nothing safe s n k (op.SetPtr q' i p') _ a refl was refl
+    (refused_left _ t n (λ a w. with_word n a w (register_at n k p')) e none) (λ bs. answer bs ∙ ap (answer_of bs)
+    (sym (refused_reply _ t (λ a w. Done) e none)))
 refuses safe s n k (op.CasPtr q' i p' r') q p r a t is there long was ld none e answer =
-    decides_nothing safe s n k (op.CasPtr q' i p' r') (flight stage.Leave (op.CasPtr q' i p' r') q p r 0) a refl was
-    refl (refused_left (target_of n (register_at n k q') i) t n
-    (λ a w. if is_same (word_at n a w) (register_at n k p') then with_word n a w (register_at n k r')
-    else n) e none)
-    (λ bs. answer bs ∙ ap (answer_of bs)
-    (sym (refused_reply (target_of n (register_at n k q') i) t
+    decides_nothing safe s n k (op.CasPtr q' i p' r') _ a refl was refl (refused_left _ t n
+    (λ a w. if is_same (word_at n a w) (register_at n k p') then with_word n a w (register_at n k r') else n) e none)
+    (λ bs. answer bs ∙ ap (answer_of bs) (sym (refused_reply _ t
     (λ a w. Number (bit (is_same (word_at n a w) (register_at n k p')))) e none)))
 refuses safe s n k (op.GetPtr d q' i) q p r a t is there long was ld none e answer =
-    owes_null safe s n k d (op.GetPtr d q' i) (flight stage.Put (op.GetPtr d q' i) q p r 0) a refl there long was refl
-    refl ld refl
-    (refused_left (target_of n (register_at n k q') i) t (with_register n k d Null)
-    (λ a w. with_register n k d (word_at n a w)) e none)
-    (λ bs. answer bs ∙ ap (answer_of bs)
-    (sym (refused_reply (target_of n (register_at n k q') i) t (λ a w. Val (word_at n a w)) e none)))
+    owes_null safe s n k d (op.GetPtr d q' i) _ a refl there long was refl refl ld refl (refused_left _ t _
+    (λ a w. with_register n k d (word_at n a w)) e none) (λ bs. answer bs ∙ ap (answer_of bs)
+    (sym (refused_reply _ t (λ a w. Val (word_at n a w)) e none)))
 refuses safe s n k (op.New d' ty full) q p r a t is there long was ld none e answer = cc
 refuses safe s n k _ q p r a t is there long was ld none e answer = cc

@@ -3,26 +3,17 @@ use Rattle.std.proofs.Common.{◌≡◌, ◌≢◌, ℕ, ◌+◌, ◌*◌, ◌%�
 use Rattle.std.proofs.Common.{ap, subst, ◌∙◌, arith}
 use Rattle.std.specs.Prelude.{if◌then◌else◌, slice_set, ◌==◌, Some, None}
 use Rattle.std.proofs.lemmas.Bool.{false≢true, eqb-true, eqb-false}
-use Rattle.mk_never.specs.declared.operations.Op.{Op}
+use Rattle.mk_protocol.proofs.Vocabulary.{AreAdmitted, Done, Flight, IsAdmitted, IsSound, Meets, NeverState, Null, Num}
+use Rattle.mk_protocol.proofs.Vocabulary.{Op, Ptr, Stage, Value, after_free, answer_of, asked, bases_of, d_of, entry_of}
+use Rattle.mk_protocol.proofs.Vocabulary.{i_of, image_of, is_same, one_if, onward, p_of, progress_p, progress_q}
+use Rattle.mk_protocol.proofs.Vocabulary.{progress_reg, q_of, r_of, refused, register_at, register_met, stage_behind}
+use Rattle.mk_protocol.proofs.Vocabulary.{steps_of, target_of, with_register}
 use Rattle.mk_never.specs.declared.operations.Op.TheVariants as op
-use Rattle.mk_never.specs.declared.operations.Reply.TheVariants.{Done}
-use Rattle.mk_never.specs.declared.values.Value.{Value}
-use Rattle.mk_never.specs.declared.values.Value.TheVariants.{Null, Num, Ptr}
 use Rattle.mk_never.specs.declared.values.Target.TheVariants.{Nothing}
-use Rattle.mk_never.specs.NeverHeap.{NeverState, register_at, with_register, target_of, free_reply, after_free}
-use Rattle.mk_never.specs.NeverHeap.{lea_reply, moved_on, is_same}
-use Rattle.mk_never.specs.Admitted.{AreAdmitted, IsAdmitted, Meets}
-use Rattle.mk_never.specs.Typed.{IsSound}
+use Rattle.mk_never.specs.NeverHeap.{free_reply, lea_reply, moved_on}
 use Rattle.mk_core.specs.declared.events.Answer.TheVariants as answer
-use Rattle.mk_core.specs.declared.seats.Stage.{Stage}
 use Rattle.mk_core.specs.declared.seats.Stage.TheVariants as stage
-use Rattle.mk_core.specs.declared.seats.Flight.{Flight}
-use Rattle.mk_core.specs.Calls.{i_of, steps_of, stage_behind, refused, q_of, p_of, r_of, d_of, value_for, progress_q}
-use Rattle.mk_core.specs.Calls.{progress_p, progress_reg, onward, one_if}
-use Rattle.mk_core.specs.Image.{image_of, answer_of}
-use Rattle.mk_core.specs.History.{bases_of}
-use Rattle.mk_core.specs.Decided.{entry_of, asked}
-use Rattle.mk_core.specs.Accesses.{register_met}
+use Rattle.mk_core.specs.Calls.{value_for}
 use Rattle.mk_protocol.proofs.Standings.{standing_at, is_astray}
 use Rattle.mk_protocol.proofs.Stages.{is_reg_stage}
 use Rattle.mk_images.specs.Images.{is_past_probe, ImageScene, flight_among, is_put, has_p, has_some_p, has_r, Carries}
@@ -96,8 +87,7 @@ module _ (listed : List ℕ) (safe : ℕ → Bool) (s : ImageScene) (n : NeverSt
   where
     null_at : (q x : ℕ) → x ≡ image_of (bases_of s.allocations) (register_at n k q) → (x == 0) ≡ true
         → register_at n k q ≡ Null
-    null_at q x e z = image_zero n (bases_of s.allocations) (register_at n k q) (h.typed.registers (8 * k + q)) (sym e
-        ∙ eqb-true x 0 z)
+    null_at q x e z = image_zero n _ (register_at n k q) (h.typed.registers (8 * k + q)) (sym e ∙ eqb-true x 0 z)
 
     -- an access loads its pointer, or is refused
     load_q : (o : Op) (q p r l x : ℕ) → accesses o ≡ true → flight_among s.flights k ≡ flight stage.LoadQ o q p r l
@@ -108,10 +98,9 @@ module _ (listed : List ℕ) (safe : ℕ → Bool) (s : ImageScene) (n : NeverSt
     load_q o q p r l x access is ld e =
         let was = ap (λ (f : Flight). is_put f.stage) is in
         let next = behind_load_q o access in
-        either_leads safe s n k o s (x == 0) (refused (flight stage.LoadQ o x p r l) answer.Null)
-        (onward (flight stage.LoadQ o x p r l) None)
+        either_leads safe s n k o s (x == 0) _ _
         (λ z. refuses safe s n k o x p r answer.Null Nothing access there long was ld refl
-        (ap (λ v. target_of n v (i_of o)) (null_at (q_of o) x e z)) (λ bs. refl))
+        (rw (null_at (q_of o) x e z)) (λ bs. refl))
         (λ nz. flies_on safe s n k o (flight (stage_behind stage.LoadQ (steps_of o)) o x p r l) was next.put
         (carries_q _ _ _ _ _ e (eqb-false x 0 nz) next.p next.some_p next.r)
         (λ y. absurd (false≢true (sym next.probed ∙ y))))
@@ -129,27 +118,22 @@ module _ (listed : List ℕ) (safe : ℕ → Bool) (s : ImageScene) (n : NeverSt
     reg_q (op.Lea d q' i) q p r l x is ld a car e =
         let was = ap (λ (f : Flight). is_put f.stage) is in
         either_leads safe s n k (op.Lea d q' i) s (x == 0) _ _
-        (λ z. owes_null safe s n k d (op.Lea d q' i) (flight stage.Put (op.Lea d q' i) x p r 0) answer.Null refl there
-        long was refl refl ld refl
-        (ap (λ v. with_register n k d (moved_on v i)) (null_at q' x e z))
-        (λ bs. ap (λ v. answer_of bs (lea_reply v)) (sym (null_at q' x e z))))
-        (λ nz. flies_on safe s n k (op.Lea d q' i) (flight stage.Store (op.Lea d q' i) x p r l) was refl
+        (λ z. owes_null safe s n k d (op.Lea d q' i) _ answer.Null refl there long was refl refl ld refl
+        (rw (null_at q' x e z)) (λ bs. ap (λ v. answer_of bs (lea_reply v)) (sym (null_at q' x e z))))
+        (λ nz. flies_on safe s n k (op.Lea d q' i) _ was refl
         (carries_q _ _ _ _ _ e (eqb-false x 0 nz) refl refl refl) (λ y. cc))
     reg_q (op.Move d q') q p r l x is ld a car e =
-        flies_on safe s n k (op.Move d q') (flight stage.Store (op.Move d q') x p r l)
-        (ap (λ (f : Flight). is_put f.stage) is) refl
+        flies_on safe s n k (op.Move d q') _ (rw is) refl
         (record { q = λ y. e; some_q = λ y. cc; p = λ y. cc; some_p = λ y. cc; r = λ y. cc }) (λ y. cc)
     reg_q (op.Same p' q') q p r l x is ld a car e =
         let u = register_at n k p' in
         let v = register_at n k q' in
         let ep : p ≡ image_of (bases_of s.allocations) u = car.p refl in
         let tests : (p == x) ≡ is_same u v =
-        ap (λ y. y == x) ep ∙ ap (λ y. image_of (bases_of s.allocations) u == y) e
-        ∙ image_test listed safe s n h u v (h.typed.registers (8 * k + p')) (h.typed.registers (8 * k + q'))
-        (h.set.registers (8 * k + p')) (h.set.registers (8 * k + q')) in
-        decides_nothing safe s n k (op.Same p' q') (flight stage.Leave (op.Same p' q') x p r l)
-        (answer.Num (one_if (p == x))) refl (ap (λ (f : Flight). is_put f.stage) is) refl refl
-        (λ bs. ap (λ b. answer.Num (one_if b)) tests ∙ ap answer.Num (bit_is (is_same u v)))
+        rw ep (rw e (image_test listed safe s n h u v (h.typed.registers (8 * k + p')) (h.typed.registers (8 * k + q'))
+        (h.set.registers (8 * k + p')) (h.set.registers (8 * k + q')))) in
+        decides_nothing safe s n k (op.Same p' q') _ (answer.Num (one_if (p == x))) refl (rw is) refl refl
+        (λ bs. rw tests (ap answer.Num (bit_is (is_same u v))))
     reg_q (op.New d ty full) q p r l x is ld a car e = cc
     reg_q _ q p r l x is ld a car e = cc
 
@@ -159,37 +143,31 @@ module _ (listed : List ℕ) (safe : ℕ → Bool) (s : ImageScene) (n : NeverSt
         → x ≡ image_of (bases_of s.allocations) (register_at n k (p_of o))
         → LeadsBy safe s n k o s (progress_p (flight stage.LoadP o q p r l) o x)
     reg_p (op.SetPtr q' i p') q p r l x is a car e =
-        flies_on safe s n k (op.SetPtr q' i p') (flight stage.Probe (op.SetPtr q' i p') q x r l)
-        (ap (λ (f : Flight). is_put f.stage) is) refl
+        flies_on safe s n k (op.SetPtr q' i p') _ (rw is) refl
         (record { q = λ y. car.q refl; some_q = λ y. car.some_q refl; p = λ y. e; some_p = λ y. cc; r = λ y. cc })
         (λ y. cc)
     reg_p (op.CasPtr q' i p' r') q p r l x is a car e =
-        flies_on safe s n k (op.CasPtr q' i p' r') (flight stage.LoadR (op.CasPtr q' i p' r') q x r l)
-        (ap (λ (f : Flight). is_put f.stage) is) refl
+        flies_on safe s n k (op.CasPtr q' i p' r') _ (rw is) refl
         (record { q = λ y. car.q refl; some_q = λ y. car.some_q refl; p = λ y. e; some_p = λ y. cc; r = λ y. cc })
         (λ y. cc)
     reg_p (op.SetGlobal g p') q p r l x is a car e =
-        flies_on safe s n k (op.SetGlobal g p') (flight stage.Setg (op.SetGlobal g p') q x r l)
-        (ap (λ (f : Flight). is_put f.stage) is) refl
+        flies_on safe s n k (op.SetGlobal g p') _ (rw is) refl
         (record { q = λ y. cc; some_q = λ y. cc; p = λ y. e; some_p = λ y. cc; r = λ y. cc }) (λ y. cc)
     reg_p (op.Same p' q') q p r l x is a car e =
-        flies_on safe s n k (op.Same p' q') (flight stage.LoadQ (op.Same p' q') q x r l)
-        (ap (λ (f : Flight). is_put f.stage) is) refl
+        flies_on safe s n k (op.Same p' q') _ (rw is) refl
         (record { q = λ y. cc; some_q = λ y. cc; p = λ y. e; some_p = λ y. cc; r = λ y. cc }) (λ y. cc)
     reg_p (op.IsNull p') q p r l x is a car e =
         let v = register_at n k p' in
-        let tests : (x == 0) ≡ is_same v Null = ap (λ y. y == 0) e
-        ∙ image_test listed safe s n h v Null (h.typed.registers (8 * k + p')) tt (h.set.registers (8 * k + p')) tt in
-        decides_nothing safe s n k (op.IsNull p') (flight stage.Leave (op.IsNull p') q x r l)
-        (answer.Num (one_if (x == 0))) refl (ap (λ (f : Flight). is_put f.stage) is) refl refl
-        (λ bs. ap (λ b. answer.Num (one_if b)) tests ∙ ap answer.Num (bit_is (is_same v Null)))
+        let tests : (x == 0) ≡ is_same v Null = rw e
+        (image_test listed safe s n h v Null (h.typed.registers (8 * k + p')) tt (h.set.registers (8 * k + p')) tt) in
+        decides_nothing safe s n k (op.IsNull p') _ (answer.Num (one_if (x == 0))) refl (rw is) refl refl
+        (λ bs. rw tests (ap answer.Num (bit_is (is_same v Null))))
     reg_p (op.Free p') q p r l x is a car e =
         let was = ap (λ (f : Flight). is_put f.stage) is in
         either_leads safe s n k (op.Free p') s (x == 0) _ _
-        (λ z. decides_nothing safe s n k (op.Free p') (flight stage.Give (op.Free p') q x r l) answer.Done refl was refl
-        (ap (λ v. after_free n v) (null_at p' x e z))
+        (λ z. decides_nothing safe s n k (op.Free p') _ answer.Done refl was refl (rw (null_at p' x e z))
         (λ bs. ap (λ v. answer_of bs (free_reply n v)) (sym (null_at p' x e z))))
-        (λ nz. flies_on safe s n k (op.Free p') (flight stage.Turn (op.Free p') q x r l) was refl
+        (λ nz. flies_on safe s n k (op.Free p') _ was refl
         (record { q = λ y. cc; some_q = λ y. cc; p = λ y. e; some_p = λ y. eqb-false x 0 nz; r = λ y. cc }) (λ y. cc))
     reg_p (op.New d ty full) q p r l x is a car e = cc
     reg_p _ q p r l x is a car e = cc
@@ -200,16 +178,14 @@ module _ (listed : List ℕ) (safe : ℕ → Bool) (s : ImageScene) (n : NeverSt
         → x ≡ image_of (bases_of s.allocations) (register_at n k (r_of o))
         → LeadsBy safe s n k o s (onward (record (flight stage.LoadR o q p r l) { r = x }) None)
     reg_r (op.CasPtr q' i p' r') q p r l x is a car e =
-        flies_on safe s n k (op.CasPtr q' i p' r') (flight stage.Probe (op.CasPtr q' i p' r') q p x l)
-        (ap (λ (f : Flight). is_put f.stage) is) refl
+        flies_on safe s n k (op.CasPtr q' i p' r') (flight stage.Probe (op.CasPtr q' i p' r') q p x l) (rw is) refl
         (record {
           q = λ y. car.q refl;
           some_q = λ y. car.some_q refl;
           p = λ y. car.p refl;
           some_p = λ y. cc;
           r = λ y. e;
-        })
-        (λ y. cc)
+        }) (λ y. cc)
     reg_r (op.New d ty full) q p r l x is a car e = cc
     reg_r _ q p r l x is a car e = cc
 
@@ -225,26 +201,22 @@ module _ (listed : List ℕ) (safe : ℕ → Bool) (s : ImageScene) (n : NeverSt
         let lea = lea_value listed safe s n h (register_at n k q') q i (h.typed.registers (8 * k + q'))
         (h.set.registers (8 * k + q')) (car.q refl) (car.some_q refl) admitted.access in (
           Stores k d _ (flight stage.Leave (op.Lea d q' i) q p r l) (moved_on (register_at n k q') i)
-              (record { there = there; registers = long; was = ap (λ (f : Flight). is_put f.stage) is; bare = refl })
-              longs ld lea.0 lea.1,
+              (record { there = there; registers = long; was = rw is; bare = refl }) longs ld lea.0 lea.1,
           λ more. one_right (bases_of s.allocations ++ more) answer.Done n k (op.Lea d q' i)
               (ap (answer_of (bases_of s.allocations ++ more)) (sym lea.2)),
         )
     reg_store (op.Move d q') q p r l is ld a car ad = (
-      Stores k d _ (flight stage.Leave (op.Move d q') q p r l) (register_at n k q')
-          (record {
-            there = there;
-            registers = long;
-            was = ap (λ (f : Flight). is_put f.stage) is;
-            bare = refl;
-          }) longs ld
-          (car.q refl) (h.set.registers (8 * k + q')),
+      Stores k d _ (flight stage.Leave (op.Move d q') q p r l) (register_at n k q') (record {
+        there = there;
+        registers = long;
+        was = rw is;
+        bare = refl;
+      }) longs ld (car.q refl) (h.set.registers (8 * k + q')),
       λ more. refl,
     )
     reg_store (op.Clear d) q p r l is ld a car ad = (
       Stores k d 0 (flight stage.Leave (op.Clear d) q p r l) Null
-          (record { there = there; registers = long; was = ap (λ (f : Flight). is_put f.stage) is; bare = refl }) longs
-          ld refl tt,
+          (record { there = there; registers = long; was = rw is; bare = refl }) longs ld refl tt,
       λ more. refl,
     )
     reg_store (op.New d ty full) q p r l is ld a car ad = cc
@@ -257,13 +229,10 @@ module _ (listed : List ℕ) (safe : ℕ → Bool) (s : ImageScene) (n : NeverSt
           flights = slice_set s.flights k (flight stage.Leave o q p r l);
         }) None
     reg_put o q p r l is ld = (
-      subst (λ (g : Flight). Move safe s n
-          (record s {
-            registers = slice_set s.registers (8 * k + d_of g.op) g.loaded;
-            flights = slice_set s.flights k (flight stage.Leave o q p r l);
-          }) n) is
-          (Pays k (flight stage.Leave o q p r l) there longs (ap (λ (f : Flight). f.stage) is)
-          (subst (λ (f : Flight). d_of f.op < 8) (sym is) ld) refl),
+      subst (λ (g : Flight). Move safe s n (record s {
+        registers = slice_set s.registers (8 * k + d_of g.op) g.loaded;
+        flights = slice_set s.flights k (flight stage.Leave o q p r l);
+      }) n) is (Pays k (flight stage.Leave o q p r l) there longs (rw is) (rw is ld) refl),
       λ more. refl,
     )
 

@@ -2,34 +2,24 @@
 use Rattle.std.proofs.Common.{◌≡◌, ℕ, ◌+◌, ◌/◌, ◌%◌, ◌<◌, Bool, true, false, List, length, map, refl, sym, ap, subst}
 use Rattle.std.proofs.Common.{◌∙◌, inl, inr, arith}
 use Rattle.std.specs.Prelude.{slice_index, slice_index_or, ◌&&◌, ◌||◌, not, Option, Some}
-use Rattle.std.proofs.lemmas.Bool.{cases_Bool, cases_lt, and_parts, and_from}
+use Rattle.std.proofs.lemmas.Bool.{cases_Bool, cases_lt, and_parts, and_from, and_right, or_parts}
 use Rattle.std.proofs.lemmas.List.{get_or_past}
-use Rattle.mk_never.specs.declared.types.Kind.{Kind}
-use Rattle.mk_never.specs.declared.types.Kind.TheVariants.{Num as Number, To}
-use Rattle.mk_never.specs.declared.values.Value.{Value}
-use Rattle.mk_never.specs.declared.values.Value.TheVariants.{Null, Num, Ptr}
-use Rattle.mk_never.specs.Types.{kinds_of, is_number, is_leaf}
-use Rattle.mk_never.specs.NeverHeap.{NeverState, allocation_at, words_of, word_at, global_at, is_unmapped}
-use Rattle.mk_never.specs.Typed.{IsSound, Suits, kind_in, IsTypedAllocation}
-use Rattle.mk_core.specs.declared.config.Config.{Config}
-use Rattle.mk_geom.specs.Addresses.{address_of}
-use Rattle.mk_core.specs.Image.{image_of}
-use Rattle.mk_core.specs.Bits.{has_bit}
-use Rattle.mk_core.specs.Cells.{pointed_cell, is_marked, is_left_unmarked, points_well}
-use Rattle.mk_core.specs.Bounded.{is_some_and, is_none_or}
+use Rattle.mk_protocol.proofs.Vocabulary.{Cell, Config, IsSound, IsTypedAllocation, Kind, MarksAreClosed, NeverState}
+use Rattle.mk_protocol.proofs.Vocabulary.{Null, Num, Number, PlacedAllocation, Ptr, Suits, To, Value, World, address_of}
+use Rattle.mk_protocol.proofs.Vocabulary.{allocation_at, bases_of, cell_of_allocation, global_at, has_bit, image_of}
+use Rattle.mk_protocol.proofs.Vocabulary.{is_left_unmarked, is_marked, is_none_or, is_some_and, is_unmapped, kind_in}
+use Rattle.mk_protocol.proofs.Vocabulary.{kinds_of, placed_at, pointed_cell, points_well, storage_words, with_released}
+use Rattle.mk_protocol.proofs.Vocabulary.{word_at, words_of}
+use Rattle.mk_never.specs.Types.{is_number, is_leaf}
 use Rattle.mk_core.proofs.BitsWithout.{has_bit_without}
 use Rattle.mk_core.proofs.ListTests.{list_all-at}
 use Rattle.mk_core.proofs.StandingAllocations.{storage_holds}
-use Rattle.mk_geom.specs.declared.addresses.Cell.{Cell}
-use Rattle.mk_core.specs.Allocations.{PlacedAllocation, storage_words, with_released, placed_at}
-use Rattle.mk_core.specs.History.{World, bases_of}
 use Rattle.mk_images.specs.Images.{image_scene_of, flight_among, is_put}
 use Rattle.mk_images.specs.SafeSets.{IsSafe, IsSafeSet}
-use Rattle.mk_core.specs.Allocations.{cell_of_allocation}
 use Rattle.mk_images.proofs.Stands.{Stands, is_gone}
 use Rattle.mk_images.proofs.KnownWorlds.{KnownWorld}
 use Rattle.mk_images.specs.Mirrors.{Mirrors}
-use Rattle.mk_core.specs.ClosedMarks.{is_marked_allocation, is_scanned_allocation, MarksAreClosed}
+use Rattle.mk_core.specs.ClosedMarks.{is_marked_allocation, is_scanned_allocation}
 use Rattle.mk_images.proofs.Moves.{Move, Releases}
 use Rattle.mk_images.proofs.Pairs.{shows_plain}
 use Rattle.mk_images.proofs.Kept.{base_at, exists_placed}
@@ -37,14 +27,6 @@ use Rattle.mk_images.proofs.Ready.{Ready, pointed_word}
 use Rattle.mk_images.proofs.Before.{type_is, words_fit, unmapped_is}
 use Rattle.mk_core.proofs.ChangedAllocations.{changed_at, released_leaves}
 use Rattle.mk_images.proofs.KeptPlaces.{same_places}
-
-or_false : (a b : Bool) → (a || b) ≡ false → a ≡ false
-or_false true b h = h
-or_false false b h = refl
-
-and_not : (a b : Bool) → b ≡ true → (a && not b) ≡ false
-and_not true b h = ap not h
-and_not false b h = refl
 
 is_number_kind : (kind : Kind) → is_number kind ≡ true → kind ≡ Number
 is_number_kind Number h = refl
@@ -58,8 +40,6 @@ module _ (c : Config) (w : World) (n : NeverState) (known : KnownWorld c w) (mir
 
   value_cut : (v : Value) → IsSound n v → IsSafe safe v
       → points_well c.pages w.now.words (image_of (bases_of w.allocations) v) ≡ true → IsSafe cut v
-  value_cut Null sound is well = tt
-  value_cut (Num m) sound is well = tt
   value_cut (Ptr a t o) sound is well =
       let u = ready.set.unreleased a is in
       let lt = exists_placed w.allocations a u in
@@ -67,13 +47,13 @@ module _ (c : Config) (w : World) (n : NeverState) (known : KnownWorld c w) (mir
       let fits = words_fit c w n known mirrors a lt in
       let cell = ap (λ b. pointed_cell c.pages w.now.words.pages (address_of (b + o))) (base_at w.allocations a)
       ∙ st.cell a o u (omega arith) in
-      and_from (safe a) (is_marked w.now.words (cell_of_allocation c (placed_at w.allocations a))) is
-      (ap (λ (x : Option Cell). is_none_or (is_marked w.now.words) x) (sym cell) ∙ well)
+      and_from (safe a) _ is (ap (λ (x : Option Cell). is_none_or (is_marked w.now.words) x) (sym cell) ∙ well)
+  value_cut _ sound is well = tt
 
   -- a root that is the image of a value
   root_cut : (x : ℕ) (v : Value) → points_well c.pages w.now.words x ≡ true → x ≡ image_of (bases_of w.allocations) v
       → IsSound n v → IsSafe safe v → IsSafe cut v
-  root_cut x v well e sound is = value_cut v sound is (subst (λ y. points_well c.pages w.now.words y ≡ true) e well)
+  root_cut x v well e sound is = value_cut v sound is (rw e at well)
 
   some_words : (a : ℕ) → (placed_at w.allocations a).released ≡ false → 0 < storage_words c (placed_at w.allocations a)
   some_words a u =
@@ -93,7 +73,7 @@ module _ (c : Config) (w : World) (n : NeverState) (known : KnownWorld c w) (mir
       → is_unmapped (allocation_at n a) ≡ false
       → IsSafe cut (word_at n a i)
   word_cut a i sa marked mapped = elim (cases_lt i (length (words_of n a))) [
-    | inr le ↦ subst (λ (x : Value). IsSafe cut x) (sym (get_or_past (words_of n a) i Null le)) tt
+    | inr le ↦ rw (get_or_past (words_of n a) i Null le) tt
     | inl li ↦
         let u = ready.set.unreleased a sa in
         let lt = exists_placed w.allocations a u in
@@ -101,26 +81,19 @@ module _ (c : Config) (w : World) (n : NeverState) (known : KnownWorld c w) (mir
         let typed : IsTypedAllocation n (allocation_at n a) = mirrors.typed.allocations a (omega arith) in
         let un = sym (unmapped_is c w n known mirrors a lt) ∙ mapped in
         elim (cases_Bool (is_leaf (kinds_of c.types (placed_at w.allocations a).ty))) [
-          | inl leaf ↦ number_cut (word_at n a i) (kind_in n (allocation_at n a) i) (typed.words i li)
-              (is_number_kind _ (subst
-              (λ (types : List (List Kind)). is_number
-              (slice_index_or (kinds_of types (allocation_at n a).ty) i Number) ≡ true) (sym mirrors.types)
-              (subst (λ ty. is_number (slice_index_or (kinds_of c.types ty) i Number) ≡ true) (mirrors.twins.ty a lt)
+          | inl leaf ↦ number_cut (word_at n a i) _ (typed.words i li) (is_number_kind _ (rw mirrors.types
+              (rw (mirrors.twins.ty a lt) at
               (list_all-at is_number (kinds_of c.types (placed_at w.allocations a).ty) Number leaf refl i))))
           | inr pointers ↦
               let fits = words_fit c w n known mirrors a lt in
               let scanned : is_scanned_allocation c (placed_at w.allocations a) ≡ true =
-              ap (λ b. (not b && not (is_gone c (placed_at w.allocations a)))
-              && not (is_leaf (kinds_of c.types (placed_at w.allocations a).ty))) u
-              ∙ ap (λ b. not b && not (is_leaf (kinds_of c.types (placed_at w.allocations a).ty))) un
-              ∙ ap not pointers in
+              rw u (rw un (ap not pointers)) in
               let is_marked_here : is_marked_allocation c w.now.words (placed_at w.allocations a) ≡ true =
-              ap (λ (x : Option Cell). is_some_and (is_marked w.now.words) x) (base_cell_is a u) ∙ marked in
+              rw (base_cell_is a u) marked in
               let well = marks.words a ((placed_at w.allocations a).base + i) scanned is_marked_here
               (omega arith, omega arith) in
-              suited_cut (word_at n a i) (kind_in n (allocation_at n a) i) (typed.words i li)
-              (ready.set.closed a i sa mapped)
-              (subst (λ x. points_well c.pages w.now.words x ≡ true) (ready.images.heap a i u mapped li) well)
+              suited_cut (word_at n a i) _ (typed.words i li) (ready.set.closed a i sa mapped)
+              (rw (ready.images.heap a i u mapped li) at well)
         ]
   ]
     where
@@ -165,17 +138,15 @@ module _ (c : Config) (w : World) (n : NeverState) (known : KnownWorld c w) (mir
             ∙ ap (λ (y : Option Cell). is_some_and (is_left_unmarked w.now.words) y) (base_cell_is a u)
             ∙ has_bit_without (slice_index w.now.words.snapshot cell.page) (slice_index w.now.words.marks cell.page)
             cell.index
-            ∙ and_not (has_bit (slice_index w.now.words.snapshot cell.page) cell.index) (is_marked w.now.words cell)
-            parts.1;
+            ∙ and_right (has_bit (slice_index w.now.words.snapshot cell.page) cell.index)
+            (not (is_marked w.now.words cell)) (ap not parts.1);
       }
 
   pub releases : Move safe (image_scene_of w) n
       (record (image_scene_of w) { allocations = map (with_released c w.now.words) w.allocations }) n
   releases =
       Releases (map (with_released c w.now.words) w.allocations)
-      (same_places (with_released c w.now.words) w.allocations (released_leaves c w.now.words))
-      (λ a u. or_false (placed_at w.allocations a).released _
+      (same_places (with_released c w.now.words) w.allocations (released_leaves c w.now.words)) (λ a u. (or_parts _ _
       (ap (λ (y : PlacedAllocation). y.released)
-      (sym (changed_at (with_released c w.now.words) w.allocations a refl)) ∙ u))
-      (λ a. ap (λ (y : PlacedAllocation). y.freed) (changed_at (with_released c w.now.words) w.allocations a refl)) cut
-      cut_safe
+      (sym (changed_at (with_released c w.now.words) w.allocations a refl)) ∙ u)).0)
+      (λ a. rw (changed_at _ w.allocations a refl)) cut cut_safe

@@ -2,17 +2,14 @@
 use Rattle.std.proofs.Common.{◌≡◌, ◌≢◌, ℕ, zero, suc, ◌+◌, ◌*◌, ◌<◌, Bool, true, false, List, [], ◌∷◌, ◌++◌, length}
 use Rattle.std.proofs.Common.{map, get_or, refl, sym, ap, subst, ◌∙◌, inl, inr, arith, length-set, length-append}
 use Rattle.std.specs.Prelude.{slice_index_or, slice_set, ◌||◌, ◌==◌}
-use Rattle.std.proofs.lemmas.Bool.{cases_eq, eq-eqb, or_cases, eqb-true}
+use Rattle.std.proofs.lemmas.Bool.{cases_eq, eq-eqb, or_cases, eqb-true, or_left, or_right}
 use Rattle.std.proofs.lemmas.List.{get_or-set_same, get_or-set_other}
-use Rattle.mk_never.specs.declared.types.Kind.{Kind}
-use Rattle.mk_never.specs.declared.types.Kind.TheVariants.{Num as Number, To}
-use Rattle.mk_never.specs.declared.values.Value.{Value}
-use Rattle.mk_never.specs.declared.values.Value.TheVariants.{Null, Num, Ptr}
-use Rattle.mk_never.specs.Types.{kinds_of, zero_of}
-use Rattle.mk_never.specs.NeverHeap.{NeverState, Allocation as NeverAllocation, no_allocation, allocation_at, words_of}
-use Rattle.mk_never.specs.NeverHeap.{word_at, is_unmapped, with_register, with_global, with_word, with_new, with_freed}
+use Rattle.mk_protocol.proofs.Vocabulary.{Kind, NeverAllocation, NeverState, Null, Num, Number, PlacedAllocation, Ptr}
+use Rattle.mk_protocol.proofs.Vocabulary.{To, Value, allocation_at, is_unmapped, kinds_of, no_allocation, placed_at}
+use Rattle.mk_protocol.proofs.Vocabulary.{with_freed, with_global, with_new, with_register, with_word, word_at}
+use Rattle.mk_protocol.proofs.Vocabulary.{words_of}
+use Rattle.mk_never.specs.Types.{zero_of}
 use Rattle.mk_never.proofs.Edits.{set_by}
-use Rattle.mk_core.specs.Allocations.{PlacedAllocation, placed_at}
 use Rattle.mk_images.specs.Images.{ImageScene, AreTwins}
 use Rattle.mk_images.specs.SafeSets.{IsSafe, IsSafeSet, HasSafeSet}
 use Rattle.mk_images.proofs.Moves.{SamePlaces, Move, Rests, Flies, Owes, Pays, Stores, Shares, Writes, Wipes, Grants}
@@ -20,18 +17,9 @@ use Rattle.mk_images.proofs.Moves.{Frees, Renews, Releases}
 use Rattle.mk_images.proofs.Kept.{freed_words, freed_was, written_alike, old_never, new_never, old_placed, new_placed}
 use Rattle.mk_images.proofs.Kept.{new_words, fresh_one}
 
-true_or : (a b : Bool) → a ≡ true → (a || b) ≡ true
-true_or true b h = refl
-true_or false b h = cc
-
-or_true : (a b : Bool) → b ≡ true → (a || b) ≡ true
-or_true true b h = refl
-or_true false b h = h
-
 wider : (safe : ℕ → Bool) (m : ℕ) (v : Value) → IsSafe safe v → IsSafe (λ a. safe a || (a == m)) v
-wider safe m Null h = tt
-wider safe m (Num k) h = tt
-wider safe m (Ptr a t o) h = true_or (safe a) (a == m) h
+wider safe m (Ptr a t o) h = or_left (safe a) (a == m) h
+wider safe m _ h = tt
 
 zero_safe : (safe : ℕ → Bool) (kinds : List Kind) (i : ℕ) → IsSafe safe (get_or (map zero_of kinds) i Null)
 zero_safe safe [] i = tt
@@ -67,8 +55,7 @@ module _ (safe : ℕ → Bool) (s : ImageScene) (n : NeverState) (h : IsSafeSet 
             let was = h.closed b j sb (sym (written_alike n a i v b).1 ∙ mb) in
             set_by (λ (x : NeverAllocation). IsSafe safe (slice_index_or x.words j Null)) n.allocations a b
             (record (allocation_at n a) { words = slice_set (words_of n a) i v }) no_allocation
-            (λ e. set_by (λ x. IsSafe safe x) (words_of n a) i j v Null (λ e2. is)
-            (subst (λ y. IsSafe safe (word_at n y j)) e was)) was;
+            (λ e. set_by (λ x. IsSafe safe x) (words_of n a) i j v Null (λ e2. is) (rw e at was)) was;
         unreleased = h.unreleased;
       }
 
@@ -79,8 +66,7 @@ module _ (safe : ℕ → Bool) (s : ImageScene) (n : NeverState) (h : IsSafeSet 
       record {
         registers = h.registers;
         globals = h.globals;
-        closed = λ b j sb mb. subst (λ (ws : List Value). IsSafe safe (slice_index_or ws j Null))
-            (sym (freed_words n a b)) (h.closed b j sb (freed_was n a b mb));
+        closed = λ b j sb mb. rw (freed_words n a b) (h.closed b j sb (freed_was n a b mb));
         unreleased = λ b sb. same b ∙ h.unreleased b sb;
       }
 
@@ -100,7 +86,7 @@ module _ (safe : ℕ → Bool) (s : ImageScene) (n : NeverState) (h : IsSafeSet 
       let m = length n.allocations in
       record {
         registers = λ i. set_by (λ x. IsSafe (λ a. safe a || (a == m)) x) n.registers (8 * k + d) i (Ptr m ty 0) Null
-            (λ e. or_true (safe m) (m == m) (eq-eqb m m refl)) (wider safe m _ (h.registers i));
+            (λ e. or_right (safe m) (m == m) (eq-eqb m m refl)) (wider safe m _ (h.registers i));
         globals = λ g. wider safe m _ (h.globals g);
         closed = λ b j sb mb. elim (cases_eq b m) [
           | inl e ↦ subst (λ (x : NeverAllocation). IsSafe (λ a. safe a || (a == m)) (slice_index_or x.words j Null))
@@ -108,14 +94,14 @@ module _ (safe : ℕ → Bool) (s : ImageScene) (n : NeverState) (h : IsSafeSet 
           | inr ne ↦
               let na = old_never n ty b ne in
               subst (λ (x : NeverAllocation). IsSafe (λ a. safe a || (a == m)) (slice_index_or x.words j Null)) (sym na)
-              (wider safe m _ (h.closed b j (old b ne sb) (sym (ap (λ (x : NeverAllocation). is_unmapped x) na) ∙ mb)))
+              (wider safe m _ (h.closed b j (old b ne sb) (sym (rw na) ∙ mb)))
         ];
         unreleased = λ b sb. elim (cases_eq b m) [
           | inl e ↦ ap (λ (x : PlacedAllocation). x.released)
               (ap (placed_at (s.allocations ++ fresh_one base ty ∷ [])) (e ∙ sym same)
               ∙ new_placed s.allocations (fresh_one base ty))
-          | inr ne ↦ ap (λ (x : PlacedAllocation). x.released)
-              (old_placed s.allocations (fresh_one base ty) b (λ e. ne (e ∙ same))) ∙ h.unreleased b (old b ne sb)
+          | inr ne ↦ rw (old_placed s.allocations (fresh_one base ty) b (λ e. ne (e ∙ same)))
+              (h.unreleased b (old b ne sb))
         ];
       }
     where
@@ -128,20 +114,17 @@ module _ (safe : ℕ → Bool) (s : ImageScene) (n : NeverState) (h : IsSafeSet 
 pub safe_kept : (safe : ℕ → Bool) (s t : ImageScene) (n m : NeverState) → IsSafeSet safe s.allocations n
     → length s.allocations ≡ length n.allocations → Move safe s n t m
     → HasSafeSet t.allocations m
-safe_kept safe s t n m h same Rests = (safe, h)
-safe_kept safe s t n m h same (Flies k f e c p) = (safe, h)
 safe_kept safe s t n m h same (Owes k f v a b c d e g i) = (safe, of_register safe s n h k _ v i)
-safe_kept safe s t n m h same (Pays k f a b c d e) = (safe, h)
 safe_kept safe s t n m h same (Stores k d x f v a b c e g) = (safe, of_register safe s n h k d v g)
 safe_kept safe s t n m h same (Shares k g x f v a b c d e) = (safe, of_global safe s n h g v e)
 safe_kept safe s t n m h same (Writes k a i x f v at u mm li inside is sv) = (safe, of_word safe s n h a i v sv)
-safe_kept safe s t n m h same (Wipes x out) = (safe, h)
 safe_kept safe s t n m h same (Grants k d base ty f at long ld z) =
     (λ a. safe a || (a == length n.allocations), of_new safe s n h k d base ty same)
 safe_kept safe s t n m h same (Frees k a f xs at places released there others is quiet) =
     (safe, of_freed safe s n h a xs released)
 safe_kept safe s t n m h same (Renews xs places released freed) = (safe, of_same safe s n h xs released)
 safe_kept safe s t n m h same (Releases xs places released freed kept cut) = (kept, cut)
+safe_kept safe s t n m h same _ = (safe, h)
 
 -- the two lists of allocations
 twins_changed : (xs : List PlacedAllocation) (n : NeverState) (a : ℕ) (x : NeverAllocation)
@@ -152,10 +135,10 @@ twins_changed xs n a x et ef h =
       count = h.count ∙ sym (length-set n.allocations a x);
       ty = λ b lt. h.ty b lt
           ∙ set_by (λ (y : NeverAllocation). (allocation_at n b).ty ≡ y.ty) n.allocations a b x no_allocation
-          (λ e. ap (λ j. (allocation_at n j).ty) e ∙ sym et) refl;
+          (λ e. rw e (sym et)) refl;
       freed = λ b lt. h.freed b lt
           ∙ set_by (λ (y : NeverAllocation). (allocation_at n b).freed ≡ y.freed) n.allocations a b x no_allocation
-          (λ e. ap (λ j. (allocation_at n j).freed) e ∙ sym ef) refl;
+          (λ e. rw e (sym ef)) refl;
     }
 
 twins_same : (xs ys : List PlacedAllocation) (n : NeverState) → SamePlaces xs ys
@@ -176,13 +159,12 @@ twins_freed xs ys n a p la others is h =
       count = p.count ∙ h.count ∙ sym (length-set n.allocations a new);
       ty = λ b lt. p.each b ∙ h.ty b (let e = p.count in omega (arith, e))
           ∙ set_by (λ (y : NeverAllocation). (allocation_at n b).ty ≡ y.ty) n.allocations a b new no_allocation
-          (λ e. ap (λ j. (allocation_at n j).ty) e) refl;
+          (λ e. rw e) refl;
       freed = λ b lt. elim (cases_eq b a) [
-        | inl e ↦ ap (λ j. (placed_at ys j).freed) e ∙ is
-            ∙ sym (ap (λ j. (allocation_at (with_freed n a) j).freed) e
-            ∙ ap (λ (y : NeverAllocation). y.freed) (get_or-set_same n.allocations a new no_allocation la))
+        | inl e ↦ ap (λ j. (placed_at ys j).freed) e ∙ is ∙ sym (ap (λ j. (allocation_at (with_freed n a) j).freed) e
+            ∙ rw (get_or-set_same n.allocations a new no_allocation la))
         | inr ne ↦ others b ne ∙ h.freed b (let e = p.count in omega (arith, e))
-            ∙ sym (ap (λ (y : NeverAllocation). y.freed) (get_or-set_other n.allocations a b new no_allocation ne))
+            ∙ sym (rw (get_or-set_other n.allocations a b new no_allocation ne))
       ];
     }
 
@@ -193,36 +175,31 @@ twins_new xs n base ty h =
     let same = h.count in
     let longer = length-append xs (y ∷ []) in
     record {
-      count = length-append xs (y ∷ []) ∙ ap (λ i. i + 1) same
-          ∙ sym (length-append n.allocations (new_words n ty ∷ []));
+      count = length-append xs (y ∷ []) ∙ rw same (sym (length-append n.allocations (new_words n ty ∷ [])));
       ty = λ b lt. elim (cases_eq b (length xs)) [
         | inl e ↦ ap (λ (x : PlacedAllocation). x.ty) (ap (placed_at (xs ++ y ∷ [])) e ∙ new_placed xs y)
-            ∙ sym (ap (λ (x : NeverAllocation). x.ty) (ap (allocation_at (with_new n ty)) (e ∙ same) ∙ new_never n ty))
-        | inr ne ↦ ap (λ (x : PlacedAllocation). x.ty) (old_placed xs y b ne) ∙ h.ty b (omega arith)
-            ∙ sym (ap (λ (x : NeverAllocation). x.ty) (old_never n ty b (λ e. ne (e ∙ sym same))))
+            ∙ sym (rw (ap (allocation_at (with_new n ty)) (e ∙ same) ∙ new_never n ty))
+        | inr ne ↦ rw (old_placed xs y b ne) (h.ty b (omega arith)
+            ∙ sym (rw (old_never n ty b (λ e. ne (e ∙ sym same)))))
       ];
       freed = λ b lt. elim (cases_eq b (length xs)) [
         | inl e ↦ ap (λ (x : PlacedAllocation). x.freed) (ap (placed_at (xs ++ y ∷ [])) e ∙ new_placed xs y)
-            ∙ sym (ap (λ (x : NeverAllocation). x.freed) (ap (allocation_at (with_new n ty)) (e ∙ same)
-            ∙ new_never n ty))
-        | inr ne ↦ ap (λ (x : PlacedAllocation). x.freed) (old_placed xs y b ne) ∙ h.freed b (omega arith)
-            ∙ sym (ap (λ (x : NeverAllocation). x.freed) (old_never n ty b (λ e. ne (e ∙ sym same))))
+            ∙ sym (rw (ap (allocation_at (with_new n ty)) (e ∙ same) ∙ new_never n ty))
+        | inr ne ↦ rw (old_placed xs y b ne) (h.freed b (omega arith)
+            ∙ sym (rw (old_never n ty b (λ e. ne (e ∙ sym same)))))
       ];
     }
 
 pub twins_kept : (safe : ℕ → Bool) (s t : ImageScene) (n m : NeverState) → AreTwins s.allocations n → Move safe s n t m
     → AreTwins t.allocations m
-twins_kept safe s t n m h Rests = h
-twins_kept safe s t n m h (Flies k f e c p) = h
 twins_kept safe s t n m h (Owes k f v a b c d e g i) = record { count = h.count; ty = h.ty; freed = h.freed }
-twins_kept safe s t n m h (Pays k f a b c d e) = h
 twins_kept safe s t n m h (Stores k d x f v a b c e g) = record { count = h.count; ty = h.ty; freed = h.freed }
 twins_kept safe s t n m h (Shares k g x f v a b c d e) = record { count = h.count; ty = h.ty; freed = h.freed }
 twins_kept safe s t n m h (Writes k a i x f v at u mm li inside is sv) = twins_changed s.allocations n a _ refl refl h
-twins_kept safe s t n m h (Wipes x out) = h
 twins_kept safe s t n m h (Grants k d base ty f at long ld z) = let g =
     twins_new s.allocations n base ty h in record { count = g.count; ty = g.ty; freed = g.freed }
 twins_kept safe s t n m h (Frees k a f xs at places released there others is quiet) =
     twins_freed s.allocations xs n a places there others is h
 twins_kept safe s t n m h (Renews xs places released freed) = twins_same s.allocations xs n places freed h
 twins_kept safe s t n m h (Releases xs places released freed kept cut) = twins_same s.allocations xs n places freed h
+twins_kept safe s t n m h _ = h

@@ -3,36 +3,15 @@ use Rattle.std.proofs.Common.{◌≡◌, ◌≢◌, ◌⊎◌, ℕ, ◌+◌, ◌
 use Rattle.std.proofs.Common.{arith}
 use Rattle.std.specs.Prelude.{◌&&◌, not, Option, Some}
 use Rattle.std.proofs.lemmas.Bool.{cases_eq, ltb-true, false≢true}
-use Rattle.mk_never.specs.declared.types.Kind.{Kind}
-use Rattle.mk_never.specs.declared.operations.Op.{Op}
+use Rattle.mk_protocol.proofs.Vocabulary.{AreAdmitted, Caller, Cell, Config, Flight, Host, IsAdmitted, IsNumber}
+use Rattle.mk_protocol.proofs.Vocabulary.{IsPointer, IsSound, Kind, Marker, MeetsAll, NeverState, Null, Num, Op, Ptr}
+use Rattle.mk_protocol.proofs.Vocabulary.{RunPages, Seat, Stage, Step, Value, World, asked, bases_of, call_decided}
+use Rattle.mk_protocol.proofs.Vocabulary.{cell_of_allocation, flight_of, i_of, image_of, is_marked, is_none_or}
+use Rattle.mk_protocol.proofs.Vocabulary.{is_undecided_free, object_placed, p_of, phase_of, placed_at, pointed_cell}
+use Rattle.mk_protocol.proofs.Vocabulary.{register_at, target, word_met}
 use Rattle.mk_never.specs.declared.operations.Op.TheVariants as op
-use Rattle.mk_never.specs.declared.values.Value.{Value}
-use Rattle.mk_never.specs.declared.values.Value.TheVariants.{Null, Num, Ptr}
-use Rattle.mk_never.specs.NeverHeap.{NeverState, register_at}
-use Rattle.mk_never.specs.Admitted.{AreAdmitted, IsAdmitted, IsNumber, IsPointer}
-use Rattle.mk_never.specs.Typed.{IsSound}
-use Rattle.mk_geom.specs.declared.addresses.Cell.{Cell}
-use Rattle.mk_core.specs.declared.config.Config.{Config}
-use Rattle.mk_core.specs.declared.events.Seat.{Seat}
-use Rattle.mk_core.specs.declared.events.Seat.TheVariants.{Caller, Marker, Host}
-use Rattle.mk_core.specs.declared.events.Step.{Step}
 use Rattle.mk_core.specs.declared.events.Step.TheVariants as step
-use Rattle.mk_core.specs.declared.seats.Stage.{Stage}
 use Rattle.mk_core.specs.declared.seats.Stage.TheVariants as stage
-use Rattle.mk_core.specs.declared.seats.Flight.{Flight}
-use Rattle.mk_core.specs.declared.seats.RunPages.{RunPages}
-use Rattle.mk_core.specs.Image.{image_of}
-use Rattle.mk_core.specs.Words.{phase_of}
-use Rattle.mk_core.specs.Bounded.{is_none_or}
-use Rattle.mk_core.specs.Calls.{i_of, p_of, word_met}
-use Rattle.mk_core.specs.Cells.{pointed_cell, is_marked}
-use Rattle.mk_core.specs.Decided.{asked}
-use Rattle.mk_core.specs.Moments.{flight_of}
-use Rattle.mk_core.specs.NewPlaces.{target, is_undecided_free}
-use Rattle.mk_core.specs.Enabled.{MeetsAll}
-use Rattle.mk_core.specs.Allocations.{placed_at, cell_of_allocation}
-use Rattle.mk_core.specs.StandingAllocations.{object_placed}
-use Rattle.mk_core.specs.History.{World, bases_of, call_decided}
 use Rattle.mk_core.proofs.Conditions.{enabled_meets}
 use Rattle.mk_core.proofs.PlacesNow.{target_is}
 use Rattle.mk_core.proofs.StandingAllocations.{typed_size, run_begins, run_cell}
@@ -96,8 +75,7 @@ module _ (c : Config) (w : World) (n : NeverState) (known : KnownWorld c w) (oth
       let f = flight_of w.now (Caller k) in
       let is = target_is c.pages w.now.words f cell e in
       free_target k f.stage f.op f.q f.p f.r f.loaded cell is.free is.pointed (ready.images.carried k)
-  target_cell (Marker k) cell e = cc
-  target_cell Host cell e = cc
+  target_cell _ cell e = cc
 
   -- The run of a Free, at the end of a stop
 
@@ -148,7 +126,7 @@ module _ (c : Config) (w : World) (n : NeverState) (known : KnownWorld c w) (oth
       let inside = to.inside in
       record {
         number = to.number;
-        mapped = ap (λ b. not b && not (is_gone c x)) to.unreleased ∙ ap not gone;
+        mapped = rw to.unreleased (ap not gone);
         word = (omega arith, omega arith);
       }
 
@@ -188,8 +166,7 @@ module _ (c : Config) (w : World) (n : NeverState) (known : KnownWorld c w) (oth
       let a = not_astray c w.now known.now.orderly k (ltb-true k c.callers h.seat) in
       let lit = literal f stage.Write at in
       write_word k f.op f.q f.p f.r f.loaded (subst (λ (s : Stage). is_astray (standing_at s f.op) ≡ false) at a)
-      (subst (λ (g : Flight). CarriesOwn (bases_of w.allocations) n k g) lit (ready.images.carried k))
-      (subst (λ (g : Flight). ProbedOwn n k g) lit (ready.images.probed k))
+      (rw lit at (ready.images.carried k)) (rw lit at (ready.images.probed k))
       (admitted_call c.globals n k f.op _ (call_outside f.op f.stage (ap is_call_stage at) a) ad)
   stored_word k step.Cas is h ad =
       let f = flight_of w.now (Caller k) in
@@ -197,8 +174,7 @@ module _ (c : Config) (w : World) (n : NeverState) (known : KnownWorld c w) (oth
       let a = not_astray c w.now known.now.orderly k (ltb-true k c.callers h.seat) in
       let lit = literal f stage.Cas at in
       cas_word k f.op f.q f.p f.r f.loaded (subst (λ (s : Stage). is_astray (standing_at s f.op) ≡ false) at a)
-      (subst (λ (g : Flight). CarriesOwn (bases_of w.allocations) n k g) lit (ready.images.carried k))
-      (subst (λ (g : Flight). ProbedOwn n k g) lit (ready.images.probed k))
+      (rw lit at (ready.images.carried k)) (rw lit at (ready.images.probed k))
       (admitted_call c.globals n k f.op _ (call_outside f.op f.stage (ap is_call_stage at) a) ad)
   stored_word k _ (inl e) h ad = cc
   stored_word k _ (inr e) h ad = cc

@@ -3,19 +3,12 @@ use Rattle.std.proofs.Common.{◌≡◌, ◌≢◌, ℕ, ◌+◌, ◌*◌, ◌/�
 use Rattle.std.proofs.Common.{inr, arith}
 use Rattle.std.specs.Prelude.{◌&&◌, ◌==◌, not, Option, Some, None}
 use Rattle.std.proofs.lemmas.Bool.{cases_Bool, and_parts, and_from, eqb-true, eq-eqb, not-true, true≢false}
-use Rattle.mk_never.specs.Types.{kinds_of, is_large}
-use Rattle.mk_geom.specs.Addresses.{address_of}
-use Rattle.mk_geom.specs.Headers.{header_of}
-use Rattle.mk_core.specs.declared.config.Config.{Config}
-use Rattle.mk_core.specs.declared.seats.RunPages.{RunPages}
-use Rattle.mk_core.specs.Config.{IsWithinLimits}
-use Rattle.mk_core.specs.Words.{Words, header_at}
-use Rattle.mk_core.specs.Cells.{pointed_cell, first_word, header_in, heads_run, is_unmapped_header, words_are_zero}
-use Rattle.mk_core.specs.NewPlaces.{is_small_object, pages_made, stands, unmapped_header, is_run_unmapped, is_run_gone}
-use Rattle.mk_core.specs.ObjectHeaders.{IsSized}
-use Rattle.mk_core.specs.Allocations.{PlacedAllocation, placed_at, is_mapped, storage_words, cell_of_allocation}
-use Rattle.mk_core.specs.StandingAllocations.{object_placed, BeginsAtCell}
-use Rattle.mk_core.specs.History.{World}
+use Rattle.mk_protocol.proofs.Vocabulary.{BeginsAtCell, Config, IsSized, IsWithinLimits, PlacedAllocation, RunPages}
+use Rattle.mk_protocol.proofs.Vocabulary.{Words, World, address_of, cell_of_allocation, first_word, header_at}
+use Rattle.mk_protocol.proofs.Vocabulary.{header_in, header_of, heads_run, is_large, is_mapped, is_run_gone}
+use Rattle.mk_protocol.proofs.Vocabulary.{is_run_unmapped, is_small_object, is_unmapped_header, kinds_of, object_placed}
+use Rattle.mk_protocol.proofs.Vocabulary.{pages_made, placed_at, pointed_cell, stands, storage_words, unmapped_header}
+use Rattle.mk_protocol.proofs.Vocabulary.{words_are_zero}
 use Rattle.mk_core.proofs.AllBelow.{all_below-at}
 use Rattle.mk_core.proofs.Sizes.{large_is_not_small, small_pages, large_words, large_count}
 use Rattle.mk_core.proofs.ObjectHeaders.{part_heads_run, made_is_mapped, unmapped_is_unmapped}
@@ -66,12 +59,11 @@ page_of_word c a i sized b lt = elim (cases_Bool (is_small_object (object_placed
 ]
 
 mapped_is : (c : Config) (a : PlacedAllocation) → a.released ≡ false → is_mapped c a ≡ not (is_gone c a)
-mapped_is c a unreleased = ap (λ b. not b && not (is_gone c a)) unreleased
+mapped_is c a unreleased = rw unreleased
 
 pub large_object : (c : Config) (a : PlacedAllocation) → is_large (kinds_of c.types a.ty) ≡ true
     → is_small_object (object_placed c a) ≡ false
-large_object c a large =
-    not-true (is_small_object (object_placed c a)) (sym (large_is_not_small (kinds_of c.types a.ty)) ∙ large)
+large_object c a large = not-true _ (sym (large_is_not_small _) ∙ large)
 
 pub stands_of : (c : Config) (w : World) → IsWithinLimits c → ImagePremises c w → Stands c w.now.words w.allocations
 stands_of c w limits others =
@@ -124,14 +116,11 @@ gone_headers c w (Some run) a h un gone distance near =
     elim (cases_Bool ((run.page == a.base / 64) && (run.count == pages_made (object_placed c a)))) [
       | inr e ↦ h.unmapped un (other_run run (run_of_allocation c a) e) distance near
       | inl e ↦
-          let same = and_parts (run.page == a.base / 64) (run.count == pages_made (object_placed c a)) e in
+          let same = and_parts _ _ e in
           let page = eqb-true run.page (a.base / 64) same.0 in
           let count = eqb-true run.count (pages_made (object_placed c a)) same.1 in
-          let all = (and_parts (is_run_unmapped w run) (words_are_zero w (64 * run.page) (64 * run.count)) gone).0 in
-          subst (λ p. header_at w (p + distance) ≡ unmapped_header (pages_made (object_placed c a)) distance) page
-          (subst (λ n. header_at w (run.page + distance) ≡ unmapped_header n distance) count
-          (eqb-true (header_at w (run.page + distance)) (unmapped_header run.count distance)
-          (all_below-at run.count distance (stands w run.page (unmapped_header run.count)) all (omega arith))))
+          let all = (and_parts _ _ gone).0 in
+          rw page at (rw count at (eqb-true _ _ (all_below-at run.count distance _ all (omega arith))))
     ]
 
 pub gone_shows : (c : Config) (w : World) → IsWithinLimits c → ImagePremises c w
@@ -145,8 +134,7 @@ gone_shows c w limits others gone a i u un lt =
     let sized = typed_size c x limits h.stands.typed in
     let at = page_of_word c x i sized h.stands.begins lt in
     let large = large_object c x (and_parts x.freed (is_large (kinds_of c.types x.ty)) un).1 in
-    ap (λ p. is_unmapped_header (header_in w.now.words p)) at.page
-    ∙ ap (λ y. is_unmapped_header (header_of y))
-    (gone_headers c w.now.words w.now.seats.holding.freed x h (mapped_is c x u ∙ ap not un) gone at.distance at.near)
-    ∙ unmapped_is_unmapped (pages_made (object_placed c x)) at.distance (large_count (object_placed c x) sized large)
-    at.near
+    rw at.page
+    (rw (gone_headers c w.now.words w.now.seats.holding.freed x h (mapped_is c x u ∙ ap not un) gone
+    at.distance at.near)
+    (unmapped_is_unmapped _ at.distance (large_count (object_placed c x) sized large) at.near))

@@ -3,40 +3,20 @@ use Rattle.std.proofs.Common.{◌≡◌, ◌≢◌, ℕ, ◌+◌, ◌*◌, ◌%�
 use Rattle.std.proofs.Common.{refl, sym, ap, subst, ◌∙◌, arith}
 use Rattle.std.specs.Prelude.{slice_set, ◌==◌, Option, Some, None}
 use Rattle.std.proofs.lemmas.Bool.{and_parts, false≢true}
-use Rattle.mk_never.specs.declared.types.Kind.{Kind}
-use Rattle.mk_never.specs.declared.operations.Op.{Op}
+use Rattle.mk_protocol.proofs.Vocabulary.{Caller, Cell, Config, Flight, Kind, NeverState, Op, PlacedAllocation, Placing}
+use Rattle.mk_protocol.proofs.Vocabulary.{Ptr, Stage, Used, Word, Words, World, address_of, answer_of, base_made}
+use Rattle.mk_protocol.proofs.Vocabulary.{bases_of, cell_freed, comes_next, d_of, decided, flight_of}
+use Rattle.mk_protocol.proofs.Vocabulary.{freed_where_it_stands, granted_base, has_operands, is_freed, is_run_cell}
+use Rattle.mk_protocol.proofs.Vocabulary.{is_undecided_free, is_undecided_new, is_used_once, kinds_of, object_made}
+use Rattle.mk_protocol.proofs.Vocabulary.{phase_of, pointed_cell, progress_freed, register_at, sees_double, still}
+use Rattle.mk_protocol.proofs.Vocabulary.{target, with_new, with_register}
 use Rattle.mk_never.specs.declared.operations.Op.TheVariants as op
-use Rattle.mk_never.specs.declared.values.Value.TheVariants.{Ptr}
-use Rattle.mk_never.specs.Types.{kinds_of}
-use Rattle.mk_never.specs.NeverHeap.{NeverState, register_at, with_register, with_new}
-use Rattle.mk_geom.specs.declared.addresses.Cell.{Cell}
-use Rattle.mk_core.specs.declared.config.Config.{Config}
 use Rattle.mk_core.specs.declared.events.Answer.TheVariants as answer
-use Rattle.mk_core.specs.declared.events.Word.{Word}
 use Rattle.mk_core.specs.declared.events.Word.TheVariants as word
 use Rattle.mk_core.specs.declared.events.Step.TheVariants as step
-use Rattle.mk_core.specs.declared.seats.Stage.{Stage}
 use Rattle.mk_core.specs.declared.seats.Stage.TheVariants as stage
-use Rattle.mk_core.specs.declared.seats.Flight.{Flight}
-use Rattle.mk_core.specs.declared.seats.Placing.{Placing}
-use Rattle.mk_core.specs.declared.seats.Placing.TheVariants.{Used}
-use Rattle.mk_geom.specs.Addresses.{address_of}
-use Rattle.mk_core.specs.Image.{answer_of}
-use Rattle.mk_core.specs.Words.{Words}
-use Rattle.mk_core.specs.Cells.{pointed_cell, is_freed}
-use Rattle.mk_core.specs.Calls.{d_of, has_operands, still}
-use Rattle.mk_core.specs.NewPlaces.{object_made, base_made, target, is_undecided_free}
-use Rattle.mk_core.specs.TurnConditions.{is_used_once, cell_freed}
-use Rattle.mk_core.specs.Order.{comes_next}
-use Rattle.mk_core.specs.Ranges.{is_run_cell}
-use Rattle.mk_core.specs.Accesses.{granted_base}
-use Rattle.mk_core.specs.Allocations.{PlacedAllocation, type_made, freed_where_it_stands}
-use Rattle.mk_core.specs.Effects.{decided, progress_freed, progress_look, sees_double}
-use Rattle.mk_core.specs.History.{World, bases_of}
-use Rattle.mk_core.specs.declared.events.Seat.TheVariants.{Caller}
-use Rattle.mk_core.specs.Moments.{flight_of}
-use Rattle.mk_core.specs.Words.{phase_of}
-use Rattle.mk_core.specs.NewPlaces.{is_undecided_new}
+use Rattle.mk_core.specs.Allocations.{type_made}
+use Rattle.mk_core.specs.Effects.{progress_look}
 use Rattle.mk_core.proofs.PlacesNow.{target_is, freed_cell}
 use Rattle.mk_core.proofs.ChangedAllocations.{none_freed}
 use Rattle.mk_core.proofs.StandingAllocations.{storage_holds}
@@ -44,14 +24,13 @@ use Rattle.mk_core.proofs.GrantedAllocations.{granted_type}
 use Rattle.mk_images.proofs.Freeing.{new_frees_none}
 use Rattle.mk_protocol.proofs.Views.{view_of, HoldsTurn}
 use Rattle.mk_protocol.proofs.Operands.{operands_of}
-use Rattle.mk_images.specs.ImagePremises.{IsPlaceOfNone}
+use Rattle.mk_images.specs.ImagePremises.{IsPlaceOfNone, ImagePremises}
 use Rattle.mk_images.proofs.Kept.{fresh_one}
 use Rattle.mk_images.proofs.GrantMoves.{fills_cell, place_is_zero}
 use Rattle.mk_images.specs.Images.{image_scene_of, flight_among, is_put, is_past_probe, CarriesOwn}
 use Rattle.mk_images.proofs.KnownWorlds.{KnownWorld}
 use Rattle.mk_images.specs.Mirrors.{Mirrors}
 use Rattle.mk_images.proofs.Stands.{Stands}
-use Rattle.mk_images.specs.ImagePremises.{ImagePremises}
 use Rattle.mk_images.proofs.Moves.{Move, Grants}
 use Rattle.mk_images.proofs.Ready.{Ready, Leads, either_leads, one_right}
 use Rattle.mk_images.proofs.Refusals.{goes_bare}
@@ -68,9 +47,8 @@ record SeesFreed (w : Words) (t : Option Cell) : Type 0 where
 sees_freed : (w : Words) (t : Option Cell) (x : Word) → sees_double w t x ≡ true → SeesFreed w t
 sees_freed w (Some cell) (word.Quar p) h =
     record { cell = cell; is = refl; freed = (and_parts (p == cell.page) (is_freed w cell) h).1 }
-sees_freed w (Some cell) _ h = cc
 sees_freed w None (word.Quar p) h = cc
-sees_freed w None _ h = cc
+sees_freed w _ _ h = cc
 
 module _ (c : Config) (w : World) (n : NeverState) (known : KnownWorld c w) (mirrors : Mirrors c w n)
     (others : ImagePremises c w) (safe : ℕ
@@ -93,10 +71,9 @@ module _ (c : Config) (w : World) (n : NeverState) (known : KnownWorld c w) (mir
       let o = object_made c (op.New d ty full) in
       let f = flight stage.Turn (op.New d ty full) q p r l in
       let a = fresh_one (base_made o place) ty in
-      let new : is_undecided_new (flight_of w.now (Caller k)) ≡ true = ap (λ (g : Flight). is_undecided_new g) is in
+      let new : is_undecided_new (flight_of w.now (Caller k)) ≡ true = rw is in
       let typed : ty < length c.types = granted_type c w.now f refl operands in
-      let taken : IsPlaceOfNone c w o place = subst (λ (g : Flight). IsPlaceOfNone c w (object_made c g.op) place) is
-      (others.taken place k placed lt new) in
+      let taken : IsPlaceOfNone c w o place = rw is at (others.taken place k placed lt new) in
       let fills = fills_cell c w a place known typed refl refl taken in
       let holds = (storage_holds c a known.limits typed).0 in
       let inside = fills.inside in
@@ -111,14 +88,12 @@ module _ (c : Config) (w : World) (n : NeverState) (known : KnownWorld c w) (mir
           flights = slice_set w.now.seats.flights k (flight stage.Give (op.New d ty full) q p r l);
           allocations = w.allocations ++ a ∷ [];
         }) (with_register (with_new n ty) k d (Ptr (length n.allocations) ty 0))) word
-            (Grants k d (base_made o place) ty (flight stage.Give (op.New d ty full) q p r l)
-            (record {
+            (Grants k d (base_made o place) ty (flight stage.Give (op.New d ty full) q p r l) (record {
               there = there_is c w n known mirrors safe ready k lt;
               registers = own_registers c w n known mirrors safe ready k lt;
-              was = ap (λ (f : Flight). is_put f.stage) is;
+              was = rw is;
               bare = refl;
-            })
-            (own_words c w n known mirrors safe ready k lt) (operands_of c (op.New d ty full) operands).d
+            }) (own_words c w n known mirrors safe ready k lt) (operands_of c (op.New d ty full) operands).d
             (λ i li. zero_there i
             (let small = subst (λ (types : List (List Kind)). i < length (kinds_of types ty)) mirrors.types li
             in omega arith))),
@@ -133,8 +108,7 @@ module _ (c : Config) (w : World) (n : NeverState) (known : KnownWorld c w) (mir
       (record (image_scene_of w) { flights = slice_set w.now.seats.flights k (flight stage.Give o q p r l) })
       (Some answer.Full)
   full_by stage.Turn (op.New d ty full) q p r l is next = (
-    goes_bare safe (image_scene_of w) n k (flight stage.Give (op.New d ty full) q p r l)
-        (ap (λ (f : Flight). is_put f.stage) is) refl,
+    goes_bare safe (image_scene_of w) n k _ (rw is) refl,
     λ more. refl,
   )
   full_by _ _ q p r l is next = absurd (false≢true next)

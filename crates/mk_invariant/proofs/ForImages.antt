@@ -3,28 +3,13 @@ use Rattle.std.proofs.Common.{Bool, List, ap, arith, false, inl, inr, length, re
 use Rattle.std.proofs.Common.{◌/◌, ◌<◌, ◌∙◌, ◌≡◌, ◌≢◌, ◌≤◌}
 use Rattle.std.specs.Prelude.{None, Option, Some, not, slice_index, ◌&&◌, ◌==◌}
 use Rattle.std.proofs.lemmas.Bool.{and_parts, cases_Bool, eq-eqb, eqb-true, lt-ltb}
-use Rattle.mk_never.specs.Types.{is_large, kinds_of}
-use Rattle.mk_geom.specs.declared.addresses.Cell.{Cell}
-use Rattle.mk_geom.specs.declared.pages.Place.{Place}
-use Rattle.mk_geom.specs.Addresses.{address_of}
-use Rattle.mk_core.specs.declared.config.Config.{Config}
-use Rattle.mk_core.specs.declared.events.Seat.TheVariants.{Caller}
-use Rattle.mk_core.specs.declared.seats.Flight.{Flight}
-use Rattle.mk_core.specs.declared.seats.Object.{Object}
-use Rattle.mk_core.specs.declared.seats.Placing.{Placing}
-use Rattle.mk_core.specs.declared.seats.Placing.TheVariants.{Used}
-use Rattle.mk_core.specs.declared.seats.RunPages.{RunPages}
-use Rattle.mk_core.specs.Allocations.{PlacedAllocation, cell_of_allocation, granted, is_mapped, placed_at}
-use Rattle.mk_core.specs.Bounded.{all_below}
-use Rattle.mk_core.specs.Cells.{is_released_cell, pointed_cell}
-use Rattle.mk_core.specs.ClosedMarks.{MarksAreClosed}
-use Rattle.mk_core.specs.History.{World}
-use Rattle.mk_core.specs.Moments.{flight_of, is_phase}
-use Rattle.mk_core.specs.NewPlaces.{base_made, header_made, is_small_object, is_undecided_new, object_made, pages_made}
-use Rattle.mk_core.specs.NewPlaces.{place_stands, stands, unmapped_header}
-use Rattle.mk_core.specs.ObjectHeaders.{cells_made}
-use Rattle.mk_core.specs.StandingAllocations.{object_placed}
-use Rattle.mk_core.specs.Words.{header_at, phase_of}
+use Rattle.mk_protocol.proofs.Vocabulary.{Caller, Cell, Config, Flight, MarksAreClosed, Object, Place, PlacedAllocation}
+use Rattle.mk_protocol.proofs.Vocabulary.{Placing, RunPages, Used, World, address_of, all_below, base_made}
+use Rattle.mk_protocol.proofs.Vocabulary.{cell_of_allocation, cells_made, flight_of, granted, header_at, header_made}
+use Rattle.mk_protocol.proofs.Vocabulary.{is_large, is_mapped, is_phase, is_released_cell, is_small_object}
+use Rattle.mk_protocol.proofs.Vocabulary.{is_undecided_new, kinds_of, object_made, object_placed, pages_made, phase_of}
+use Rattle.mk_protocol.proofs.Vocabulary.{placed_at, pointed_cell, stands, unmapped_header}
+use Rattle.mk_core.specs.NewPlaces.{place_stands}
 use Rattle.mk_core.proofs.AllBelow.{all_below_more_is, all_below_zero_is}
 use Rattle.mk_core.proofs.BitsWithout.{has_bit_without}
 use Rattle.mk_core.proofs.GrantedAllocations.{granted_base_is, granted_object, granted_type, placed_headers}
@@ -45,7 +30,7 @@ use Rattle.mk_layout.proofs.Serving.{own_claim, placed_claim}
 use Rattle.mk_layout.proofs.OneCell.{numbers_apart}
 use Rattle.mk_layout.proofs.StandingClaims.{IsStanding, place_index}
 use Rattle.mk_layout.proofs.Unmapping.{shares_run}
-use Rattle.mk_images.specs.ImagePremises.{IsCellOfFreed, IsFreedRun, IsPlaceOfNone, ImagePremises, run_of_allocation}
+use Rattle.mk_images.specs.ImagePremises.{IsFreedRun, IsPlaceOfNone, ImagePremises, run_of_allocation}
 use Rattle.mk_images.specs.ImagePremises as images
 use Rattle.mk_images.proofs.KnownWorlds.{KnownWorld}
 use Rattle.mk_zeros.specs.Zeros.{HasZeros}
@@ -75,8 +60,7 @@ mode_unmapping true going e = refl
 mode_unmapping false going e = cc
 
 -- What is left of a snapshot's cells is released while the phase is releasing.
-pub released_is : (w : World) (cell : Cell)
-    → is_released_cell w.now.words cell
+pub released_is : (w : World) (cell : Cell) → is_released_cell w.now.words cell
     ≡ is_released_in (is_phase w.now.words 4) w.now.words.snapshot w.now.words.marks cell.page cell.index
 released_is w cell =
     by (is_phase w.now.words 4) _ _ _
@@ -105,8 +89,7 @@ module _ (c : Config) (w : World) (known : KnownWorld c w) (laid : IsLaidOut c w
   standing i u = all_stand c (object_now c w.now) (is_phase w.now.words 4) w known.lengths.pages laid i u
 
   bases_apart : (i j : ℕ) → (placed_at w.allocations i).released ≡ false → (placed_at w.allocations j).released ≡ false
-      → i ≢ j
-      → (placed_at w.allocations i).base ≢ (placed_at w.allocations j).base
+      → i ≢ j → (placed_at w.allocations i).base ≢ (placed_at w.allocations j).base
   bases_apart i j u v ne same =
       let si = standing i u in
       let sj = standing j v in

@@ -1,13 +1,8 @@
 -- The invariant over all histories.
 use Rattle.std.proofs.lemmas.Bool.{true≢false}
-use Rattle.std.proofs.Common.{List, [], append-nil, append_assoc, ap, subst, sym, ◌++◌, ◌∙◌, ◌∷◌, ◌≡◌}
-use Rattle.mk_never.specs.Admitted.{AreAdmitted}
-use Rattle.mk_never.specs.NeverHeap.{Call, NeverState, after_calls}
-use Rattle.mk_core.specs.declared.config.Config.{Config}
-use Rattle.mk_core.specs.declared.events.Event.{Event}
-use Rattle.mk_core.specs.Decided.{Decided, asked}
-use Rattle.mk_core.specs.History.{AreEnabledFrom, IsHistory, World, call_decided, calls_from, left, left_from}
-use Rattle.mk_core.specs.History.{never_behind, world_behind}
+use Rattle.std.proofs.Common.{List, append-nil, ap, subst, sym, ◌++◌, ◌∙◌, ◌∷◌, ◌≡◌, []}
+use Rattle.mk_protocol.proofs.Vocabulary.{AreAdmitted, AreEnabledFrom, Call, Decided, NeverState, World, after_calls}
+use Rattle.mk_protocol.proofs.Vocabulary.{asked, call_decided, calls_from, left, left_from, never_behind, world_behind}
 use Rattle.mk_core.proofs.HistoryParts.{admitted_in_parts, earlier_part_is_history, enabled_in_parts, left_in_parts}
 use Rattle.mk_core.proofs.HistoryParts.{never_in_parts}
 use Rattle.mk_layout.proofs.Histories.{in_order_at_first}
@@ -19,6 +14,7 @@ use Rattle.mk_zeros.proofs.Histories.{zeros_at_first}
 use Rattle.mk_invariant.specs.Invariant.{Invariant}
 use Rattle.mk_invariant.specs.Theorems.{EventsKeepTheInvariant, InvariantAtFirst, KeepsTheInvariant, OfHistories}
 use Rattle.mk_invariant.proofs.Joined.{invariant_behind}
+use Rattle.mk_invariant.proofs.Induction.{holds_of_histories}
 
 pub invariant_at_first : InvariantAtFirst
 invariant_at_first c =
@@ -49,16 +45,8 @@ events_keep_the_invariant c es e h all =
     subst (λ (v : World). Invariant c v (never_behind c (es ++ e ∷ []))) (sym (left_in_parts c es (e ∷ [])))
     (subst (λ (m : NeverState). Invariant c (world_behind c w e) m) (sym never) behind)
 
--- The list is in two parts: the events that are done, and those that come.
-along : (c : Config) (done es : List Event) → IsHistory c (done ++ es) → KeepsTheInvariant c done
-    → KeepsTheInvariant c (done ++ es)
-along c done [] h all = subst (λ (xs : List Event). KeepsTheInvariant c xs) (sym (append-nil done)) all
-along c done (e ∷ es) h all =
-    let split : done ++ e ∷ es ≡ (done ++ e ∷ []) ++ es = sym (append_assoc done (e ∷ []) es) in
-    let parts : IsHistory c ((done ++ e ∷ []) ++ es) = subst (λ (xs : List Event). IsHistory c xs) split h in
-    let next = events_keep_the_invariant c done e (earlier_part_is_history c (done ++ e ∷ []) es parts) all in
-    subst (λ (xs : List Event). KeepsTheInvariant c xs) (sym split) (along c (done ++ e ∷ []) es parts next)
-
 pub histories_keep_the_invariant : OfHistories KeepsTheInvariant
 unfolding left_from calls_from
-histories_keep_the_invariant c es h = along c [] es h (invariant_at_first c)
+histories_keep_the_invariant =
+    holds_of_histories KeepsTheInvariant (λ c. invariant_at_first c)
+    (λ c es e h all. events_keep_the_invariant c es e h all)

@@ -1,8 +1,6 @@
 -- What holds before any event and is kept by one event of a history holds of every history.
-use Rattle.std.proofs.Common.{◌≡◌, List, [], ◌∷◌, ◌++◌, sym, append-nil, append_assoc, subst}
-use Rattle.mk_core.specs.declared.config.Config.{Config}
-use Rattle.mk_core.specs.declared.events.Event.{Event}
-use Rattle.mk_core.specs.History.{AreEnabledFrom, IsHistory, left}
+use Rattle.std.proofs.Common.{◌≡◌, List, ◌∷◌, ◌++◌, sym, append-nil, append_assoc, subst, []}
+use Rattle.mk_protocol.proofs.Vocabulary.{AreEnabledFrom, Config, Event, IsHistory, left}
 use Rattle.mk_core.proofs.Conditions.{enabled_meets}
 use Rattle.mk_core.proofs.HistoryParts.{earlier_part_is_history, enabled_in_parts}
 use Rattle.mk_protocol.proofs.Actors.{Meets}

@@ -1,13 +1,7 @@
 -- The groups joined: what each is told in one world, and one event.
 use Rattle.std.proofs.lemmas.Bool.{eqb-true}
-use Rattle.mk_never.specs.Admitted.{AreAdmitted}
-use Rattle.mk_never.specs.NeverHeap.{NeverState}
-use Rattle.mk_core.specs.declared.config.Config.{Config}
-use Rattle.mk_core.specs.declared.events.Event.{Event}
-use Rattle.mk_core.specs.Decided.{asked}
-use Rattle.mk_core.specs.Enabled.{IsEnabled}
-use Rattle.mk_core.specs.History.{World, call_decided, world_behind}
-use Rattle.mk_core.specs.Words.{phase_of}
+use Rattle.mk_protocol.proofs.Vocabulary.{AreAdmitted, Config, Event, IsEnabled, NeverState, World, asked, call_decided}
+use Rattle.mk_protocol.proofs.Vocabulary.{phase_of, world_behind}
 use Rattle.mk_core.proofs.Conditions.{enabled_meets}
 use Rattle.mk_layout.specs.LayoutLaws.{LayoutPremises}
 use Rattle.mk_layout.proofs.Histories.{order_behind}

@@ -1,8 +1,6 @@
 -- What the layout and the quarantine say of all histories.
-use Rattle.std.proofs.Common.{List, [], append_assoc, subst, sym, ◌++◌, ◌∷◌, ◌≡◌}
-use Rattle.mk_core.specs.declared.config.Config.{Config}
-use Rattle.mk_core.specs.declared.events.Event.{Event}
-use Rattle.mk_core.specs.History.{IsHistory, World, left, left_from}
+use Rattle.std.proofs.Common.{List, append_assoc, subst, sym, ◌++◌, ◌∷◌, ◌≡◌, []}
+use Rattle.mk_protocol.proofs.Vocabulary.{Config, Event, IsHistory, World, left, left_from}
 use Rattle.mk_core.proofs.HistoryParts.{earlier_part_is_history, left_in_parts}
 use Rattle.mk_core.proofs.Lengths.{histories_keep_lengths}
 use Rattle.mk_layout.specs.LayoutLaws.{LayoutPremisesFrom}

@@ -2,25 +2,12 @@
 use Rattle.std.proofs.Common.{Bool, ap, false, inl, inr, refl, subst, sym, true, ℕ, ◌+◌, ◌<◌, ◌∙◌, ◌≡◌, ◌≢◌}
 use Rattle.std.specs.Prelude.{None, Option, Some, if◌then◌else◌, not, slice_index, ◌||◌, ◌==◌}
 use Rattle.std.proofs.lemmas.Bool.{cases_Bool, true≢false}
-use Rattle.mk_geom.specs.declared.addresses.Cell.{Cell}
-use Rattle.mk_geom.specs.declared.headers.Header.{Header}
-use Rattle.mk_geom.specs.declared.headers.Header.TheVariants.{LeafRun, Run}
-use Rattle.mk_core.specs.declared.config.Config.{Config}
-use Rattle.mk_core.specs.declared.events.Seat.{Seat}
-use Rattle.mk_core.specs.declared.events.Step.{Step}
+use Rattle.mk_protocol.proofs.Vocabulary.{Cell, Config, Header, LeafRun, Moment, Run, RunPages, Seat, Step, Words}
+use Rattle.mk_protocol.proofs.Vocabulary.{World, caller_number, cell_freed, flight_of, header_in, heads_run}
+use Rattle.mk_protocol.proofs.Vocabulary.{holder_number, is_run_cell, is_run_gone, nothing_done, or_else}
+use Rattle.mk_protocol.proofs.Vocabulary.{others_are_held, reg_access, register_met, run_headed, run_of_cell, target}
+use Rattle.mk_protocol.proofs.Vocabulary.{word_met}
 use Rattle.mk_core.specs.declared.events.Step.TheVariants as step
-use Rattle.mk_core.specs.declared.seats.RunPages.{RunPages}
-use Rattle.mk_core.specs.Accesses.{caller_number, reg_access, register_met}
-use Rattle.mk_core.specs.Calls.{word_met}
-use Rattle.mk_core.specs.Cells.{header_in, heads_run, run_headed}
-use Rattle.mk_core.specs.Effects.{run_of_cell}
-use Rattle.mk_geom.specs.PageUses.{or_else}
-use Rattle.mk_core.specs.History.{World}
-use Rattle.mk_core.specs.Moments.{Moment, flight_of, holder_number, nothing_done, others_are_held}
-use Rattle.mk_core.specs.NewPlaces.{is_run_gone, target}
-use Rattle.mk_core.specs.Ranges.{is_run_cell}
-use Rattle.mk_core.specs.TurnConditions.{cell_freed}
-use Rattle.mk_core.specs.Words.{Words}
 use Rattle.mk_core.proofs.PlacesNow.{freed_cell}
 use Rattle.mk_protocol.proofs.Actors.{Meets}
 use Rattle.mk_protocol.proofs.Asked.{others_held}
@@ -118,8 +105,7 @@ module _ (c : Config) (w : World) (known : KnownWorld c w) (laid : IsLaidOut c w
           ≡ target c.pages w.now.words (flight_of w.now seat) = x.1.0 ∙ sym frees.at in
           let run = subst (λ (y : Option Cell). is_run_cell w.now.words y ≡ true) same x.1.1 in
           let held =
-          others_held c w.now seat
-          (either (is_run_cell w.now.words (target c.pages w.now.words (flight_of w.now seat)))
+          others_held c w.now seat (either (is_run_cell w.now.words (target c.pages w.now.words (flight_of w.now seat)))
           (others_are_held c.callers w.now.words seat) h.gates run) in
           let turn = turn_of c (view_of w.now) seat known.now.orderly (free_has_turn c w.now seat h.seat frees.free) in
           λ k lt other. held k lt (λ e. other (turn ∙ ap (λ i. 1 + i) e))

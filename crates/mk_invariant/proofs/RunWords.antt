@@ -4,23 +4,11 @@ use Rattle.std.proofs.Common.{◌-◌, ◌/◌, ◌<◌, ◌∙◌, ◌≡◌, �
 use Rattle.std.specs.Prelude.{List, Option, Some, slice_index, slice_set, ◌&&◌}
 use Rattle.std.proofs.lemmas.Bool.{and_parts, cases_eq, cases_lt, eq-eqb, eqb-true, true≢false}
 use Rattle.std.proofs.lemmas.List.{get_or-set_other, get_or-set_same, set_past}
-use Rattle.mk_geom.specs.Headers.{header_of}
-use Rattle.mk_geom.specs.Storages.{free_page}
-use Rattle.mk_geom.specs.declared.pages.Page.{Page}
-use Rattle.mk_core.specs.declared.config.Config.{Config}
-use Rattle.mk_core.specs.declared.events.Seat.{Seat}
-use Rattle.mk_core.specs.declared.events.Step.{Step}
+use Rattle.mk_protocol.proofs.Vocabulary.{Config, Page, PlacedAllocation, RunPages, Seat, Step, Words, World, all_below}
+use Rattle.mk_protocol.proofs.Vocabulary.{flight_of, free_page, head_page, header_at, header_of, is_run_gone}
+use Rattle.mk_protocol.proofs.Vocabulary.{is_run_unmapped, is_unmapped_header, object_placed, pages_made, placed_at}
+use Rattle.mk_protocol.proofs.Vocabulary.{stands, unmapped_header, used_at, word_met, words_are_zero}
 use Rattle.mk_core.specs.declared.events.Step.TheVariants as step
-use Rattle.mk_core.specs.declared.seats.RunPages.{RunPages}
-use Rattle.mk_core.specs.Allocations.{PlacedAllocation, placed_at}
-use Rattle.mk_core.specs.Bounded.{all_below}
-use Rattle.mk_core.specs.Calls.{word_met}
-use Rattle.mk_core.specs.Cells.{head_page, is_unmapped_header, words_are_zero}
-use Rattle.mk_core.specs.History.{World}
-use Rattle.mk_core.specs.Moments.{flight_of}
-use Rattle.mk_core.specs.NewPlaces.{is_run_gone, is_run_unmapped, pages_made, stands, unmapped_header}
-use Rattle.mk_core.specs.StandingAllocations.{object_placed}
-use Rattle.mk_core.specs.Words.{Words, header_at, used_at}
 use Rattle.mk_core.proofs.AllBelow.{all_below-at, all_below_more_is, all_below_zero_is}
 use Rattle.mk_core.proofs.ObjectHeaders.{made_is_mapped, unmapped_is_unmapped}
 use Rattle.mk_core.proofs.PageSteps.{HeadStep, ItCarves, ItEmpties, ItUnmaps, head_step}
@@ -145,12 +133,10 @@ module _ (c : Config) (w : World) (known : KnownWorld c w) (laid : IsLaidOut c w
       ap (λ (t : Table). slice_index t.heap (64 * r.page + i)) (tally_table w.now.words n v) ∙ words_gone i lt
   words_behind seat step.Write h stored i lt =
       get_or-set_other w.now.words.heap (word_met (flight_of w.now seat)) (64 * r.page + i) _ 0
-      (λ e. not_mapped i lt (subst (λ n. IsMappedWord c w.allocations n) (sym e) (stored refl)))
-      ∙ words_gone i lt
+      (λ e. not_mapped i lt (subst (λ n. IsMappedWord c w.allocations n) (sym e) (stored refl))) ∙ words_gone i lt
   words_behind seat step.Cas h stored i lt =
       get_or-set_other w.now.words.heap (word_met (flight_of w.now seat)) (64 * r.page + i) _ 0
-      (λ e. not_mapped i lt (subst (λ n. IsMappedWord c w.allocations n) (sym e) (stored refl)))
-      ∙ words_gone i lt
+      (λ e. not_mapped i lt (subst (λ n. IsMappedWord c w.allocations n) (sym e) (stored refl))) ∙ words_gone i lt
   words_behind seat (step.Wipe n) h stored i lt = elim (cases_eq (64 * r.page + i) n) [
     | inr ne ↦ get_or-set_other w.now.words.heap n (64 * r.page + i) 0 0 ne ∙ words_gone i lt
     | inl e ↦ elim (cases_lt n (length w.now.words.heap)) [

@@ -3,14 +3,10 @@ use Rattle.std.proofs.Common.{List, ap, false, inl, inr, length, refl, subst, sy
 use Rattle.std.specs.Prelude.{Bool, if◌then◌else◌, slice_index, slice_set, ◌==◌}
 use Rattle.std.proofs.lemmas.Bool.{cases_eq, cases_lt}
 use Rattle.std.proofs.lemmas.List.{get_or-set_other, get_or-set_same, set_past}
-use Rattle.mk_core.specs.declared.config.Config.{Config}
-use Rattle.mk_core.specs.declared.events.Seat.{Seat}
-use Rattle.mk_core.specs.declared.events.Seat.TheVariants.{Caller, Host, Marker}
-use Rattle.mk_core.specs.declared.events.Step.{Step}
+use Rattle.mk_protocol.proofs.Vocabulary.{Caller, Config, Host, Marker, Moment, Seat, Step, caller_number, flight_of}
+use Rattle.mk_protocol.proofs.Vocabulary.{reg_access, register_met}
 use Rattle.mk_core.specs.declared.events.Step.TheVariants as step
 use Rattle.mk_core.specs.declared.seats.Stage.TheVariants as stage
-use Rattle.mk_core.specs.Accesses.{caller_number, reg_access, register_met}
-use Rattle.mk_core.specs.Moments.{Moment, flight_of}
 use Rattle.mk_protocol.proofs.Actors.{Meets}
 use Rattle.mk_protocol.proofs.Known.{Known}
 use Rattle.mk_protocol.proofs.NextSteps.{at_its_stage}
@@ -40,8 +36,7 @@ exchanged : (gs : List ℕ) (n j k : ℕ) → slice_index gs k ≡ 2 → k ≡ j
 exchanged gs n j k held e = ap (λ g. if g == 0 then n else g) (ap (λ i. slice_index gs i) (sym e) ∙ held)
 
 pub gates_stay : (c : Config) (m : Moment) (seat : Seat) (x : Step) → Known c m → Meets c m seat x → is_open x ≡ false
-    → (k : ℕ) → k < c.callers
-    → slice_index m.words.gates k ≡ 2 → slice_index (Behind c m seat x).words.gates k ≡ 2
+    → (k : ℕ) → k < c.callers → slice_index m.words.gates k ≡ 2 → slice_index (Behind c m seat x).words.gates k ≡ 2
 gates_stay c m seat (step.Enter o) known h out k lt held =
     set_gate m.words.gates (caller_number seat) _ k held (exchanged m.words.gates 1 (caller_number seat) k held)
 gates_stay c m seat (step.Hold j) known h out k lt held =

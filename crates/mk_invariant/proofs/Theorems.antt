@@ -1,12 +1,10 @@
 -- The theorems, from the invariant after each front of a history.
 use Rattle.std.proofs.Common.{List, subst, sym, ◌++◌, ◌∙◌, ◌∷◌, ◌≡◌}
 use Rattle.std.specs.Prelude.{Some}
-use Rattle.mk_core.specs.declared.config.Config.{Config}
-use Rattle.mk_core.specs.declared.events.Event.{Event}
+use Rattle.mk_protocol.proofs.Vocabulary.{AreEnabledFrom, Config, Event, IsHistory, cell_of_allocation, left, placed_at}
 use Rattle.mk_core.specs.declared.events.Step.TheVariants as step
-use Rattle.mk_core.specs.Allocations.{cell_of_allocation, placed_at}
 use Rattle.mk_core.specs.Exchanges.{ExchangesCompareValues}
-use Rattle.mk_core.specs.History.{AreEnabledFrom, IsHistory, RefinesNever, left}
+use Rattle.mk_core.specs.History.{RefinesNever}
 use Rattle.mk_core.proofs.HistoryParts.{earlier_part_is_history, enabled_in_parts}
 use Rattle.mk_core.proofs.PointedAllocations.{word_points}
 use Rattle.mk_layout.proofs.Settled.{first_fit_is_the_place, headers_stand, unreleased_are_apart, unreleased_stand}
@@ -16,9 +14,8 @@ use Rattle.mk_images.proofs.Histories.{histories_refine, reached_is_unreleased}
 use Rattle.mk_images.proofs.KnownWorlds.{KnownWorld, known_world}
 use Rattle.mk_guard.proofs.Histories.{close_finds_marks_closed, marking_guards, stopped_marks_are_closed}
 use Rattle.mk_invariant.specs.Theorems.{AllocationsAreDisjoint, AllocationsStand, ClosesFindMarksClosed}
-use Rattle.mk_invariant.specs.Theorems.{FirstFitFindsThePlace}
-use Rattle.mk_invariant.specs.Theorems.{GuardsBlackCells, KeepsTheReach, MarksStayClosed, OfHistories}
-use Rattle.mk_invariant.specs.Theorems.{PagesShowTheStorage}
+use Rattle.mk_invariant.specs.Theorems.{FirstFitFindsThePlace, GuardsBlackCells, KeepsTheReach, MarksStayClosed}
+use Rattle.mk_invariant.specs.Theorems.{OfHistories, PagesShowTheStorage}
 use Rattle.mk_invariant.proofs.Histories.{histories_keep_the_invariant}
 use Rattle.mk_invariant.proofs.Joined.{told_to_guard, told_to_images}
 

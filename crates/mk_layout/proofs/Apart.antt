@@ -1,25 +1,17 @@
 -- The storages of unreleased allocations lie apart, where nothing is on its way.
-use Rattle.std.proofs.Common.{Bool, List, [], ap, arith, false, get_or, inl, inr, le_refl, length, refl, subst, suc}
-use Rattle.std.proofs.Common.{sym, true, zero, ℕ, ◌%◌, ◌*◌, ◌+◌, ◌-◌, ◌/◌, ◌<◌, ◌∙◌, ◌∷◌, ◌≡◌, ◌≢◌, ◌≤◌, ◌⊎◌}
+use Rattle.std.proofs.Common.{Bool, List, ap, arith, false, get_or, inl, inr, le_refl, length, refl, suc, sym, true, []}
+use Rattle.std.proofs.Common.{zero, ℕ, ◌%◌, ◌*◌, ◌+◌, ◌-◌, ◌/◌, ◌<◌, ◌∙◌, ◌∷◌, ◌≡◌, ◌≢◌, ◌≤◌, ◌⊎◌}
 use Rattle.std.specs.Prelude.{None, Option}
 use Rattle.std.proofs.lemmas.Bool.{cases_Bool, cases_eq, cases_lt, cases_order, true≢false}
 use Rattle.std.proofs.lemmas.List.Elements.{Contains-get_or}
 use Rattle.std.proofs.lemmas.Nat.{mul-le}
-use Rattle.mk_geom.specs.Classes.{class_words_of}
-use Rattle.mk_geom.specs.Storages.{LieApart, Storage, is_small, stands_on}
-use Rattle.mk_geom.specs.declared.addresses.Cell.{Cell}
-use Rattle.mk_geom.specs.declared.headers.Header.{Header}
+use Rattle.mk_protocol.proofs.Vocabulary.{BeginsAtCell, Cell, Config, Header, IsSized, IsWithinLimits, Object, OfBlock}
+use Rattle.mk_protocol.proofs.Vocabulary.{OfLater, OfLeafBlock, OfLeafRun, OfRun, PlacedAllocation, ShowsPart, Storage}
+use Rattle.mk_protocol.proofs.Vocabulary.{Words, cell_of_allocation, class_made, class_words_of, header_in, is_small}
+use Rattle.mk_protocol.proofs.Vocabulary.{is_small_object, object_placed, pages_made, placed_at, stands_on, storage_of}
+use Rattle.mk_protocol.proofs.Vocabulary.{storage_words, unreleased_storage}
+use Rattle.mk_geom.specs.Storages.{LieApart}
 use Rattle.mk_geom.proofs.Standing.{stands_parts}
-use Rattle.mk_core.specs.Allocations.{PlacedAllocation, cell_of_allocation, placed_at, storage_of, storage_words}
-use Rattle.mk_core.specs.Allocations.{unreleased_storage}
-use Rattle.mk_core.specs.Cells.{header_in}
-use Rattle.mk_core.specs.Config.{IsWithinLimits}
-use Rattle.mk_core.specs.NewPlaces.{class_made, is_small_object, pages_made}
-use Rattle.mk_core.specs.ObjectHeaders.{IsSized, OfBlock, OfLater, OfLeafBlock, OfLeafRun, OfRun, ShowsPart}
-use Rattle.mk_core.specs.StandingAllocations.{BeginsAtCell, object_placed}
-use Rattle.mk_core.specs.Words.{Words}
-use Rattle.mk_core.specs.declared.config.Config.{Config}
-use Rattle.mk_core.specs.declared.seats.Object.{Object}
 use Rattle.mk_core.proofs.Sizes.{pages_some, small_pages, small_words, words_are_small, words_within}
 use Rattle.mk_core.proofs.StandingAllocations.{first_page_shows, placed_cell}
 use Rattle.mk_core.proofs.UnreleasedStorage.{released_front, storage_is_of, unreleased_front}
@@ -69,12 +61,10 @@ on_its_pages c a p sized b h =
 
 -- Two small objects whose first pages show one header are of one class and sort.
 same_block_by : (o u : Object) (x y : Option Header) → x ≡ y → ShowsPart o 0 x → ShowsPart u 0 y
-    → is_small_object o ≡ true → is_small_object u ≡ true
-    → (class_made o ≡ class_made u) × (o.leaf ≡ u.leaf)
+    → is_small_object o ≡ true → is_small_object u ≡ true → (class_made o ≡ class_made u) × (o.leaf ≡ u.leaf)
 same_block_by o u x y e (OfBlock f s l) (OfBlock g t m) so su = (
   let k : class_made o ≡ class_made u = cc in k,
-  l
-      ∙ sym m,
+  l ∙ sym m,
 )
 same_block_by o u x y e (OfLeafBlock f s l) (OfLeafBlock g t m) so su =
     (let k : class_made o ≡ class_made u = cc in k, l ∙ sym m)
@@ -103,7 +93,7 @@ pub same_block : (c : Config) (w : Words) (xs : List PlacedAllocation) (i j : �
 same_block c w xs i j r u v si sj page =
     same_block_by (object_placed c (placed_at xs i)) (object_placed c (placed_at xs j))
     (header_in w ((placed_at xs i).base / 64)) (header_in w ((placed_at xs j).base / 64))
-    (ap (λ p. header_in w p) page) (first_part_of c w xs i r u) (first_part_of c w xs j r v) si sj
+    (rw page) (first_part_of c w xs i r u) (first_part_of c w xs j r v) si sj
 
 -- The cell's index is that at which the object begins.
 pub index_is : (c : Config) (a : PlacedAllocation) → IsSized (object_placed c a)
@@ -182,10 +172,10 @@ lie_apart c w xs i j r u v other =
     near small_a small_b page =
         let same = same_block c w xs i j r u v small_a small_b page in
         let k : ℕ = class_words_of (class_made (object_placed c b)) in
-        let wa : storage_words c a ≡ k = small_words (object_placed c a) small_a ∙ ap (λ n. class_words_of n) same.0 in
+        let wa : storage_words c a ≡ k = small_words (object_placed c a) small_a ∙ rw same.0 in
         let wb : storage_words c b ≡ k = small_words (object_placed c b) small_b in
-        let first_a : a.base % 64 ≡ ba.index * k = ba.first ∙ ap (λ n. ba.index * n) wa in
-        let first_b : b.base % 64 ≡ bb.index * k = bb.first ∙ ap (λ n. bb.index * n) wb in
+        let first_a : a.base % 64 ≡ ba.index * k = ba.first ∙ rw wa in
+        let first_b : b.base % 64 ≡ bb.index * k = bb.first ∙ rw wb in
         record {
           apart = elim (cases_order ba.index bb.index) [
             | inl e ↦ absurd (other (page, index_is c a sa.sized ba ∙ e ∙ sym (index_is c b sb.sized bb)))
@@ -229,23 +219,19 @@ LieInPairs ss = (i j : ℕ) (d : Storage) → i < length ss → j < length ss �
 pub lie_in_pairs : (c : Config) (xs : List PlacedAllocation) → AreApart (claims_of c None xs)
     → ((i j : ℕ) → (placed_at xs i).released ≡ false → (placed_at xs j).released ≡ false
     → (IsOfOneCell (claim_of c None (placed_at xs i)) (claim_of c None (placed_at xs j)) → ⊥)
-    → LieApart (storage_of c (placed_at xs i)) (storage_of c (placed_at xs j)))
-    → LieInPairs (unreleased_storage c xs)
+    → LieApart (storage_of c (placed_at xs i)) (storage_of c (placed_at xs j))) → LieInPairs (unreleased_storage c xs)
 unfolding unreleased_storage
 lie_in_pairs c [] apart lie = λ i j d li lj ne. absurd (omega arith)
 lie_in_pairs c (x ∷ xs) apart lie =
     by (cases_Bool x.released) (λ rest. lie_in_pairs c xs rest (λ i j. lie (suc i) (suc j)))
   where
     beside : x.released ≡ false → AreApart (claim_of c None x ∷ claims_of c None xs) → (j : ℕ) (d : Storage)
-        → j < length (unreleased_storage c xs)
-        → LieApart (storage_of c x) (get_or (unreleased_storage c xs) j d)
+        → j < length (unreleased_storage c xs) → LieApart (storage_of c x) (get_or (unreleased_storage c xs) j d)
     beside u ap2 j d lj =
         let h = storage_is_of c xs (get_or (unreleased_storage c xs) j d)
         (Contains-get_or (unreleased_storage c xs) j d lj) in
-        subst (λ (s : Storage). LieApart (storage_of c x) s) (sym h.storage)
-        (lie 0 (suc h.number) u h.unreleased
-        (λ same. ap2.0 (claim_of c None (placed_at xs h.number)) (claim_among c None xs h.number h.unreleased)
-        same))
+        rw h.storage (lie 0 (suc h.number) u h.unreleased
+        (λ same. ap2.0 (claim_of c None (placed_at xs h.number)) (claim_among c None xs h.number h.unreleased) same))
 
     cons : x.released ≡ false → AreApart (claim_of c None x ∷ claims_of c None xs)
         → LieInPairs (unreleased_storage c xs) → LieInPairs (storage_of c x ∷ unreleased_storage c xs)
@@ -253,15 +239,12 @@ lie_in_pairs c (x ∷ xs) apart lie =
     cons u ap2 rest zero (suc j) d li lj ne = beside u ap2 j d (omega arith)
     cons u ap2 rest (suc i) zero d li lj ne =
         swapped (storage_of c x) (get_or (unreleased_storage c xs) i d) (beside u ap2 i d (omega arith))
-    cons u ap2 rest (suc i) (suc j) d li lj ne = rest i j d (omega arith) (omega arith) (λ e. ne (ap (λ n. suc n) e))
+    cons u ap2 rest (suc i) (suc j) d li lj ne = rest i j d (omega arith) (omega arith) (λ e. ne (rw e))
 
     by : (x.released ≡ true) ⊎ (x.released ≡ false)
         → (AreApart (claims_of c None xs) → LieInPairs (unreleased_storage c xs))
         → LieInPairs (unreleased_storage c (x ∷ xs))
-    by (inl gone) rest =
-        subst (λ (ss : List Storage). LieInPairs ss) (sym (released_front c x xs gone))
-        (rest (subst (λ (ys : List Claim). AreApart ys) (gone_front c None x xs gone) apart))
+    by (inl gone) rest = rw (released_front c x xs gone) (rest (rw (gone_front c None x xs gone) at apart))
     by (inr u) rest =
-        let ap2 : AreApart (claim_of c None x ∷ claims_of c None xs) =
-        subst (λ (ys : List Claim). AreApart ys) (front c None x xs u) apart in
-        subst (λ (ss : List Storage). LieInPairs ss) (sym (unreleased_front c x xs u)) (cons u ap2 (rest ap2.1))
+        let ap2 : AreApart (claim_of c None x ∷ claims_of c None xs) = rw (front c None x xs u) at apart in
+        rw (unreleased_front c x xs u) (cons u ap2 (rest ap2.1))

@@ -2,21 +2,13 @@
 use Rattle.std.proofs.Common.{Bool, arith, false, length, true, ℕ, ◌<◌, ◌≡◌}
 use Rattle.std.specs.Prelude.{nat_lt}
 use Rattle.std.proofs.lemmas.Bool.{ltb-true}
-use Rattle.mk_core.specs.Accesses.{caller_number, reg_access, register_met}
-use Rattle.mk_core.specs.Config.{IsWithinLimits}
-use Rattle.mk_core.specs.History.{World}
-use Rattle.mk_core.specs.Layout.{AreOfPages}
-use Rattle.mk_core.specs.Moments.{flight_of, is_phase}
-use Rattle.mk_core.specs.declared.config.Config.{Config}
-use Rattle.mk_core.specs.declared.events.Seat.{Seat}
-use Rattle.mk_core.specs.declared.events.Step.{Step}
+use Rattle.mk_protocol.proofs.Vocabulary.{AreOfPages, Config, Flight, IsWithinLimits, Seat, Step, World, caller_number}
+use Rattle.mk_protocol.proofs.Vocabulary.{flight_of, is_phase, reg_access, register_met}
 use Rattle.mk_core.specs.declared.events.Step.TheVariants as step
-use Rattle.mk_core.specs.declared.seats.Flight.{Flight}
 use Rattle.mk_protocol.proofs.Ground.{KeepsGround, reg_ground}
 use Rattle.mk_protocol.proofs.Known.{Known}
 use Rattle.mk_protocol.proofs.OthersMoves.{WorldBehind}
-use Rattle.mk_protocol.proofs.SameWords.{reg_keeps}
-use Rattle.mk_protocol.proofs.SameWords.{Keeps}
+use Rattle.mk_protocol.proofs.SameWords.{reg_keeps, Keeps}
 use Rattle.mk_layout.specs.LayoutLaws.{LayoutPremises}
 use Rattle.mk_layout.specs.LayoutScene.{Among, Claim, is_released_in}
 use Rattle.mk_protocol.specs.Ground.{Ground, ground_of}

@@ -1,25 +1,12 @@
 -- One event: what stands on the pages after it.
-use Rattle.std.proofs.Common.{Bool, List, ap, arith, false, inl, inr, refl, subst, sym, true, ℕ, ◌%◌, ◌+◌, ◌-◌, ◌^◌}
-use Rattle.std.proofs.Common.{◌∙◌, ◌≡◌, ◌≢◌, ◌⊎◌}
+use Rattle.std.proofs.Common.{Bool, ap, arith, false, inl, inr, refl, sym, true, ℕ, ◌%◌, ◌+◌, ◌-◌, ◌^◌, ◌∙◌, ◌≡◌, ◌≢◌}
+use Rattle.std.proofs.Common.{◌⊎◌}
 use Rattle.std.specs.Prelude.{None, Option, Some, if◌then◌else◌, is_some, ◌==◌}
 use Rattle.std.proofs.lemmas.Bool.{and_parts, cases_Bool, eq-eqb, eqb-true, ne_eqb}
-use Rattle.mk_core.specs.History.{World}
-use Rattle.mk_core.specs.MarkerConditions.{cell_seen}
-use Rattle.mk_core.specs.Moments.{Moment, flight_of, holder_number, is_phase, marker_at, marker_of, nothing_done}
-use Rattle.mk_core.specs.NewPlaces.{object_made}
-use Rattle.mk_core.specs.Order.{host_has_turn}
-use Rattle.mk_core.specs.StopConditions.{is_attending}
-use Rattle.mk_core.specs.Words.{phase_of}
-use Rattle.mk_core.specs.declared.config.Config.{Config}
-use Rattle.mk_core.specs.declared.events.Seat.{Seat}
-use Rattle.mk_core.specs.declared.events.Seat.TheVariants.{Caller, Host, Marker}
-use Rattle.mk_core.specs.declared.events.Step.{Step}
+use Rattle.mk_protocol.proofs.Vocabulary.{Chosen, Config, Marker, Moment, Placing, Seat, SeenHeader, Step, World}
+use Rattle.mk_protocol.proofs.Vocabulary.{cell_seen, holder_number, host_has_turn, is_attending, is_phase, marker_at}
+use Rattle.mk_protocol.proofs.Vocabulary.{marker_of, nothing_done, phase_of}
 use Rattle.mk_core.specs.declared.events.Step.TheVariants as step
-use Rattle.mk_core.specs.declared.seats.Flight.{Flight}
-use Rattle.mk_core.specs.declared.seats.Object.{Object}
-use Rattle.mk_core.specs.declared.seats.Placing.{Placing}
-use Rattle.mk_core.specs.declared.seats.Placing.TheVariants.{Chosen}
-use Rattle.mk_core.specs.declared.seats.SeenHeader.{SeenHeader}
 use Rattle.mk_protocol.specs.Protocol.{has_place}
 use Rattle.mk_protocol.proofs.Actors.{Meets}
 use Rattle.mk_protocol.proofs.Colours.{AddsMarks, ClearsMarks, ColourStep, Colours, MarksSeen, colour_step, colours_of}
@@ -42,7 +29,7 @@ not_four : (n m : ℕ) → n % 8 ≢ 4 → m % 8 ≢ 4 → (n % 8 == 4) ≡ (m %
 not_four n m hn hm = ne_eqb (n % 8) 4 hn ∙ sym (ne_eqb (m % 8) 4 hm)
 
 same_low : (n m : ℕ) → n % 8 ≡ m % 8 → (n % 8 == 4) ≡ (m % 8 == 4)
-same_low n m e = ap (λ k. k == 4) e
+same_low n m e = rw e
 
 pub over_phase : (c : Config) (w : World) (seat : Seat) → Meets c w.now seat step.Over → w.now.words.phase % 8 ≡ 0
 over_phase c w seat h =
@@ -50,11 +37,8 @@ over_phase c w seat h =
 
 pub phase_kind : (c : Config) (w : World) (seat : Seat) (x : Step) → Meets c w.now seat x
     → is_phase (WorldBehind c w seat x).now.words 4 ≡ is_releasing_behind x (is_phase w.now.words 4)
-phase_kind c w seat step.Reg h =
-    same_low _ _
-    (ap (λ n. n % 8)
-    (reg_leaves c w seat).phase)
-phase_kind c w seat (step.Tally n v) h = same_low _ _ (ap (λ n. n % 8) (tally_keeps w.now.words n v).phase)
+phase_kind c w seat step.Reg h = same_low _ _ (rw (reg_leaves c w seat).phase)
+phase_kind c w seat (step.Tally n v) h = same_low _ _ (rw (tally_keeps w.now.words n v).phase)
 phase_kind c w seat step.Begin h =
     let e = eqb-true (w.now.words.phase % 8) 0 h.phase in
     not_four ((w.now.words.phase + 1) % 2 ^ 64) w.now.words.phase (λ x. omega arith) (λ x. omega arith)
@@ -88,8 +72,7 @@ seen_attends c m (Marker k) known some = elim (cases_Bool (is_attending (marker_
       ∙ some in
       cc
 ]
-seen_attends c m (Caller k) known some = cc
-seen_attends c m Host known some = cc
+seen_attends c m _ known some = cc
 
 marks_stay : (c : Config) (m : Moment) (seat : Seat) (y : Colours) → Known c m → phase_of m.words ≡ 4
     → ColourStep c m seat y → y.marks ≡ m.words.marks
@@ -125,8 +108,7 @@ turn_kind c w seat (step.Take o) h has = by (w.now.words.turn == 0) has
     by true has = cc
     by false has = refl
 turn_kind c w seat step.Give h has = cc
-turn_kind c w seat step.Reg h has =
-    (reg_leaves c w seat).turn
+turn_kind c w seat step.Reg h has = (reg_leaves c w seat).turn
 turn_kind c w seat (step.Tally n v) h has = (tally_keeps w.now.words n v).turn
 turn_kind c w seat _ h has = refl
 
@@ -146,8 +128,7 @@ object_kind c w seat x known h has =
     let new = orderly.served.placed has in
     let move = moves c w.now seat x (not_astray c w.now known.orderly) (actor_of c w.now seat x known.orderly h) h in
     elim (new_was c (view_of w.now) seat (view_of v.now) k move new) [
-      | inl same ↦ ap (λ (f : Flight). object_made c f.op) same
-          ∙ ap (λ t. object_made c (flight_of w.now (Caller (t - 1))).op) turn
+      | inl same ↦ rw same (rw turn)
       | inr none ↦ absurd (held_none v.now.seats.holding.placing has none)
     ]
 
@@ -159,11 +140,9 @@ layout_behind c w seat x b h laid =
     let kind = by_kind c w seat x b h laid in
     let phase = phase_kind c w seat x h in
     let marked : HasLayout c (object_now c w.now) (is_phase v.now.words 4) v.now.words.marks (ground_of v) =
-    subst (λ r. HasLayout c (object_now c w.now) r v.now.words.marks (ground_of v)) (sym phase)
-    (marks (is_releasing_behind x (is_phase w.now.words 4)) refl kind) in
+    rw phase (marks (is_releasing_behind x (is_phase w.now.words 4)) refl kind) in
     elim (cases_Bool (has_place v.now.seats.holding.placing)) [
-      | inl has ↦ subst (λ (o : Object). HasLayout c o (is_phase v.now.words 4) v.now.words.marks (ground_of v))
-          (sym (object_kind c w seat x b.known h has)) marked
+      | inl has ↦ rw (object_kind c w seat x b.known h has) marked
       | inr none ↦ (placeless c (object_now c w.now) (object_now c v.now) (is_phase v.now.words 4) v.now.words.marks
           (ground_of v) v.now.seats.holding.placing refl none marked).0
     ]
@@ -172,9 +151,7 @@ layout_behind c w seat x b h laid =
         → HasLayout c (object_now c w.now) r w.now.words.marks (ground_of (WorldBehind c w seat x))
         → HasLayout c (object_now c w.now) r (WorldBehind c w seat x).now.words.marks
         (ground_of (WorldBehind c w seat x))
-    marks true is st = subst
-        (λ (xs : List ℕ). HasLayout c (object_now c w.now) true xs (ground_of (WorldBehind c w seat x)))
-        (sym (releasing_marks c w seat x b.known h is)) st
+    marks true is st = rw (releasing_marks c w seat x b.known h is) st
     marks false is st =
         unreleasing c (object_now c w.now) w.now.words.marks (WorldBehind c w seat x).now.words.marks
         (ground_of (WorldBehind c w seat x))

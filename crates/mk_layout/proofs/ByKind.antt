@@ -1,33 +1,14 @@
 -- What each kind of event makes of the terrain.
-use Rattle.std.proofs.Common.{Bool, List, [], ap, arith, false, map, refl, subst, sym, true, ℕ, ◌*◌, ◌++◌, ◌∙◌, ◌∷◌}
-use Rattle.std.proofs.Common.{◌≡◌, ◌≢◌}
+use Rattle.std.proofs.Common.{Bool, List, ap, arith, false, map, refl, sym, true, ℕ, ◌*◌, ◌++◌, ◌∙◌, ◌∷◌, ◌≡◌, ◌≢◌, []}
 use Rattle.std.specs.Prelude.{None, Option, Some, if◌then◌else◌, not, slice_index, ◌&&◌, ◌==◌}
 use Rattle.std.proofs.lemmas.Bool.{and_parts, and_right, eqb-true, false_from_ne_true, ne_eqb, true≢false}
-use Rattle.mk_never.specs.declared.operations.Op.{Op}
-use Rattle.mk_geom.specs.declared.pages.Page.{Page}
-use Rattle.mk_geom.specs.declared.pages.Place.{Place}
-use Rattle.mk_core.specs.Allocations.{PlacedAllocation, granted, no_longer_fresh, with_released}
-use Rattle.mk_core.specs.Bits.{has_bit}
-use Rattle.mk_core.specs.Cells.{words_are_zero}
-use Rattle.mk_core.specs.Effects.{chosen, decided}
-use Rattle.mk_core.specs.History.{World}
-use Rattle.mk_core.specs.Moments.{flight_of, is_phase, nothing_done}
-use Rattle.mk_core.specs.NewPlaces.{base_made, is_run_gone, is_run_unmapped, is_undecided_new, object_made}
-use Rattle.mk_core.specs.StandingAllocations.{object_placed}
-use Rattle.mk_core.specs.StopConditions.{marks_place, may_end}
-use Rattle.mk_core.specs.TurnConditions.{is_decided, is_used_once, place_now, held_by_pages}
-use Rattle.mk_core.specs.Words.{Words, header_at, phase_of}
-use Rattle.mk_core.specs.declared.config.Config.{Config}
-use Rattle.mk_core.specs.declared.events.Seat.{Seat}
-use Rattle.mk_core.specs.declared.events.Step.{Step}
+use Rattle.mk_protocol.proofs.Vocabulary.{Chosen, Config, Flight, Granted, Object, Op, PlacedAllocation, Placing}
+use Rattle.mk_protocol.proofs.Vocabulary.{RunPages, Seat, Step, Unplaced, Used, Words, World, chosen, decided}
+use Rattle.mk_protocol.proofs.Vocabulary.{flight_of, granted, has_bit, header_at, held_by_pages, is_decided, is_phase}
+use Rattle.mk_protocol.proofs.Vocabulary.{is_run_gone, is_run_unmapped, is_undecided_new, is_used_once, marks_place}
+use Rattle.mk_protocol.proofs.Vocabulary.{may_end, no_longer_fresh, nothing_done, object_made, object_placed, phase_of}
+use Rattle.mk_protocol.proofs.Vocabulary.{place_now, with_released, words_are_zero}
 use Rattle.mk_core.specs.declared.events.Step.TheVariants as step
-use Rattle.mk_core.specs.declared.seats.Flight.{Flight}
-use Rattle.mk_core.specs.declared.seats.Holding.{Holding}
-use Rattle.mk_core.specs.declared.seats.Object.{Object}
-use Rattle.mk_core.specs.declared.seats.Placing.{Placing}
-use Rattle.mk_core.specs.declared.seats.Placing.TheVariants.{Chosen, Granted, Unplaced, Used}
-use Rattle.mk_core.specs.declared.seats.RunPages.{RunPages}
-use Rattle.mk_core.specs.declared.seats.Stage.{Stage}
 use Rattle.mk_core.proofs.ChangedAllocations.{fresh_leaves}
 use Rattle.mk_core.proofs.GrantedAllocations.{granted_base_is, granted_object, granted_type}
 use Rattle.mk_core.proofs.PlacesNow.{placed_now, undecided_new}
@@ -36,10 +17,9 @@ use Rattle.mk_protocol.specs.Protocol.{has_place}
 use Rattle.mk_protocol.proofs.Actors.{Meets, grants_new}
 use Rattle.mk_protocol.proofs.Ground.{KeepsGround, tally_ground}
 use Rattle.mk_protocol.proofs.OthersMoves.{WorldBehind}
-use Rattle.mk_layout.specs.LayoutScene.{Claim, IsLaidOn, LayoutScene}
+use Rattle.mk_layout.specs.LayoutScene.{LayoutScene}
 use Rattle.mk_protocol.specs.Ground.{Ground, ground_of}
-use Rattle.mk_layout.specs.Terrain.{HasLayout, IsLaidOut, RunStands, claim_of, claims_of, claims_placed, object_now}
-use Rattle.mk_layout.specs.Terrain.{layout_scene_of}
+use Rattle.mk_layout.specs.Terrain.{HasLayout, IsLaidOut, claims_of, object_now, layout_scene_of}
 use Rattle.mk_layout.proofs.Before.{Before, LaidBehind, LaidNow, reg_leaves_ground}
 use Rattle.mk_layout.proofs.Claims.{LeavesCells, cells_behind}
 use Rattle.mk_layout.proofs.Dropped.{ended}
@@ -77,28 +57,22 @@ grant_kind c w seat b h laid = by w.now.seats.holding.placing refl h.holder
         let own : object_now c w.now ≡ object_placed c a =
         holding_object c w.now seat b.known (new_has_turn c w.now seat h.seat new) ∙ sym made in
         let base = granted_base_is c f w.now.seats.holding.placing place is in
-        subst (λ (o : Object). Laid c o (is_phase w.now.words 4) w
-        (record (ground_of w) { placing = Granted; allocations = w.allocations ++ a ∷ [] })) (sym own)
-        (granted_terrain c (is_phase w.now.words 4) w.now.words.marks (ground_of w) place a is
-        (record {
+        rw own (granted_terrain c (is_phase w.now.words 4) w.now.words.marks (ground_of w) place a is (record {
           typed = granted_type c w.now f new (seat_operands c w.now seat b.known);
-          base = base ∙ ap (λ (o : Object). base_made o place) (sym made);
+          base = base ∙ rw (← made);
           freed = refl;
           unreleased = refl;
-        }) (subst (λ (o : Object). Laid c o (is_phase w.now.words 4) w (ground_of w)) own laid))
+        }) (rw own at laid))
 
 -- `mark`
 mark_kind : (c : Config) (w : World) (seat : Seat) (p n : ℕ) → Before c w → Meets c w.now seat (step.Mark p n)
-    → IsLaidOut c w
-    → LaidNow c w (ground_of (WorldBehind c w seat (step.Mark p n)))
+    → IsLaidOut c w → LaidNow c w (ground_of (WorldBehind c w seat (step.Mark p n)))
 mark_kind c w seat p n b h laid =
     by (marks_place w.now.words (object_made c (flight_of w.now seat).op) (place_now c w.now (flight_of w.now seat)) p
     n) refl
   where
     by : (t : Bool) → marks_place w.now.words (object_made c (flight_of w.now seat).op)
-        (place_now c w.now (flight_of w.now seat)) p n ≡ t
-        → LaidNow c w (record
-        (ground_of w) {
+        (place_now c w.now (flight_of w.now seat)) p n ≡ t → LaidNow c w (record (ground_of w) {
           placing = if t then chosen w.now.seats.holding.placing
               (place_now c w.now (flight_of w.now seat)) else w.now.seats.holding.placing;
         })
@@ -110,13 +84,8 @@ mark_kind c w seat p n b h laid =
         let own = holding_object c w.now seat b.known (new_has_turn c w.now seat h.seat placed.new) in
         let sized = made_sized c w.now seat b.limits b.known placed.new in
         let free = ap (λ q. header_at w.now.words q) (sym x.marked.at) ∙ x.marked.free in
-        subst (λ (place : Option Place). LaidNow c w
-        (record (ground_of w) { placing = chosen w.now.seats.holding.placing place })) (sym x.there)
-        (subst (λ (o : Object). Laid c o (is_phase w.now.words 4) w
-        (record (ground_of w) { placing = chosen w.now.seats.holding.placing (Some x.place) })) (sym own)
-        (mark_places c (object_made c (flight_of w.now seat).op) (is_phase w.now.words 4) w x.place
-        (subst (λ (o : Object). Laid c o (is_phase w.now.words 4) w (ground_of w)) own laid)
-        sized placed.placed free (first_header (object_made c (flight_of w.now seat).op) sized)))
+        rw x.there (rw own (mark_places c (object_made c (flight_of w.now seat).op) (is_phase w.now.words 4) w x.place
+        (rw own at laid) sized placed.placed free (first_header (object_made c (flight_of w.now seat).op) sized)))
 
 -- `begin`: no claim changes
 pub fresh_cells : LeavesCells no_longer_fresh
@@ -125,8 +94,7 @@ fresh_cells = record { places = fresh_leaves; released = λ a h. h }
 fresh_claims : (c : Config) (run : Option RunPages) (xs : List PlacedAllocation)
     → claims_of c run (map no_longer_fresh xs) ≡ claims_of c run xs
 fresh_claims c run [] = refl
-fresh_claims c run (a ∷ xs) = ap (λ (ys : List Claim). if a.released then ys else claim_of c run a ∷ ys)
-    (fresh_claims c run xs)
+fresh_claims c run (a ∷ xs) = rw (fresh_claims c run xs)
 
 begin_kind : (c : Config) (w : World) → IsLaidOut c w
     → LaidNow c w (record (ground_of w) { allocations = map no_longer_fresh w.allocations })
@@ -135,20 +103,17 @@ begin_kind c w laid =
     let s : LayoutScene =
     layout_scene_of c (object_now c w.now) (is_phase w.now.words 4) w.now.words.marks (ground_of w) in
     record {
-      scene = subst (λ (xs : List Claim). IsLaidOn
-          (record s { claims = xs ++ claims_placed (object_now c w.now) w.now.seats.holding.placing })) same laid.scene;
-      gone = subst (λ (xs : List Claim). RunStands xs w.now.seats.holding.freed) same laid.gone;
+      scene = rw same at laid.scene;
+      gone = rw same at laid.gone;
       first = laid.first;
       cells = cells_behind c no_longer_fresh w.allocations fresh_cells laid.cells;
     }
 
 -- Without a place, whose object it is doesn't matter.
 pub placeless : (c : Config) (o other : Object) (releasing : Bool) (marks : List ℕ) (t : Ground) (placing : Placing)
-    → t.placing ≡ placing → has_place placing ≡ false
-    → HasLayout c o releasing marks t
+    → t.placing ≡ placing → has_place placing ≡ false → HasLayout c o releasing marks t
     → HasLayout c other releasing marks t × HasLayout c other releasing marks (record t { placing = Unplaced })
-placeless c o other releasing marks t placing is none st =
-    by placing is none (subst (λ (x : Placing). HasLayout c o releasing marks (record t { placing = x })) is st)
+placeless c o other releasing marks t placing is none st = by placing is none (rw is at st)
   where
     by : (placing : Placing) → t.placing ≡ placing → has_place placing ≡ false
         → HasLayout c o releasing marks (record t { placing = placing })
@@ -158,17 +123,17 @@ placeless c o other releasing marks t placing is none st =
     by Unplaced is none s =
         let x : HasLayout c other releasing marks (record t { placing = Unplaced }) =
         record { scene = s.scene; gone = s.gone; first = tt; cells = s.cells } in
-        (subst (λ (y : Placing). HasLayout c other releasing marks (record t { placing = y })) (sym is) x, x)
+        (rw is x, x)
     by Granted is none s =
         let x : HasLayout c other releasing marks (record t { placing = Granted }) =
         record { scene = s.scene; gone = s.gone; first = tt; cells = s.cells } in (
-          subst (λ (y : Placing). HasLayout c other releasing marks (record t { placing = y })) (sym is) x,
+          rw is x,
           record { scene = s.scene; gone = s.gone; first = tt; cells = s.cells },
         )
 
 -- `give`: the seat has decided, so it has no place, and its run is gone
 undecided_waits : (f : Flight) → is_undecided_new f ≡ true → is_decided f.stage ≡ true → ⊥
-undecided_waits f new decided = true≢false (sym decided ∙ ap (λ (s : Stage). is_decided s) (undecided_new f new).stage)
+undecided_waits f new decided = true≢false (sym decided ∙ rw (undecided_new f new).stage)
 
 give_kind : (c : Config) (w : World) (seat : Seat) → Before c w → Meets c w.now seat step.Give → IsLaidOut c w
     → LaidNow c w (record (ground_of w) { placing = Unplaced; run = None })
@@ -205,24 +170,17 @@ take_kind : (c : Config) (w : World) (seat : Seat) (x : Option Op) → Before c 
     → LaidNow c w (ground_of (WorldBehind c w seat (step.Take x)))
 take_kind c w seat x b laid = by (w.now.words.turn == 0) refl
   where
-    by : (t : Bool) → (w.now.words.turn == 0) ≡ t
-        → LaidNow c w (record (ground_of w) {
-          placing = (if t then nothing_done else w.now.seats.holding).placing;
-          run = (if t then nothing_done else w.now.seats.holding).freed;
-        })
+    by : (t : Bool) → (w.now.words.turn == 0) ≡ t → LaidNow c w (record (ground_of w) {
+      placing = (if t then nothing_done else w.now.seats.holding).placing;
+      run = (if t then nothing_done else w.now.seats.holding).freed;
+    })
     by false is = laid
-    by true is =
-        subst (λ (y : Holding). LaidNow c w (record (ground_of w) { placing = y.placing; run = y.freed }))
-        (b.known.orderly.free (eqb-true w.now.words.turn 0 is)) laid
+    by true is = rw (b.known.orderly.free (eqb-true w.now.words.turn 0 is)) at laid
 
 -- words that leave the terrain
 kept_ground : (c : Config) (w : World) (x : Words) → KeepsGround w.now.words x → IsLaidOut c w
     → LaidNow c w (record (ground_of w) { pages = x.pages; freed = x.freed; snapshot = x.snapshot })
-kept_ground c w x g laid =
-    subst (λ (ps : List Page). LaidNow c w
-    (record (ground_of w) { pages = ps; freed = x.freed; snapshot = x.snapshot })) (sym g.pages)
-    (subst (λ (fs : List ℕ). LaidNow c w (record (ground_of w) { freed = fs; snapshot = x.snapshot })) (sym g.freed)
-    (subst (λ (ss : List ℕ). LaidNow c w (record (ground_of w) { snapshot = ss })) (sym g.snapshot) laid))
+kept_ground c w x g laid = rw g.pages (rw g.freed (rw g.snapshot laid))
 
 -- `release` and `end`
 pub off_at : (w : World) (n : ℕ) → is_phase w.now.words n ≡ true → n ≢ 4 → is_phase w.now.words 4 ≡ false
@@ -234,18 +192,13 @@ release_kind : (c : Config) (w : World) → Before c w → is_phase w.now.words 
     (record (ground_of w) { allocations = map (with_released c w.now.words) w.allocations })
 release_kind c w b three laid =
     released_terrain c (object_now c w.now) w b.limits b.lengths.pages
-    (subst (λ four. Laid c (object_now c w.now) four w (ground_of w)) (off_at w 3 three (λ e. absurd (omega arith)))
-    laid)
-    (λ run is.
+    (rw (off_at w 3 three (λ e. absurd (omega arith))) at laid) (λ run is.
     and_right (has_bit (slice_index w.now.words.snapshot run.page) 0)
     (not (has_bit (slice_index w.now.words.marks run.page) 0)) (ap not (b.others.marked three run is)))
 
 end_kind : (c : Config) (w : World) → Before c w → is_phase w.now.words 4 ≡ true → may_end c.pages w.now.words ≡ true
-    → IsLaidOut c w
-    → Laid c (object_now c w.now) false w (ground_of w)
-end_kind c w b four own laid =
-    ended c (object_now c w.now) w b.lengths.pages
-    (subst (λ x. Laid c (object_now c w.now) x w (ground_of w)) four laid) own
+    → IsLaidOut c w → Laid c (object_now c w.now) false w (ground_of w)
+end_kind c w b four own laid = ended c (object_now c w.now) w b.lengths.pages (rw four at laid) own
 
 -- each kind of event, whatever the seat
 pub by_kind : (c : Config) (w : World) (seat : Seat) (x : Step) → Before c w → Meets c w.now seat x → IsLaidOut c w
@@ -253,8 +206,7 @@ pub by_kind : (c : Config) (w : World) (seat : Seat) (x : Step) → Before c w �
 by_kind c w seat (step.Take o) b h laid = take_kind c w seat o b laid
 by_kind c w seat step.Give b h laid = give_kind c w seat b h laid
 by_kind c w seat step.Reg b h laid =
-    kept_ground c w _
-    (reg_leaves_ground c w seat) laid
+    kept_ground c w _ (reg_leaves_ground c w seat) laid
 by_kind c w seat (step.Tally n v) b h laid = kept_ground c w _ (tally_ground w.now.words n v) laid
 by_kind c w seat (step.Head p n) b h laid = head_kind c w seat p n b h laid
 by_kind c w seat (step.Used p n) b h laid = used_kind c w seat p n b h laid

@@ -1,14 +1,10 @@
 -- The claims of the allocations, by their numbers, and after a change of each.
-use Rattle.std.proofs.Common.{List, [], ap, false, inl, inr, length, map, refl, subst, suc, sym, true, zero, ℕ, ◌/◌}
-use Rattle.std.proofs.Common.{◌<◌, ◌∙◌, ◌∷◌, ◌≡◌, ◌⊎◌}
+use Rattle.std.proofs.Common.{List, ap, false, inl, inr, map, refl, subst, suc, sym, true, zero, ℕ, ◌∙◌, ◌∷◌, ◌≡◌, ◌⊎◌}
+use Rattle.std.proofs.Common.{[]}
 use Rattle.std.specs.Prelude.{Option}
 use Rattle.std.proofs.lemmas.Bool.{cases_Bool, cond-false, cond-true, true≢false}
-use Rattle.mk_geom.specs.declared.addresses.Cell.{Cell}
-use Rattle.mk_core.specs.Allocations.{PlacedAllocation, cell_of_allocation, placed_at}
-use Rattle.mk_core.specs.StandingAllocations.{BeginsAtCell, object_placed}
-use Rattle.mk_core.specs.declared.config.Config.{Config}
-use Rattle.mk_core.specs.declared.seats.Object.{Object}
-use Rattle.mk_core.specs.declared.seats.RunPages.{RunPages}
+use Rattle.mk_protocol.proofs.Vocabulary.{Cell, Config, PlacedAllocation, RunPages, cell_of_allocation, object_placed}
+use Rattle.mk_protocol.proofs.Vocabulary.{placed_at}
 use Rattle.mk_core.proofs.ChangedAllocations.{LeavesPlaces, changed_at}
 use Rattle.mk_layout.specs.LayoutScene.{Among, AreApart, Claim, IsOfOneCell}
 use Rattle.mk_layout.specs.Terrain.{IsAtCell, claim_of, claims_of}
@@ -21,13 +17,11 @@ pub record IsClaimOf (c : Config) (run : Option RunPages) (xs : List PlacedAlloc
 
 -- one allocation more at the front
 pub front : (c : Config) (run : Option RunPages) (a : PlacedAllocation) (xs : List PlacedAllocation)
-    → a.released ≡ false
-    → claims_of c run (a ∷ xs) ≡ claim_of c run a ∷ claims_of c run xs
+    → a.released ≡ false → claims_of c run (a ∷ xs) ≡ claim_of c run a ∷ claims_of c run xs
 front c run a xs u = cond-false a.released (claims_of c run xs) (claim_of c run a ∷ claims_of c run xs) u
 
 pub gone_front : (c : Config) (run : Option RunPages) (a : PlacedAllocation) (xs : List PlacedAllocation)
-    → a.released ≡ true
-    → claims_of c run (a ∷ xs) ≡ claims_of c run xs
+    → a.released ≡ true → claims_of c run (a ∷ xs) ≡ claims_of c run xs
 gone_front c run a xs r = cond-true a.released (claims_of c run xs) (claim_of c run a ∷ claims_of c run xs) r
 
 behind_front : (c : Config) (run : Option RunPages) (a : PlacedAllocation) (xs : List PlacedAllocation) (x : Claim)
@@ -38,11 +32,9 @@ pub claim_is : (c : Config) (run : Option RunPages) (xs : List PlacedAllocation)
     → Among x (claims_of c run xs) → IsClaimOf c run xs x
 claim_is c run [] x i = absurd i
 claim_is c run (a ∷ xs) x i = elim (cases_Bool a.released) [
-  | inl r ↦ behind_front c run a xs x
-      (claim_is c run xs x (subst (λ (ys : List Claim). Among x ys) (gone_front c run a xs r) i))
+  | inl r ↦ behind_front c run a xs x (claim_is c run xs x (rw (gone_front c run a xs r) at i))
   | inr u ↦
-      let j : Among x (claim_of c run a ∷ claims_of c run xs) =
-      subst (λ (ys : List Claim). Among x ys) (front c run a xs u) i in
+      let j : Among x (claim_of c run a ∷ claims_of c run xs) = rw (front c run a xs u) at i in
       elim j [
         | inl e ↦ record { number = 0; unreleased = u; is = e }
         | inr k ↦ behind_front c run a xs x (claim_is c run xs x k)
@@ -50,16 +42,12 @@ claim_is c run (a ∷ xs) x i = elim (cases_Bool a.released) [
 ]
 
 pub claim_among : (c : Config) (run : Option RunPages) (xs : List PlacedAllocation) (i : ℕ)
-    → (placed_at xs i).released ≡ false
-    → Among (claim_of c run (placed_at xs i)) (claims_of c run xs)
+    → (placed_at xs i).released ≡ false → Among (claim_of c run (placed_at xs i)) (claims_of c run xs)
 claim_among c run [] i u = absurd (true≢false u)
-claim_among c run (a ∷ xs) zero u = subst (λ (ys : List Claim). Among (claim_of c run a) ys) (sym (front c run a xs u))
-    (inl refl)
+claim_among c run (a ∷ xs) zero u = rw (front c run a xs u) (inl refl)
 claim_among c run (a ∷ xs) (suc i) u = elim (cases_Bool a.released) [
-  | inl r ↦ subst (λ (ys : List Claim). Among (claim_of c run (placed_at xs i)) ys) (sym (gone_front c run a xs r))
-      (claim_among c run xs i u)
-  | inr v ↦ subst (λ (ys : List Claim). Among (claim_of c run (placed_at xs i)) ys) (sym (front c run a xs v))
-      (inr (claim_among c run xs i u))
+  | inl r ↦ rw (gone_front c run a xs r) (claim_among c run xs i u)
+  | inr v ↦ rw (front c run a xs v) (inr (claim_among c run xs i u))
 ]
 
 -- A change of each allocation that leaves it at its place and undoes no release.
@@ -69,13 +57,11 @@ pub record LeavesCells (g : PlacedAllocation → PlacedAllocation) : Type 0 wher
 
 pub same_cell : (c : Config) (a b : PlacedAllocation) → b.base ≡ a.base → b.ty ≡ a.ty
     → cell_of_allocation c b ≡ cell_of_allocation c a
-same_cell c a b base ty =
-    ap (λ n. cell_of_allocation c (record b { base = n })) base
-    ∙ ap (λ n. cell_of_allocation c (record a { ty = n })) ty
+same_cell c a b base ty = rw base (rw ty)
 
 pub one_cell : (c : Config) (old new : Option RunPages) (a b : PlacedAllocation) → b.base ≡ a.base → b.ty ≡ a.ty
     → IsOfOneCell (claim_of c new b) (claim_of c old a)
-one_cell c old new a b base ty = (ap (λ n. n / 64) base, ap (λ (x : Cell). x.index) (same_cell c a b base ty))
+one_cell c old new a b base ty = (rw base, ap (λ (x : Cell). x.index) (same_cell c a b base ty))
 
 -- A claim after it is that of an allocation that was unreleased.
 pub record WasClaim (c : Config) (run : Option RunPages) (g : PlacedAllocation
@@ -91,14 +77,12 @@ pub was_claim : (c : Config) (run : Option RunPages) (g : PlacedAllocation
 was_claim c run g xs y leaves i =
     let x = claim_is c run (map g xs) y i in
     let at = changed_at g xs x.number leaves.places.none in
-    let u : (g (placed_at xs x.number)).released ≡ false = ap (λ (a : PlacedAllocation). a.released) (sym at)
-    ∙ x.unreleased in
+    let u : (g (placed_at xs x.number)).released ≡ false = rw (← at) x.unreleased in
     record {
       number = x.number;
       unreleased = u;
       was = leaves.released (placed_at xs x.number) u;
-      is = x.is
-          ∙ ap (λ (a : PlacedAllocation). claim_of c run a) at;
+      is = x.is ∙ ap (λ (a : PlacedAllocation). claim_of c run a) at;
     }
 
 pub changed_among : (c : Config) (run : Option RunPages) (g : PlacedAllocation
@@ -120,18 +104,14 @@ apart_behind c old new g (a ∷ xs) leaves apart =
     by : ((g a).released ≡ true) ⊎ ((g a).released ≡ false) → (a.released ≡ true) ⊎ (a.released ≡ false)
         → (AreApart (claims_of c old xs) → AreApart (claims_of c new (map g xs)))
         → AreApart (claims_of c new (map g (a ∷ xs)))
-    by (inl r) (inl s) rest =
-        subst (λ (ys : List Claim). AreApart ys) (sym (gone_front c new (g a) (map g xs) r))
-        (rest (subst (λ (ys : List Claim). AreApart ys) (gone_front c old a xs s) apart))
+    by (inl r) (inl s) rest = rw (gone_front c new (g a) (map g xs) r) (rest (rw (gone_front c old a xs s) at apart))
     by (inl r) (inr v) rest =
-        let before : AreApart (claim_of c old a ∷ claims_of c old xs) =
-        subst (λ (ys : List Claim). AreApart ys) (front c old a xs v) apart in
-        subst (λ (ys : List Claim). AreApart ys) (sym (gone_front c new (g a) (map g xs) r)) (rest before.1)
+        let before : AreApart (claim_of c old a ∷ claims_of c old xs) = rw (front c old a xs v) at apart in
+        rw (gone_front c new (g a) (map g xs) r) (rest before.1)
     by (inr u) (inl s) rest = absurd (true≢false (sym s ∙ leaves.released a u))
     by (inr u) (inr v) rest =
-        let before : AreApart (claim_of c old a ∷ claims_of c old xs) =
-        subst (λ (ys : List Claim). AreApart ys) (front c old a xs v) apart in
-        subst (λ (ys : List Claim). AreApart ys) (sym (front c new (g a) (map g xs) u)) (
+        let before : AreApart (claim_of c old a ∷ claims_of c old xs) = rw (front c old a xs v) at apart in
+        rw (front c new (g a) (map g xs) u) (
           λ y i same.
               let was = was_claim c new g xs y leaves i in
               let b : PlacedAllocation = placed_at xs was.number in
@@ -139,8 +119,7 @@ apart_behind c old new g (a ∷ xs) leaves apart =
               let of_a = one_cell c old new a (g a) (leaves.places.base a) (leaves.places.ty a) in
               before.0 (claim_of c old b) (claim_among c old xs was.number was.was) (
                 sym of_a.0 ∙ same.0 ∙ ap (λ (x : Claim). x.page) was.is ∙ of_b.0,
-                sym of_a.1 ∙ same.1
-                    ∙ ap (λ (x : Claim). x.index) was.is ∙ of_b.1,
+                sym of_a.1 ∙ same.1 ∙ ap (λ (x : Claim). x.index) was.is ∙ of_b.1,
               ),
           rest before.1,
         )
@@ -148,11 +127,10 @@ apart_behind c old new g (a ∷ xs) leaves apart =
 -- and allocations at their cells.
 pub at_cell : (c : Config) (a b : PlacedAllocation) → b.base ≡ a.base → b.ty ≡ a.ty → IsAtCell c a → IsAtCell c b
 at_cell c a b base ty at =
-    let same : object_placed c b ≡ object_placed c a = ap (λ n. object_placed c (record b { ty = n })) ty in
+    let same : object_placed c b ≡ object_placed c a = rw ty in
     record {
-      typed = subst (λ n. n < length c.types) (sym ty) at.typed;
-      begins = subst (λ (o : Object). BeginsAtCell o b.base) (sym same)
-          (subst (λ n. BeginsAtCell (object_placed c a) n) (sym base) at.begins);
+      typed = rw ty at.typed;
+      begins = rw same (rw base at.begins);
     }
 
 pub cells_behind : (c : Config) (g : PlacedAllocation → PlacedAllocation) (xs : List PlacedAllocation) → LeavesCells g
@@ -160,7 +138,6 @@ pub cells_behind : (c : Config) (g : PlacedAllocation → PlacedAllocation) (xs 
     → (i : ℕ) → (placed_at (map g xs) i).released ≡ false → IsAtCell c (placed_at (map g xs) i)
 cells_behind c g xs leaves cells i u =
     let at = changed_at g xs i leaves.places.none in
-    let v = leaves.released (placed_at xs i) (ap (λ (a : PlacedAllocation). a.released) (sym at) ∙ u) in
-    subst (λ (a : PlacedAllocation). IsAtCell c a) (sym at)
-    (at_cell c (placed_at xs i) (g (placed_at xs i)) (leaves.places.base (placed_at xs i))
+    let v = leaves.released (placed_at xs i) (rw (← at) u) in
+    rw at (at_cell c (placed_at xs i) (g (placed_at xs i)) (leaves.places.base (placed_at xs i))
     (leaves.places.ty (placed_at xs i)) (cells i v))

@@ -1,6 +1,6 @@
 -- Counts of the numbers below one that pass a test.
-use Rattle.std.proofs.Common.{Bool, List, ap, arith, false, length, min, refl, suc, sym, true, zero, ℕ, ◌+◌, ◌-◌, ◌<◌}
-use Rattle.std.proofs.Common.{◌∙◌, ◌∷◌, ◌≡◌, ◌≤◌}
+use Rattle.std.proofs.Common.{Bool, List, arith, false, length, min, refl, suc, sym, true, zero, ℕ, ◌+◌, ◌-◌, ◌<◌, ◌∙◌}
+use Rattle.std.proofs.Common.{◌∷◌, ◌≡◌, ◌≤◌}
 use Rattle.std.specs.Prelude.{cond, if◌then◌else◌, nat_le, nat_lt, slice_index_or, ◌&&◌, ◌||◌}
 use Rattle.std.proofs.lemmas.Bool.{leb-true, ltb-true, true≢false}
 use Rattle.std.proofs.lemmas.List.Recursion.{is_count_by}
@@ -28,7 +28,7 @@ unfolding count_below
 count_none zero test none = refl
 count_none (suc n) test none =
     let rest = count_none n test none in
-    let last : cond {A = ℕ} (test n) 1 0 ≡ 0 = ap (λ b. cond {A = ℕ} b 1 0) (none n) in
+    let last : cond {A = ℕ} (test n) 1 0 ≡ 0 = rw (none n) in
     omega arith
 
 -- with the numbers of a range besides

@@ -1,25 +1,16 @@
 -- Along a list without a `begin`, what was freed before the last one stays told by the flags.
-use Rattle.std.proofs.Common.{Bool, List, [], ap, arith, false, inl, inr, length, map, refl, subst, suc, sym, true}
-use Rattle.std.proofs.Common.{zero, ℕ, ◌++◌, ◌∙◌, ◌∷◌, ◌≡◌, ◌≤◌, ◌⊎◌}
+use Rattle.std.proofs.Common.{Bool, List, ap, arith, false, inl, inr, length, map, refl, suc, sym, true, zero, ℕ, ◌++◌}
+use Rattle.std.proofs.Common.{[]}
+use Rattle.std.proofs.Common.{◌∙◌, ◌∷◌, ◌≡◌, ◌≤◌, ◌⊎◌}
 use Rattle.std.specs.Prelude.{None, Option, Some, if◌then◌else◌, not, slice_index, ◌&&◌, ◌||◌}
 use Rattle.std.proofs.lemmas.Bool.{false_from_ne_true, true≢false}
 use Rattle.std.proofs.lemmas.List.{get_or_past, length-append, length-map}
 use Rattle.std.specs.List.{list_any}
-use Rattle.mk_geom.specs.declared.addresses.Cell.{Cell}
-use Rattle.mk_core.specs.Accesses.{access, word_accessed}
-use Rattle.mk_core.specs.Allocations.{PlacedAllocation, freed_where_it_stands, granted, never_granted, no_longer_fresh}
-use Rattle.mk_core.specs.Allocations.{placed_at, stands_in, with_released}
-use Rattle.mk_core.specs.Bits.{has_bit}
-use Rattle.mk_core.specs.Config.{IsWithinLimits}
-use Rattle.mk_core.specs.Cycles.{is_begin, is_quarantined}
-use Rattle.mk_core.specs.History.{AreEnabledFrom, World, first_world, left, left_from, world_behind}
-use Rattle.mk_core.specs.Layout.{AreOfPages}
-use Rattle.mk_core.specs.Moments.{flight_of}
-use Rattle.mk_core.specs.TurnConditions.{cell_freed}
-use Rattle.mk_core.specs.declared.config.Config.{Config}
-use Rattle.mk_core.specs.declared.events.Event.{Event}
-use Rattle.mk_core.specs.declared.events.Seat.{Seat}
-use Rattle.mk_core.specs.declared.events.Step.{Step}
+use Rattle.mk_protocol.proofs.Vocabulary.{AreEnabledFrom, AreOfPages, Cell, Config, Event, IsWithinLimits}
+use Rattle.mk_protocol.proofs.Vocabulary.{PlacedAllocation, Seat, Step, World, access, cell_freed, first_world}
+use Rattle.mk_protocol.proofs.Vocabulary.{flight_of, freed_where_it_stands, granted, has_bit, is_begin, is_quarantined}
+use Rattle.mk_protocol.proofs.Vocabulary.{left, left_from, never_granted, no_longer_fresh, placed_at, stands_in}
+use Rattle.mk_protocol.proofs.Vocabulary.{with_released, word_accessed, world_behind}
 use Rattle.mk_core.specs.declared.events.Step.TheVariants as step
 use Rattle.mk_core.proofs.ChangedAllocations.{none_freed}
 use Rattle.mk_core.proofs.Conditions.{enabled_meets}
@@ -40,6 +31,7 @@ use Rattle.mk_layout.proofs.Histories.{in_order_at_first, known_before, order_be
 use Rattle.mk_layout.proofs.QuarantineByKind.{frees_here}
 use Rattle.mk_layout.proofs.QuarantineChanges.{FreesHere, before_change}
 use Rattle.mk_layout.proofs.Released.{releasing_leaves}
+use Rattle.mk_protocol.proofs.StepKinds.{begin_is}
 
 -- freed, and not after the last `begin`
 abbrev is_freed_before : PlacedAllocation → Bool
@@ -70,11 +62,10 @@ freed_flags c w cell n i x q u true is =
     let unfreed = false_from_ne_true a.freed (λ f.
     true≢false (sym (q.shown i u f)
     ∙ ap (λ (y : Cell). has_bit (slice_index w.now.words.freed y.page) y.index) (x.others i u is) ∙ x.unset)) in
-    ap (λ b. is_freed_before (if b then record a { freed = true; fresh = true } else a)) is
-    ∙ sym (ap (λ f. f && not a.fresh) unfreed)
+    ap (λ b. is_freed_before (if b then record a { freed = true; fresh = true } else a)) is ∙ sym (rw unfreed)
 freed_flags c w cell n i x q u false is =
     let a : PlacedAllocation = placed_at w.allocations i in
-    ap (λ b. is_freed_before (if b then record a { freed = true; fresh = true } else a)) is
+    rw is
 
 quar_flags : (c : Config) (w : World) (seat : Seat) (p n i : ℕ) → Before c w → Meets c w.now seat (step.Quar p n)
     → IsLaidOut c w → IsQuarantined c w
@@ -86,23 +77,18 @@ quar_flags c w seat p n i b h laid q u = by (cell_freed c.pages w.now.words (fli
         → FlagsStep w (WorldBehind c w seat (step.Quar p n)) i
     by None is =
         let same : (WorldBehind c w seat (step.Quar p n)).allocations ≡ w.allocations =
-        ap (λ (x : Option Cell). map (freed_where_it_stands w.now.words x) w.allocations) is
-        ∙ none_freed w.now.words w.allocations in
-        Stays (ap (λ (xs : List PlacedAllocation). (placed_at xs i).released) (sym same)
-        ∙ u) (ap (λ (xs : List PlacedAllocation). is_freed_before (placed_at xs i)) same)
+        rw is (none_freed w.now.words w.allocations) in
+        Stays (rw (← same) u) (rw same)
     by (Some cell) is =
         let same : (WorldBehind c w seat (step.Quar p n)).allocations
         ≡ map (freed_where_it_stands w.now.words (Some cell)) w.allocations =
-        ap (λ (x : Option Cell). map (freed_where_it_stands w.now.words x) w.allocations) is in
+        rw is in
         let frees = frees_here c w seat p n cell b h laid
         (freed_cell c.pages w.now.words (flight_of w.now seat) p n cell is) in
         let x = before_change c (freed_where_it_stands w.now.words (Some cell)) w.allocations i
-        (freeing_leaves w.now.words (Some cell))
-        (ap (λ (xs : List PlacedAllocation). (placed_at xs i).released) (sym same) ∙ u) in
-        Stays x.was
-        (ap (λ (xs : List PlacedAllocation). is_freed_before (placed_at xs i)) same
-        ∙ ap (λ (a : PlacedAllocation). is_freed_before a) x.now
-        ∙ freed_flags c w cell n i frees q x.was (stands_in w.now.words cell (placed_at w.allocations i)) refl)
+        (freeing_leaves w.now.words (Some cell)) (rw (← same) u) in
+        Stays x.was (rw same (rw x.now
+        (freed_flags c w cell n i frees q x.was (stands_in w.now.words cell (placed_at w.allocations i)) refl)))
 
 flags_step : (c : Config) (w : World) (seat : Seat) (x : Step) (i : ℕ) → Before c w → Meets c w.now seat x
     → IsLaidOut c w → IsQuarantined c w → is_begin x ≡ false
@@ -111,13 +97,12 @@ flags_step c w seat (step.Quar p n) i b h laid q out u = quar_flags c w seat p n
 flags_step c w seat step.Begin i b h laid q out u = absurd (true≢false out)
 flags_step c w seat step.Grant i b h laid q out u =
     elim (pushed_new w.allocations (granted c w.now (flight_of w.now seat)) i) [
-      | inl old ↦ Stays (ap (λ (a : PlacedAllocation). a.released) (sym old)
-          ∙ u) (ap (λ (a : PlacedAllocation). is_freed_before a) old)
-      | inr new ↦ IsNew new.1 (ap (λ (a : PlacedAllocation). is_freed_before a) new.0)
+      | inl old ↦ Stays (rw (← old) u) (rw old)
+      | inr new ↦ IsNew new.1 (rw new.0)
     ]
 flags_step c w seat step.Release i b h laid q out u =
     let x = before_change c (with_released c w.now.words) w.allocations i (releasing_leaves c w.now.words) u in
-    Stays x.was (ap (λ (a : PlacedAllocation). is_freed_before a) x.now)
+    Stays x.was (rw x.now)
 flags_step c w seat _ i b h laid q out u = Stays u refl
 
 -- allocations are never lost
@@ -138,8 +123,7 @@ record Tells (xs : List PlacedAllocation) (w : World) : Type 0 where
       → is_freed_before (placed_at w.allocations i) ≡ is_quarantined (placed_at xs i)
 
 tells_behind : (c : Config) (xs : List PlacedAllocation) (w : World) (seat : Seat) (x : Step) → Before c w
-    → Meets c w.now seat x → IsLaidOut c w → IsQuarantined c w
-    → is_begin x ≡ false
+    → Meets c w.now seat x → IsLaidOut c w → IsQuarantined c w → is_begin x ≡ false
     → Tells xs w → Tells xs (WorldBehind c w seat x)
 tells_behind c xs w seat x b h laid q out t =
     record {
@@ -152,7 +136,7 @@ tells_behind c xs w seat x b h laid q out t =
     by i (Stays was same) = same ∙ t.flags i was
     by i (IsNew past none) =
         let m = t.longer in
-        none ∙ sym (ap (λ (a : PlacedAllocation). is_quarantined a) (get_or_past xs i never_granted (omega arith)))
+        none ∙ sym (rw (get_or_past xs i never_granted (omega arith)))
 
 -- at the `begin`
 tells_at_begin : (c : Config) (w : World) (seat : Seat) → Tells w.allocations (WorldBehind c w seat step.Begin)
@@ -162,12 +146,8 @@ tells_at_begin c w seat =
       flags = λ i u.
           let x = before_change c no_longer_fresh w.allocations i fresh_cells u in
           let a : PlacedAllocation = placed_at w.allocations i in
-          ap (λ (y : PlacedAllocation). is_freed_before y) x.now ∙ sym (ap (λ r. a.freed && not r) x.was);
+          rw x.now (sym (rw x.was));
     }
-
-begin_is : (x : Step) → is_begin x ≡ true → x ≡ step.Begin
-begin_is step.Begin h = refl
-begin_is _ h = cc
 
 -- what is known of a world, and of the events after it
 record Along (c : Config) (w : World) (es : List Event) : Type 0 where
@@ -221,9 +201,7 @@ after : (c : Config) (w : World) (e : Event) (behind : List Event) → Along c w
 unfolding left_from
 after c w e behind a is none =
     let n = along_next c w e behind a in
-    let t : Tells w.allocations (world_behind c w e) =
-    subst (λ (x : Step). Tells w.allocations (WorldBehind c w e.seat x)) (sym (begin_is e.step is))
-    (tells_at_begin c w e.seat) in
+    let t : Tells w.allocations (world_behind c w e) = rw (begin_is e.step is) (tells_at_begin c w e.seat) in
     tells_from c w.allocations (world_behind c w e) behind n.2 none t
 
 pub snapshots_are_of_cycles : SnapshotsAreOfCycles
@@ -237,14 +215,12 @@ snapshots_are_of_cycles c es limits on others begin none cycling i u =
       others = others;
       order = in_order_at_first c;
     } in
-    let split : Along c (first_world c) (begin.before ++ begin.event ∷ begin.behind) =
-    subst (λ (xs : List Event). Along c (first_world c) xs) begin.is first in
+    let split : Along c (first_world c) (begin.before ++ begin.event ∷ begin.behind) = rw begin.is at first in
     let w : World = left c begin.before in
     let t = after c w begin.event begin.behind
     (along_parts c (first_world c) begin.before (begin.event ∷ begin.behind) split) begin.of_kind none in
     let same : left c es ≡ left_from c w (begin.event ∷ begin.behind) =
-    ap (λ (xs : List Event). left c xs) begin.is
-    ∙ left_append c (first_world c) begin.before (begin.event ∷ begin.behind) in
-    let told : Tells w.allocations (left c es) = subst (λ (v : World). Tells w.allocations v) (sym same) t.0 in
-    let order : StandsInOrder c (left c es) = subst (λ (v : World). StandsInOrder c v) (sym same) t.1 in
+    rw begin.is (left_append c (first_world c) begin.before (begin.event ∷ begin.behind)) in
+    let told : Tells w.allocations (left c es) = rw same t.0 in
+    let order : StandsInOrder c (left c es) = rw same t.1 in
     order.snapshot.quarantined cycling i u ∙ told.flags i u

@@ -1,11 +1,7 @@
 -- Whether the phase is one of a cycle's, after each kind of event.
 use Rattle.std.proofs.Common.{Bool, ap, arith, false, refl, sym, true, ℕ, ◌%◌, ◌+◌, ◌-◌, ◌^◌, ◌∙◌, ◌≡◌}
 use Rattle.std.proofs.lemmas.Bool.{eqb-true}
-use Rattle.mk_core.specs.History.{World}
-use Rattle.mk_core.specs.Words.{phase_of}
-use Rattle.mk_core.specs.declared.config.Config.{Config}
-use Rattle.mk_core.specs.declared.events.Seat.{Seat}
-use Rattle.mk_core.specs.declared.events.Step.{Step}
+use Rattle.mk_protocol.proofs.Vocabulary.{Config, Seat, Step, World, phase_of}
 use Rattle.mk_core.specs.declared.events.Step.TheVariants as step
 use Rattle.mk_protocol.proofs.Actors.{Meets}
 use Rattle.mk_protocol.proofs.OthersMoves.{WorldBehind}
@@ -21,13 +17,12 @@ is_cycling_behind step.End b = false
 is_cycling_behind _ b = b
 
 to_phase : (n m p q : ℕ) → n % 8 ≡ p → m % 8 ≡ q → is_cycling p ≡ is_cycling q → is_cycling (n % 8) ≡ is_cycling (m % 8)
-to_phase n m p q en em same = ap (λ k. is_cycling k) en ∙ same ∙ sym (ap (λ k. is_cycling k) em)
+to_phase n m p q en em same = rw en (same ∙ sym (rw em))
 
 pub cycle_kind : (c : Config) (w : World) (seat : Seat) (x : Step) → Meets c w.now seat x
     → is_cycling (phase_of (WorldBehind c w seat x).now.words) ≡ is_cycling_behind x (is_cycling (phase_of w.now.words))
 cycle_kind c w seat step.Reg h =
-    ap (λ n. is_cycling (n % 8))
-    (reg_leaves c w seat).phase
+    ap (λ n. is_cycling (n % 8)) (reg_leaves c w seat).phase
 cycle_kind c w seat (step.Tally n v) h = ap (λ m. is_cycling (m % 8)) (tally_keeps w.now.words n v).phase
 cycle_kind c w seat step.Begin h =
     let e = eqb-true (w.now.words.phase % 8) 0 h.phase in

@@ -1,16 +1,12 @@
 -- `quar` (b) and (c), and `end`, on the terrain.
-use Rattle.std.proofs.Common.{Bool, List, ap, arith, false, inl, inr, length, sym, true, ℕ, ◌<◌, ◌∙◌, ◌≡◌, ◌≢◌, ◌⊎◌}
-use Rattle.std.specs.Prelude.{not, slice_index, slice_set, ◌&&◌, ◌==◌, ◌||◌}
+use Rattle.std.proofs.Common.{Bool, List, arith, false, inl, inr, length, sym, true, ℕ, ◌<◌, ◌∙◌, ◌≡◌, ◌≢◌, ◌⊎◌}
+use Rattle.std.specs.Prelude.{not, slice_index, slice_set, ◌==◌, ◌||◌}
 use Rattle.std.proofs.lemmas.Bool.{and_parts, cases_Bool, cases_eq, cases_lt, eqb-false, eqb-true, not-true, or_cases}
 use Rattle.std.proofs.lemmas.Bool.{true≢false}
 use Rattle.std.proofs.lemmas.List.{get_or-set_other, get_or-set_same, set_past}
-use Rattle.mk_core.specs.Bits.{has_bit}
-use Rattle.mk_core.specs.Cells.{head_page, left_unmarked, none_is_left_unmarked}
-use Rattle.mk_core.specs.History.{World}
-use Rattle.mk_core.specs.StopConditions.{has_settled_page, may_end}
-use Rattle.mk_core.specs.Words.{Words, header_at, used_at}
-use Rattle.mk_core.specs.declared.config.Config.{Config}
-use Rattle.mk_core.specs.declared.seats.Object.{Object}
+use Rattle.mk_protocol.proofs.Vocabulary.{Config, Object, Words, World, has_bit, head_page, header_at, may_end, used_at}
+use Rattle.mk_core.specs.Cells.{left_unmarked, none_is_left_unmarked}
+use Rattle.mk_core.specs.StopConditions.{has_settled_page}
 use Rattle.mk_core.proofs.AllBelow.{all_below-at}
 use Rattle.mk_core.proofs.BitsWithout.{has_bit_without}
 use Rattle.mk_core.proofs.PageSteps.{Drops}
@@ -23,8 +19,7 @@ use Rattle.mk_layout.proofs.Serving.{Laid}
 
 -- While the phase isn't releasing, no cell is released, whatever the snapshot, the freed cells and the marks.
 pub unreleasing : (c : Config) (o : Object) (marks other : List ℕ) (t : Ground) (freed snapshot : List ℕ)
-    → HasLayout c o false marks t
-    → HasLayout c o false other (record t { freed = freed; snapshot = snapshot })
+    → HasLayout c o false marks t → HasLayout c o false other (record t { freed = freed; snapshot = snapshot })
 unreleasing c o marks other t freed snapshot st =
     record {
       scene = let s = st.scene in record {
@@ -42,8 +37,7 @@ unreleasing c o marks other t freed snapshot st =
 
 -- The freed cells aren't read at all.
 pub refreed : (c : Config) (o : Object) (releasing : Bool) (marks : List ℕ) (t : Ground) (freed : List ℕ)
-    → HasLayout c o releasing marks t
-    → HasLayout c o releasing marks (record t { freed = freed })
+    → HasLayout c o releasing marks t → HasLayout c o releasing marks (record t { freed = freed })
 refreed c o releasing marks t freed st = record { scene = st.scene; gone = st.gone; first = st.first; cells = st.cells }
 
 -- `quar` (c): released cells that aren't used are dropped
@@ -69,24 +63,22 @@ dropped c o w p freed n st h =
     stays : (q k : ℕ) → has_bit (used_at w.now.words q) k ≡ true → has_bit (slice_index w.now.words.snapshot q) k ≡ true
         → has_bit (slice_index (slice_set w.now.words.snapshot p n) q) k ≡ true
     stays q k bit was = elim (cases_eq q p) [
-      | inr ne ↦ ap (λ v. has_bit v k) (get_or-set_other w.now.words.snapshot p q n 0 ne) ∙ was
+      | inr ne ↦ rw (get_or-set_other w.now.words.snapshot p q n 0 ne) was
       | inl e ↦ elim (cases_lt p (length w.now.words.snapshot)) [
-        | inr past ↦ ap (λ (xs : List ℕ). has_bit (slice_index xs q) k) (set_past w.now.words.snapshot p n past) ∙ was
+        | inr past ↦ rw (set_past w.now.words.snapshot p n past) was
         | inl lt ↦
             let here : slice_index (slice_set w.now.words.snapshot p n) q ≡ n =
-            ap (λ i. slice_index (slice_set w.now.words.snapshot p n) i) e
-            ∙ get_or-set_same w.now.words.snapshot p n 0 lt in
-            ap (λ v. has_bit v k) here ∙ elim (cases_Bool (has_bit n k)) [
+            rw e (get_or-set_same w.now.words.snapshot p n 0 lt) in
+            rw here (elim (cases_Bool (has_bit n k)) [
               | inl is ↦ is
               | inr out ↦
-                  let lost = h.gone k (ap (λ i. has_bit (slice_index w.now.words.snapshot i) k) (sym e) ∙ was) out in
-                  absurd (true≢false (sym bit ∙ ap (λ i. has_bit (used_at w.now.words i) k) e ∙ lost.1))
-            ]
+                  let lost = h.gone k (rw (← e) was) out in
+                  absurd (true≢false (sym bit ∙ rw e lost.1))
+            ])
       ]
     ]
 
-    by : (q k : ℕ) → has_bit (used_at w.now.words q) k ≡ true
-        → IsClaimed (claims_on c o (ground_of w)) q k
+    by : (q k : ℕ) → has_bit (used_at w.now.words q) k ≡ true → IsClaimed (claims_on c o (ground_of w)) q k
         ⊎ (is_released_in true w.now.words.snapshot w.now.words.marks q k ≡ true)
         → IsClaimed (claims_on c o (ground_of w)) q k
         ⊎ (is_released_in true (slice_set w.now.words.snapshot p n) w.now.words.marks q k ≡ true)
@@ -94,7 +86,7 @@ dropped c o w p freed n st h =
     by q k bit (inr r) =
         let parts = and_parts (has_bit (slice_index w.now.words.snapshot q) k)
         (not (has_bit (slice_index w.now.words.marks q) k)) r in
-        inr (ap (λ b. b && not (has_bit (slice_index w.now.words.marks q) k)) (stays q k bit parts.0) ∙ parts.1)
+        inr (rw (stays q k bit parts.0) parts.1)
 
 -- What `end` asks: no cell of a page is left, and one with a header has a used cell at its head.
 pub record IsSettledPage (w : Words) (p : ℕ) : Type 0 where
@@ -116,15 +108,13 @@ settled_page w count p h lt =
 
 -- `end`
 pub ended : (c : Config) (o : Object) (w : World) → length w.now.words.pages ≡ c.pages → Laid c o true w (ground_of w)
-    → may_end c.pages w.now.words ≡ true
-    → Laid c o false w (ground_of w)
+    → may_end c.pages w.now.words ≡ true → Laid c o false w (ground_of w)
 ended c o w len st h =
     record {
-      scene = layout_ended (layout_scene_of c o true w.now.words.marks (ground_of w)) st.scene
-          (record {
-            none = λ p k lt. (settled_page w.now.words c.pages p h (omega (arith, len))).none k;
-            settled = λ p lt some empty. (settled_page w.now.words c.pages p h (omega (arith, len))).used some empty;
-          });
+      scene = layout_ended (layout_scene_of c o true w.now.words.marks (ground_of w)) st.scene (record {
+        none = λ p k lt. (settled_page w.now.words c.pages p h (omega (arith, len))).none k;
+        settled = λ p lt some empty. (settled_page w.now.words c.pages p h (omega (arith, len))).used some empty;
+      });
       gone = st.gone;
       first = st.first;
       cells = st.cells;

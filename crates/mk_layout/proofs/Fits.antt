@@ -1,24 +1,18 @@
 -- What the place that first fit finds says of the pages, in words.
-use Rattle.std.proofs.Common.{Bool, List, ap, arith, false, inl, inr, length, refl, subst, sym, true, ℕ, ◌+◌, ◌<◌, ◌∙◌}
-use Rattle.std.proofs.Common.{◌≡◌, ◌≤◌, ◌⊎◌}
-use Rattle.std.specs.Prelude.{None, Option, Some, slice_index_or}
+use Rattle.std.proofs.Common.{Bool, List, ap, arith, false, inl, inr, length, refl, sym, true, ℕ, ◌+◌, ◌<◌, ◌∙◌, ◌≡◌}
+use Rattle.std.proofs.Common.{◌≤◌, ◌⊎◌}
+use Rattle.std.specs.Prelude.{Option, Some, slice_index_or}
 use Rattle.std.proofs.lemmas.Bool.{cases_Bool, leb-false, leb-true}
 use Rattle.std.proofs.lemmas.Option.{get_or_from_slice_get, slice_get_within}
-use Rattle.mk_geom.specs.Classes.{cells_of}
-use Rattle.mk_geom.specs.Headers.{header_of, word_of}
-use Rattle.mk_geom.specs.PageUses.{is_free_page, resident_pages}
-use Rattle.mk_geom.specs.PageWords.{bits_of, use_under, uses_of_pages}
+use Rattle.mk_protocol.proofs.Vocabulary.{Block, Free, Header, IsSized, LeafBlock, Object, Page, Place, block_header}
+use Rattle.mk_protocol.proofs.Vocabulary.{cells_made, cells_of, class_made, free_page, header_made, header_of}
+use Rattle.mk_protocol.proofs.Vocabulary.{is_small_object, pages_made, place_on_pages, resident_pages, use_under}
+use Rattle.mk_protocol.proofs.Vocabulary.{uses_of_pages, word_of}
+use Rattle.mk_geom.specs.PageUses.{is_free_page}
+use Rattle.mk_geom.specs.PageWords.{bits_of}
 use Rattle.mk_geom.specs.Places.{MayTakeCell}
-use Rattle.mk_geom.specs.Storages.{block_header, free_page}
-use Rattle.mk_geom.specs.declared.headers.Header.{Header}
-use Rattle.mk_geom.specs.declared.headers.Header.TheVariants.{Block, Free, Later, LeafBlock, LeafRun, Run}
-use Rattle.mk_geom.specs.declared.pages.Page.{Page}
-use Rattle.mk_geom.specs.declared.pages.Place.{Place}
 use Rattle.mk_geom.proofs.FirstFit.{cell_place_is, run_place_is}
 use Rattle.mk_geom.proofs.HeaderLemmas.{word_of-header_of}
-use Rattle.mk_core.specs.NewPlaces.{class_made, header_made, is_small_object, pages_made, place_on_pages}
-use Rattle.mk_core.specs.ObjectHeaders.{IsSized, cells_made}
-use Rattle.mk_core.specs.declared.seats.Object.{Object}
 use Rattle.mk_core.proofs.ObjectHeaders.{small_header}
 use Rattle.mk_core.proofs.Sizes.{class_for_small, large_pages, small_cells, small_pages}
 use Rattle.mk_layout.specs.LayoutScene.{header_on, shows_on, used_on}
@@ -43,43 +37,32 @@ zero_word h is = sym (word_of-header_of h Free is).1
 
 free_header : (h : ℕ) (x : Option Header) (u : ℕ) → header_of h ≡ x → is_free_page (use_under x u) ≡ true → h ≡ 0
 free_header h (Some Free) u is free = zero_word h is
-free_header h None u is free = cc
-free_header h (Some (Block class)) u is free = cc
-free_header h (Some (LeafBlock class)) u is free = cc
-free_header h (Some (Run n m)) u is free = cc
-free_header h (Some (LeafRun n)) u is free = cc
-free_header h (Some (Later d m)) u is free = cc
+free_header h _ u is free = cc
 
 -- a cell that may be taken is on a free page, or on one with the block's header
 taken_from : (h u class index : ℕ) (leaf : Bool) (x : Option Header) → header_of h ≡ x
     → MayTakeCell class leaf index (use_under x u)
     → (h ≡ 0) ⊎ ((h ≡ word_of (block_header class leaf)) × (index < cells_of class))
 taken_from h u class index leaf (Some Free) is may = inl (zero_word h is)
-taken_from h u class index leaf None is may = absurd may
-taken_from h u class index leaf (Some (Run n m)) is may = absurd may
-taken_from h u class index leaf (Some (LeafRun n)) is may = absurd may
-taken_from h u class index leaf (Some (Later d m)) is may = absurd may
 taken_from h u class index leaf (Some (Block k)) is may =
     inr (
-      sym (word_of-header_of h (Block k) is).1 ∙ ap (λ n. word_of (Block n)) may.0
-          ∙ ap (λ b. word_of (block_header class b)) may.1,
-      subst (λ n. index < n) (length-bits_of (cells_of k) u
-          ∙ ap cells_of may.0) (slice_get_within (bits_of (cells_of k) u) index false may.2),
+      sym (word_of-header_of h (Block k) is).1 ∙ rw may.0 (ap (λ b. word_of (block_header class b)) may.1),
+      rw (length-bits_of (cells_of k) u
+          ∙ ap cells_of may.0) at (slice_get_within (bits_of (cells_of k) u) index false may.2),
     )
 taken_from h u class index leaf (Some (LeafBlock k)) is may =
     inr (
-      sym (word_of-header_of h (LeafBlock k) is).1 ∙ ap (λ n. word_of (LeafBlock n)) may.0
-          ∙ ap (λ b. word_of (block_header class b)) may.1,
-      subst (λ n. index < n) (length-bits_of (cells_of k) u
-          ∙ ap cells_of may.0) (slice_get_within (bits_of (cells_of k) u) index false may.2),
+      sym (word_of-header_of h (LeafBlock k) is).1 ∙ rw may.0 (ap (λ b. word_of (block_header class b)) may.1),
+      rw (length-bits_of (cells_of k) u
+          ∙ ap cells_of may.0) at (slice_get_within (bits_of (cells_of k) u) index false may.2),
     )
+taken_from h u class index leaf _ is may = absurd may
 
 free_use : (h u : ℕ) → h ≡ 0 → is_free_page (use_under (header_of h) u) ≡ true
-free_use h u z = ap (λ n. is_free_page (use_under (header_of n) u)) z
+free_use h u z = rw z
 
 pub fits : (limit : ℕ) (pages : List Page) (o : Object) (place : Place) → IsSized o
-    → place_on_pages limit pages o ≡ Some place
-    → FitsOnFreePages limit pages o place ⊎ FitsInBlock pages o place
+    → place_on_pages limit pages o ≡ Some place → FitsOnFreePages limit pages o place ⊎ FitsInBlock pages o place
 fits limit pages o place sized at = elim (cases_Bool (is_small_object o)) [ inl s ↦ small s | inr l ↦ inl (large l) ]
   where
     large : is_small_object o ≡ false → FitsOnFreePages limit pages o place
@@ -114,7 +97,7 @@ fits limit pages o place sized at = elim (cases_Bool (is_small_object o)) [ inl 
             within = omega arith;
             free = λ d lt.
                 let zero : place.page + d ≡ place.page = omega arith in
-                ap (λ p. header_on pages p) zero ∙ ap (λ (x : Page). x.header) page ∙ z;
+                rw zero (ap (λ (x : Page). x.header) page ∙ z);
           })
           | inr block ↦ inr (record {
             small = s;

@@ -1,21 +1,15 @@
 -- `grant` on the terrain: what is granted is the claim of its place.
-use Rattle.std.proofs.Common.{Bool, List, [], ap, append-nil, false, inl, inr, length, refl, subst, suc, sym, true}
-use Rattle.std.proofs.Common.{zero, ℕ, ◌++◌, ◌/◌, ◌<◌, ◌∙◌, ◌∷◌, ◌≡◌, ◌⊎◌}
-use Rattle.std.specs.Prelude.{None, Option, Some, if◌then◌else◌, not, ◌&&◌}
+use Rattle.std.proofs.Common.{Bool, List, append-nil, false, inl, inr, length, refl, suc, sym, true, zero, ℕ, ◌++◌, ◌/◌}
+use Rattle.std.proofs.Common.{[]}
+use Rattle.std.proofs.Common.{◌<◌, ◌∙◌, ◌∷◌, ◌≡◌, ◌⊎◌}
+use Rattle.std.specs.Prelude.{None, Option, Some, if◌then◌else◌}
 use Rattle.std.proofs.lemmas.Bool.{cond-false, true≢false}
-use Rattle.mk_geom.specs.declared.pages.Place.{Place}
-use Rattle.mk_core.specs.Allocations.{PlacedAllocation, cell_of_allocation, placed_at}
-use Rattle.mk_core.specs.NewPlaces.{base_made, is_small_object}
-use Rattle.mk_core.specs.StandingAllocations.{BeginsAtCell, object_placed}
-use Rattle.mk_core.specs.declared.config.Config.{Config}
-use Rattle.mk_core.specs.declared.seats.Placing.{Placing}
-use Rattle.mk_core.specs.declared.seats.Placing.TheVariants.{Granted, Used}
-use Rattle.mk_core.specs.declared.seats.RunPages.{RunPages}
+use Rattle.mk_protocol.proofs.Vocabulary.{BeginsAtCell, Config, Granted, Place, PlacedAllocation, RunPages, Used}
+use Rattle.mk_protocol.proofs.Vocabulary.{base_made, cell_of_allocation, object_placed, placed_at}
 use Rattle.mk_core.proofs.StandingAllocations.{made_begins}
-use Rattle.mk_layout.specs.LayoutScene.{Among, Claim, IsLaidOn, IsShown, NoPlot}
+use Rattle.mk_layout.specs.LayoutScene.{IsLaidOn, IsShown, NoPlot}
 use Rattle.mk_protocol.specs.Ground.{Ground}
-use Rattle.mk_layout.specs.Terrain.{HasLayout, IsAtCell, RunStands, claim_of, claims_of, is_unmapping, mode_of}
-use Rattle.mk_layout.specs.Terrain.{place_claim, layout_scene_of}
+use Rattle.mk_layout.specs.Terrain.{HasLayout, RunStands, claim_of, claims_of, place_claim, layout_scene_of}
 use Rattle.mk_layout.proofs.Joined.{among_back, among_front}
 use Rattle.mk_layout.proofs.StandingClaims.{place_index}
 
@@ -44,15 +38,11 @@ still_at (x ∷ xs) a zero u = refl
 still_at (x ∷ xs) a (suc i) u = still_at xs a i u
 
 pub pushed_claims : (c : Config) (run : Option RunPages) (xs : List PlacedAllocation) (a : PlacedAllocation)
-    → a.released ≡ false
-    → claims_of c run (xs ++ a ∷ []) ≡ claims_of c run xs ++ claim_of c run a ∷ []
+    → a.released ≡ false → claims_of c run (xs ++ a ∷ []) ≡ claims_of c run xs ++ claim_of c run a ∷ []
 pushed_claims c run [] a u = cond-false a.released [] (claim_of c run a ∷ []) u
-pushed_claims c run (x ∷ xs) a u =
-    ap (λ (ys : List Claim). if x.released then ys else claim_of c run x ∷ ys) (pushed_claims c run xs a u)
-    ∙ by x.released
+pushed_claims c run (x ∷ xs) a u = rw (pushed_claims c run xs a u) (by x.released)
   where
-    by : (b : Bool)
-        → (if b then claims_of c run xs ++ claim_of c run a ∷ []
+    by : (b : Bool) → (if b then claims_of c run xs ++ claim_of c run a ∷ []
         else claim_of c run x ∷ (claims_of c run xs ++ claim_of c run a ∷ []))
         ≡ (if b then claims_of c run xs else claim_of c run x ∷ claims_of c run xs) ++ claim_of c run a ∷ []
     by true = refl
@@ -67,29 +57,22 @@ pub record IsGrantedAt (c : Config) (a : PlacedAllocation) (place : Place) : Typ
 
 pub granted_terrain : (c : Config) (releasing : Bool) (marks : List ℕ) (t : Ground) (place : Place)
     (a : PlacedAllocation) → t.placing ≡ Used place → IsGrantedAt c a place
-    → HasLayout c (object_placed c a) releasing marks t
-    → HasLayout c (object_placed c a) releasing marks
+    → HasLayout c (object_placed c a) releasing marks t → HasLayout c (object_placed c a) releasing marks
     (record t { placing = Granted; allocations = t.allocations ++ a ∷ [] })
 granted_terrain c releasing marks t place a used is st =
     record {
-      scene = subst (λ (cs : List Claim). IsLaidOn
-          (record (layout_scene_of c (object_placed c a) releasing marks t) { claims = cs; plot = NoPlot })) claims was;
+      scene = rw claims at was;
       gone = gone t.run st.gone;
       first = tt;
       cells = λ i u. elim (pushed_at t.allocations a i u) [
-        | inl old ↦ subst (λ (x : PlacedAllocation). IsAtCell c x) (sym old.1) (st.cells i old.0)
-        | inr new ↦ subst (λ (x : PlacedAllocation). IsAtCell c x) (sym new)
-            (record { typed = is.typed; begins = begins })
+        | inl old ↦ rw old.1 (st.cells i old.0)
+        | inr new ↦ rw new (record { typed = is.typed; begins = begins })
       ];
     }
   where
     was : IsLaidOn (record (layout_scene_of c (object_placed c a) releasing marks t)
         { claims = claims_of c t.run t.allocations ++ place_claim (object_placed c a) place ∷ []; plot = NoPlot })
-    was = subst (λ (p : Placing). IsLaidOn (layout_scene_of c (object_placed c a) releasing marks (record t {
-      placing =
-          p;
-    })))
-        used st.scene
+    was = rw used at st.scene
 
     shown : IsShown t.pages (place_claim (object_placed c a) place)
     shown =
@@ -101,39 +84,19 @@ granted_terrain c releasing marks t place a used is st =
     begins : BeginsAtCell (object_placed c a) a.base
     begins =
         let made = made_begins (object_placed c a) place shown.sized shown.known in
-        subst (λ n. BeginsAtCell (object_placed c a) n) (sym is.base) made.0
+        rw is.base made.0
 
     at : (a.base / 64 ≡ place.page) × ((cell_of_allocation c a).index ≡ place.index)
     at = place_index c a place shown.sized is.base shown.known
 
     claim : claim_of c t.run a ≡ place_claim (object_placed c a) place
-    claim =
-        ap (λ p. record {
-          page = p;
-          index = (cell_of_allocation c a).index;
-          object = object_placed c a;
-          mode = mode_of (a.freed && not (is_small_object (object_placed c a))) (is_unmapping t.run (a.base / 64));
-        })
-        at.0
-        ∙ ap (λ i. record {
-          page = place.page;
-          index = i;
-          object = object_placed c a;
-          mode = mode_of (a.freed && not (is_small_object (object_placed c a))) (is_unmapping t.run (a.base / 64));
-        }) at.1
-        ∙ ap (λ b. record {
-          page = place.page;
-          index = place.index;
-          object = object_placed c a;
-          mode = mode_of (b && not (is_small_object (object_placed c a))) (is_unmapping t.run (a.base / 64));
-        }) is.freed
+    claim = rw at.0 (rw at.1 (rw is.freed))
 
     claims : claims_of c t.run t.allocations ++ place_claim (object_placed c a) place ∷ []
         ≡ claims_of c t.run (t.allocations ++ a ∷ []) ++ []
     claims =
-        ap (λ (x : Claim). claims_of c t.run t.allocations ++ x ∷ []) (sym claim)
-        ∙ sym (pushed_claims c t.run t.allocations a is.unreleased)
-        ∙ sym (append-nil (claims_of c t.run (t.allocations ++ a ∷ [])))
+        rw (← claim) (sym (pushed_claims c t.run t.allocations a is.unreleased)
+        ∙ sym (append-nil (claims_of c t.run (t.allocations ++ a ∷ []))))
 
     gone : (r : Option RunPages) → RunStands (claims_of c t.run t.allocations) r
         → RunStands (claims_of c t.run (t.allocations ++ a ∷ [])) r
@@ -142,7 +105,7 @@ granted_terrain c releasing marks t place a used is st =
         record {
           claim = x.claim;
           among =
-              subst (λ (cs : List Claim). Among x.claim cs) (sym (pushed_claims c t.run t.allocations a is.unreleased))
+              rw (pushed_claims c t.run t.allocations a is.unreleased)
               (among_front (claims_of c t.run t.allocations) (claim_of c t.run a ∷ []) x.claim x.among);
           page = x.page;
           count = x.count;

@@ -1,37 +1,27 @@
 -- Where nothing is on its way, the headers and used words are those of the unreleased storage.
-use Rattle.std.proofs.Common.{Bool, Contains, List, [], ap, arith, false, get_or, inl, inr, length, pow-suc, refl}
-use Rattle.std.proofs.Common.{subst, suc, sym, true, zero, ℕ, ◌%◌, ◌*◌, ◌+◌, ◌-◌, ◌/◌, ◌<◌, ◌^◌, ◌∙◌, ◌∷◌, ◌≡◌, ◌≤◌}
-use Rattle.std.proofs.Common.{◌⊎◌}
+use Rattle.std.proofs.Common.{Bool, Contains, List, ap, arith, false, get_or, inl, inr, length, pow-suc, refl, subst}
+use Rattle.std.proofs.Common.{[]}
+use Rattle.std.proofs.Common.{suc, sym, true, zero, ℕ, ◌%◌, ◌*◌, ◌+◌, ◌-◌, ◌/◌, ◌<◌, ◌^◌, ◌∙◌, ◌∷◌, ◌≡◌, ◌≤◌, ◌⊎◌}
 use Rattle.std.specs.Prelude.{None, not, slice_index_or, ◌&&◌}
 use Rattle.std.proofs.lemmas.Bool.{cases_Bool, cases_eq, cases_lt, false_from_ne_true, true≢false}
 use Rattle.std.proofs.lemmas.List.{get_or_default}
 use Rattle.std.proofs.lemmas.List.Elements.{Contains-get_or}
 use Rattle.std.proofs.lemmas.Nat.Bits.{bit_at_above, bit_at_lowest, same_from_bits}
 use Rattle.std.specs.Int.{bit_at}
-use Rattle.mk_never.specs.Types.{is_large, kinds_of}
-use Rattle.mk_geom.specs.Classes.{cells_of, class_words_of}
-use Rattle.mk_geom.specs.Headers.{word_of}
-use Rattle.mk_geom.specs.Storages.{AreLaidOut, IsStorage, PagesStandFor, Storage, block_header, block_page}
-use Rattle.mk_geom.specs.Storages.{class_of_storage, first_page, free_page, is_cell_taken, run_header, run_page}
-use Rattle.mk_geom.specs.Storages.{run_used, stands_on, taken_cells, used_word, words_of_storages}
-use Rattle.mk_geom.specs.declared.headers.Header.{Header}
+use Rattle.mk_protocol.proofs.Vocabulary.{Config, Header, Object, PlacedAllocation, ShowsPart, Storage, Words}
+use Rattle.mk_protocol.proofs.Vocabulary.{block_header, cell_of_allocation, cells_of, cells_under, class_made}
+use Rattle.mk_protocol.proofs.Vocabulary.{class_words_of, free_page, has_bit, header_at, header_made, is_mapped}
+use Rattle.mk_protocol.proofs.Vocabulary.{is_small_object, kinds_of, object_placed, pages_made, placed_at, run_header}
+use Rattle.mk_protocol.proofs.Vocabulary.{stands, stands_on, storage_of, storage_words, taken, unreleased_storage}
+use Rattle.mk_protocol.proofs.Vocabulary.{used_at, word_of}
+use Rattle.mk_geom.specs.Storages.{AreLaidOut, PagesStandFor, block_page, class_of_storage, first_page, is_cell_taken}
+use Rattle.mk_geom.specs.Storages.{run_page, run_used, taken_cells, used_word, words_of_storages}
 use Rattle.mk_geom.proofs.ClassTable.{cell_ends, class_words_within}
 use Rattle.mk_geom.proofs.Standing.{class_of_words, stands_from}
 use Rattle.mk_geom.proofs.StoredWords.{words_at, words_by_large, words_by_small, words_free}
 use Rattle.mk_geom.proofs.TakenCells.{cell_taken_by, cell_taken_from, get_or-taken_cells, length-taken_cells}
 use Rattle.mk_geom.proofs.TakenCells.{same_from_both, same_index}
 use Rattle.mk_geom.proofs.UsedWords.{bit_at-used_word}
-use Rattle.mk_core.specs.Allocations.{PlacedAllocation, cell_of_allocation, is_mapped, placed_at, storage_of}
-use Rattle.mk_core.specs.Allocations.{storage_words, unreleased_storage}
-use Rattle.mk_core.specs.Bits.{has_bit}
-use Rattle.mk_core.specs.Cells.{cells_under}
-use Rattle.mk_core.specs.Effects.{taken}
-use Rattle.mk_core.specs.NewPlaces.{class_made, header_made, is_small_object, pages_made, stands}
-use Rattle.mk_core.specs.ObjectHeaders.{ShowsPart}
-use Rattle.mk_core.specs.StandingAllocations.{object_placed}
-use Rattle.mk_core.specs.Words.{Words, header_at, used_at}
-use Rattle.mk_core.specs.declared.config.Config.{Config}
-use Rattle.mk_core.specs.declared.seats.Object.{Object}
 use Rattle.mk_core.proofs.ObjectHeaders.{large_header, later_cells, small_header}
 use Rattle.mk_core.proofs.Sizes.{class_known, large_cells, large_is_not_small, large_words, pages_some, small_cells}
 use Rattle.mk_core.proofs.Sizes.{small_pages, small_words, words_within}
@@ -56,9 +46,7 @@ laid_out c w xs r =
       each = λ i d within.
           let h = storage_is_of c xs (get_or (unreleased_storage c xs) i d)
           (Contains-get_or (unreleased_storage c xs) i d within) in
-          subst (λ (s : Storage). IsStorage (length w.pages) s) (sym h.storage)
-          (subst (λ n. IsStorage n (storage_of c (placed_at xs h.number))) (sym r.lengths)
-          (standing_has_storage c (placed_at xs h.number) r.limits
+          rw h.storage (rw r.lengths (standing_has_storage c (placed_at xs h.number) r.limits
           (standing_of c w xs h.number r h.unreleased).stands));
       apart = lie_in_pairs c xs r.laid.apart (λ i j u v other. lie_apart c w xs i j r u v other);
     }
@@ -70,8 +58,7 @@ one_bit n low only = same_from_bits n 1 (λ k. elim (cases_eq k 0) [
   | inl z ↦ ap (λ i. bit_at n i) z ∙ bit_is_one n 0 low ∙ sym (bit_at_lowest 1) ∙ ap (λ i. bit_at 1 i) (sym z)
   | inr ne ↦ elim (cases_Bool (has_bit n k)) [
     | inl is ↦ absurd (ne (only k is))
-    | inr out ↦ bit_is_none n k out
-        ∙ sym (bit_at_above 1 1 k (omega arith) (omega arith))
+    | inr out ↦ bit_is_none n k out ∙ sym (bit_at_above 1 1 k (omega arith) (omega arith))
   ]
 ])
 
@@ -89,9 +76,7 @@ run_word o false d h large has = has ∙ large_header o d large
 
 mapped_is : (c : Config) (a : PlacedAllocation) → a.released ≡ false → is_small_object (object_placed c a) ≡ false
     → is_mapped c a ≡ not (a.freed && true)
-mapped_is c a u large =
-    ap (λ b. not b && not (a.freed && is_large (kinds_of c.types a.ty))) u
-    ∙ ap (λ b. not (a.freed && b)) (large_is_not_small (kinds_of c.types a.ty) ∙ ap not large)
+mapped_is c a u large = rw u (rw (large_is_not_small (kinds_of c.types a.ty) ∙ ap not large))
 
 run_words : (c : Config) (w : Words) (xs : List PlacedAllocation) (i d p : ℕ) → Rests c w xs
     → (placed_at xs i).released ≡ false
@@ -107,13 +92,10 @@ run_words c w xs i d p r u large ld at =
     let count : s.words / 64 ≡ pages_made o = omega arith in
     let distance : p - first_page s ≡ d = omega arith in
     let stands : stands_on p s ≡ true = stands_from p s (omega arith) (omega arith) in
-    page_is
-    ∙ ap (λ n. run_page n (not (a.freed && true)) o.leaf d) (sym count)
-    ∙ ap (λ b. run_page (s.words / 64) b o.leaf d) (sym (mapped_is c a u large))
-    ∙ ap (λ n. run_page (s.words / 64) s.mapped s.leaf n) (sym distance)
-    ∙ sym (words_by_large p (unreleased_storage c xs) s (small_is c a (shown_of c w xs i r u).sized ∙ large))
+    page_is ∙ rw (← count) (rw (← (mapped_is c a u large)) (rw (← distance)
+    (sym (words_by_large p (unreleased_storage c xs) s (small_is c a (shown_of c w xs i r u).sized ∙ large))
     ∙ sym (words_at (length w.pages) p (unreleased_storage c xs) s (laid_out c w xs r) (has_its_storage c xs i u)
-    stands)
+    stands))))
   where
     shown : IsShown w.pages (claim_of c None (placed_at xs i))
     shown = shown_of c w xs i r u
@@ -122,9 +104,7 @@ run_words c w xs i d p r u large ld at =
         ≡ word_of (run_header (pages_made (object_placed c (placed_at xs i))) (not ((placed_at xs i).freed && true))
         (object_placed c (placed_at xs i)).leaf d)
     header =
-        run_word (object_placed c (placed_at xs i)) (placed_at xs i).freed d (header_at w p) large
-        (subst (λ b. HasHeader (mode_of ((placed_at xs i).freed && not b) false) (object_placed c (placed_at xs i)) d
-        (header_at w p)) large
+        run_word (object_placed c (placed_at xs i)) (placed_at xs i).freed d (header_at w p) large (rw large at
         (subst (λ q. HasHeader (claim_of c None (placed_at xs i)).mode (object_placed c (placed_at xs i)) d
         (header_at w q)) at (shown.headers d ld)))
 
@@ -132,14 +112,12 @@ run_words c w xs i d p r u large ld at =
     used_by zero z =
         let first : (placed_at xs i).base / 64 ≡ p = omega arith in
         let cells : cells_under (shows_on w.pages p) ≡ 1 =
-        ap (λ q. cells_under (shows_on w.pages q)) (sym first)
-        ∙ cells_at_claim (quiet_scene c w xs) (claim_of c None (placed_at xs i)) shown
-        ∙ large_cells (object_placed c (placed_at xs i)) large in
+        rw (← first) (cells_at_claim (quiet_scene c w xs) (claim_of c None (placed_at xs i)) shown
+        ∙ large_cells (object_placed c (placed_at xs i)) large) in
         let low : (cell_of_allocation c (placed_at xs i)).index ≡ 0 =
         large_index c (placed_at xs i) shown.sized large in
-        one_bit (used_at w p)
-        (ap (λ q. has_bit (used_at w q) 0) (sym first)
-        ∙ ap (λ k. has_bit (used_at w ((placed_at xs i).base / 64)) k) (sym low) ∙ shown.used)
+        one_bit (used_at w p) (rw (← first)
+        (ap (λ k. has_bit (used_at w ((placed_at xs i).base / 64)) k) (sym low) ∙ shown.used))
         (λ k h. let t = (r.laid.used p k h).0 in omega arith)
     used_by (suc e) z =
         cellless_unused (quiet_scene c w xs) p r.laid
@@ -150,14 +128,7 @@ run_words c w xs i d p r u large ld at =
     page_is : slice_index_or w.pages p free_page
         ≡ run_page (pages_made (object_placed c (placed_at xs i))) (not ((placed_at xs i).freed && true))
         (object_placed c (placed_at xs i)).leaf d
-    page_is =
-        ap (λ h. record { header = h; used = used_at w p }) header
-        ∙ ap (λ v. record {
-          header = word_of
-              (run_header (pages_made (object_placed c (placed_at xs i))) (not ((placed_at xs i).freed && true))
-              (object_placed c (placed_at xs i)).leaf d);
-          used = v;
-        }) (used_by d refl)
+    page_is = ap (λ h. record { header = h; used = used_at w p }) header ∙ rw (used_by d refl)
 
 -- Pages of a block.
 
@@ -179,8 +150,7 @@ used_past bits k le = bit_at_above (used_word bits) (length bits) k (used_below 
 alike_at : (c : Config) (w : Words) (xs : List PlacedAllocation) (i j p : ℕ) → Rests c w xs
     → (placed_at xs i).released ≡ false → (placed_at xs j).released ≡ false
     → is_small_object (object_placed c (placed_at xs i)) ≡ true → (placed_at xs i).base / 64 ≡ p
-    → (placed_at xs j).base / 64 ≡ p
-    → (is_small_object (object_placed c (placed_at xs j)) ≡ true)
+    → (placed_at xs j).base / 64 ≡ p → (is_small_object (object_placed c (placed_at xs j)) ≡ true)
     × (class_made (object_placed c (placed_at xs j)) ≡ class_made (object_placed c (placed_at xs i)))
 alike_at c w xs i j p r u v small at page = elim (cases_Bool (is_small_object (object_placed c (placed_at xs j)))) [
   | inl s ↦ (s, (same_block c w xs j i r v u s small (page ∙ sym at)).0)
@@ -189,15 +159,13 @@ alike_at c w xs i j p r u v small at page = elim (cases_Bool (is_small_object (o
       let pb = pages_some (object_placed c (placed_at xs j)) (shown_of c w xs j r v).sized in
       let one =
       shares_run (quiet_scene c w xs) (claim_of c None (placed_at xs j)) (claim_of c None (placed_at xs i)) 0 0 r.laid
-      (claim_among c None xs j v) (claim_among c None xs i u) l
-      (omega arith) (omega arith) (omega arith) in
+      (claim_among c None xs j v) (claim_among c None xs i u) l (omega arith) (omega arith) (omega arith) in
       absurd (true≢false (sym small ∙ ap (λ (z : Claim). is_small_object z.object) one ∙ l))
 ]
 
 -- the header of a block's page
 block_shown : (c : Config) (w : Words) (xs : List PlacedAllocation) (i : ℕ) → Rests c w xs
-    → (placed_at xs i).released ≡ false
-    → is_small_object (object_placed c (placed_at xs i)) ≡ true
+    → (placed_at xs i).released ≡ false → is_small_object (object_placed c (placed_at xs i)) ≡ true
     → header_at w ((placed_at xs i).base / 64)
     ≡ word_of (block_header (class_made (object_placed c (placed_at xs i))) (object_placed c (placed_at xs i)).leaf)
 block_shown c w xs i r u s =
@@ -207,8 +175,7 @@ block_shown c w xs i r u s =
     let one = small_pages o s in
     let zero : a.base / 64 + 0 ≡ a.base / 64 = omega arith in
     let has : HasHeader (mode_of (a.freed && false) false) o 0 (header_at w (a.base / 64)) =
-    subst (λ b. HasHeader (mode_of (a.freed && not b) false) o 0 (header_at w (a.base / 64))) s
-    (subst (λ p. HasHeader (claim_of c None a).mode o 0 (header_at w p)) zero (shown.headers 0 (omega arith))) in
+    rw s at (rw zero at (shown.headers 0 (omega arith))) in
     made a.freed o (header_at w (a.base / 64)) has ∙ small_header o 0 s
   where
     made : (b : Bool) (o : Object) (h : ℕ) → HasHeader (mode_of (b && false) false) o 0 h → h ≡ header_made o 0
@@ -331,14 +298,12 @@ block_words c w xs i p r u small at =
 -- All pages.
 
 nothing_there : (c : Config) (w : Words) (xs : List PlacedAllocation) (p : ℕ) → Rests c w xs → header_at w p ≡ 0
-    → (s : Storage) → Contains (unreleased_storage c xs) s
-    → stands_on p s ≡ true → ⊥
+    → (s : Storage) → Contains (unreleased_storage c xs) s → stands_on p s ≡ true → ⊥
 nothing_there c w xs p r z s inside stands =
     let h = storage_is_of c xs s inside in
     let a : PlacedAllocation = placed_at xs h.number in
     let shown = shown_of c w xs h.number r h.unreleased in
-    let range = on_its_pages c a p shown.sized (r.cells h.number h.unreleased).begins
-    (subst (λ (x : Storage). stands_on p x ≡ true) h.storage stands) in
+    let range = on_its_pages c a p shown.sized (r.cells h.number h.unreleased).begins (rw h.storage at stands) in
     let low = range.0 in
     let high = range.1 in
     let at : a.base / 64 + (p - a.base / 64) ≡ p = omega arith in
@@ -349,7 +314,7 @@ on_page : (c : Config) (w : Words) (xs : List PlacedAllocation) (p : ℕ) → Re
 on_page c w xs p r on =
     let y = claim_is c None xs on.claim on.among in
     let o : Object = object_placed c (placed_at xs y.number) in
-    let near : on.distance < pages_made o = subst (λ (z : Claim). on.distance < pages_made z.object) y.is on.near in
+    let near : on.distance < pages_made o = rw y.is at on.near in
     let at : (placed_at xs y.number).base / 64 + on.distance ≡ p = ap (λ (z : Claim). z.page + on.distance) (sym y.is)
     ∙ on.at in
     elim (cases_Bool (is_small_object o)) [
@@ -364,10 +329,9 @@ pages_stand c w xs r =
       laid_out = laid_out c w xs r;
       words = λ p d lt. get_or_default w.pages p d free_page lt ∙ elim (cases_eq (header_at w p) 0) [
         | inl z ↦
-            ap (λ h. record { header = h; used = used_at w p }) z
-            ∙ ap (λ v. record { header = 0; used = v }) (free_unused (quiet_scene c w xs) p r.laid z)
-            ∙ sym (words_free p (unreleased_storage c xs)
-            (λ s inside. false_from_ne_true (stands_on p s) (λ stands. nothing_there c w xs p r z s inside stands)))
+            ap (λ h. record { header = h; used = used_at w p }) z ∙ rw (free_unused (quiet_scene c w xs) p r.laid z)
+            (sym (words_free p (unreleased_storage c xs)
+            (λ s inside. false_from_ne_true (stands_on p s) (λ stands. nothing_there c w xs p r z s inside stands))))
         | inr some ↦ on_page c w xs p r (on_claim (quiet_scene c w xs) p r.laid refl refl some)
       ];
     }

@@ -1,24 +1,11 @@
 -- All is in order after every list of enabled events.
-use Rattle.std.proofs.Common.{Bool, List, [], ap, arith, false, refl, subst, sym, true, ℕ, ◌∙◌, ◌∷◌, ◌≡◌}
-use Rattle.std.specs.Prelude.{Some, replicate, slice_index, slice_index_or, ◌||◌}
+use Rattle.std.proofs.Common.{Bool, List, ap, arith, false, refl, subst, sym, true, ℕ, ◌∙◌, ◌∷◌, ◌≡◌, []}
+use Rattle.std.specs.Prelude.{Some, replicate, slice_index, slice_index_or}
 use Rattle.std.proofs.lemmas.Bool.{true≢false}
-use Rattle.mk_geom.specs.Headers.{IsHeaderWord, header_of}
-use Rattle.mk_geom.specs.PageUses.{is_resident_page}
-use Rattle.mk_geom.specs.PageWords.{use_of_page}
-use Rattle.mk_geom.specs.Storages.{free_page}
-use Rattle.mk_geom.specs.declared.headers.Header.TheVariants.{Later}
-use Rattle.mk_geom.specs.declared.pages.Page.{Page}
-use Rattle.mk_core.specs.Accesses.{access, word_accessed}
-use Rattle.mk_core.specs.Cells.{heads_run}
-use Rattle.mk_core.specs.Config.{IsWithinLimits}
-use Rattle.mk_core.specs.Enabled.{IsEnabled}
-use Rattle.mk_core.specs.History.{AreEnabledFrom, World, first_world, left, left_from, world_behind}
-use Rattle.mk_core.specs.Layout.{AreOfPages}
-use Rattle.mk_core.specs.Moments.{is_phase}
-use Rattle.mk_core.specs.declared.config.Config.{Config}
-use Rattle.mk_core.specs.declared.events.Event.{Event}
-use Rattle.mk_core.specs.declared.events.Seat.{Seat}
-use Rattle.mk_core.specs.declared.events.Step.{Step}
+use Rattle.mk_protocol.proofs.Vocabulary.{AreEnabledFrom, AreOfPages, Config, Event, IsEnabled, IsHeaderWord}
+use Rattle.mk_protocol.proofs.Vocabulary.{IsWithinLimits, Later, Page, Seat, Step, World, access, first_world}
+use Rattle.mk_protocol.proofs.Vocabulary.{free_page, header_of, heads_run, is_phase, left, left_from, word_accessed}
+use Rattle.mk_protocol.proofs.Vocabulary.{world_behind}
 use Rattle.mk_core.proofs.Conditions.{enabled_meets}
 use Rattle.mk_core.proofs.EvaluatedHistories.{enabled}
 use Rattle.mk_core.proofs.Lengths.{accessed_lengths, histories_keep_lengths, zero_lengths}
@@ -52,9 +39,8 @@ laid_at_first c =
       scene = record {
         shown = λ x i. absurd i;
         apart = tt;
-        used = λ p k h. absurd
-            (none_set (slice_index_or (replicate c.pages free_page) p free_page).used k
-            (ap (λ (x : Page). x.used) (free p)) h);
+        used = λ p k h. absurd (none_set (slice_index_or (replicate c.pages free_page) p free_page).used k
+            (rw (free p)) h);
         plot = tt;
         occupied = λ p some empty. absurd (some (ap (λ (x : Page). x.header) (free p)));
         later = λ p d m is. let e : header_of 0 ≡ Some (Later d m) =
@@ -101,7 +87,7 @@ in_order_at_first c =
     }
   where
     free : (p : ℕ) → is_taken_page (replicate c.pages free_page) NoPlot p ≡ false
-    free p = ap (λ (x : Page). is_resident_page (use_of_page x) || false) (at_first c.pages p free_page)
+    free p = rw (at_first c.pages p free_page)
 
 pub known_before : (c : Config) (w : World) → IsWithinLimits c → AreOfPages c.pages w.now.words → Known c w.now
     → LayoutPremises c w → IsQuarantined c w → Before c w
@@ -111,24 +97,20 @@ known_before c w limits lengths known others q =
       lengths = lengths;
       known = known;
       others = others;
-      unreleased = λ four. none_released c (object_now c w.now) w.now.words.marks (ground_of w)
-          (subst (λ b. HasQuarantine c b w.now.words.marks (ground_of w)) four q);
+      unreleased = λ four. none_released c (object_now c w.now) w.now.words.marks (ground_of w) (rw four at q);
     }
 
 quarantine_behind : (c : Config) (w : World) (seat : Seat) (x : Step) → Before c w → Meets c w.now seat x
-    → IsLaidOut c w → IsQuarantined c w
-    → IsQuarantined c (WorldBehind c w seat x)
+    → IsLaidOut c w → IsQuarantined c w → IsQuarantined c (WorldBehind c w seat x)
 quarantine_behind c w seat x b h laid q =
     let v : World = WorldBehind c w seat x in
     let kind = quarantine_by_kind c w seat x b h laid q in
-    subst (λ r. HasQuarantine c r v.now.words.marks (ground_of v)) (sym (phase_kind c w seat x h))
-    (marks (is_releasing_behind x (is_phase w.now.words 4)) refl kind)
+    rw (phase_kind c w seat x h) (marks (is_releasing_behind x (is_phase w.now.words 4)) refl kind)
   where
     marks : (r : Bool) → is_releasing_behind x (is_phase w.now.words 4) ≡ r
         → HasQuarantine c r w.now.words.marks (ground_of (WorldBehind c w seat x))
         → HasQuarantine c r (WorldBehind c w seat x).now.words.marks (ground_of (WorldBehind c w seat x))
-    marks true is q = subst (λ (xs : List ℕ). HasQuarantine c true xs (ground_of (WorldBehind c w seat x)))
-        (sym (releasing_marks c w seat x b.known h is)) q
+    marks true is q = rw (releasing_marks c w seat x b.known h is) q
     marks false is q = unmarked c w.now.words.marks (WorldBehind c w seat x).now.words.marks
         (ground_of (WorldBehind c w seat x)) q
 
@@ -163,8 +145,7 @@ order_from c w [] limits lengths known on others both = both
 order_from c w (e ∷ es) limits lengths known on others both =
     order_from c (world_behind c w e) es limits
     (accessed_lengths c.pages w.now.words (word_accessed c w.now e) (access c w.now e) lengths)
-    (known_behind c w.now e known on.0) on.1 others.1
-    (order_behind c w e limits lengths known on.0 others.0 both)
+    (known_behind c w.now e known on.0) on.1 others.1 (order_behind c w e limits lengths known on.0 others.0 both)
 
 pub histories_are_laid_out : HistoriesAreLaidOut
 histories_are_laid_out c es limits on others =

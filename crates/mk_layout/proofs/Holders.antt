@@ -1,30 +1,18 @@
 -- Who serves: the holder of the turn, its object, and how far it is.
-use Rattle.std.proofs.Common.{ap, arith, false, refl, sym, true, ◌-◌, ◌∙◌, ◌≡◌, ◌≢◌}
-use Rattle.std.specs.Prelude.{None, Option, Some, is_some}
+use Rattle.std.proofs.Common.{arith, false, refl, sym, true, ◌-◌, ◌∙◌, ◌≡◌, ◌≢◌}
+use Rattle.std.specs.Prelude.{None, Option, Some}
 use Rattle.std.proofs.lemmas.Bool.{ltb-true}
-use Rattle.mk_never.specs.declared.operations.Op.{Op}
+use Rattle.mk_protocol.proofs.Vocabulary.{Caller, Config, IsSized, IsWithinLimits, Moment, Object, Op, RunPages, Seat}
+use Rattle.mk_protocol.proofs.Vocabulary.{Stage, Step, flight_of, group_of, has_operands, header_made, is_free_at}
+use Rattle.mk_protocol.proofs.Vocabulary.{is_undecided_free, is_undecided_new, object_made, seat_exists}
 use Rattle.mk_never.specs.declared.operations.Op.TheVariants as op
-use Rattle.mk_core.specs.Calls.{has_operands}
-use Rattle.mk_core.specs.Config.{IsWithinLimits}
-use Rattle.mk_core.specs.Moments.{Moment, flight_of}
-use Rattle.mk_core.specs.NewPlaces.{header_made, is_free_at, is_undecided_free, is_undecided_new, object_made}
-use Rattle.mk_core.specs.ObjectHeaders.{IsSized}
-use Rattle.mk_core.specs.Order.{group_of, seat_exists}
-use Rattle.mk_core.specs.declared.config.Config.{Config}
 use Rattle.mk_core.specs.declared.events.Group.TheVariants as group
-use Rattle.mk_core.specs.declared.events.Seat.{Seat}
-use Rattle.mk_core.specs.declared.events.Seat.TheVariants.{Caller, Host, Marker}
-use Rattle.mk_core.specs.declared.events.Step.{Step}
 use Rattle.mk_core.specs.declared.events.Step.TheVariants as step
-use Rattle.mk_core.specs.declared.seats.Flight.{Flight}
-use Rattle.mk_core.specs.declared.seats.Object.{Object}
-use Rattle.mk_core.specs.declared.seats.RunPages.{RunPages}
-use Rattle.mk_core.specs.declared.seats.Stage.{Stage}
 use Rattle.mk_core.specs.declared.seats.Stage.TheVariants as stage
 use Rattle.mk_core.proofs.GrantedAllocations.{new_sized}
 use Rattle.mk_core.proofs.ObjectHeaders.{made_shows, part_not_free}
 use Rattle.mk_core.proofs.Sizes.{pages_some}
-use Rattle.mk_protocol.specs.Protocol.{has_place, is_decided_free, is_decided_free_at}
+use Rattle.mk_protocol.specs.Protocol.{has_place, is_decided_free_at}
 use Rattle.mk_protocol.proofs.Actors.{Actor, AsHolder, AsMarker, CallTakes, HostTakes, InCallOf, Meets}
 use Rattle.mk_protocol.proofs.Known.{Known}
 use Rattle.mk_protocol.proofs.NextSteps.{is_take}
@@ -44,15 +32,13 @@ pub new_has_turn : (c : Config) (m : Moment) (seat : Seat) → seat_exists c sea
     → is_undecided_new (flight_of m seat) ≡ true → HoldsTurn c (view_of m) seat
 new_has_turn c m (Caller k) there u =
     (ltb-true k c.callers there, new_stands (flight_of m (Caller k)).stage (flight_of m (Caller k)).op u)
-new_has_turn c m (Marker k) there u = cc
-new_has_turn c m Host there u = cc
+new_has_turn c m _ there u = cc
 
 pub free_has_turn : (c : Config) (m : Moment) (seat : Seat) → seat_exists c seat ≡ true
     → is_undecided_free (flight_of m seat) ≡ true → HoldsTurn c (view_of m) seat
 free_has_turn c m (Caller k) there u =
     (ltb-true k c.callers there, free_stands (flight_of m (Caller k)).stage (flight_of m (Caller k)).op u)
-free_has_turn c m (Marker k) there u = cc
-free_has_turn c m Host there u = cc
+free_has_turn c m _ there u = cc
 
 -- So does a seat whose step is of the turn's kinds, but for `take`.
 holder_of : (c : Config) (m : Moment) (seat : Seat) (x : Step) → Actor c m seat x → is_take x ≡ false
@@ -74,7 +60,7 @@ holding_flight c m seat known t = holders_flight c (view_of m) seat known.orderl
 
 pub holding_object : (c : Config) (m : Moment) (seat : Seat) → Known c m → HoldsTurn c (view_of m) seat
     → object_now c m ≡ object_made c (flight_of m seat).op
-holding_object c m seat known t = ap (λ (f : Flight). object_made c f.op) (holding_flight c m seat known t)
+holding_object c m seat known t = rw (holding_flight c m seat known t)
 
 -- While it has a run on its way, it has decided a Free, and while it has a place, it hasn't decided its New.
 decided_later : (o : Op) (s : Stage) → s ≡ stage.Turn → is_decided_free_at s o ≡ true → ⊥
@@ -82,12 +68,10 @@ decided_later o stage.Turn at h = cc
 decided_later o _ at h = cc
 
 pub no_run : (c : Config) (m : Moment) (seat : Seat) → Known c m → HoldsTurn c (view_of m) seat
-    → (flight_of m seat).stage ≡ stage.Turn
-    → (run : RunPages) → m.seats.holding.freed ≡ Some run → ⊥
+    → (flight_of m seat).stage ≡ stage.Turn → (run : RunPages) → m.seats.holding.freed ≡ Some run → ⊥
 no_run c m seat known t at run is =
-    let decided = known.orderly.served.freed (ap (λ (x : Option RunPages). is_some x) is) in
-    decided_later (flight_of m seat).op (flight_of m seat).stage at
-    (ap (λ (f : Flight). is_decided_free f) (sym (holding_flight c m seat known t)) ∙ decided)
+    let decided = known.orderly.served.freed (rw is) in
+    decided_later (flight_of m seat).op (flight_of m seat).stage at (rw (← (holding_flight c m seat known t)) decided)
 
 pub none_on_its_way : (c : Config) (m : Moment) (seat : Seat) → Known c m → HoldsTurn c (view_of m) seat
     → (flight_of m seat).stage ≡ stage.Turn → m.seats.holding.freed ≡ None
@@ -98,16 +82,13 @@ none_on_its_way c m seat known t at = by m.seats.holding.freed (no_run c m seat 
     by (Some run) out = absurd (out run refl)
 
 pub placed_undecided : (c : Config) (m : Moment) (seat : Seat) → Known c m → HoldsTurn c (view_of m) seat
-    → has_place m.seats.holding.placing ≡ true
-    → is_undecided_new (flight_of m seat) ≡ true
-placed_undecided c m seat known t has = ap (λ (f : Flight). is_undecided_new f) (sym (holding_flight c m seat known t))
-    ∙ known.orderly.served.placed has
+    → has_place m.seats.holding.placing ≡ true → is_undecided_new (flight_of m seat) ≡ true
+placed_undecided c m seat known t has = rw (← (holding_flight c m seat known t)) (known.orderly.served.placed has)
 
 -- The operands of a seat's call are in range, so a New makes an object of 1 to 4,096 words.
 pub seat_operands : (c : Config) (m : Moment) (seat : Seat) → Known c m → has_operands c (flight_of m seat).op ≡ true
 seat_operands c m (Caller k) known = known.operands k
-seat_operands c m (Marker k) known = refl
-seat_operands c m Host known = refl
+seat_operands c m _ known = refl
 
 pub made_sized : (c : Config) (m : Moment) (seat : Seat) → IsWithinLimits c → Known c m
     → is_undecided_new (flight_of m seat) ≡ true → IsSized (object_made c (flight_of m seat).op)

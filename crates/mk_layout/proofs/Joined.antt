@@ -1,5 +1,5 @@
 -- Lists of claims that are joined.
-use Rattle.std.proofs.Common.{List, [], ap, inl, inr, refl, sym, ◌++◌, ◌∙◌, ◌∷◌, ◌⊎◌}
+use Rattle.std.proofs.Common.{List, inl, inr, refl, ◌++◌, ◌∷◌, ◌⊎◌, []}
 use Rattle.mk_layout.specs.LayoutScene.{Among, AreApart, Claim, IsOfOneCell}
 
 pub among_front : (xs ys : List Claim) (x : Claim) → Among x xs → Among x (xs ++ ys)
@@ -29,9 +29,8 @@ pub apart_across : (xs ys : List Claim) (x y : Claim) → AreApart (xs ++ ys) �
 apart_across [] ys x y apart ix iy same = ix
 apart_across (z ∷ zs) ys x y apart (inl e) iy same =
     apart.0 y (among_back zs ys y iy) (
-      ap (λ (q : Claim). q.page) (sym e) ∙ same.0,
-      ap (λ (q : Claim). q.index) (sym e)
-          ∙ same.1,
+      rw (← e) same.0,
+      rw (← e) same.1,
     )
 apart_across (z ∷ zs) ys x y apart (inr i) iy same = apart_across zs ys x y apart.1 i iy same
 

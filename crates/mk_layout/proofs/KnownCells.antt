@@ -1,26 +1,12 @@
 -- Each freed bit is that of a cell of its page, after each event.
-use Rattle.std.proofs.Common.{List, ap, arith, false, inl, inr, length, refl, subst, sym, true, ℕ, ◌%◌, ◌-◌, ◌/◌, ◌<◌}
-use Rattle.std.proofs.Common.{◌^◌, ◌∙◌, ◌≡◌}
+use Rattle.std.proofs.Common.{List, ap, arith, false, inl, inr, length, refl, sym, true, ℕ, ◌%◌, ◌-◌, ◌/◌, ◌<◌, ◌^◌}
+use Rattle.std.proofs.Common.{◌∙◌, ◌≡◌}
 use Rattle.std.specs.Prelude.{Option, Some, not, slice_index, slice_set}
 use Rattle.std.proofs.lemmas.Bool.{and_parts, cases_Bool, cases_eq, ltb-true, true≢false}
-use Rattle.mk_geom.specs.Addresses.{head_page_under}
-use Rattle.mk_geom.specs.Headers.{header_of}
-use Rattle.mk_geom.specs.declared.addresses.Cell.{Cell}
-use Rattle.mk_geom.specs.declared.headers.Header.{Header}
-use Rattle.mk_geom.specs.declared.headers.Header.TheVariants.{Later}
-use Rattle.mk_geom.specs.declared.pages.Page.{Page}
-use Rattle.mk_core.specs.Allocations.{PlacedAllocation, cell_of_allocation, placed_at}
-use Rattle.mk_core.specs.Bits.{has_bit}
-use Rattle.mk_core.specs.Cells.{cells_under, header_in}
-use Rattle.mk_core.specs.History.{World}
-use Rattle.mk_core.specs.Moments.{flight_of, is_phase}
-use Rattle.mk_core.specs.ObjectHeaders.{cells_made}
-use Rattle.mk_core.specs.StandingAllocations.{object_placed}
-use Rattle.mk_core.specs.declared.config.Config.{Config}
-use Rattle.mk_core.specs.declared.events.Seat.{Seat}
-use Rattle.mk_core.specs.declared.events.Step.{Step}
+use Rattle.mk_protocol.proofs.Vocabulary.{Cell, Config, Flight, Header, Later, Page, PlacedAllocation, Seat, Step}
+use Rattle.mk_protocol.proofs.Vocabulary.{World, cell_of_allocation, cells_made, cells_under, flight_of, has_bit}
+use Rattle.mk_protocol.proofs.Vocabulary.{head_page_under, header_in, is_phase, object_placed, placed_at}
 use Rattle.mk_core.specs.declared.events.Step.TheVariants as step
-use Rattle.mk_core.specs.declared.seats.Flight.{Flight}
 use Rattle.mk_core.proofs.BitsWithout.{has_bit_without}
 use Rattle.mk_core.proofs.PageSteps.{Empties, HeadStep, ItCarves, ItDrops, ItEmpties, ItFrees, ItTakesSnapshot}
 use Rattle.mk_core.proofs.PageSteps.{ItUnmaps, QuarantineStep, head_step, quarantine_step}
@@ -28,7 +14,7 @@ use Rattle.mk_protocol.proofs.Actors.{Meets}
 use Rattle.mk_protocol.proofs.Ground.{tally_ground}
 use Rattle.mk_protocol.proofs.OthersMoves.{WorldBehind}
 use Rattle.mk_layout.specs.Quarantine.{FreedCellsAreKnown, IsQuarantined}
-use Rattle.mk_layout.specs.LayoutScene.{is_released_in, shows_on}
+use Rattle.mk_layout.specs.LayoutScene.{shows_on}
 use Rattle.mk_protocol.specs.Ground.{ground_of}
 use Rattle.mk_layout.specs.Terrain.{IsLaidOut, claim_of, object_now, layout_scene_of}
 use Rattle.mk_layout.proofs.Before.{Before, is_releasing_behind, page_within, reg_leaves_ground}
@@ -44,8 +30,7 @@ use Rattle.mk_layout.proofs.Unmapping.{cells_at_claim}
 known_quiet : (c : Config) (w : World) → is_phase w.now.words 4 ≡ false → IsLaidOut c w → IsQuarantined c w
     → FreedCellsAreKnown w
 known_quiet c w off laid q p k h = elim (q.owned p k h) [
-  | inr r ↦ absurd (true≢false (sym r
-      ∙ ap (λ four. is_released_in four w.now.words.snapshot w.now.words.marks p k) off))
+  | inr r ↦ absurd (true≢false (sym r ∙ rw off))
   | inl o ↦
       let a : PlacedAllocation = placed_at w.allocations o.number in
       let shown = shown_at c w o.number laid o.unreleased in
@@ -55,8 +40,7 @@ known_quiet c w off laid q p k h = elim (q.owned p k h) [
       let page : a.base / 64 ≡ p = ap (λ (x : Cell). x.page) o.cell in
       let index : (cell_of_allocation c a).index ≡ k = ap (λ (x : Cell). x.index) o.cell in
       let lt : (cell_of_allocation c a).index < cells_made (object_placed c a) = shown.known in
-      let here : cells_under (header_in w.now.words p) ≡ cells_made (object_placed c a) =
-      ap (λ i. cells_under (header_in w.now.words i)) (sym page) ∙ cells in
+      let here : cells_under (header_in w.now.words p) ≡ cells_made (object_placed c a) = rw (← page) cells in
       omega arith
 ]
 
@@ -65,9 +49,8 @@ emptied : (w : World) (p n : ℕ) → p < length w.now.words.pages → Empties w
     → (q k : ℕ) → has_bit (slice_index w.now.words.freed q) k ≡ true
     → k < cells_under (shows_on (with_header_on w.now.words.pages p n) q)
 emptied w p n lt x known q k h = elim (cases_eq q p) [
-  | inr ne ↦ subst (λ v. k < cells_under (header_of v)) (sym (headed_other w.now.words.pages p n q ne)) (known q k h)
-  | inl e ↦ absurd (none (header_in w.now.words p) refl (ap (λ i. has_bit (slice_index w.now.words.freed i) k) (sym e)
-      ∙ h) x.unfreed)
+  | inr ne ↦ rw (headed_other w.now.words.pages p n q ne) (known q k h)
+  | inl e ↦ absurd (none (header_in w.now.words p) refl (rw (← e) h) x.unfreed)
 ]
   where
     none : (y : Option Header) → header_in w.now.words p ≡ y → has_bit (slice_index w.now.words.freed p) k ≡ true
@@ -103,7 +86,7 @@ quar_kind c w f p n lf four (ItDrops on x) known = λ q k h. elim (bit_cases w.n
       let bit = ap (λ v. has_bit v k) (sym x.is) ∙ sym here.1 ∙ h in
       let was = (and_parts (has_bit (slice_index w.now.words.freed p) k) (not (has_bit rest k))
       (sym (has_bit_without (slice_index w.now.words.freed p) rest k) ∙ bit)).0 in
-      known q k (ap (λ i. has_bit (slice_index w.now.words.freed i) k) here.0 ∙ was)
+      known q k (rw here.0 was)
 ]
 
 -- what each kind does while the phase is releasing, and where it becomes so
@@ -114,26 +97,21 @@ known_by_kind c w seat (step.Head p n) b h on known =
     head_kind c w (flight_of w.now seat) p n (page_within c w p b h.range) on
     (head_step c w.now (flight_of w.now seat) p n h.holder) known
 known_by_kind c w seat (step.Used p n) b h on known =
-    λ q k bit. subst (λ v. k < cells_under (header_of v))
-    (sym (used_header w.now.words.pages p n q (page_within c w p b h.range))) (known q k bit)
+    λ q k bit. rw (used_header w.now.words.pages p n q (page_within c w p b h.range)) (known q k bit)
 known_by_kind c w seat (step.Quar p n) b h on known =
     quar_kind c w (flight_of w.now seat) p n
     (let lt = ltb-true p c.pages h.range in let len = b.lengths.freed in omega arith) on
     (quarantine_step c w.now (flight_of w.now seat) p n h.holder) known
 known_by_kind c w seat step.Reg b h on known =
-    let g =
-    reg_leaves_ground c w seat in
-    subst (λ (ps : List Page). KnownOn ps (WorldBehind c w seat step.Reg).now.words.freed) (sym g.pages)
-    (subst (λ (fs : List ℕ). KnownOn w.now.words.pages fs) (sym g.freed) known)
+    let g = reg_leaves_ground c w seat in
+    rw g.pages (rw g.freed known)
 known_by_kind c w seat (step.Tally n v) b h on known =
     let g = tally_ground w.now.words n v in
-    subst (λ (ps : List Page). KnownOn ps (WorldBehind c w seat (step.Tally n v)).now.words.freed) (sym g.pages)
-    (subst (λ (fs : List ℕ). KnownOn w.now.words.pages fs) (sym g.freed) known)
+    rw g.pages (rw g.freed known)
 known_by_kind c w seat _ b h on known = known
 
 pub cells_known_behind : (c : Config) (w : World) (seat : Seat) (x : Step) → Before c w → Meets c w.now seat x
-    → FreedCellsAreKnown w
-    → IsLaidOut c (WorldBehind c w seat x) → IsQuarantined c (WorldBehind c w seat x)
+    → FreedCellsAreKnown w → IsLaidOut c (WorldBehind c w seat x) → IsQuarantined c (WorldBehind c w seat x)
     → FreedCellsAreKnown (WorldBehind c w seat x)
 cells_known_behind c w seat x b h known laid q = elim (cases_Bool (is_releasing_behind x (is_phase w.now.words 4))) [
   | inl on ↦ known_by_kind c w seat x b h on known

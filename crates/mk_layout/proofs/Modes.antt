@@ -1,12 +1,8 @@
 -- Allocations whose claims change at most how far they are unmapped.
-use Rattle.std.proofs.Common.{Bool, List, ap, false, inl, inr, map, subst, sym, ℕ, ◌++◌, ◌+◌, ◌/◌, ◌<◌, ◌∙◌, ◌≡◌}
+use Rattle.std.proofs.Common.{Bool, List, ap, false, inl, inr, map, sym, ℕ, ◌++◌, ◌+◌, ◌/◌, ◌<◌, ◌∙◌, ◌≡◌}
 use Rattle.std.specs.Prelude.{Option}
-use Rattle.mk_core.specs.Allocations.{PlacedAllocation, cell_of_allocation, placed_at}
-use Rattle.mk_core.specs.NewPlaces.{pages_made, stands}
-use Rattle.mk_core.specs.StandingAllocations.{object_placed}
-use Rattle.mk_core.specs.declared.config.Config.{Config}
-use Rattle.mk_core.specs.declared.seats.Object.{Object}
-use Rattle.mk_core.specs.declared.seats.RunPages.{RunPages}
+use Rattle.mk_protocol.proofs.Vocabulary.{Config, Object, PlacedAllocation, RunPages, object_placed, pages_made}
+use Rattle.mk_protocol.proofs.Vocabulary.{placed_at, stands}
 use Rattle.mk_layout.specs.LayoutScene.{Among, Claim, HasHeader, Mode, header_on}
 use Rattle.mk_protocol.specs.Ground.{Ground}
 use Rattle.mk_layout.specs.Terrain.{HasLayout, RunStands, claim_of, claims_of, claims_placed, layout_scene_of}
@@ -30,21 +26,8 @@ pub record Remodes (c : Config) (t : Ground) (run : Option RunPages) (g : Placed
 
 -- But for its mode, a claim is the same.
 same_claim : (c : Config) (old new : Option RunPages) (a b : PlacedAllocation) (m : Mode) → b.base ≡ a.base
-    → b.ty ≡ a.ty
-    → record (claim_of c new b) { mode = m } ≡ record (claim_of c old a) { mode = m }
-same_claim c old new a b m base ty =
-    ap (λ n. record {
-      page = n / 64;
-      index = (cell_of_allocation c (record b { base = n })).index;
-      object = object_placed c b;
-      mode = m;
-    }) base
-    ∙ ap (λ n. record {
-      page = a.base / 64;
-      index = (cell_of_allocation c (record a { ty = n })).index;
-      object = object_placed c (record a { ty = n });
-      mode = m;
-    }) ty
+    → b.ty ≡ a.ty → record (claim_of c new b) { mode = m } ≡ record (claim_of c old a) { mode = m }
+same_claim c old new a b m base ty = rw base (rw ty)
 
 pub remoded : (c : Config) (o : Object) (releasing : Bool) (marks : List ℕ) (t : Ground) (run : Option RunPages)
     (g : PlacedAllocation → PlacedAllocation)
@@ -53,8 +36,7 @@ pub remoded : (c : Config) (o : Object) (releasing : Bool) (marks : List ℕ) (t
 remoded c o releasing marks t run g st r stands =
     record {
       scene = layout_changed (layout_scene_of c o releasing marks t)
-          (claims_of c run (map g t.allocations) ++ claims_placed o t.placing) st.scene
-          (record {
+          (claims_of c run (map g t.allocations) ++ claims_placed o t.placing) st.scene (record {
             from = λ y i. elim (among_parts (claims_of c run (map g t.allocations)) (claims_placed o t.placing) y i) [
               | inl j ↦ let b = was y j in (b.0, own_claim c o t (record y { mode = b.0 }) b.1)
               | inr j ↦ (y.mode, placed_claim c o t y j)
@@ -87,8 +69,7 @@ remoded c o releasing marks t run g st r stands =
       cells = cells_behind c g t.allocations r.leaves st.cells;
     }
   where
-    same : (i : ℕ) (m : Mode)
-        → record (claim_of c run (g (placed_at t.allocations i))) { mode = m }
+    same : (i : ℕ) (m : Mode) → record (claim_of c run (g (placed_at t.allocations i))) { mode = m }
         ≡ record (claim_of c t.run (placed_at t.allocations i)) { mode = m }
     same i m =
         let a : PlacedAllocation = placed_at t.allocations i in
@@ -100,8 +81,7 @@ remoded c o releasing marks t run g st r stands =
         let n = was_claim c run g t.allocations y r.leaves j in
         let m : Mode = (claim_of c t.run (placed_at t.allocations n.number)).mode in (
           m,
-          subst (λ (x : Claim). Among x (claims_of c t.run t.allocations))
-              (sym (ap (λ (z : Claim). record z { mode = m }) n.is ∙ same n.number m))
+          rw (ap (λ (z : Claim). record z { mode = m }) n.is ∙ same n.number m)
               (claim_among c t.run t.allocations n.number n.was),
         )
 
@@ -112,8 +92,7 @@ remoded c o releasing marks t run g st r stands =
         let a : PlacedAllocation = placed_at t.allocations n.number in
         let m : Mode = (claim_of c run (g a)).mode in (
           m,
-          subst (λ (z : Claim). Among z (claims_of c run (map g t.allocations)))
-              (sym (ap (λ (z : Claim). record z { mode = m }) n.is ∙ sym (same n.number m)))
+          rw (ap (λ (z : Claim). record z { mode = m }) n.is ∙ sym (same n.number m))
               (changed_among c run g t.allocations n.number r.leaves (r.keeps a n.unreleased)),
         )
 
@@ -125,7 +104,6 @@ remoded c o releasing marks t run g st r stands =
         let x : Claim = claim_of c t.run a in
         let m : Mode = (claim_of c run (g a)).mode in
         let is : y ≡ record x { mode = m } = n.is ∙ same n.number m in
-        let near : d < pages_made (object_placed c a) = subst (λ (z : Claim). d < pages_made z.object) is lt in
-        subst (λ (z : Claim). HasHeader z.mode z.object d (header_on t.pages (z.page + d))) (sym is)
-        (r.headers n.number n.was d near
+        let near : d < pages_made (object_placed c a) = rw is at lt in
+        rw is (r.headers n.number n.was d near
         ((st.scene.shown x (own_claim c o t x (claim_among c t.run t.allocations n.number n.was))).headers d near))

@@ -1,20 +1,13 @@
 -- Where nothing is on its way, each page with a header is one of a claim's.
-use Rattle.std.proofs.Common.{Bool, ap, arith, false, inl, inr, refl, subst, suc, sym, true, zero, ℕ, ◌+◌, ◌-◌, ◌<◌}
-use Rattle.std.proofs.Common.{◌∙◌, ◌≡◌, ◌≢◌, ◌⊎◌}
+use Rattle.std.proofs.Common.{Bool, arith, false, inl, inr, refl, suc, sym, true, zero, ℕ, ◌+◌, ◌-◌, ◌<◌, ◌∙◌, ◌≡◌, ◌≢◌}
+use Rattle.std.proofs.Common.{◌⊎◌}
 use Rattle.std.specs.Prelude.{Option, Some}
 use Rattle.std.proofs.lemmas.Bool.{cases_Bool, cases_eq, true≢false}
-use Rattle.mk_geom.specs.Addresses.{head_page_under}
-use Rattle.mk_geom.specs.declared.headers.Header.{Header}
-use Rattle.mk_geom.specs.declared.headers.Header.TheVariants.{Later}
-use Rattle.mk_core.specs.Accesses.{found}
-use Rattle.mk_core.specs.Bits.{has_bit}
-use Rattle.mk_core.specs.Cells.{cells_under}
-use Rattle.mk_core.specs.NewPlaces.{is_small_object, pages_made}
-use Rattle.mk_core.specs.ObjectHeaders.{ShowsPart}
+use Rattle.mk_protocol.proofs.Vocabulary.{Header, Later, ShowsPart, cells_under, found, has_bit, head_page_under}
+use Rattle.mk_protocol.proofs.Vocabulary.{is_small_object, pages_made}
 use Rattle.mk_core.proofs.Sizes.{pages_some}
-use Rattle.mk_layout.specs.LayoutScene.{Among, Claim, InPlot, IsClaimed, IsLaidOn, NoPlot, Plot, LayoutScene, head_on}
-use Rattle.mk_layout.specs.LayoutScene.{header_on}
-use Rattle.mk_layout.specs.LayoutScene.{is_released_in, is_released_on, run_count, shows_on, used_on}
+use Rattle.mk_layout.specs.LayoutScene.{Among, Claim, IsClaimed, IsLaidOn, NoPlot, LayoutScene, head_on, header_on}
+use Rattle.mk_layout.specs.LayoutScene.{is_released_on, run_count, shows_on, used_on}
 use Rattle.mk_layout.proofs.Readings.{claimed, zero_where_none}
 use Rattle.mk_layout.proofs.RunCounts.{part_count, small_count}
 
@@ -26,8 +19,7 @@ find_bit n (suc b) = elim (cases_Bool (has_bit n b)) [
   | inr out ↦ elim (find_bit n b) [
     | inl found ↦ inl found
     | inr none ↦ inr (λ k lt. elim (cases_eq k b) [
-      | inl e ↦ ap (λ i. has_bit n i) e
-          ∙ out
+      | inl e ↦ rw e out
       | inr ne ↦ none k (omega arith)
     ])
   ]
@@ -46,8 +38,7 @@ pub record IsOn (sc : LayoutScene) (p : ℕ) : Type 0 where
   pub at : claim.page + distance ≡ p
 
 pub on_claim : (sc : LayoutScene) (p : ℕ) → IsLaidOn sc → sc.plot ≡ NoPlot → sc.releasing ≡ false
-    → header_on sc.pages p ≢ 0
-    → IsOn sc p
+    → header_on sc.pages p ≢ 0 → IsOn sc p
 on_claim sc p laid none off some =
     elim (find_bit (used_on sc.pages (head_on sc.pages p)) (cells_under (shows_on sc.pages (head_on sc.pages p)))) [
       | inr no_bits ↦
@@ -56,7 +47,7 @@ on_claim sc p laid none off some =
           (λ k h. let t = laid.used (head_on sc.pages p) k h in true≢false (sym h ∙ no_bits k t.0)) in
           absurd (elim (laid.occupied p some empty) [
             | inl on ↦ true≢false (sym on ∙ off)
-            | inr here ↦ subst (λ (x : Plot). InPlot x p) none here
+            | inr here ↦ rw none at here
           ])
       | inl (k, bit) ↦ owned k ((laid.used (head_on sc.pages p) k bit).1)
     ]
@@ -68,11 +59,11 @@ on_claim sc p laid none off some =
         let l = laid.later p d m is in
         let low = l.0 in
         let shown = laid.shown x ix in
-        let back : x.page ≡ p - d = page ∙ ap (λ (h : Option Header). head_page_under h p) is in
+        let back : x.page ≡ p - d = page ∙ rw is in
         let zero : x.page + 0 ≡ p - d = omega arith in
         let some = pages_some x.object shown.sized in
         let part : ShowsPart x.object 0 (shows_on sc.pages (p - d)) =
-        subst (λ q. ShowsPart x.object 0 (shows_on sc.pages q)) zero (claimed sc.pages x 0 shown (omega arith)) in
+        rw zero at (claimed sc.pages x 0 shown (omega arith)) in
         let less : d < run_count (shows_on sc.pages (p - d)) =
         elim l.1 [ inl less ↦ less | inr lost ↦ absurd (true≢false (sym lost.0 ∙ off)) ] in
         elim (cases_Bool (is_small_object x.object)) [
@@ -85,7 +76,7 @@ on_claim sc p laid none off some =
     owned : (k : ℕ) → IsClaimed sc.claims (head_on sc.pages p) k ⊎ (is_released_on sc (head_on sc.pages p) k ≡ true)
         → IsOn sc p
     owned k (inr r) = absurd
-        (true≢false (sym r ∙ ap (λ b. is_released_in b sc.snapshot sc.marks (head_on sc.pages p) k) off))
+        (true≢false (sym r ∙ rw off))
     owned k (inl o) = elim (head_cases (shows_on sc.pages p) p) [
       | inl own ↦
           let page = o.page in

@@ -1,26 +1,11 @@
 -- What the steps that store a page's words make of the terrain: `head`, `used`, `quar`.
-use Rattle.std.proofs.Common.{Bool, List, arith, false, length, map, refl, subst, sym, true, ℕ, ◌%◌, ◌/◌, ◌<◌, ◌^◌, ◌≡◌}
+use Rattle.std.proofs.Common.{Bool, arith, false, length, map, refl, sym, true, ℕ, ◌%◌, ◌/◌, ◌<◌, ◌^◌, ◌≡◌}
 use Rattle.std.specs.Prelude.{None, Option, Some, if◌then◌else◌, slice_set}
 use Rattle.std.proofs.lemmas.Bool.{eqb-true, ne_eqb}
-use Rattle.mk_geom.specs.PageUses.{or_else}
-use Rattle.mk_geom.specs.declared.addresses.Cell.{Cell}
-use Rattle.mk_geom.specs.declared.pages.Place.{Place}
-use Rattle.mk_core.specs.Allocations.{PlacedAllocation, freed_where_it_stands}
-use Rattle.mk_core.specs.Effects.{chosen, run_of_cell, taken}
-use Rattle.mk_core.specs.History.{World}
-use Rattle.mk_core.specs.Moments.{flight_of, is_phase}
-use Rattle.mk_core.specs.NewPlaces.{object_made}
-use Rattle.mk_core.specs.Order.{seat_exists}
-use Rattle.mk_core.specs.TurnConditions.{cell_freed, place_now}
-use Rattle.mk_core.specs.Words.{phase_of}
-use Rattle.mk_core.specs.declared.config.Config.{Config}
-use Rattle.mk_core.specs.declared.events.Seat.{Seat}
+use Rattle.mk_protocol.proofs.Vocabulary.{Cell, Config, Flight, Place, Placing, Seat, Unplaced, Used, World, cell_freed}
+use Rattle.mk_protocol.proofs.Vocabulary.{chosen, flight_of, freed_where_it_stands, is_phase, object_made, or_else}
+use Rattle.mk_protocol.proofs.Vocabulary.{phase_of, place_now, run_of_cell, seat_exists, taken}
 use Rattle.mk_core.specs.declared.events.Step.TheVariants as step
-use Rattle.mk_core.specs.declared.seats.Flight.{Flight}
-use Rattle.mk_core.specs.declared.seats.Object.{Object}
-use Rattle.mk_core.specs.declared.seats.Placing.{Placing}
-use Rattle.mk_core.specs.declared.seats.Placing.TheVariants.{Unplaced, Used}
-use Rattle.mk_core.specs.declared.seats.RunPages.{RunPages}
 use Rattle.mk_core.proofs.ChangedAllocations.{none_freed}
 use Rattle.mk_core.proofs.PageSteps.{HeadStep, ItCarves, ItDrops, ItEmpties, ItFrees, ItGivesBack, ItTakes}
 use Rattle.mk_core.proofs.PageSteps.{ItTakesSnapshot, ItUnmaps, QuarantineStep, UsedStep, head_step, quarantine_step}
@@ -37,6 +22,7 @@ use Rattle.mk_layout.proofs.Holders.{first_header, free_has_turn, holding_object
 use Rattle.mk_layout.proofs.Holders.{none_on_its_way}
 use Rattle.mk_layout.proofs.PageSets.{with_header_on, with_used_on}
 use Rattle.mk_layout.proofs.Serving.{Laid, head_carves, head_empties, head_unmaps, used_gives_back, used_takes}
+use Rattle.mk_protocol.proofs.Ground.{with_quarantine}
 
 -- `head`
 pub none_chosen : (placing : Placing) → chosen placing None ≡ placing
@@ -45,36 +31,22 @@ none_chosen _ = refl
 
 abbrev HeadBehind : Config → World → ℕ → ℕ → Bool → Option Place → Type 0
 HeadBehind c w p n four place =
-    Laid c (object_now c w.now) four w
-    (record (ground_of w) {
+    Laid c (object_now c w.now) four w (record (ground_of w) {
       pages = with_header_on w.now.words.pages p n;
       placing = if four then w.now.seats.holding.placing else chosen w.now.seats.holding.placing place;
     })
 
 head_by : (c : Config) (w : World) (seat : Seat) (p n : ℕ) → Before c w → seat_exists c seat ≡ true
-    → p < length w.now.words.pages → IsLaidOut c w
-    → HeadStep c w.now (flight_of w.now seat) p n
+    → p < length w.now.words.pages → IsLaidOut c w → HeadStep c w.now (flight_of w.now seat) p n
     → HeadBehind c w p n (is_phase w.now.words 4) (place_now c w.now (flight_of w.now seat))
 head_by c w seat p n b there lt laid (ItCarves off x) =
     let placed = placed_now c w.now (flight_of w.now seat) x.place x.there in
     let turn = new_has_turn c w.now seat there placed.new in
     let own = holding_object c w.now seat b.known turn in
-    let was = subst (λ four. Laid c (object_now c w.now) four w (ground_of w)) off laid in
-    subst (λ four. HeadBehind c w p n four (place_now c w.now (flight_of w.now seat))) (sym off)
-    (subst (λ (place : Option Place). HeadBehind c w p n false place) (sym x.there)
-    (subst
-    (λ (o : Object). Laid c o false w
-    (record (ground_of w) {
-      pages = with_header_on w.now.words.pages p n;
-      placing = chosen w.now.seats.holding.placing (Some x.place);
-    }))
-    (sym own)
-    (head_carves c (object_made c (flight_of w.now seat).op) w x.place p n
-    (subst (λ (o : Object). Laid c o false w (ground_of w)) own was)
+    let was = rw off at laid in
+    rw off (rw x.there (rw own (head_carves c (object_made c (flight_of w.now seat).op) w x.place p n (rw own at was)
     (made_sized c w.now seat b.limits b.known placed.new) placed.placed x.next)))
-head_by c w seat p n b there lt laid (ItUnmaps off x) =
-    subst (λ four. HeadBehind c w p n four (place_now c w.now (flight_of w.now seat))) (sym off)
-    (by (place_now c w.now (flight_of w.now seat)) refl)
+head_by c w seat p n b there lt laid (ItUnmaps off x) = rw off (by (place_now c w.now (flight_of w.now seat)) refl)
   where
     by : (place : Option Place) → place_now c w.now (flight_of w.now seat) ≡ place → HeadBehind c w p n false place
     by (Some place) at =
@@ -82,19 +54,12 @@ head_by c w seat p n b there lt laid (ItUnmaps off x) =
         let turn = new_has_turn c w.now seat there placed.new in
         absurd (no_run c w.now seat b.known turn (undecided_new (flight_of w.now seat) placed.new).stage x.run x.there)
     by None at =
-        subst (λ (y : Placing). Laid c (object_now c w.now) false w
-        (record (ground_of w) { pages = with_header_on w.now.words.pages p n; placing = y }))
-        (sym (none_chosen w.now.seats.holding.placing))
-        (head_unmaps c (object_now c w.now) false w p n
-        (subst (λ four. Laid c (object_now c w.now) four w (ground_of w)) off laid) x)
+        rw (none_chosen w.now.seats.holding.placing) (head_unmaps c (object_now c w.now) false w p n (rw off at laid) x)
 head_by c w seat p n b there lt laid (ItEmpties on x) =
-    subst (λ four. HeadBehind c w p n four (place_now c w.now (flight_of w.now seat))) (sym on)
-    (head_empties c (object_now c w.now) w p n lt
-    (subst (λ four. Laid c (object_now c w.now) four w (ground_of w)) on laid) x)
+    rw on (head_empties c (object_now c w.now) w p n lt (rw on at laid) x)
 
 pub head_kind : (c : Config) (w : World) (seat : Seat) (p n : ℕ) → Before c w → Meets c w.now seat (step.Head p n)
-    → IsLaidOut c w
-    → LaidNow c w (ground_of (WorldBehind c w seat (step.Head p n)))
+    → IsLaidOut c w → LaidNow c w (ground_of (WorldBehind c w seat (step.Head p n)))
 head_kind c w seat p n b h laid =
     head_by c w seat p n b h.seat (page_within c w p b h.range) laid
     (head_step c w.now (flight_of w.now seat) p n h.holder)
@@ -102,51 +67,32 @@ head_kind c w seat p n b h laid =
 -- `used`
 abbrev UsedBehind : Config → World → ℕ → ℕ → Bool → Option Place → Type 0
 UsedBehind c w p n four place =
-    Laid c (object_now c w.now) four w
-    (record (ground_of w) {
+    Laid c (object_now c w.now) four w (record (ground_of w) {
       pages = with_used_on w.now.words.pages p n;
       placing = if four then w.now.seats.holding.placing else taken w.now.seats.holding.placing place;
     })
 
 used_by : (c : Config) (w : World) (seat : Seat) (p n : ℕ) → Before c w → seat_exists c seat ≡ true
-    → p < length w.now.words.pages → IsLaidOut c w
-    → UsedStep c w.now (flight_of w.now seat) p n
+    → p < length w.now.words.pages → IsLaidOut c w → UsedStep c w.now (flight_of w.now seat) p n
     → UsedBehind c w p n (is_phase w.now.words 4) (place_now c w.now (flight_of w.now seat))
 used_by c w seat p n b there lt laid (ItTakes off once x) =
     let placed = placed_now c w.now (flight_of w.now seat) x.place x.there in
     let turn = new_has_turn c w.now seat there placed.new in
     let own = holding_object c w.now seat b.known turn in
     let sized = made_sized c w.now seat b.limits b.known placed.new in
-    let was = subst (λ four. Laid c (object_now c w.now) four w (ground_of w)) off laid in
-    subst (λ four. UsedBehind c w p n four (place_now c w.now (flight_of w.now seat))) (sym off)
-    (subst (λ (place : Option Place). UsedBehind c w p n false place) (sym x.there)
-    (subst (λ (o : Object). Laid c o false w
-    (record (ground_of w) { pages = with_used_on w.now.words.pages p n; placing = Used x.place })) (sym own)
-    (used_takes c (object_made c (flight_of w.now seat).op) false w x.place p n
-    (subst (λ (o : Object). Laid c o false w (ground_of w)) own was) sized
-    (first_header (object_made c (flight_of w.now seat).op) sized) once placed.placed x.taken)))
+    let was = rw off at laid in
+    rw off (rw x.there (rw own (used_takes c (object_made c (flight_of w.now seat).op) false w x.place p n
+    (rw own at was) sized (first_header (object_made c (flight_of w.now seat).op) sized) once placed.placed x.taken)))
 used_by c w seat p n b there lt laid (ItGivesBack on x) =
-    subst (λ four. UsedBehind c w p n four (place_now c w.now (flight_of w.now seat))) (sym on)
-    (used_gives_back c (object_now c w.now) w p n lt
-    (subst (λ four. Laid c (object_now c w.now) four w (ground_of w)) on laid) x (b.unreleased on))
+    rw on (used_gives_back c (object_now c w.now) w p n lt (rw on at laid) x (b.unreleased on))
 
 pub used_kind : (c : Config) (w : World) (seat : Seat) (p n : ℕ) → Before c w → Meets c w.now seat (step.Used p n)
-    → IsLaidOut c w
-    → LaidNow c w (ground_of (WorldBehind c w seat (step.Used p n)))
+    → IsLaidOut c w → LaidNow c w (ground_of (WorldBehind c w seat (step.Used p n)))
 used_kind c w seat p n b h laid =
     used_by c w seat p n b h.seat (page_within c w p b h.range) laid
     (used_step c w.now (flight_of w.now seat) p n h.holder)
 
 -- `quar`
-abbrev pub Quarantined : World → ℕ → ℕ → Option Cell → Ground
-Quarantined w p n cell =
-    record (ground_of w) {
-      freed = slice_set w.now.words.freed p (n % 2 ^ 32);
-      snapshot = slice_set w.now.words.snapshot p (n / 2 ^ 32);
-      run = or_else (run_of_cell w.now.words cell) w.now.seats.holding.freed;
-      allocations = map (freed_where_it_stands w.now.words cell) w.allocations;
-    }
-
 -- with another quarantine word of a page
 abbrev pub with_halves : World → ℕ → ℕ → Ground
 with_halves w p n =
@@ -164,50 +110,36 @@ left_by : (c : Config) (w : World) (f : Flight) (p n : ℕ) → IsLaidOut c w �
     → LaidNow c w (with_halves w p n)
 left_by c w f p n laid step = by step
   where
-    still : is_phase w.now.words 4 ≡ false
-        → LaidNow c w (with_halves w p n)
+    still : is_phase w.now.words 4 ≡ false → LaidNow c w (with_halves w p n)
     still off =
-        subst
-        (λ four. Laid c (object_now c w.now) four w (with_halves w p n))
-        (sym off)
-        (unreleasing c (object_now c w.now) w.now.words.marks w.now.words.marks (ground_of w)
-        (slice_set w.now.words.freed p (n % 2 ^ 32)) (slice_set w.now.words.snapshot p (n / 2 ^ 32))
-        (subst (λ four. Laid c (object_now c w.now) four w (ground_of w)) off laid))
+        rw off (unreleasing c (object_now c w.now) w.now.words.marks w.now.words.marks (ground_of w)
+        (slice_set w.now.words.freed p (n % 2 ^ 32)) (slice_set w.now.words.snapshot p (n / 2 ^ 32)) (rw off at laid))
 
-    by : QuarantineStep c w.now f p n
-        → LaidNow c w (with_halves w p n)
+    by : QuarantineStep c w.now f p n → LaidNow c w (with_halves w p n)
     by (ItFrees off x) = still off
     by (ItTakesSnapshot x) =
         let z = eqb-true (phase_of w.now.words) 0 x.phase in
         still (ne_eqb (phase_of w.now.words) 4 (λ e. absurd (omega arith)))
     by (ItDrops on x) =
-        subst
-        (λ four. Laid c (object_now c w.now) four w (with_halves w p n))
-        (sym on)
-        (refreed c (object_now c w.now) true w.now.words.marks
+        rw on (refreed c (object_now c w.now) true w.now.words.marks
         (record (ground_of w) { snapshot = slice_set w.now.words.snapshot p (n / 2 ^ 32) })
-        (slice_set w.now.words.freed p (n % 2 ^ 32))
-        (dropped c (object_now c w.now) w p (n % 2 ^ 32) (n / 2 ^ 32)
-        (subst (λ four. Laid c (object_now c w.now) four w (ground_of w)) on laid) x))
+        (slice_set w.now.words.freed p (n % 2 ^ 32)) (dropped c (object_now c w.now) w p (n % 2 ^ 32) (n / 2 ^ 32)
+        (rw on at laid) x))
 
 pub quar_kind : (c : Config) (w : World) (seat : Seat) (p n : ℕ) → Before c w → Meets c w.now seat (step.Quar p n)
-    → IsLaidOut c w
-    → LaidNow c w (ground_of (WorldBehind c w seat (step.Quar p n)))
+    → IsLaidOut c w → LaidNow c w (ground_of (WorldBehind c w seat (step.Quar p n)))
 quar_kind c w seat p n b h laid = by (cell_freed c.pages w.now.words (flight_of w.now seat) p n) refl
   where
     by : (cell : Option Cell) → cell_freed c.pages w.now.words (flight_of w.now seat) p n ≡ cell
-        → LaidNow c w (Quarantined w p n cell)
+        → LaidNow c w (with_quarantine w p n cell)
     by None is =
-        subst
-        (λ (xs : List PlacedAllocation). LaidNow c w (record (with_halves w p n) { allocations = xs }))
-        (sym (none_freed w.now.words w.allocations))
+        rw (none_freed w.now.words w.allocations)
         (left_by c w (flight_of w.now seat) p n laid (quarantine_step c w.now (flight_of w.now seat) p n h.holder))
     by (Some cell) is =
         let frees = freed_cell c.pages w.now.words (flight_of w.now seat) p n cell is in
         let turn = free_has_turn c w.now seat h.seat frees.free in
         let none = none_on_its_way c w.now seat b.known turn (undecided_free (flight_of w.now seat) frees.free).stage in
-        let was : Laid c (object_now c w.now) false w (ground_of w) =
-        subst (λ four. Laid c (object_now c w.now) four w (ground_of w)) frees.phase laid in
+        let was : Laid c (object_now c w.now) false w (ground_of w) = rw frees.phase at laid in
         let t : Ground = record (ground_of w) {
           run = run_of_cell w.now.words (Some cell);
           allocations = map (freed_where_it_stands w.now.words (Some cell)) w.allocations;
@@ -215,9 +147,6 @@ quar_kind c w seat p n b h laid = by (cell_freed c.pages w.now.words (flight_of 
         let now : Laid c (object_now c w.now) false w t =
         freed_terrain c (object_now c w.now) w cell b.limits b.lengths.pages none
         (b.others.target seat cell frees.at) was in
-        subst (λ four. Laid c (object_now c w.now) four w (Quarantined w p n (Some cell))) (sym frees.phase)
-        (subst (λ (r : Option RunPages). Laid c (object_now c w.now) false w
-        (record (Quarantined w p n (Some cell)) { run = r }))
-        (first_of_two (run_of_cell w.now.words (Some cell)) w.now.seats.holding.freed none)
+        rw frees.phase (rw (first_of_two (run_of_cell w.now.words (Some cell)) w.now.seats.holding.freed none) at
         (unreleasing c (object_now c w.now) w.now.words.marks w.now.words.marks t
         (slice_set w.now.words.freed p (n % 2 ^ 32)) (slice_set w.now.words.snapshot p (n / 2 ^ 32)) now))

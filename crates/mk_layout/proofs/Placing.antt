@@ -1,24 +1,16 @@
 -- The steps of a New: its place is chosen, its pages get their headers one by one, and its cell is taken.
-use Rattle.std.proofs.Common.{Bool, List, [], ap, arith, false, inl, inr, length, length-set, refl, subst, sym, true, ℕ}
+use Rattle.std.proofs.Common.{Bool, List, ap, arith, false, inl, inr, length, length-set, refl, subst, sym, true, ℕ, []}
 use Rattle.std.proofs.Common.{◌++◌, ◌+◌, ◌-◌, ◌<◌, ◌^◌, ◌∙◌, ◌∷◌, ◌≡◌, ◌≢◌, ◌≤◌, ◌⊎◌}
 use Rattle.std.specs.Prelude.{Some}
 use Rattle.std.proofs.lemmas.Bool.{cases_eq, true≢false}
-use Rattle.mk_geom.specs.Addresses.{head_page_under}
-use Rattle.mk_geom.specs.Headers.{header_of}
-use Rattle.mk_geom.specs.declared.headers.Header.TheVariants.{Later}
-use Rattle.mk_core.specs.Bits.{has_bit}
-use Rattle.mk_core.specs.Cells.{cells_under}
-use Rattle.mk_core.specs.NewPlaces.{header_made, pages_made, stands}
-use Rattle.mk_core.specs.ObjectHeaders.{IsSized, ShowsPart, cells_made}
-use Rattle.mk_core.specs.declared.seats.Object.{Object}
+use Rattle.mk_protocol.proofs.Vocabulary.{IsSized, Later, Object, ShowsPart, cells_made, cells_under, has_bit}
+use Rattle.mk_protocol.proofs.Vocabulary.{header_made, header_of, pages_made, stands}
 use Rattle.mk_core.proofs.ObjectHeaders.{made_shows, part_cells, shown_later}
 use Rattle.mk_core.proofs.Sizes.{pages_some}
 use Rattle.mk_core.proofs.WordBits.{added_here, added_other}
-use Rattle.mk_layout.specs.LayoutScene.{Among, AreApart, Claim, HasHeader, HasItsHead, InPlot, IsClaimed, IsLaidOn}
-use Rattle.mk_layout.specs.LayoutScene.{IsOfOneCell, IsPlotShown, IsShown, IsTakenCell, Mapped, NoPlot, Plot}
-use Rattle.mk_layout.specs.LayoutScene.{PlotStands}
-use Rattle.mk_layout.specs.LayoutScene.{Plotted, LayoutScene, head_on, header_on, is_released_on, run_count, shows_on}
-use Rattle.mk_layout.specs.LayoutScene.{used_on}
+use Rattle.mk_layout.specs.LayoutScene.{Among, AreApart, Claim, HasItsHead, InPlot, IsClaimed, IsLaidOn, IsOfOneCell}
+use Rattle.mk_layout.specs.LayoutScene.{IsPlotShown, IsShown, IsTakenCell, Mapped, NoPlot, Plotted, LayoutScene}
+use Rattle.mk_layout.specs.LayoutScene.{head_on, header_on, is_released_on, run_count, shows_on, used_on}
 use Rattle.mk_layout.proofs.PageSets.{headed_here, headed_other, headed_used, used_header, used_here, used_other}
 use Rattle.mk_layout.proofs.PageSets.{with_header_on, with_used_on}
 use Rattle.mk_layout.proofs.Readings.{claimed_head, claimed_some, free_unused, none_set, zero_where_none}
@@ -45,7 +37,7 @@ layout_chosen s first o laid none sized within free =
       };
       occupied = λ p some empty. elim (laid.occupied p some empty) [
         | inl on ↦ inl on
-        | inr here ↦ absurd (subst (λ (x : Plot). InPlot x p) none here)
+        | inr here ↦ absurd (rw none at here)
       ];
       later = laid.later;
     }
@@ -67,47 +59,40 @@ layout_carved s first o d laid plotted off next =
           (λ e le at. claimed_some s.pages x e (laid.shown x among) le (ap (λ q. header_on s.pages q) at ∙ was));
       apart = laid.apart;
       used = λ q k h. elim (cases_eq q p) [
-        | inl e ↦ absurd (none_set (used_on s.pages p) k (free_unused s p laid was)
-            (ap (λ i. has_bit (used_on s.pages i) k) (sym e) ∙ old q k h))
-        | inr ne ↦ let t = laid.used q k
-            (old q k h) in (
-              subst (λ c. k < c)
-                  (ap (λ h. cells_under (header_of h)) (sym (headed_other s.pages p n q ne))) t.0,
-              t.1,
-            )
+        | inl e ↦ absurd (none_set (used_on s.pages p) k (free_unused s p laid was) (rw (← e) (old q k h)))
+        | inr ne ↦ let t = laid.used q k (old q k h) in (
+          rw (ap (λ h. cells_under (header_of h)) (sym (headed_other s.pages p n q ne))) at t.0,
+          t.1,
+        )
       ];
       plot = record {
         sized = plot.sized;
         within = let len = length-set s.pages p (record { header = n; used = used_on s.pages p }) in let w =
             plot.within in omega arith;
         headers = λ e le. elim (cases_eq e d) [
-          | inl same ↦ inr (ap (λ i. header_on (with_header_on s.pages p n) (first + i)) same
-              ∙ headed_here s.pages p n lt ∙ ap (λ i. header_made o i) (sym same))
-          | inr other ↦ subst (λ h. (h ≡ 0) ⊎ (h ≡ header_made o e))
-              (sym (headed_other s.pages p n (first + e) (λ x. other (omega arith)))) (plot.headers e le)
+          | inl same ↦ inr (rw same (headed_here s.pages p n lt ∙ rw (← same)))
+          | inr other ↦ rw (headed_other s.pages p n (first + e) (λ x. other (omega arith))) (plot.headers e le)
         ];
         used = λ e le. headed_used s.pages p n (first + e) lt ∙ plot.used e le;
       };
       occupied = λ q some empty. elim (cases_eq q p) [
         | inl e ↦ let w = next.within in inr (omega arith, omega arith)
         | inr ne ↦ elim (laid.occupied q (λ z. some (headed_other s.pages p n q ne ∙ z))
-            (ap (λ i. used_on s.pages i) (sym (head_of_other s.pages p n q ne))
-            ∙ sym (headed_used s.pages p n (head_on (with_header_on s.pages p n) q) lt) ∙ empty)) [
+            (rw (← (head_of_other s.pages p n q ne))
+            (sym (headed_used s.pages p n (head_on (with_header_on s.pages p n) q) lt) ∙ empty))) [
               | inl on ↦ inl on
-              | inr here ↦ inr (subst (λ (x : Plot). InPlot x q) plotted here)
+              | inr here ↦ inr (rw plotted at here)
             ]
       ];
       later = λ q e m is. elim (cases_eq q p) [
         | inl same ↦ headed_later q e m same is
         | inr ne ↦
-            let l = laid.later q e m (ap (λ h. header_of h) (sym (headed_other s.pages p n q ne)) ∙ is) in (
+            let l = laid.later q e m (rw (← (headed_other s.pages p n q ne)) is) in (
               l.0,
               elim (cases_eq (q - e) p) [
-                | inl at ↦ absurd (not_headed e
-                    (subst (λ i. (e < run_count (shows_on s.pages i))
+                | inl at ↦ absurd (not_headed e (subst (λ i. (e < run_count (shows_on s.pages i))
                     ⊎ ((s.releasing ≡ true) × (header_on s.pages i ≡ 0))) at l.1))
-                | inr other ↦ subst (λ h. (e < run_count (header_of h)) ⊎ ((s.releasing ≡ true) × (h ≡ 0)))
-                    (sym (headed_other s.pages p n (q - e) other)) l.1
+                | inr other ↦ rw (headed_other s.pages p n (q - e) other) l.1
               ],
             )
       ];
@@ -120,7 +105,7 @@ layout_carved s first o d laid plotted off next =
     n = header_made o d
 
     plot : IsPlotShown s.pages first o
-    plot = subst (λ (x : Plot). PlotStands s.pages x) plotted laid.plot
+    plot = rw plotted at laid.plot
 
     lt : first + d < length s.pages
     lt = let w = plot.within in let l = next.within in omega arith
@@ -130,13 +115,12 @@ layout_carved s first o d laid plotted off next =
 
     old : (q k : ℕ) → has_bit (used_on (with_header_on s.pages (first + d) (header_made o d)) q) k ≡ true
         → has_bit (used_on s.pages q) k ≡ true
-    old q k h = ap (λ u. has_bit u k) (sym (headed_used s.pages (first + d) (header_made o d) q lt)) ∙ h
+    old q k h = rw (← (headed_used s.pages (first + d) (header_made o d) q lt)) h
 
     not_headed : (e : ℕ)
         → (e < run_count (shows_on s.pages (first + d))) ⊎ ((s.releasing ≡ true) × (header_on s.pages (first + d) ≡ 0))
         → ⊥
-    not_headed e (inl less) = let none : run_count (shows_on s.pages (first + d)) ≡ 0 =
-        ap (λ h. run_count (header_of h)) was in omega arith
+    not_headed e (inl less) = let none : run_count (shows_on s.pages (first + d)) ≡ 0 = rw was in omega arith
     not_headed e (inr on) = true≢false (sym on.0 ∙ off)
 
     part : ShowsPart o d (header_of (header_made o d))
@@ -148,19 +132,18 @@ layout_carved s first o d laid plotted off next =
     headed_later q e m same is =
         let at =
         shown_later o d e m (header_of (header_made o d)) part
-        (ap (λ h. header_of h) (sym (headed_here s.pages (first + d) (header_made o d) lt))
-        ∙ ap (λ i. shows_on (with_header_on s.pages (first + d) (header_made o d)) i) (sym same) ∙ is) in
+        (rw (← (headed_here s.pages (first + d) (header_made o d) lt))
+        (ap (λ i. shows_on (with_header_on s.pages (first + d) (header_made o d)) i) (sym same) ∙ is)) in
         let e_is : e ≡ d = at.0 in
         let some : 1 ≤ d = at.1 in
         let back : q - e ≡ first = omega arith in
         let zero : first + 0 ≡ first = omega arith in
         let w = next.within in
         let head : header_on (with_header_on s.pages (first + d) (header_made o d)) (q - e) ≡ header_made o 0 =
-        ap (λ i. header_on (with_header_on s.pages (first + d) (header_made o d)) i) back
-        ∙ headed_other s.pages (first + d) (header_made o d) first (λ x. omega arith)
-        ∙ ap (λ i. header_on s.pages i) (sym zero) ∙ next.before 0 (omega arith) in (
+        rw back (headed_other s.pages (first + d) (header_made o d) first (λ x. omega arith)
+        ∙ rw (← zero) (next.before 0 (omega arith))) in (
           omega arith,
-          inl (subst (λ h. e < run_count (header_of h)) (sym head)
+          inl (rw head
               (let count = part_count o (header_of (header_made o 0)) (made_shows o 0 plot.sized (omega arith)) at.2
               in omega arith)),
         )
@@ -200,7 +183,7 @@ apart_push [] x apart new = (λ y i. absurd i, tt)
 apart_push (z ∷ zs) x apart new = (
   λ y i same. elim (among_push zs x y i) [
     | inl j ↦ apart.0 y j same
-    | inr e ↦ new z (inl refl) (same.0 ∙ ap (λ (c : Claim). c.page) e, same.1 ∙ ap (λ (c : Claim). c.index) e)
+    | inr e ↦ new z (inl refl) (same.0 ∙ rw e, same.1 ∙ rw e)
   ],
   apart_push zs x apart.1 (λ y i. new y (inr i)),
 )
@@ -210,12 +193,12 @@ layout_taken s x n laid t =
     record {
       shown = λ y among. elim (among_push s.claims x y among) [
         | inl was ↦ grown y (laid.shown y was)
-        | inr e ↦ subst (λ (c : Claim). IsShown (with_used_on s.pages x.page n) c) (sym e) own
+        | inr e ↦ rw e own
       ];
       apart =
           apart_push s.claims x laid.apart
-          (λ y i same. true≢false (sym (laid.shown y i).used ∙ ap (λ p. has_bit (used_on s.pages p) y.index) same.0
-          ∙ ap (λ k. has_bit (used_on s.pages x.page) k) same.1 ∙ t.unset));
+          (λ y i same. true≢false (sym (laid.shown y i).used ∙ rw same.0
+          (rw same.1 t.unset)));
       used = used;
       plot = tt;
       occupied = λ q some empty. elim
@@ -224,10 +207,9 @@ layout_taken s x n laid t =
             | inr here ↦ absurd (full q (t.plot q here) empty)
           ];
       later = λ q d m is.
-          let l = laid.later q d m (ap (λ h. header_of h) (sym (used_header s.pages x.page n q lt)) ∙ is) in (
+          let l = laid.later q d m (rw (← (used_header s.pages x.page n q lt)) is) in (
             l.0,
-            subst (λ h. (d < run_count (header_of h)) ⊎ ((s.releasing ≡ true) × (h ≡ 0)))
-                (sym (used_header s.pages x.page n (q - d) lt)) l.1,
+            rw (used_header s.pages x.page n (q - d) lt) l.1,
           );
     }
   where
@@ -241,23 +223,23 @@ layout_taken s x n laid t =
     len = length-set s.pages x.page (record { header = header_on s.pages x.page; used = n })
 
     here_set : has_bit (used_on (with_used_on s.pages x.page n) x.page) x.index ≡ true
-    here_set = ap (λ u. has_bit u x.index) (used_here s.pages x.page n lt ∙ t.value)
-        ∙ added_here (used_on s.pages x.page) x.index t.unset
+    here_set = rw (used_here s.pages x.page n lt ∙ t.value)
+        (added_here (used_on s.pages x.page) x.index t.unset)
 
     same_bit : (q k : ℕ) → (q ≡ x.page → k ≢ x.index)
         → has_bit (used_on (with_used_on s.pages x.page n) q) k ≡ has_bit (used_on s.pages q) k
     same_bit q k other = elim (cases_eq q x.page) [
-      | inr ne ↦ ap (λ u. has_bit u k) (used_other s.pages x.page n q ne)
-      | inl e ↦ ap (λ i. has_bit (used_on (with_used_on s.pages x.page n) i) k) e
-          ∙ ap (λ u. has_bit u k) (used_here s.pages x.page n lt ∙ t.value)
-          ∙ added_other (used_on s.pages x.page) x.index k t.unset (other e)
-          ∙ ap (λ i. has_bit (used_on s.pages i) k) (sym e)
+      | inr ne ↦ rw (used_other s.pages x.page n q ne)
+      | inl e ↦ rw e
+          (rw (used_here s.pages x.page n lt ∙ t.value)
+          (added_other (used_on s.pages x.page) x.index k t.unset (other e)
+          ∙ rw (← e)))
     ]
 
     grow : (q k : ℕ) → has_bit (used_on s.pages q) k ≡ true
         → has_bit (used_on (with_used_on s.pages x.page n) q) k ≡ true
-    grow q k h = same_bit q k (λ e ek. true≢false (sym h ∙ ap (λ i. has_bit (used_on s.pages i) k) e
-        ∙ ap (λ j. has_bit (used_on s.pages x.page) j) ek ∙ t.unset)) ∙ h
+    grow q k h = same_bit q k (λ e ek. true≢false (sym h ∙ rw e
+        (rw ek t.unset))) ∙ h
 
     grown : (y : Claim) → IsShown s.pages y → IsShown (with_used_on s.pages x.page n) y
     grown y was =
@@ -265,8 +247,7 @@ layout_taken s x n laid t =
           sized = was.sized;
           known = was.known;
           within = let l = len in let w = was.within in omega arith;
-          headers = λ d ld. subst (λ h. HasHeader y.mode y.object d h)
-              (sym (used_header s.pages x.page n (y.page + d) lt)) (was.headers d ld);
+          headers = λ d ld. rw (used_header s.pages x.page n (y.page + d) lt) (was.headers d ld);
           used = grow y.page y.index was.used;
         }
 
@@ -277,8 +258,7 @@ layout_taken s x n laid t =
           known = t.index;
           within = let l = len in let w = t.within in omega arith;
           headers =
-              λ d ld. subst (λ m. HasHeader m x.object d (header_on (with_used_on s.pages x.page n) (x.page + d)))
-              (sym t.mapped)
+              λ d ld. rw t.mapped
               (used_header s.pages x.page n (x.page + d) lt ∙ t.headers d ld);
           used = here_set;
         }
@@ -287,23 +267,23 @@ layout_taken s x n laid t =
     cells_here =
         let zero : x.page + 0 ≡ x.page = omega arith in
         let o = some_pages in
-        ap (λ p. cells_under (shows_on s.pages p)) (sym zero)
-        ∙ ap (λ h. cells_under (header_of h)) (t.headers 0 (omega arith))
-        ∙ part_cells x.object (header_of (header_made x.object 0)) (made_shows x.object 0 t.sized (omega arith))
+        rw (← zero)
+        (rw (t.headers 0 (omega arith))
+        (part_cells x.object (header_of (header_made x.object 0)) (made_shows x.object 0 t.sized (omega arith))))
 
     used : (p k : ℕ) → has_bit (used_on (with_used_on s.pages x.page n) p) k ≡ true → IsTakenCell (Taken s x n) p k
     used p k h = elim (both (cases_eq p x.page) (cases_eq k x.index)) [
       | inl at ↦
           let inside = t.index in
           let cells = cells_here in (
-            subst (λ c. k < c) (sym (ap (λ h. cells_under (header_of h)) (used_header s.pages x.page n p lt)
-                ∙ ap (λ i. cells_under (shows_on s.pages i)) at.0 ∙ cells))
+            rw (ap (λ h. cells_under (header_of h)) (used_header s.pages x.page n p lt)
+                ∙ ap (λ i. cells_under (shows_on s.pages i)) at.0 ∙ cells)
                 (let e = at.1 in omega arith),
             inl (record { claim = x; among = among_last s.claims x; page = sym at.0; index = sym at.1 }),
           )
       | inr other ↦
           let was = laid.used p k (sym (same_bit p k other) ∙ h) in (
-            subst (λ c. k < c) (sym (ap (λ h. cells_under (header_of h)) (used_header s.pages x.page n p lt))) was.0,
+            rw (ap (λ h. cells_under (header_of h)) (used_header s.pages x.page n p lt)) was.0,
             owner p k was.1,
           )
     ]
@@ -324,10 +304,10 @@ layout_taken s x n laid t =
         → used_on s.pages (head_on s.pages q) ≡ 0
     unused q empty =
         let head : head_on (with_used_on s.pages x.page n) q ≡ head_on s.pages q =
-        ap (λ h. head_page_under (header_of h) q) (used_header s.pages x.page n q lt) in
+        rw (used_header s.pages x.page n q lt) in
         zero_where_none (used_on s.pages (head_on s.pages q))
         (λ k h. none_set (used_on (with_used_on s.pages x.page n) (head_on s.pages q)) k
-        (ap (λ i. used_on (with_used_on s.pages x.page n) i) (sym head) ∙ empty) (grow (head_on s.pages q) k h))
+        (rw (← head) empty) (grow (head_on s.pages q) k h))
 
     -- a page of the place has its head's bit now
     full : (q : ℕ) → InPlot (Plotted x.page x.object) q
@@ -337,7 +317,7 @@ layout_taken s x n laid t =
         let high = here.1 in
         let at : x.page + (q - x.page) ≡ q = omega arith in
         let head : head_on (with_used_on s.pages x.page n) q ≡ x.page =
-        ap (λ i. head_on (with_used_on s.pages x.page n) i) (sym at)
-        ∙ claimed_head (with_used_on s.pages x.page n) x (q - x.page) own (omega arith) in
+        rw (← at)
+        (claimed_head (with_used_on s.pages x.page n) x (q - x.page) own (omega arith)) in
         none_set (used_on (with_used_on s.pages x.page n) x.page) x.index
         (ap (λ i. used_on (with_used_on s.pages x.page n) i) (sym head) ∙ empty) here_set

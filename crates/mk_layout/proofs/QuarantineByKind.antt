@@ -1,34 +1,18 @@
 -- What each kind of event makes of the quarantine.
-use Rattle.std.proofs.Common.{Bool, List, [], ap, arith, false, inl, inr, length, refl, subst, sym, true, ℕ, ◌%◌, ◌++◌}
-use Rattle.std.proofs.Common.{◌+◌, ◌/◌, ◌<◌, ◌^◌, ◌∙◌, ◌∷◌, ◌≡◌}
+use Rattle.std.proofs.Common.{Bool, List, ap, arith, false, inl, inr, length, refl, sym, true, ℕ, ◌%◌, ◌/◌, ◌<◌, ◌^◌}
+use Rattle.std.proofs.Common.{◌∙◌, ◌≡◌}
 use Rattle.std.specs.Prelude.{None, Option, Some, if◌then◌else◌, not, slice_index, slice_set, ◌&&◌, ◌==◌, ◌||◌}
 use Rattle.std.proofs.lemmas.Bool.{and_from, cases_lt, cond-true, eqb-true, false_from_ne_true, ltb-true, or_cases}
 use Rattle.std.proofs.lemmas.Bool.{true≢false}
 use Rattle.std.proofs.lemmas.List.{get_or_past, set-get_or}
 use Rattle.mk_never.specs.declared.operations.Op.TheVariants as op
-use Rattle.mk_geom.specs.PageUses.{or_else}
-use Rattle.mk_geom.specs.declared.addresses.Cell.{Cell}
-use Rattle.mk_geom.specs.declared.pages.Page.{Page}
-use Rattle.mk_geom.specs.declared.pages.Place.{Place}
-use Rattle.mk_core.specs.Accesses.{found}
-use Rattle.mk_core.specs.Allocations.{PlacedAllocation, cell_of_allocation, granted, placed_at, stands_in}
-use Rattle.mk_core.specs.Bits.{has_bit}
-use Rattle.mk_core.specs.Effects.{chosen, run_of_cell, taken}
-use Rattle.mk_core.specs.History.{World}
-use Rattle.mk_core.specs.Moments.{flight_of, is_phase, nothing_done}
-use Rattle.mk_core.specs.NewPlaces.{is_undecided_free, is_undecided_new, object_made, target}
-use Rattle.mk_core.specs.StandingAllocations.{object_placed}
-use Rattle.mk_core.specs.StopConditions.{marks_place, may_end}
-use Rattle.mk_core.specs.TurnConditions.{cell_freed, frees, place_now}
-use Rattle.mk_core.specs.Words.{Words, phase_of, quarantine_word, used_at}
-use Rattle.mk_core.specs.declared.config.Config.{Config}
-use Rattle.mk_core.specs.declared.events.Seat.{Seat}
-use Rattle.mk_core.specs.declared.events.Step.{Step}
+use Rattle.mk_protocol.proofs.Vocabulary.{Cell, Config, Flight, Page, Place, PlacedAllocation, Placing, Seat, Step}
+use Rattle.mk_protocol.proofs.Vocabulary.{Unplaced, Used, Words, World, cell_freed, cell_of_allocation, chosen}
+use Rattle.mk_protocol.proofs.Vocabulary.{flight_of, found, frees, granted, is_phase, is_undecided_free}
+use Rattle.mk_protocol.proofs.Vocabulary.{is_undecided_new, marks_place, may_end, nothing_done, object_made}
+use Rattle.mk_protocol.proofs.Vocabulary.{object_placed, or_else, phase_of, place_now, placed_at, run_of_cell}
+use Rattle.mk_protocol.proofs.Vocabulary.{stands_in, taken, target}
 use Rattle.mk_core.specs.declared.events.Step.TheVariants as step
-use Rattle.mk_core.specs.declared.seats.Flight.{Flight}
-use Rattle.mk_core.specs.declared.seats.Holding.{Holding}
-use Rattle.mk_core.specs.declared.seats.Placing.{Placing}
-use Rattle.mk_core.specs.declared.seats.Placing.TheVariants.{Granted, Unplaced, Used}
 use Rattle.mk_core.proofs.CellsOfAllocations.{stands_in_its_cell}
 use Rattle.mk_core.proofs.ChangedAllocations.{none_freed}
 use Rattle.mk_core.proofs.EvaluatedPlaces.{full}
@@ -37,7 +21,7 @@ use Rattle.mk_core.proofs.PageSteps.{quarantine_step, used_step}
 use Rattle.mk_core.proofs.PlacesNow.{FreesCell, chosen_used, freed_cell, undecided_free, undecided_new}
 use Rattle.mk_protocol.specs.Protocol.{has_place}
 use Rattle.mk_protocol.proofs.Actors.{Meets}
-use Rattle.mk_protocol.proofs.Ground.{KeepsGround, tally_ground}
+use Rattle.mk_protocol.proofs.Ground.{KeepsGround, tally_ground, with_quarantine}
 use Rattle.mk_protocol.proofs.OthersMoves.{WorldBehind}
 use Rattle.mk_layout.specs.Quarantine.{HasQuarantine, IsQuarantined}
 use Rattle.mk_layout.specs.LayoutScene.{Claim, IsShown, is_released_in}
@@ -49,7 +33,7 @@ use Rattle.mk_layout.proofs.Claims.{claim_among}
 use Rattle.mk_layout.proofs.Dropped.{settled_page}
 use Rattle.mk_layout.proofs.Freed.{standing_cell}
 use Rattle.mk_layout.proofs.Holders.{free_has_turn, placed_undecided}
-use Rattle.mk_layout.proofs.PageKinds.{Quarantined, with_halves}
+use Rattle.mk_layout.proofs.PageKinds.{with_halves}
 use Rattle.mk_layout.proofs.QuarantineChanges.{FreesHere, begin_kept, free_kept, grant_kept, index_small, release_kept}
 use Rattle.mk_layout.proofs.QuarantineSteps.{drop_kept, end_kept, released_bits, replaced, snapshot_kept, take_kept}
 use Rattle.mk_layout.proofs.Readings.{none_set}
@@ -96,27 +80,18 @@ not_both f new free =
 
 quar_none : (c : Config) (w : World) (f : Flight) (p n : ℕ) → p < length w.now.words.freed
     → p < length w.now.words.snapshot → cell_freed c.pages w.now.words f p n ≡ None
-    → QuarantineStep c w.now f p n → IsQuarantined c w
-    → QuarantinedNow c w (with_halves w p n)
+    → QuarantineStep c w.now f p n → IsQuarantined c w → QuarantinedNow c w (with_halves w p n)
 quar_none c w f p n lf ls none (ItFrees off x) q = absurd (frees_some c.pages w.now.words f p n off x none)
-quar_none c w f p n lf ls none (ItDrops on x) q =
-    subst (λ four. QuarantinedAs c four w (with_halves w p n)) (sym on)
-    (drop_kept c w p (n % 2 ^ 32) (n / 2 ^ 32) lf ls (subst (λ four. QuarantinedAs c four w (ground_of w)) on q) x)
+quar_none c w f p n lf ls none (ItDrops on x) q = rw on (drop_kept c w p (n % 2 ^ 32) (n / 2 ^ 32) lf ls (rw on at q) x)
 quar_none c w f p n lf ls none (ItTakesSnapshot x) q =
     let value = x.is in
     let small = (q.small p).0 in
     let low : n % 2 ^ 32 ≡ slice_index w.now.words.freed p = omega arith in
     let high : n / 2 ^ 32 ≡ slice_index w.now.words.freed p = omega arith in
     let same : slice_set w.now.words.freed p (n % 2 ^ 32) ≡ w.now.words.freed =
-    ap (λ v. slice_set w.now.words.freed p v) low ∙ set-get_or w.now.words.freed p 0 in
+    rw low (set-get_or w.now.words.freed p 0) in
     let off = off_at w 0 x.phase (λ e. absurd (omega arith)) in
-    subst (λ four. QuarantinedAs c four w (with_halves w p n)) (sym off)
-    (subst (λ (fs : List ℕ). QuarantinedAs c false w
-    (record (ground_of w) { freed = fs; snapshot = slice_set w.now.words.snapshot p (n / 2 ^ 32) })) (sym same)
-    (subst (λ v. QuarantinedAs c false w (record (ground_of w) { snapshot = slice_set w.now.words.snapshot p v }))
-    (sym high)
-    (snapshot_kept c w.now.words.marks (ground_of w) p ls
-    (subst (λ four. QuarantinedAs c four w (ground_of w)) off q))))
+    rw off (rw same (rw high (snapshot_kept c w.now.words.marks (ground_of w) p ls (rw off at q))))
 
 -- what a step that frees finds
 pub frees_here : (c : Config) (w : World) (seat : Seat) (p n : ℕ) (cell : Cell) → Before c w
@@ -125,8 +100,7 @@ pub frees_here : (c : Config) (w : World) (seat : Seat) (p n : ℕ) (cell : Cell
 frees_here c w seat p n cell b h laid x =
     let own = b.others.target seat cell x.at in
     let a : PlacedAllocation = placed_at w.allocations own.number in
-    let off : Laid c (object_now c w.now) false w (ground_of w) =
-    subst (λ four. Laid c (object_now c w.now) four w (ground_of w)) x.phase laid in
+    let off : Laid c (object_now c w.now) false w (ground_of w) = rw x.phase at laid in
     let s = all_stand c (object_now c w.now) false w b.lengths.pages off own.number own.unreleased in
     let shown = shown_at c w own.number laid own.unreleased in
     let known : (cell_of_allocation c a).index < 32 =
@@ -146,16 +120,13 @@ frees_here c w seat p n cell b h laid x =
           ∙ stands_in_its_cell c w.now.words a b.limits s.stands s.headers;
       others = standing_cell c (object_now c w.now) w cell b.lengths.pages own off;
       unset = x.unfreed;
-      value = x.value ∙ ap
-          (λ i. quarantine_word (slice_index w.now.words.freed i + 2 ^ cell.index) (slice_index w.now.words.snapshot i))
-          page;
+      value = x.value ∙ rw page;
       unplaced = false_from_ne_true (has_place w.now.seats.holding.placing)
           (λ has. not_both (flight_of w.now seat) (placed_undecided c w.now seat b.known turn has) x.free);
     }
 
 quar_kept : (c : Config) (w : World) (seat : Seat) (p n : ℕ) → Before c w → Meets c w.now seat (step.Quar p n)
-    → IsLaidOut c w → IsQuarantined c w
-    → QuarantinedNow c w (ground_of (WorldBehind c w seat (step.Quar p n)))
+    → IsLaidOut c w → IsQuarantined c w → QuarantinedNow c w (ground_of (WorldBehind c w seat (step.Quar p n)))
 quar_kept c w seat p n b h laid q = by (cell_freed c.pages w.now.words (flight_of w.now seat) p n) refl
   where
     lf : p < length w.now.words.freed
@@ -165,25 +136,16 @@ quar_kept c w seat p n b h laid q = by (cell_freed c.pages w.now.words (flight_o
     ls = let lt = ltb-true p c.pages h.range in let len = b.lengths.snapshot in omega arith
 
     by : (cell : Option Cell) → cell_freed c.pages w.now.words (flight_of w.now seat) p n ≡ cell
-        → QuarantinedNow c w (Quarantined w p n cell)
+        → QuarantinedNow c w (with_quarantine w p n cell)
     by None is =
-        subst
-        (λ (xs : List PlacedAllocation). QuarantinedNow c w (record (with_halves w p n) { allocations = xs }))
-        (sym (none_freed w.now.words w.allocations))
+        rw (none_freed w.now.words w.allocations)
         (quar_none c w (flight_of w.now seat) p n lf ls is (quarantine_step c w.now (flight_of w.now seat) p n h.holder)
         q)
     by (Some cell) is =
         let x = freed_cell c.pages w.now.words (flight_of w.now seat) p n cell is in
-        subst (λ four. QuarantinedAs c four w (Quarantined w p n (Some cell))) (sym x.phase)
-        (subst
-        (λ i. QuarantinedAs c false w
-        (record (Quarantined w p n (Some cell)) {
-          freed = slice_set w.now.words.freed i (n % 2 ^ 32);
-          snapshot = slice_set w.now.words.snapshot i (n / 2 ^ 32);
-        }))
-        (sym x.page)
+        rw x.phase (rw x.page
         (free_kept c w cell (or_else (run_of_cell w.now.words (Some cell)) w.now.seats.holding.freed) n
-        (frees_here c w seat p n cell b h laid x) (subst (λ four. QuarantinedAs c four w (ground_of w)) x.phase q)))
+        (frees_here c w seat p n cell b h laid x) (rw x.phase at q)))
 
 -- `head` and `used`
 head_from : (four : Bool) (placing : Placing) (found : Option Place) (place : Place)
@@ -193,26 +155,20 @@ head_from false placing found place e = chosen_used placing found place e
 
 abbrev UsedAs : Config → World → List Page → Bool → Option Place → Type 0
 UsedAs c w pages four found =
-    QuarantinedAs c four w
-    (record (ground_of w) {
+    QuarantinedAs c four w (record (ground_of w) {
       pages = pages;
-      placing = if four then w.now.seats.holding.placing
-          else taken w.now.seats.holding.placing found;
+      placing = if four then w.now.seats.holding.placing else taken w.now.seats.holding.placing found;
     })
 
 used_kept : (c : Config) (w : World) (seat : Seat) (p n : ℕ) (pages : List Page) → IsLaidOut c w → IsQuarantined c w
     → UsedStep c w.now (flight_of w.now seat) p n
     → UsedAs c w pages (is_phase w.now.words 4) (place_now c w.now (flight_of w.now seat))
 used_kept c w seat p n pages laid q (ItTakes off once x) =
-    subst (λ four. UsedAs c w pages four (place_now c w.now (flight_of w.now seat))) (sym off)
-    (subst (λ (found : Option Place). UsedAs c w pages false found) (sym x.there)
-    (take_kept c w.now.words.marks (ground_of w) pages x.place (λ i u. (shown_at c w i laid u).used)
-    (ap (λ i. has_bit (used_at w.now.words i) x.place.index) (sym x.taken.at)
-    ∙ x.taken.unused) (subst (λ four. QuarantinedAs c four w (ground_of w)) off q)))
+    rw off (rw x.there (take_kept c w.now.words.marks (ground_of w) pages x.place (λ i u. (shown_at c w i laid u).used)
+    (rw (← x.taken.at) x.taken.unused) (rw off at q)))
 used_kept c w seat p n pages laid q (ItGivesBack on x) =
-    subst (λ four. UsedAs c w pages four (place_now c w.now (flight_of w.now seat))) (sym on)
-    (replaced c true w.now.words.marks (ground_of w) pages w.now.seats.holding.placing w.now.seats.holding.freed
-    (λ place e. e) (subst (λ four. QuarantinedAs c four w (ground_of w)) on q))
+    rw on (replaced c true w.now.words.marks (ground_of w) pages w.now.seats.holding.placing w.now.seats.holding.freed
+    (λ place e. e) (rw on at q))
 
 -- `mark`
 mark_from : (t : Bool) (placing : Placing) (found : Option Place) (place : Place)
@@ -223,12 +179,7 @@ mark_from true placing found place e = chosen_used placing found place e
 -- words that leave the quarantine
 kept_ground : (c : Config) (w : World) (x : Words) → KeepsGround w.now.words x → IsQuarantined c w
     → QuarantinedNow c w (record (ground_of w) { pages = x.pages; freed = x.freed; snapshot = x.snapshot })
-kept_ground c w x g q =
-    subst (λ (ps : List Page). QuarantinedNow c w
-    (record (ground_of w) { pages = ps; freed = x.freed; snapshot = x.snapshot })) (sym g.pages)
-    (subst (λ (fs : List ℕ). QuarantinedNow c w (record (ground_of w) { freed = fs; snapshot = x.snapshot }))
-    (sym g.freed)
-    (subst (λ (ss : List ℕ). QuarantinedNow c w (record (ground_of w) { snapshot = ss })) (sym g.snapshot) q))
+kept_ground c w x g q = rw g.pages (rw g.freed (rw g.snapshot q))
 
 -- `grant` and `end`
 pub grants_early : (w : World) → ((phase_of w.now.words == 0) || (phase_of w.now.words == 1)) ≡ true
@@ -254,22 +205,17 @@ pub quarantine_by_kind : (c : Config) (w : World) (seat : Seat) (x : Step) → B
     → QuarantinedAs c (is_releasing_behind x (is_phase w.now.words 4)) w (ground_of (WorldBehind c w seat x))
 quarantine_by_kind c w seat (step.Take o) b h laid q = by (w.now.words.turn == 0) refl
   where
-    by : (t : Bool) → (w.now.words.turn == 0) ≡ t
-        → QuarantinedNow c w
-        (record (ground_of w) {
-          placing = (if t then nothing_done else w.now.seats.holding).placing;
-          run = (if t then nothing_done else w.now.seats.holding).freed;
-        })
+    by : (t : Bool) → (w.now.words.turn == 0) ≡ t → QuarantinedNow c w (record (ground_of w) {
+      placing = (if t then nothing_done else w.now.seats.holding).placing;
+      run = (if t then nothing_done else w.now.seats.holding).freed;
+    })
     by false is = q
-    by true is =
-        subst (λ (y : Holding). QuarantinedNow c w (record (ground_of w) { placing = y.placing; run = y.freed }))
-        (b.known.orderly.free (eqb-true w.now.words.turn 0 is)) q
+    by true is = rw (b.known.orderly.free (eqb-true w.now.words.turn 0 is)) at q
 quarantine_by_kind c w seat step.Give b h laid q =
     replaced c (is_phase w.now.words 4) w.now.words.marks (ground_of w) w.now.words.pages Unplaced None
     (λ place e. cc) q
 quarantine_by_kind c w seat step.Reg b h laid q =
-    kept_ground c w _
-    (reg_leaves_ground c w seat) q
+    kept_ground c w _ (reg_leaves_ground c w seat) q
 quarantine_by_kind c w seat (step.Tally n v) b h laid q = kept_ground c w _ (tally_ground w.now.words n v) q
 quarantine_by_kind c w seat (step.Head p n) b h laid q =
     replaced c (is_phase w.now.words 4) w.now.words.marks (ground_of w) _ _ w.now.seats.holding.freed
@@ -280,16 +226,9 @@ quarantine_by_kind c w seat (step.Used p n) b h laid q =
 quarantine_by_kind c w seat (step.Quar p n) b h laid q = quar_kept c w seat p n b h laid q
 quarantine_by_kind c w seat step.Grant b h laid q =
     let off = grants_early w h.phase in
-    subst (λ four. QuarantinedAs c four w
-    (record (ground_of w) {
-      placing = Granted;
-      allocations = w.allocations ++ granted c w.now (flight_of w.now seat) ∷ [];
-    })) (sym off)
-    (grant_kept c w.now.words.marks (ground_of w) (granted c w.now (flight_of w.now seat)) refl
-    (subst (λ four. QuarantinedAs c four w (ground_of w)) off q))
+    rw off (grant_kept c w.now.words.marks (ground_of w) (granted c w.now (flight_of w.now seat)) refl (rw off at q))
 quarantine_by_kind c w seat (step.Mark p n) b h laid q =
-    replaced c (is_phase w.now.words 4) w.now.words.marks (ground_of w) _ _ w.now.seats.holding.freed
-    (λ place e.
+    replaced c (is_phase w.now.words 4) w.now.words.marks (ground_of w) _ _ w.now.seats.holding.freed (λ place e.
     mark_from (marks_place w.now.words (object_made c (flight_of w.now seat).op)
     (place_now c w.now (flight_of w.now seat)) p n) w.now.seats.holding.placing
     (place_now c w.now (flight_of w.now seat)) place e) q
@@ -297,11 +236,7 @@ quarantine_by_kind c w seat step.Begin b h laid q =
     begin_kept c (is_phase w.now.words 4) w.now.words.marks (ground_of w) q
 quarantine_by_kind c w seat step.Release b h laid q =
     let off = off_at w 3 h.phase (λ e. absurd (omega arith)) in
-    release_kept c w b.limits
-    (all_stand c (object_now c w.now) false w b.lengths.pages
-    (subst (λ four. Laid c (object_now c w.now) four w (ground_of w)) off laid))
-    (subst (λ four. QuarantinedAs c four w (ground_of w)) off q)
+    release_kept c w b.limits (all_stand c (object_now c w.now) false w b.lengths.pages (rw off at laid)) (rw off at q)
 quarantine_by_kind c w seat step.End b h laid q =
-    end_kept c w.now.words.marks (ground_of w) (none_left c w b h.holder)
-    (subst (λ four. QuarantinedAs c four w (ground_of w)) h.phase q)
+    end_kept c w.now.words.marks (ground_of w) (none_left c w b h.holder) (rw h.phase at q)
 quarantine_by_kind c w seat _ b h laid q = q

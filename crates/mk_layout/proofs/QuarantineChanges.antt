@@ -1,32 +1,21 @@
 -- The quarantine after the steps that change allocations: `release`, `quar` (a), `grant`, `begin`.
-use Rattle.std.proofs.Common.{Bool, List, [], ap, arith, false, inl, inr, length, map, pow-suc, refl, subst, suc, sym}
-use Rattle.std.proofs.Common.{true, ℕ, ◌%◌, ◌*◌, ◌++◌, ◌+◌, ◌/◌, ◌<◌, ◌^◌, ◌∙◌, ◌∷◌, ◌≡◌, ◌≤◌, ◌⊎◌}
+use Rattle.std.proofs.Common.{Bool, List, ap, arith, false, inl, inr, length, map, pow-suc, refl, suc, sym, true, ℕ, []}
+use Rattle.std.proofs.Common.{◌%◌, ◌*◌, ◌++◌, ◌+◌, ◌/◌, ◌<◌, ◌^◌, ◌∙◌, ◌∷◌, ◌≡◌, ◌≤◌, ◌⊎◌}
 use Rattle.std.specs.Prelude.{Option, Some, if◌then◌else◌, slice_index, slice_set}
 use Rattle.std.proofs.Math.Pow.{pow_mono}
 use Rattle.std.proofs.lemmas.Bool.{cases_Bool, cases_eq, cond-true, true≢false}
 use Rattle.std.proofs.lemmas.Nat.{mul-le, or_lt}
-use Rattle.mk_geom.specs.Classes.{class_words_of}
-use Rattle.mk_geom.specs.declared.addresses.Cell.{Cell}
+use Rattle.mk_protocol.proofs.Vocabulary.{Cell, Config, Granted, IsSized, IsWithinLimits, Object, PlacedAllocation}
+use Rattle.mk_protocol.proofs.Vocabulary.{Placing, RunPages, Words, World, cell_of_allocation, cells_made, class_made}
+use Rattle.mk_protocol.proofs.Vocabulary.{class_words_of, freed_where_it_stands, has_bit, is_small_object}
+use Rattle.mk_protocol.proofs.Vocabulary.{no_longer_fresh, placed_at, quarantine_word, stands_in, with_released}
 use Rattle.mk_geom.proofs.ClassTable.{cell_ends, class_words_within}
-use Rattle.mk_core.specs.Allocations.{PlacedAllocation, cell_of_allocation, freed_where_it_stands, no_longer_fresh}
-use Rattle.mk_core.specs.Allocations.{placed_at, stands_in, with_released}
-use Rattle.mk_core.specs.Bits.{has_bit}
-use Rattle.mk_core.specs.Config.{IsWithinLimits}
-use Rattle.mk_core.specs.History.{World}
-use Rattle.mk_core.specs.NewPlaces.{class_made, is_small_object}
-use Rattle.mk_core.specs.ObjectHeaders.{IsSized, cells_made}
-use Rattle.mk_core.specs.Words.{Words, quarantine_word}
-use Rattle.mk_core.specs.declared.config.Config.{Config}
-use Rattle.mk_core.specs.declared.seats.Object.{Object}
-use Rattle.mk_core.specs.declared.seats.Placing.{Placing}
-use Rattle.mk_core.specs.declared.seats.Placing.TheVariants.{Granted}
-use Rattle.mk_core.specs.declared.seats.RunPages.{RunPages}
 use Rattle.mk_core.proofs.ChangedAllocations.{changed_at, freed_released}
 use Rattle.mk_core.proofs.Sizes.{class_known, large_cells, small_cells}
 use Rattle.mk_core.proofs.SmallCycles.{small}
 use Rattle.mk_core.proofs.WordBits.{added_here, added_other, sum_is_or}
 use Rattle.mk_protocol.specs.Protocol.{has_place}
-use Rattle.mk_layout.specs.Quarantine.{HasQuarantine, IsFreedCell, has_bit_of}
+use Rattle.mk_layout.specs.Quarantine.{HasQuarantine, IsFreedCell}
 use Rattle.mk_layout.specs.LayoutScene.{is_released_in}
 use Rattle.mk_protocol.specs.Ground.{Ground, ground_of}
 use Rattle.mk_layout.specs.Terrain.{IsCellOf}
@@ -63,8 +52,7 @@ pub record BeforeChange (c : Config) (g : PlacedAllocation
   pub cell : cell_of_allocation c (placed_at (map g xs) i) ≡ cell_of_allocation c (placed_at xs i)
 
 pub before_change : (c : Config) (g : PlacedAllocation → PlacedAllocation) (xs : List PlacedAllocation) (i : ℕ)
-    → LeavesCells g
-    → (placed_at (map g xs) i).released ≡ false → BeforeChange c g xs i
+    → LeavesCells g → (placed_at (map g xs) i).released ≡ false → BeforeChange c g xs i
 before_change c g xs i leaves u =
     let a : PlacedAllocation = placed_at xs i in
     let at = changed_at g xs i leaves.places.none in
@@ -80,8 +68,7 @@ before_change c g xs i leaves u =
 -- `release`: what stays isn't released, and what goes is
 pub release_kept : (c : Config) (w : World) → IsWithinLimits c
     → ((i : ℕ) → (placed_at w.allocations i).released ≡ false → IsStanding c w.now.words (placed_at w.allocations i))
-    → HasQuarantine c false w.now.words.marks (ground_of w)
-    → HasQuarantine c true w.now.words.marks
+    → HasQuarantine c false w.now.words.marks (ground_of w) → HasQuarantine c true w.now.words.marks
     (record (ground_of w) { allocations = map (with_released c w.now.words) w.allocations })
 release_kept c w limits stand q =
     record {
@@ -148,16 +135,15 @@ grant_kept c marks t a unfreed q =
             let still = still_at t.allocations a o.number o.unreleased in
             inl (record {
               number = o.number;
-              unreleased = ap (λ (b : PlacedAllocation). b.released) still ∙ o.unreleased;
-              freed = ap (λ (b : PlacedAllocation). b.freed) still ∙ o.freed;
-              cell = ap (λ (b : PlacedAllocation). cell_of_allocation c b) still ∙ o.cell;
+              unreleased = rw still o.unreleased;
+              freed = rw still o.freed;
+              cell = rw still o.cell;
             })
         | inr r ↦ inr r
       ];
       shown = λ i u f. elim (pushed_at t.allocations a i u) [
-        | inl old ↦ ap (λ (b : PlacedAllocation). has_bit_of c t.freed b) old.1
-            ∙ q.shown i old.0 (ap (λ (b : PlacedAllocation). b.freed) (sym old.1) ∙ f)
-        | inr new ↦ absurd (true≢false (sym f ∙ ap (λ (b : PlacedAllocation). b.freed) new ∙ unfreed))
+        | inl old ↦ rw old.1 (q.shown i old.0 (rw (← old.1) f))
+        | inr new ↦ absurd (true≢false (sym f ∙ rw new unfreed))
       ];
       taken = λ place is. cc;
       kept = λ on. absurd (true≢false (sym on));
@@ -226,8 +212,7 @@ free_halves c w cell n x q = let e = x.value in let s = sum in (omega arith, ome
         omega arith
 
 pub free_kept : (c : Config) (w : World) (cell : Cell) (run : Option RunPages) (n : ℕ) → FreesHere c w cell n
-    → HasQuarantine c false w.now.words.marks (ground_of w)
-    → HasQuarantine c false w.now.words.marks
+    → HasQuarantine c false w.now.words.marks (ground_of w) → HasQuarantine c false w.now.words.marks
     (record (ground_of w) {
       freed = slice_set w.now.words.freed cell.page (n % 2 ^ 32);
       snapshot = slice_set w.now.words.snapshot cell.page (n / 2 ^ 32);
@@ -247,8 +232,7 @@ free_kept c w cell run n x q =
           let b = before_change c (freed_where_it_stands w.now.words (Some cell)) w.allocations i leaves u in
           let a : PlacedAllocation = placed_at w.allocations i in
           ap (λ (y : Cell). has_bit (slice_index (slice_set w.now.words.freed cell.page (n % 2 ^ 32)) y.page) y.index)
-          b.cell
-          ∙ elim (freed_by (stands_in w.now.words cell a) a (ap (λ (y : PlacedAllocation). y.freed) (sym b.now) ∙ f)) [
+          b.cell ∙ elim (freed_by (stands_in w.now.words cell a) a (rw (← b.now) f)) [
             | inl here ↦
                 ap (λ (y : Cell). has_bit (slice_index (slice_set w.now.words.freed cell.page (n % 2 ^ 32)) y.page)
                 y.index) (x.others i b.was here) ∙ set_here
@@ -269,16 +253,14 @@ free_kept c w cell run n x q =
 
     set_here : has_bit (slice_index (slice_set w.now.words.freed cell.page (n % 2 ^ 32)) cell.page) cell.index ≡ true
     set_here = elim (bit_cases w.now.words.freed cell.page (n % 2 ^ 32) cell.page cell.index x.page) [
-      | inl here ↦ here.1 ∙ ap (λ v. has_bit v cell.index) low
-          ∙ added_here (slice_index w.now.words.freed cell.page) cell.index x.unset
+      | inl here ↦ here.1 ∙ rw low (added_here (slice_index w.now.words.freed cell.page) cell.index x.unset)
       | inr other ↦ absurd (other.0 refl)
     ]
 
     same_snap : (i k : ℕ) → has_bit (slice_index (slice_set w.now.words.snapshot cell.page (n / 2 ^ 32)) i) k ≡ true
         → has_bit (slice_index w.now.words.snapshot i) k ≡ true
     same_snap i k h = elim (bit_cases w.now.words.snapshot cell.page (n / 2 ^ 32) i k x.in_snapshot) [
-      | inl here ↦ ap (λ j. has_bit (slice_index w.now.words.snapshot j) k) here.0 ∙ ap (λ v. has_bit v k) (sym high)
-          ∙ sym here.1 ∙ h
+      | inl here ↦ rw here.0 (rw (← high) (sym here.1 ∙ h))
       | inr other ↦ sym other.1 ∙ h
     ]
 
@@ -286,12 +268,10 @@ free_kept c w cell run n x q =
         → has_bit (slice_index (slice_set w.now.words.freed cell.page (n % 2 ^ 32)) i) k ≡ true
     grown i k h = elim (bit_cases w.now.words.freed cell.page (n % 2 ^ 32) i k x.page) [
       | inr other ↦ other.1 ∙ h
-      | inl here ↦ here.1 ∙ ap (λ v. has_bit v k) low ∙ elim (cases_eq k cell.index) [
-        | inl e ↦ ap (λ j. has_bit (slice_index w.now.words.freed cell.page + 2 ^ cell.index) j) e
-            ∙ added_here (slice_index w.now.words.freed cell.page) cell.index x.unset
-        | inr ne ↦ added_other (slice_index w.now.words.freed cell.page) cell.index k x.unset ne
-            ∙ ap (λ j. has_bit (slice_index w.now.words.freed j) k) (sym here.0) ∙ h
-      ]
+      | inl here ↦ here.1 ∙ rw low (elim (cases_eq k cell.index) [
+        | inl e ↦ rw e (added_here (slice_index w.now.words.freed cell.page) cell.index x.unset)
+        | inr ne ↦ added_other (slice_index w.now.words.freed cell.page) cell.index k x.unset ne ∙ rw (← here.0) h
+      ])
     ]
 
     still : (i k : ℕ) → IsFreedCell c w.allocations i k
@@ -314,9 +294,9 @@ free_kept c w cell run n x q =
         cond-true (stands_in w.now.words cell a) (record a { freed = true; fresh = true }) a x.stands in
         record {
           number = x.own.number;
-          unreleased = ap (λ (y : PlacedAllocation). y.released) (at ∙ same) ∙ x.own.unreleased;
-          freed = ap (λ (y : PlacedAllocation). y.freed) (at ∙ same);
-          cell = ap (λ (y : PlacedAllocation). cell_of_allocation c y) (at ∙ same) ∙ x.own.is;
+          unreleased = rw (at ∙ same) x.own.unreleased;
+          freed = rw (at ∙ same);
+          cell = rw (at ∙ same) x.own.is;
         }
 
     owned : (i k : ℕ) → has_bit (slice_index (slice_set w.now.words.freed cell.page (n % 2 ^ 32)) i) k ≡ true
@@ -326,13 +306,9 @@ free_kept c w cell run n x q =
       | inr other ↦ inl (was i k (sym other.1 ∙ h))
       | inl here ↦ elim (cases_eq k cell.index) [
         | inl e ↦
-            inl (subst (λ j. IsFreedCell c (map (freed_where_it_stands w.now.words (Some cell)) w.allocations) i j)
-            (sym e)
-            (subst (λ j. IsFreedCell c (map (freed_where_it_stands w.now.words (Some cell)) w.allocations) j cell.index)
-            (sym here.0) new))
+            inl (rw e (rw here.0 new))
         | inr ne ↦
-            inl (was i k (ap (λ j. has_bit (slice_index w.now.words.freed j) k) here.0
-            ∙ sym (added_other (slice_index w.now.words.freed cell.page) cell.index k x.unset ne)
-            ∙ ap (λ v. has_bit v k) (sym low) ∙ sym here.1 ∙ h))
+            inl (was i k (rw here.0 (sym (added_other (slice_index w.now.words.freed cell.page) cell.index k x.unset ne)
+            ∙ rw (← low) (sym here.1 ∙ h))))
       ]
     ]

@@ -1,23 +1,14 @@
 -- The quarantine after each kind of step.
-use Rattle.std.proofs.Common.{Bool, List, ap, arith, bit_and, false, inl, inr, length, min, refl, subst, sym, true, ℕ}
-use Rattle.std.proofs.Common.{◌-◌, ◌<◌, ◌^◌, ◌∙◌, ◌≡◌, ◌≢◌, ◌≤◌, ◌⊎◌}
+use Rattle.std.proofs.Common.{Bool, List, ap, arith, bit_and, false, inl, inr, length, min, refl, sym, true, ℕ, ◌-◌}
+use Rattle.std.proofs.Common.{◌<◌, ◌^◌, ◌∙◌, ◌≡◌, ◌≢◌, ◌≤◌, ◌⊎◌}
 use Rattle.std.specs.Prelude.{Option, not, slice_index, slice_set, ◌&&◌}
-use Rattle.std.proofs.lemmas.Bool.{and_parts, cases_Bool, cases_eq, false_from_ne_true, not-true, true≢false}
+use Rattle.std.proofs.lemmas.Bool.{and_parts, cases_Bool, cases_eq, false_from_ne_true, not-true, true≢false, and_right}
 use Rattle.std.proofs.lemmas.List.{get_or-set_other, get_or-set_same}
 use Rattle.std.proofs.lemmas.Nat.{and_le_r}
 use Rattle.std.proofs.lemmas.Nat.Bits.{bit_at_and, same_from_bits}
 use Rattle.std.specs.Int.{bit_at}
-use Rattle.mk_geom.specs.declared.addresses.Cell.{Cell}
-use Rattle.mk_geom.specs.declared.pages.Page.{Page}
-use Rattle.mk_geom.specs.declared.pages.Place.{Place}
-use Rattle.mk_core.specs.Allocations.{cell_of_allocation, placed_at}
-use Rattle.mk_core.specs.Bits.{has_bit, without}
-use Rattle.mk_core.specs.History.{World}
-use Rattle.mk_core.specs.declared.config.Config.{Config}
-use Rattle.mk_core.specs.declared.seats.Object.{Object}
-use Rattle.mk_core.specs.declared.seats.Placing.{Placing}
-use Rattle.mk_core.specs.declared.seats.Placing.TheVariants.{Chosen, Granted, Unplaced, Used}
-use Rattle.mk_core.specs.declared.seats.RunPages.{RunPages}
+use Rattle.mk_protocol.proofs.Vocabulary.{Cell, Chosen, Config, Granted, Object, Page, Place, Placing, RunPages}
+use Rattle.mk_protocol.proofs.Vocabulary.{Unplaced, Used, World, cell_of_allocation, has_bit, placed_at, without}
 use Rattle.mk_core.proofs.BitsWithout.{has_bit_without}
 use Rattle.mk_core.proofs.PageSteps.{Drops, left_bits}
 use Rattle.mk_core.proofs.WordBits.{fewer_bits, rest_bits}
@@ -30,7 +21,7 @@ use Rattle.mk_layout.proofs.Joined.{among_parts}
 
 -- the bits of a word that another hasn't, where the other's are all its own
 rest_bit : (n m k : ℕ) → bit_and n m ≡ n → has_bit (m - n) k ≡ (has_bit m k && not (has_bit n k))
-rest_bit n m k sub = ap (λ x. has_bit x k) same ∙ has_bit_without m n k
+rest_bit n m k sub = rw same (has_bit_without m n k)
   where
     least : (a b : ℕ) → min a b ≡ min b a
     least a b = omega arith
@@ -43,19 +34,14 @@ rest_bit n m k sub = ap (λ x. has_bit x k) same ∙ has_bit_without m n k
     same = ap (λ x. m - x) (sym turned)
 
 pub and_both : (a b : Bool) → a ≡ true → b ≡ false → (a && not b) ≡ true
-and_both a b x y = ap (λ z. z && not b) x ∙ ap not y
-
-and_none : (a b : Bool) → b ≡ true → (a && not b) ≡ false
-and_none true b y = ap not y
-and_none false b y = refl
+and_both a b x y = rw x (ap not y)
 
 -- one page's word is changed
-pub set_cases : (xs : List ℕ) (p n q : ℕ) → p < length xs
-    → ((q ≡ p) × (slice_index (slice_set xs p n) q ≡ n))
+pub set_cases : (xs : List ℕ) (p n q : ℕ) → p < length xs → ((q ≡ p) × (slice_index (slice_set xs p n) q ≡ n))
     ⊎ ((q ≢ p) × (slice_index (slice_set xs p n) q ≡ slice_index xs q))
 set_cases xs p n q lt = elim (cases_eq q p) [
   | inr ne ↦ inr (ne, get_or-set_other xs p q n 0 ne)
-  | inl e ↦ inl (e, ap (λ i. slice_index (slice_set xs p n) i) e ∙ get_or-set_same xs p n 0 lt)
+  | inl e ↦ inl (e, rw e (get_or-set_same xs p n 0 lt))
 ]
 
 pub least_set : (xs : List ℕ) (p n i : ℕ) → p < length xs → n < 2 ^ 32 → slice_index xs i < 2 ^ 32
@@ -70,8 +56,8 @@ pub bit_cases : (xs : List ℕ) (p n q k : ℕ) → p < length xs
     → ((q ≡ p) × (has_bit (slice_index (slice_set xs p n) q) k ≡ has_bit n k))
     ⊎ ((q ≢ p) × (has_bit (slice_index (slice_set xs p n) q) k ≡ has_bit (slice_index xs q) k))
 bit_cases xs p n q k lt = elim (set_cases xs p n q lt) [
-  | inl here ↦ inl (here.0, ap (λ v. has_bit v k) here.1)
-  | inr other ↦ inr (other.0, ap (λ v. has_bit v k) other.1)
+  | inl here ↦ inl (here.0, rw here.1)
+  | inr other ↦ inr (other.0, rw other.1)
 ]
 
 without_le : (x y : ℕ) → without x y ≤ x
@@ -102,7 +88,7 @@ drop_kept c w p f n lf ls q d =
       taken = λ place is. elim (bit_cases w.now.words.freed p f place.page place.index lf) [
         | inl here ↦ here.1 ∙ false_from_ne_true (has_bit f place.index) (λ x.
             true≢false (sym (was_freed place.index x)
-            ∙ ap (λ i. has_bit (slice_index w.now.words.freed i) place.index) (sym here.0) ∙ q.taken place is))
+            ∙ rw (← here.0) (q.taken place is)))
         | inr other ↦ other.1 ∙ q.taken place is
       ];
       kept = λ on i u.
@@ -129,8 +115,8 @@ drop_kept c w p f n lf ls q d =
 
     f_bit : (k : ℕ) → has_bit f k
         ≡ (has_bit (slice_index w.now.words.freed p) k && not (has_bit (slice_index w.now.words.snapshot p - n) k))
-    f_bit k = ap (λ v. has_bit v k) d.is
-        ∙ has_bit_without (slice_index w.now.words.freed p) (slice_index w.now.words.snapshot p - n) k
+    f_bit k = rw d.is
+        (has_bit_without (slice_index w.now.words.freed p) (slice_index w.now.words.snapshot p - n) k)
 
     was_freed : (k : ℕ) → has_bit f k ≡ true → has_bit (slice_index w.now.words.freed p) k ≡ true
     was_freed k x = (and_parts (has_bit (slice_index w.now.words.freed p) k)
@@ -140,8 +126,8 @@ drop_kept c w p f n lf ls q d =
         → has_bit (slice_index w.now.words.snapshot i) k ≡ true
     was_snap i k x = elim (bit_cases w.now.words.snapshot p n i k ls) [
       | inr other ↦ sym other.1 ∙ x
-      | inl here ↦ ap (λ j. has_bit (slice_index w.now.words.snapshot j) k) here.0
-          ∙ fewer_bits n (slice_index w.now.words.snapshot p) k d.fewer (sym here.1 ∙ x)
+      | inl here ↦ rw here.0
+          (fewer_bits n (slice_index w.now.words.snapshot p) k d.fewer (sym here.1 ∙ x))
     ]
 
     within : (i k : ℕ) → has_bit (slice_index (slice_set w.now.words.snapshot p n) i) k ≡ true
@@ -155,7 +141,7 @@ drop_kept c w p f n lf ls q d =
             | inr o ↦ absurd (o.0 here.0)
           ] in
           let out = rest_bit n (slice_index w.now.words.snapshot p) k d.fewer
-          ∙ and_none (has_bit (slice_index w.now.words.snapshot p) k) (has_bit n k) bit in
+          ∙ and_right (has_bit (slice_index w.now.words.snapshot p) k) _ (ap not bit) in
           let was = ap (λ j. has_bit (slice_index w.now.words.freed j) k) (sym here.0)
           ∙ q.within i k (was_snap i k x) in
           here.1 ∙ f_bit k ∙ and_both (has_bit (slice_index w.now.words.freed p) k)
@@ -174,7 +160,7 @@ drop_kept c w p f n lf ls q d =
           let bits = left_bits w.now.words p (slice_index w.now.words.snapshot p - n) k d.left r in
           true≢false (sym (and_both (has_bit (slice_index w.now.words.snapshot p) k)
           (has_bit (slice_index w.now.words.marks p) k) bits.0 bits.1)
-          ∙ ap (λ j. is_released_in true w.now.words.snapshot w.now.words.marks j k) (sym here.0) ∙ out)) in
+          ∙ rw (← here.0) out)) in
           here.1 ∙ f_bit k ∙ and_both (has_bit (slice_index w.now.words.freed p) k)
           (has_bit (slice_index w.now.words.snapshot p - n) k) was none
     ]
@@ -206,7 +192,7 @@ drop_kept c w p f n lf ls q d =
         ⊎ (is_released_in true (slice_set w.now.words.snapshot p n) w.now.words.marks i k ≡ true)
     owned i k x =
         let was : has_bit (slice_index w.now.words.freed i) k ≡ true = elim (bit_cases w.now.words.freed p f i k lf) [
-          | inl here ↦ ap (λ j. has_bit (slice_index w.now.words.freed j) k) here.0 ∙ was_freed k (sym here.1 ∙ x)
+          | inl here ↦ rw here.0 (was_freed k (sym here.1 ∙ x))
           | inr other ↦ sym other.1 ∙ x
         ] in
         elim (q.owned i k was) [
@@ -225,7 +211,7 @@ snapshot_kept c marks t p ls q =
     record {
       small = λ i. ((q.small i).0, least_set t.snapshot p (slice_index t.freed p) i ls (q.small p).0 (q.small i).1);
       within = λ i k x. elim (bit_cases t.snapshot p (slice_index t.freed p) i k ls) [
-        | inl here ↦ ap (λ j. has_bit (slice_index t.freed j) k) here.0 ∙ sym here.1 ∙ x
+        | inl here ↦ rw here.0 (sym here.1 ∙ x)
         | inr other ↦ q.within i k (sym other.1 ∙ x)
       ];
       owned = q.owned;
@@ -290,7 +276,7 @@ take_kept c marks t pages place used unset q =
       owned = q.owned;
       shown = q.shown;
       taken = λ found is. let e : place ≡ found =
-          cc in subst (λ (x : Place). has_bit (slice_index t.freed x.page) x.index ≡ false) e clear;
+          cc in rw e at clear;
       kept = q.kept;
     }
   where
@@ -304,12 +290,11 @@ take_kept c marks t pages place used unset q =
 
 -- what the layout asks of the quarantine while cells are released
 pub none_released : (c : Config) (o : Object) (marks : List ℕ) (t : Ground) → HasQuarantine c true marks t → (x : Claim)
-    → Among x (claims_on c o t)
-    → is_released_in true t.snapshot marks x.page x.index ≡ false
+    → Among x (claims_on c o t) → is_released_in true t.snapshot marks x.page x.index ≡ false
 none_released c o marks t q x i = elim (among_parts (claims_of c t.run t.allocations) (claims_placed o t.placing) x i) [
   | inl j ↦
       let n = claim_is c t.run t.allocations x j in
-      ap (λ (y : Claim). is_released_in true t.snapshot marks y.page y.index) n.is ∙ q.kept refl n.number n.unreleased
+      rw n.is (q.kept refl n.number n.unreleased)
   | inr j ↦ by t.placing refl j
 ]
   where
@@ -321,5 +306,4 @@ none_released c o marks t q x i = elim (among_parts (claims_of c t.run t.allocat
     by (Used place) is (inr j) = absurd j
     by (Used place) is (inl e) = false_from_ne_true (is_released_in true t.snapshot marks x.page x.index) (λ r.
         let bits = released_bits t.snapshot marks x.page x.index r in
-        true≢false (sym (q.within x.page x.index bits.0)
-        ∙ ap (λ (y : Claim). has_bit (slice_index t.freed y.page) y.index) e ∙ q.taken place is))
+        true≢false (sym (q.within x.page x.index bits.0) ∙ rw e (q.taken place is)))

@@ -1,13 +1,7 @@
 -- What a laid out scene says of one page.
-use Rattle.std.proofs.Common.{List, [], ap, arith, inl, inr, sym, true, ℕ, ◌+◌, ◌<◌, ◌∙◌, ◌∷◌, ◌≡◌, ◌≢◌}
+use Rattle.std.proofs.Common.{List, arith, inl, inr, sym, true, ℕ, ◌+◌, ◌<◌, ◌∙◌, ◌∷◌, ◌≡◌, ◌≢◌, []}
 use Rattle.std.proofs.lemmas.Bool.{false_from_ne_true, true≢false}
-use Rattle.mk_geom.specs.Headers.{header_of}
-use Rattle.mk_geom.specs.declared.pages.Page.{Page}
-use Rattle.mk_core.specs.Bits.{has_bit}
-use Rattle.mk_core.specs.Cells.{cells_under}
-use Rattle.mk_core.specs.NewPlaces.{pages_made}
-use Rattle.mk_core.specs.ObjectHeaders.{IsHeaderOf, ShowsPart}
-use Rattle.mk_core.specs.declared.seats.Object.{Object}
+use Rattle.mk_protocol.proofs.Vocabulary.{IsHeaderOf, Object, Page, ShowsPart, cells_under, has_bit, pages_made}
 use Rattle.mk_core.proofs.ObjectHeaders.{header_shows, part_head, part_not_free}
 use Rattle.mk_core.proofs.WordBits.{no_bit, zero_from_bits}
 use Rattle.mk_layout.specs.LayoutScene.{Among, AreApart, Claim, HasHeader, IsLaidOn, IsOfOneCell, IsShown, Mapped, Mode}
@@ -42,8 +36,7 @@ claimed_head pages x distance shown lt = part_head x.object distance x.page (sho
 pub claimed_used : (pages : List Page) (x : Claim) (distance : ℕ) → IsShown pages x → distance < pages_made x.object
     → used_on pages (head_on pages (x.page + distance)) ≢ 0
 claimed_used pages x distance shown lt z =
-    none_set (used_on pages x.page) x.index (ap (λ p. used_on pages p) (sym (claimed_head pages x distance shown lt))
-    ∙ z) shown.used
+    none_set (used_on pages x.page) x.index (rw (← (claimed_head pages x distance shown lt)) z) shown.used
 
 pub claimed_some : (pages : List Page) (x : Claim) (distance : ℕ) → IsShown pages x → distance < pages_made x.object
     → header_on pages (x.page + distance) ≢ 0
@@ -57,18 +50,16 @@ cellless_unused s p laid none =
     zero_where_none (used_on s.pages p) (λ k h. let t = laid.used p k h in let lt = t.0 in absurd (omega arith))
 
 pub free_unused : (s : LayoutScene) (p : ℕ) → IsLaidOn s → header_on s.pages p ≡ 0 → used_on s.pages p ≡ 0
-free_unused s p laid z = cellless_unused s p laid (ap (λ h. cells_under (header_of h)) z)
+free_unused s p laid z = cellless_unused s p laid (rw z)
 
 -- two claims of one cell are one
 pub one_claim : (xs : List Claim) (x y : Claim) → AreApart xs → Among x xs → Among y xs → IsOfOneCell x y → x ≡ y
 one_claim [] x y apart ix iy same = absurd ix
 one_claim (z ∷ zs) x y apart (inl ex) (inl ey) same = ex ∙ sym ey
-one_claim (z ∷ zs) x y apart (inl ex) (inr iy) same =
-    absurd (apart.0 y iy (ap (λ (c : Claim). c.page) (sym ex) ∙ same.0, ap (λ (c : Claim). c.index) (sym ex) ∙ same.1))
+one_claim (z ∷ zs) x y apart (inl ex) (inr iy) same = absurd (apart.0 y iy (rw (← ex) same.0, rw (← ex) same.1))
 one_claim (z ∷ zs) x y apart (inr ix) (inl ey) same =
     absurd (apart.0 x ix (
-      ap (λ (c : Claim). c.page) (sym ey) ∙ sym same.0,
-      ap (λ (c : Claim). c.index) (sym ey)
-          ∙ sym same.1,
+      rw (← ey) (sym same.0),
+      rw (← ey) (sym same.1),
     ))
 one_claim (z ∷ zs) x y apart (inr ix) (inr iy) same = one_claim zs x y apart.1 ix iy same

@@ -1,18 +1,11 @@
 -- `release` on the terrain: an allocation is released exactly where its cell is left unmarked.
-use Rattle.std.proofs.Common.{Bool, List, ap, arith, false, inl, inr, length, map, refl, subst, sym, true, ℕ, ◌++◌, ◌/◌}
-use Rattle.std.proofs.Common.{◌∙◌, ◌≡◌, ◌⊎◌}
+use Rattle.std.proofs.Common.{Bool, List, arith, false, inl, inr, length, map, refl, sym, true, ℕ, ◌++◌, ◌/◌, ◌∙◌, ◌≡◌}
+use Rattle.std.proofs.Common.{◌⊎◌}
 use Rattle.std.specs.Prelude.{None, Option, Some, slice_index, ◌||◌}
 use Rattle.std.proofs.lemmas.Bool.{cases_Bool, true≢false}
-use Rattle.mk_geom.specs.Addresses.{address_of}
-use Rattle.mk_core.specs.Allocations.{PlacedAllocation, cell_of_allocation, placed_at, with_released}
-use Rattle.mk_core.specs.Bounded.{is_some_and}
-use Rattle.mk_core.specs.Cells.{is_left_unmarked, pointed_cell}
-use Rattle.mk_core.specs.Config.{IsWithinLimits}
-use Rattle.mk_core.specs.History.{World}
-use Rattle.mk_core.specs.Words.{Words}
-use Rattle.mk_core.specs.declared.config.Config.{Config}
-use Rattle.mk_core.specs.declared.seats.Object.{Object}
-use Rattle.mk_core.specs.declared.seats.RunPages.{RunPages}
+use Rattle.mk_protocol.proofs.Vocabulary.{Config, IsWithinLimits, Object, PlacedAllocation, RunPages, Words, World}
+use Rattle.mk_protocol.proofs.Vocabulary.{address_of, cell_of_allocation, is_left_unmarked, is_some_and, placed_at}
+use Rattle.mk_protocol.proofs.Vocabulary.{pointed_cell, with_released}
 use Rattle.mk_core.proofs.BitsWithout.{has_bit_without}
 use Rattle.mk_core.proofs.ChangedAllocations.{released_leaves}
 use Rattle.mk_core.proofs.PointedAllocations.{released_where_left}
@@ -72,21 +65,18 @@ goes c run w xs x limits stand i =
     let left = left_is c w a limits (stand n.number n.unreleased) in
     elim (cases_Bool (with_released c w a).released) [
       | inr u ↦
-          inl (subst (λ (y : Claim). Among y (claims_of c run (map (with_released c w) xs))) (sym n.is)
-          (changed_among c run (with_released c w) xs n.number (releasing_leaves c w) u))
-      | inl r ↦ inr (ap (λ (y : Claim). is_released_in true w.snapshot w.marks y.page y.index) n.is ∙ sym left ∙ r)
+          inl (rw n.is (changed_among c run (with_released c w) xs n.number (releasing_leaves c w) u))
+      | inl r ↦ inr (rw n.is (sym left ∙ r))
     ]
 
 pub released_terrain : (c : Config) (o : Object) (w : World) → IsWithinLimits c → length w.now.words.pages ≡ c.pages
-    → Laid c o false w (ground_of w)
-    → ((run : RunPages) → w.now.seats.holding.freed ≡ Some run
+    → Laid c o false w (ground_of w) → ((run : RunPages) → w.now.seats.holding.freed ≡ Some run
     → is_released_in true w.now.words.snapshot w.now.words.marks run.page 0 ≡ false)
     → Laid c o true w (record (ground_of w) { allocations = map (with_released c w.now.words) w.allocations })
 released_terrain c o w limits len st kept =
     record {
       scene = layout_released (layout_scene_of c o false w.now.words.marks (ground_of w))
-          (claims_of c w.now.seats.holding.freed ys ++ placed) st.scene refl
-          (record {
+          (claims_of c w.now.seats.holding.freed ys ++ placed) st.scene refl (record {
             fewer = λ x i. elim (among_parts (claims_of c w.now.seats.holding.freed ys) placed x i) [
               | inl j ↦ own_claim c o (ground_of w) x (was x j)
               | inr j ↦ placed_claim c o (ground_of w) x j
@@ -122,8 +112,7 @@ released_terrain c o w limits len st kept =
     was x j =
         let n = was_claim c w.now.seats.holding.freed (with_released c w.now.words) w.allocations x
         (releasing_leaves c w.now.words) j in
-        subst (λ (y : Claim). Among y (claims_of c w.now.seats.holding.freed w.allocations)) (sym n.is)
-        (claim_among c w.now.seats.holding.freed w.allocations n.number n.was)
+        rw n.is (claim_among c w.now.seats.holding.freed w.allocations n.number n.was)
 
     going : (x : Claim) → Among x (claims_of c w.now.seats.holding.freed w.allocations)
         → Among x (claims_of c w.now.seats.holding.freed (map (with_released c w.now.words) w.allocations))
@@ -141,7 +130,5 @@ released_terrain c o w limits len st kept =
           let one = large_cells r.claim.object r.large in
           let lt = shown.known in
           let zero : r.claim.index ≡ 0 = omega arith in
-          absurd (true≢false (sym lost
-          ∙ ap (λ p. is_released_in true w.now.words.snapshot w.now.words.marks p r.claim.index) r.page
-          ∙ ap (λ i. is_released_in true w.now.words.snapshot w.now.words.marks x.page i) zero ∙ kept x is))
+          absurd (true≢false (sym lost ∙ rw r.page (rw zero (kept x is))))
     ]

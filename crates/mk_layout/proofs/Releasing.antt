@@ -1,54 +1,40 @@
 -- The steps that release: `release`, cells given back, pages freed in any order, and `end`.
-use Rattle.std.proofs.Common.{Bool, List, ap, arith, false, inl, inr, length, length-set, refl, subst, sym, true, ℕ}
-use Rattle.std.proofs.Common.{◌+◌, ◌-◌, ◌<◌, ◌∙◌, ◌≡◌, ◌≢◌, ◌⊎◌}
+use Rattle.std.proofs.Common.{Bool, List, ap, arith, false, inl, inr, length, length-set, refl, sym, true, ℕ, ◌+◌, ◌-◌}
+use Rattle.std.proofs.Common.{◌<◌, ◌∙◌, ◌≡◌, ◌≢◌, ◌⊎◌}
 use Rattle.std.specs.Prelude.{Option, Some}
 use Rattle.std.proofs.lemmas.Bool.{cases_Bool, cases_eq, cases_lt, true≢false}
 use Rattle.std.proofs.lemmas.List.{get_or_past}
-use Rattle.mk_geom.specs.Addresses.{head_page_under}
-use Rattle.mk_geom.specs.Headers.{header_of}
-use Rattle.mk_geom.specs.Storages.{free_page}
-use Rattle.mk_geom.specs.declared.headers.Header.{Header}
-use Rattle.mk_geom.specs.declared.headers.Header.TheVariants.{Later}
-use Rattle.mk_geom.specs.declared.pages.Page.{Page}
-use Rattle.mk_core.specs.Bits.{has_bit}
-use Rattle.mk_core.specs.Cells.{cells_under}
-use Rattle.mk_core.specs.Counts.{ends}
-use Rattle.mk_core.specs.NewPlaces.{header_made, pages_made, stands}
+use Rattle.mk_protocol.proofs.Vocabulary.{Header, Later, Page, cells_under, ends, free_page, has_bit, head_page_under}
+use Rattle.mk_protocol.proofs.Vocabulary.{header_of, pages_made, stands}
 use Rattle.mk_protocol.proofs.Kept.{kept}
-use Rattle.mk_layout.specs.LayoutScene.{Among, AreApart, Claim, HasHeader, IsClaimed, IsLaidOn, IsShown, NoPlot, Plot}
-use Rattle.mk_layout.specs.LayoutScene.{PlotStands, Plotted, LayoutScene, head_on, header_on, is_released_in}
-use Rattle.mk_layout.specs.LayoutScene.{is_released_on}
-use Rattle.mk_layout.specs.LayoutScene.{run_count, shows_on, used_on}
+use Rattle.mk_layout.specs.LayoutScene.{Among, AreApart, Claim, IsClaimed, IsLaidOn, IsShown, NoPlot, Plot, PlotStands}
+use Rattle.mk_layout.specs.LayoutScene.{Plotted, LayoutScene, head_on, header_on, is_released_in, is_released_on}
+use Rattle.mk_layout.specs.LayoutScene.{shows_on, used_on}
 use Rattle.mk_layout.proofs.PageSets.{headed_here, headed_other, headed_used, used_header, used_here, used_other}
 use Rattle.mk_layout.proofs.PageSets.{with_header_on, with_used_on}
 use Rattle.mk_layout.proofs.Readings.{cellless_unused, claimed_used, free_unused, none_set, zero_where_none}
 
 -- a page with nothing on it is on no claim's pages
 unclaimed : (s : LayoutScene) (p : ℕ) → IsLaidOn s → used_on s.pages (head_on s.pages p) ≡ 0 → (x : Claim)
-    → Among x s.claims
-    → (distance : ℕ) → distance < pages_made x.object
-    → x.page + distance ≢ p
-unclaimed s p laid z x among distance lt e =
-    claimed_used s.pages x distance (laid.shown x among) lt (ap (λ q. used_on s.pages (head_on s.pages q)) e ∙ z)
+    → Among x s.claims → (distance : ℕ) → distance < pages_made x.object → x.page + distance ≢ p
+unclaimed s p laid z x among distance lt e = claimed_used s.pages x distance (laid.shown x among) lt (rw e z)
 
 -- the pages of a claim are others
 pub shown_beside : (pages : List Page) (p n : ℕ) (x : Claim) → p < length pages → IsShown pages x
-    → ((distance : ℕ) → distance < pages_made x.object → x.page + distance ≢ p)
-    → IsShown (with_header_on pages p n) x
+    → ((distance : ℕ) → distance < pages_made x.object → x.page + distance ≢ p) → IsShown (with_header_on pages p n) x
 shown_beside pages p n x lt shown apart =
     record {
       sized = shown.sized;
       known = shown.known;
       within = let len = length-set pages p (record { header = n; used = used_on pages p }) in let w =
           shown.within in omega arith;
-      headers = λ d ld. subst (λ h. HasHeader x.mode x.object d h)
-          (sym (headed_other pages p n (x.page + d) (apart d ld))) (shown.headers d ld);
-      used = ap (λ u. has_bit u x.index) (headed_used pages p n x.page lt) ∙ shown.used;
+      headers = λ d ld. rw (headed_other pages p n (x.page + d) (apart d ld)) (shown.headers d ld);
+      used = rw (headed_used pages p n x.page lt) shown.used;
     }
 
 -- where a page shows what it showed, so does its head
 pub head_of_other : (pages : List Page) (p n q : ℕ) → q ≢ p → head_on (with_header_on pages p n) q ≡ head_on pages q
-head_of_other pages p n q ne = ap (λ h. head_page_under (header_of h) q) (headed_other pages p n q ne)
+head_of_other pages p n q ne = rw (headed_other pages p n q ne)
 
 abbrev Emptied : LayoutScene → ℕ → LayoutScene
 Emptied s p = record s { pages = with_header_on s.pages p 0 }
@@ -62,9 +48,8 @@ plot_emptied pages p (Plotted first o) lt stands =
       within = let len = length-set pages p (record { header = 0; used = used_on pages p }) in let w =
           stands.within in omega arith;
       headers = λ d ld. elim (cases_eq (first + d) p) [
-        | inl e ↦ inl (ap (λ q. header_on (with_header_on pages p 0) q) e ∙ headed_here pages p 0 lt)
-        | inr ne ↦ subst (λ h. (h ≡ 0) ⊎ (h ≡ header_made o d)) (sym (headed_other pages p 0 (first + d) ne))
-            (stands.headers d ld)
+        | inl e ↦ inl (rw e (headed_here pages p 0 lt))
+        | inr ne ↦ rw (headed_other pages p 0 (first + d) ne) (stands.headers d ld)
       ];
       used = λ d ld. headed_used pages p 0 (first + d) lt ∙ stands.used d ld;
     }
@@ -77,12 +62,11 @@ layout_emptied s p laid lt on z =
       shown = λ x among. shown_beside s.pages p 0 x lt (laid.shown x among) (unclaimed s p laid z x among);
       apart = laid.apart;
       used = λ q k h. elim (cases_eq q p) [
-        | inl e ↦ absurd (none_set (used_on s.pages p) k unused (ap (λ i. has_bit (used_on s.pages i) k) (sym e)
-            ∙ old q k h))
+        | inl e ↦ absurd (none_set (used_on s.pages p) k unused (rw (← e)
+            (old q k h)))
         | inr ne ↦ let t = laid.used q k
             (old q k h) in (
-              subst (λ c. k < c)
-                  (ap (λ h. cells_under (header_of h)) (sym (headed_other s.pages p 0 q ne))) t.0,
+              rw (ap (λ h. cells_under (header_of h)) (sym (headed_other s.pages p 0 q ne))) at t.0,
               t.1,
             )
       ];
@@ -91,19 +75,18 @@ layout_emptied s p laid lt on z =
       later = λ q d m is. elim (cases_eq q p) [
         | inl e ↦ absurd (not_later m d (ap (λ i. shows_on (with_header_on s.pages p 0) i) (sym e) ∙ is))
         | inr ne ↦
-            let l = laid.later q d m (ap (λ h. header_of h) (sym (headed_other s.pages p 0 q ne)) ∙ is) in (
+            let l = laid.later q d m (rw (← (headed_other s.pages p 0 q ne)) is) in (
               l.0,
               elim (cases_eq (q - d) p) [
-                | inl e ↦ inr (on, ap (λ i. header_on (with_header_on s.pages p 0) i) e ∙ headed_here s.pages p 0 lt)
-                | inr other ↦ subst (λ h. (d < run_count (header_of h)) ⊎ ((s.releasing ≡ true) × (h ≡ 0)))
-                    (sym (headed_other s.pages p 0 (q - d) other)) l.1
+                | inl e ↦ inr (on, rw e (headed_here s.pages p 0 lt))
+                | inr other ↦ rw (headed_other s.pages p 0 (q - d) other) l.1
               ],
             )
       ];
     }
   where
     old : (q k : ℕ) → has_bit (used_on (with_header_on s.pages p 0) q) k ≡ true → has_bit (used_on s.pages q) k ≡ true
-    old q k h = ap (λ u. has_bit u k) (sym (headed_used s.pages p 0 q lt)) ∙ h
+    old q k h = rw (← (headed_used s.pages p 0 q lt)) h
 
     -- a later page has no bit, and another is its own head
     unused_by : (x : Option Header) → shows_on s.pages p ≡ x → used_on s.pages (head_page_under x p) ≡ 0
@@ -134,14 +117,13 @@ layout_given_back s p n laid lt on gives kept =
       apart = laid.apart;
       used = λ q k h. let t =
           laid.used q k (fewer q k h)
-          in (subst (λ c. k < c) (ap (λ h. cells_under (header_of h)) (sym (used_header s.pages p n q lt))) t.0, t.1);
+          in (rw (ap (λ h. cells_under (header_of h)) (sym (used_header s.pages p n q lt))) at t.0, t.1);
       plot = plot s.plot laid.plot;
       occupied = λ q some empty. inl on;
       later = λ q d m is.
-          let l = laid.later q d m (ap (λ h. header_of h) (sym (used_header s.pages p n q lt)) ∙ is) in (
+          let l = laid.later q d m (rw (← (used_header s.pages p n q lt)) is) in (
             l.0,
-            subst (λ h. (d < run_count (header_of h)) ⊎ ((s.releasing ≡ true) × (h ≡ 0)))
-                (sym (used_header s.pages p n (q - d) lt)) l.1,
+            rw (used_header s.pages p n (q - d) lt) l.1,
           );
     }
   where
@@ -150,24 +132,19 @@ layout_given_back s p n laid lt on gives kept =
 
     fewer : (q k : ℕ) → has_bit (used_on (with_used_on s.pages p n) q) k ≡ true → has_bit (used_on s.pages q) k ≡ true
     fewer q k h = elim (cases_eq q p) [
-      | inl e ↦ ap (λ i. has_bit (used_on s.pages i) k) e
-          ∙ gives.fewer k (ap (λ u. has_bit u k) (sym (used_here s.pages p n lt))
-          ∙ ap (λ i. has_bit (used_on (with_used_on s.pages p n) i) k) (sym e) ∙ h)
-      | inr ne ↦ ap (λ u. has_bit u k) (sym (used_other s.pages p n q ne)) ∙ h
+      | inl e ↦ rw e (gives.fewer k (rw (← (used_here s.pages p n lt))
+          (ap (λ i. has_bit (used_on (with_used_on s.pages p n) i) k) (sym e) ∙ h)))
+      | inr ne ↦ rw (← (used_other s.pages p n q ne)) h
     ]
 
     bit : (x : Claim) → Among x s.claims → has_bit (used_on s.pages x.page) x.index ≡ true
         → has_bit (used_on (with_used_on s.pages p n) x.page) x.index ≡ true
     bit x among was = elim (cases_eq x.page p) [
-      | inr ne ↦ ap (λ u. has_bit u x.index) (used_other s.pages p n x.page ne) ∙ was
-      | inl e ↦ ap (λ i. has_bit (used_on (with_used_on s.pages p n) i) x.index) e
-          ∙ ap (λ u. has_bit u x.index) (used_here s.pages p n lt)
-          ∙ elim (cases_Bool (has_bit n x.index)) [
-            | inl stays ↦ stays
-            | inr goes ↦ absurd (true≢false
-                (sym (gives.gone x.index (ap (λ i. has_bit (used_on s.pages i) x.index) (sym e) ∙ was) goes)
-                ∙ ap (λ i. is_released_on s i x.index) (sym e) ∙ kept x among))
-          ]
+      | inr ne ↦ rw (used_other s.pages p n x.page ne) was
+      | inl e ↦ rw e (rw (used_here s.pages p n lt) (elim (cases_Bool (has_bit n x.index)) [
+        | inl stays ↦ stays
+        | inr goes ↦ absurd (true≢false (sym (gives.gone x.index (rw (← e) was) goes) ∙ rw (← e) (kept x among)))
+      ]))
     ]
 
     shown : (x : Claim) → Among x s.claims → IsShown s.pages x → IsShown (with_used_on s.pages p n) x
@@ -176,8 +153,7 @@ layout_given_back s p n laid lt on gives kept =
           sized = was.sized;
           known = was.known;
           within = let l = len in let w = was.within in omega arith;
-          headers = λ d ld. subst (λ h. HasHeader x.mode x.object d h) (sym (used_header s.pages p n (x.page + d) lt))
-              (was.headers d ld);
+          headers = λ d ld. rw (used_header s.pages p n (x.page + d) lt) (was.headers d ld);
           used = bit x among was.used;
         }
 
@@ -187,8 +163,7 @@ layout_given_back s p n laid lt on gives kept =
         record {
           sized = stands.sized;
           within = let l = len in let w = stands.within in omega arith;
-          headers = λ d ld. subst (λ h. (h ≡ 0) ⊎ (h ≡ header_made o d)) (sym (used_header s.pages p n (first + d) lt))
-              (stands.headers d ld);
+          headers = λ d ld. rw (used_header s.pages p n (first + d) lt) (stands.headers d ld);
           used =
               λ d ld. zero_where_none (used_on (with_used_on s.pages p n) (first + d))
               (λ k h. none_set (used_on s.pages (first + d)) k (stands.used d ld) (fewer (first + d) k h));
@@ -222,11 +197,10 @@ layout_released s claims laid off r =
   where
     by : (p k : ℕ) → IsClaimed s.claims p k ⊎ (is_released_on s p k ≡ true)
         → IsClaimed claims p k ⊎ (is_released_in true s.snapshot s.marks p k ≡ true)
-    by p k (inr was) = absurd (true≢false (sym was ∙ ap (λ b. is_released_in b s.snapshot s.marks p k) off))
+    by p k (inr was) = absurd (true≢false (sym was ∙ rw off))
     by p k (inl o) = elim (r.gone o.claim o.among) [
       | inl stays ↦ inl (record { claim = o.claim; among = stays; page = o.page; index = o.index })
-      | inr goes ↦ inr (ap (λ i. is_released_in true s.snapshot s.marks p i) (sym o.index)
-          ∙ ap (λ i. is_released_in true s.snapshot s.marks i o.claim.index) (sym o.page) ∙ goes)
+      | inr goes ↦ inr (rw (← o.index) (rw (← o.page) goes))
     ]
 
 -- `end`: nothing released is left, and no page without a used cell
@@ -278,5 +252,4 @@ layout_ended s laid ends =
     headless : (p d : ℕ) (m : Bool) → shows_on s.pages p ≡ Some (Later d m) → header_on s.pages (p - d) ≡ 0 → ⊥
     headless p d m is z =
         let some = not_free d m p is in
-        ends.settled p (inside p some) some (ap (λ x. used_on s.pages (head_page_under x p)) is
-        ∙ free_unused s (p - d) laid z)
+        ends.settled p (inside p some) some (rw is (free_unused s (p - d) laid z))

@@ -1,22 +1,14 @@
 -- How many pages are resident or in a plot, where few change.
 use Rattle.std.proofs.Common.{Bool, List, ap, arith, false, inl, inr, length, refl, sym, true, ℕ, ◌<◌, ◌∙◌, ◌≡◌, ◌≢◌}
 use Rattle.std.proofs.Common.{◌≤◌}
-use Rattle.std.specs.Prelude.{None, Option, Some, ◌||◌}
-use Rattle.std.proofs.lemmas.Bool.{cases_eq, cases_lt, or_cases, true≢false}
+use Rattle.std.specs.Prelude.{None, Option, Some}
+use Rattle.std.proofs.lemmas.Bool.{cases_eq, cases_lt, or_cases, true≢false, or_left, or_right}
 use Rattle.std.proofs.lemmas.List.{get_or-set_other, get_or-set_same, set_past}
-use Rattle.mk_geom.specs.Headers.{header_of}
-use Rattle.mk_geom.specs.PageUses.{is_resident_page, resident_pages}
-use Rattle.mk_geom.specs.PageWords.{use_of_page, use_under, uses_of_pages}
+use Rattle.mk_protocol.proofs.Vocabulary.{Block, Config, Free, Header, Later, LeafBlock, LeafRun, Object, Page, Placing}
+use Rattle.mk_protocol.proofs.Vocabulary.{Run, World, free_page, header_of, is_resident_page, is_unmapped_header}
+use Rattle.mk_protocol.proofs.Vocabulary.{resident_pages, use_under, uses_of_pages}
+use Rattle.mk_geom.specs.PageWords.{use_of_page}
 use Rattle.mk_geom.specs.StorageWords.{page_in}
-use Rattle.mk_geom.specs.Storages.{free_page}
-use Rattle.mk_geom.specs.declared.headers.Header.{Header}
-use Rattle.mk_geom.specs.declared.headers.Header.TheVariants.{Block, Free, Later, LeafBlock, LeafRun, Run}
-use Rattle.mk_geom.specs.declared.pages.Page.{Page}
-use Rattle.mk_core.specs.Cells.{is_unmapped_header}
-use Rattle.mk_core.specs.History.{World}
-use Rattle.mk_core.specs.declared.config.Config.{Config}
-use Rattle.mk_core.specs.declared.seats.Object.{Object}
-use Rattle.mk_core.specs.declared.seats.Placing.{Placing}
 use Rattle.mk_layout.specs.Room.{HasRoom, count_below, in_plot, is_taken_page}
 use Rattle.mk_layout.specs.LayoutScene.{NoPlot, Plot, header_on, shows_on, used_on}
 use Rattle.mk_layout.specs.Terrain.{object_now, plot_of}
@@ -33,19 +25,11 @@ is_resident pages p = is_resident_page (use_of_page (page_in pages p))
 -- as few pages are taken as before
 pub room_fewer : (c : Config) (o u : Object) (pages others : List Page) (placing other : Placing)
     → ((q : ℕ) → q < c.pages → is_taken_page others (plot_of u other) q ≡ true
-    → is_taken_page pages (plot_of o placing) q ≡ true)
-    → RoomOn c o pages placing → RoomOn c u others other
+    → is_taken_page pages (plot_of o placing) q ≡ true) → RoomOn c o pages placing → RoomOn c u others other
 room_fewer c o u pages others placing other fewer room =
     let less = count_fewer c.pages (is_taken_page others (plot_of u other)) (is_taken_page pages (plot_of o placing))
     fewer in
     omega arith
-
-pub or_left : (a b : Bool) → a ≡ true → (a || b) ≡ true
-or_left a b h = ap (λ x. x || b) h
-
-pub or_right : (a b : Bool) → b ≡ true → (a || b) ≡ true
-or_right true b h = refl
-or_right false b h = h
 
 -- without a plot fewer are
 pub room_unplaced : (c : Config) (o u : Object) (pages others : List Page) (placing other : Placing)
@@ -53,11 +37,10 @@ pub room_unplaced : (c : Config) (o u : Object) (pages others : List Page) (plac
     → ((q : ℕ) → q < c.pages → is_resident others q ≡ true → is_resident pages q ≡ true) → RoomOn c o pages placing
     → RoomOn c u others other
 room_unplaced c o u pages others placing other none fewer room =
-    room_fewer c o u pages others placing other
-    (λ q lt t. or_left (is_resident pages q) (in_plot (plot_of o placing) q)
+    room_fewer c o u pages others placing other (λ q lt t. or_left (is_resident pages q) (in_plot (plot_of o placing) q)
     (elim (or_cases (is_resident others q) (in_plot (plot_of u other) q) t) [
       | inl r ↦ fewer q lt r
-      | inr i ↦ absurd (true≢false (sym i ∙ ap (λ (x : Plot). in_plot x q) none))
+      | inr i ↦ absurd (true≢false (sym i ∙ rw none))
     ])) room
 
 -- with the same plot, where fewer pages are resident
@@ -84,28 +67,21 @@ resident_use (Some (Later d m)) u v = refl
 pub unmapped_use : (x : Option Header) (u : ℕ) → is_unmapped_header x ≡ true → is_resident_page (use_under x u) ≡ false
 unmapped_use None u h = refl
 unmapped_use (Some Free) u h = refl
-unmapped_use (Some (Block k)) u h = cc
-unmapped_use (Some (LeafBlock k)) u h = cc
-unmapped_use (Some (Run n true)) u h = cc
 unmapped_use (Some (Run n false)) u h = refl
-unmapped_use (Some (LeafRun n)) u h = cc
-unmapped_use (Some (Later d true)) u h = cc
 unmapped_use (Some (Later d false)) u h = refl
+unmapped_use _ u h = cc
 
 pub resident_used : (pages : List Page) (p n q : ℕ) → is_resident (with_used_on pages p n) q ≡ true
     → is_resident pages q ≡ true
 resident_used pages p n q h = elim (cases_eq q p) [
-  | inr ne ↦ ap (λ (x : Page). is_resident_page (use_of_page x))
-      (sym (get_or-set_other pages p q (record { header = header_on pages p; used = n }) free_page ne)) ∙ h
+  | inr ne ↦ rw (← (get_or-set_other pages p q (record { header = header_on pages p; used = n }) free_page ne)) h
   | inl e ↦ elim (cases_lt p (length pages)) [
     | inl lt ↦
         let page : page_in (with_used_on pages p n) q ≡ record { header = header_on pages p; used = n } =
-        ap (λ i. page_in (with_used_on pages p n) i) e
-        ∙ get_or-set_same pages p (record { header = header_on pages p; used = n }) free_page lt in
-        ap (λ i. is_resident pages i) e ∙ resident_use (shows_on pages p) (used_on pages p) n
-        ∙ ap (λ (x : Page). is_resident_page (use_of_page x)) (sym page) ∙ h
-    | inr past ↦ ap (λ (xs : List Page). is_resident xs q)
-        (sym (set_past pages p (record { header = header_on pages p; used = n }) past)) ∙ h
+        rw e (get_or-set_same pages p (record { header = header_on pages p; used = n }) free_page lt) in
+        rw e (resident_use (shows_on pages p) (used_on pages p) n
+        ∙ ap (λ (x : Page). is_resident_page (use_of_page x)) (sym page) ∙ h)
+    | inr past ↦ rw (← (set_past pages p (record { header = header_on pages p; used = n }) past)) h
   ]
 ]
 
@@ -113,8 +89,7 @@ resident_used pages p n q h = elim (cases_eq q p) [
 pub resident_other : (pages : List Page) (p n q : ℕ) → q ≢ p → is_resident (with_header_on pages p n) q ≡ true
     → is_resident pages q ≡ true
 resident_other pages p n q ne h =
-    ap (λ (x : Page). is_resident_page (use_of_page x))
-    (sym (get_or-set_other pages p q (record { header = n; used = used_on pages p }) free_page ne)) ∙ h
+    rw (← (get_or-set_other pages p q (record { header = n; used = used_on pages p }) free_page ne)) h
 
 -- where the header that it gets isn't that of a resident page
 pub resident_gone : (pages : List Page) (p n q : ℕ) → p < length pages
@@ -124,9 +99,8 @@ resident_gone pages p n q lt out h = elim (cases_eq q p) [
   | inr ne ↦ resident_other pages p n q ne h
   | inl e ↦
       let page : page_in (with_header_on pages p n) q ≡ record { header = n; used = used_on pages p } =
-      ap (λ i. page_in (with_header_on pages p n) i) e
-      ∙ get_or-set_same pages p (record { header = n; used = used_on pages p }) free_page lt in
-      absurd (true≢false (sym h ∙ ap (λ (x : Page). is_resident_page (use_of_page x)) page ∙ out))
+      rw e (get_or-set_same pages p (record { header = n; used = used_on pages p }) free_page lt) in
+      absurd (true≢false (sym h ∙ rw page out))
 ]
 
 pub resident_count : (pages : List Page)
@@ -143,5 +117,5 @@ resident_few c w len room =
     let less = count_fewer c.pages (is_resident pages) (is_taken_page pages plot)
     (λ q lt r. or_left (is_resident pages q) (in_plot plot q) r) in
     let count : count_below c.pages (is_resident pages) ≡ resident_pages (uses_of_pages pages) =
-    ap (λ n. count_below n (is_resident pages)) (sym len) ∙ resident_count pages in
+    rw (← len) (resident_count pages) in
     omega arith

@@ -2,31 +2,13 @@
 use Rattle.std.proofs.Common.{Bool, List, ap, arith, false, inl, inr, length, refl, subst, sym, true, ℕ, ◌+◌, ◌-◌, ◌<◌}
 use Rattle.std.proofs.Common.{◌∙◌, ◌≡◌}
 use Rattle.std.specs.Prelude.{None, Option, Some, if◌then◌else◌, nat_le, nat_lt, ◌==◌}
-use Rattle.std.proofs.lemmas.Bool.{and_from, cases_Bool, cases_eq, le-leb, lt-ltb}
-use Rattle.mk_geom.specs.Headers.{header_of}
-use Rattle.mk_geom.specs.PageUses.{is_resident_page, resident_pages}
-use Rattle.mk_geom.specs.PageWords.{use_under, uses_of_pages}
-use Rattle.mk_geom.specs.declared.pages.Page.{Page}
-use Rattle.mk_geom.specs.declared.pages.Place.{Place}
-use Rattle.mk_core.specs.Accesses.{found}
-use Rattle.mk_core.specs.Cells.{is_unmapped_header}
-use Rattle.mk_core.specs.Effects.{chosen, taken}
-use Rattle.mk_core.specs.History.{World}
-use Rattle.mk_core.specs.Moments.{flight_of, is_phase, nothing_done}
-use Rattle.mk_core.specs.NewPlaces.{header_made, object_made, pages_made}
-use Rattle.mk_core.specs.ObjectHeaders.{IsSized}
-use Rattle.mk_core.specs.Order.{seat_exists}
-use Rattle.mk_core.specs.StopConditions.{marks_place}
-use Rattle.mk_core.specs.TurnConditions.{place_now}
-use Rattle.mk_core.specs.Words.{header_at}
-use Rattle.mk_core.specs.declared.config.Config.{Config}
-use Rattle.mk_core.specs.declared.events.Seat.{Seat}
-use Rattle.mk_core.specs.declared.events.Step.{Step}
+use Rattle.std.proofs.lemmas.Bool.{and_from, cases_Bool, cases_eq, le-leb, lt-ltb, or_left, or_right}
+use Rattle.mk_protocol.proofs.Vocabulary.{Chosen, Config, Granted, IsSized, Object, Page, Place, Placing, RunPages}
+use Rattle.mk_protocol.proofs.Vocabulary.{Seat, Step, Unplaced, Used, World, chosen, flight_of, found, header_at}
+use Rattle.mk_protocol.proofs.Vocabulary.{header_made, header_of, is_phase, is_resident_page, is_unmapped_header}
+use Rattle.mk_protocol.proofs.Vocabulary.{marks_place, nothing_done, object_made, pages_made, place_now, resident_pages}
+use Rattle.mk_protocol.proofs.Vocabulary.{seat_exists, taken, use_under, uses_of_pages}
 use Rattle.mk_core.specs.declared.events.Step.TheVariants as step
-use Rattle.mk_core.specs.declared.seats.Object.{Object}
-use Rattle.mk_core.specs.declared.seats.Placing.{Placing}
-use Rattle.mk_core.specs.declared.seats.Placing.TheVariants.{Chosen, Granted, Unplaced, Used}
-use Rattle.mk_core.specs.declared.seats.RunPages.{RunPages}
 use Rattle.mk_core.proofs.ObjectHeaders.{unmapped_is_unmapped}
 use Rattle.mk_core.proofs.PageSteps.{HeadStep, ItCarves, ItEmpties, ItUnmaps, head_step}
 use Rattle.mk_core.proofs.PlacesNow.{AsChosen, AsUsed, ByFit, IsPlaced, placed_now, undecided_new}
@@ -48,8 +30,8 @@ use Rattle.mk_layout.proofs.Fits.{FitsOnFreePages, fits}
 use Rattle.mk_layout.proofs.Holders.{first_header, holding_object, made_sized, new_has_turn, no_run}
 use Rattle.mk_layout.proofs.PageKinds.{none_chosen}
 use Rattle.mk_layout.proofs.PageSets.{with_header_on, with_used_on}
-use Rattle.mk_layout.proofs.ResidentPages.{RoomOn, is_resident, or_left, or_right, resident_count, resident_gone}
-use Rattle.mk_layout.proofs.ResidentPages.{resident_other, resident_used, room_same, room_unplaced, unmapped_use}
+use Rattle.mk_layout.proofs.ResidentPages.{RoomOn, is_resident, resident_count, resident_gone, resident_other}
+use Rattle.mk_layout.proofs.ResidentPages.{resident_used, room_same, room_unplaced, unmapped_use}
 use Rattle.mk_layout.proofs.Serving.{Laid, own_claim, placed_claim}
 
 -- The place is chosen, where this many pages are free.
@@ -58,7 +40,7 @@ chosen_room : (c : Config) (o : Object) (pages : List Page) (place : Place) → 
 chosen_room c o pages place len fit =
     let range = count_range c.pages place.page (pages_made o) (is_resident pages) in
     let count : count_below c.pages (is_resident pages) ≡ resident_pages (uses_of_pages pages) =
-    ap (λ n. count_below n (is_resident pages)) (sym len) ∙ resident_count pages in
+    rw (← len) (resident_count pages) in
     let room = fit.room in
     omega arith
 
@@ -81,13 +63,11 @@ carved_room c o w place p n next room =
 
 abbrev HeadRoom : Config → World → Seat → ℕ → ℕ → Bool → Type 0
 HeadRoom c w seat p n four =
-    RoomOn c (object_now c w.now) (with_header_on w.now.words.pages p n)
-    (if four then w.now.seats.holding.placing
+    RoomOn c (object_now c w.now) (with_header_on w.now.words.pages p n) (if four then w.now.seats.holding.placing
     else chosen w.now.seats.holding.placing (place_now c w.now (flight_of w.now seat)))
 
 head_room : (c : Config) (w : World) (seat : Seat) (p n : ℕ) → Before c w → seat_exists c seat ≡ true
-    → p < length w.now.words.pages → IsLaidOut c w → HasRoom c w
-    → HeadStep c w.now (flight_of w.now seat) p n
+    → p < length w.now.words.pages → IsLaidOut c w → HasRoom c w → HeadStep c w.now (flight_of w.now seat) p n
     → RoomOn c (object_now c w.now) (with_header_on w.now.words.pages p n)
     (if is_phase w.now.words 4 then w.now.seats.holding.placing
     else chosen w.now.seats.holding.placing (place_now c w.now (flight_of w.now seat)))
@@ -119,8 +99,7 @@ head_room c w seat p n b there lt laid room (ItCarves off x) =
           ∙ ap (λ e. header_made o e) (sym d)))
     ]
     by o sized own (Chosen place) is AsChosen next =
-        carved_room c o w place p n next
-        (subst (λ (y : Placing). RoomOn c o w.now.words.pages y) is
+        carved_room c o w place p n next (subst (λ (y : Placing). RoomOn c o w.now.words.pages y) is
         (subst (λ (y : Object). RoomOn c y w.now.words.pages w.now.seats.holding.placing) own room))
     by o sized own (Used place) is AsUsed next =
         let st = subst (λ (y : Object). Laid c y (is_phase w.now.words 4) w (ground_of w)) own laid in
@@ -132,8 +111,7 @@ head_room c w seat p n b there lt laid room (ItCarves off x) =
         absurd (next.not_yet (ap (λ q. header_at w.now.words q) (sym back) ∙ shown.headers (p - place.page) next.near))
     by o sized own Granted is out next = elim out [ ]
 head_room c w seat p n b there lt laid room (ItUnmaps off x) =
-    subst (λ four. HeadRoom c w seat p n four) (sym off)
-    (by (place_now c w.now (flight_of w.now seat)) refl)
+    subst (λ four. HeadRoom c w seat p n four) (sym off) (by (place_now c w.now (flight_of w.now seat)) refl)
   where
     out : is_resident_page (use_under (header_of n) (used_on w.now.words.pages p)) ≡ false
     out =
@@ -145,8 +123,7 @@ head_room c w seat p n b there lt laid room (ItUnmaps off x) =
         let low = range.0 in
         let high = range.1 in
         let count = r.count in
-        unmapped_use (header_of n) (used_on w.now.words.pages p)
-        (ap (λ v. is_unmapped_header (header_of v)) x.next.is
+        unmapped_use (header_of n) (used_on w.now.words.pages p) (ap (λ v. is_unmapped_header (header_of v)) x.next.is
         ∙ unmapped_is_unmapped x.run.count (p - x.run.page) (omega arith, omega arith) x.next.near)
 
     by : (place : Option Place) → place_now c w.now (flight_of w.now seat) ≡ place
@@ -160,24 +137,20 @@ head_room c w seat p n b there lt laid room (ItUnmaps off x) =
         subst (λ (y : Placing). RoomOn c (object_now c w.now) (with_header_on w.now.words.pages p n) y)
         (sym (none_chosen w.now.seats.holding.placing))
         (room_same c (object_now c w.now) w.now.words.pages (with_header_on w.now.words.pages p n)
-        w.now.seats.holding.placing
-        (λ q lq r. or_left (is_resident w.now.words.pages q)
+        w.now.seats.holding.placing (λ q lq r. or_left (is_resident w.now.words.pages q)
         (in_plot (plot_of (object_now c w.now) w.now.seats.holding.placing) q)
         (resident_gone w.now.words.pages p n q lt out r)) room)
 head_room c w seat p n b there lt laid room (ItEmpties on x) =
     subst (λ four. HeadRoom c w seat p n four) (sym on)
     (room_same c (object_now c w.now) w.now.words.pages (with_header_on w.now.words.pages p n)
-    w.now.seats.holding.placing
-    (λ q lq r. or_left (is_resident w.now.words.pages q)
-    (in_plot (plot_of (object_now c w.now) w.now.seats.holding.placing) q)
-    (resident_gone w.now.words.pages p n q lt
+    w.now.seats.holding.placing (λ q lq r. or_left (is_resident w.now.words.pages q)
+    (in_plot (plot_of (object_now c w.now) w.now.seats.holding.placing) q) (resident_gone w.now.words.pages p n q lt
     (ap (λ v. is_resident_page (use_under (header_of v) (used_on w.now.words.pages p))) x.is) r)) room)
 
 mark_room : (c : Config) (w : World) (seat : Seat) (p n : ℕ) → Before c w → seat_exists c seat ≡ true → HasRoom c w
     → (t : Bool)
     → marks_place w.now.words (object_made c (flight_of w.now seat).op) (place_now c w.now (flight_of w.now seat)) p n
-    ≡ t
-    → RoomOn c (object_now c w.now) w.now.words.pages
+    ≡ t → RoomOn c (object_now c w.now) w.now.words.pages
     (if t then chosen w.now.seats.holding.placing (place_now c w.now (flight_of w.now seat))
     else w.now.seats.holding.placing)
 mark_room c w seat p n b there room false is = room
@@ -189,10 +162,7 @@ mark_room c w seat p n b there room true is =
     let o : Object = object_made c (flight_of w.now seat).op in
     let sized = made_sized c w.now seat b.limits b.known placed.new in
     let free = ap (λ q. header_at w.now.words q) (sym x.marked.at) ∙ x.marked.free in
-    subst (λ (y : Option Place). RoomOn c (object_now c w.now) w.now.words.pages (chosen w.now.seats.holding.placing y))
-    (sym x.there)
-    (subst (λ (y : Object). RoomOn c y w.now.words.pages (chosen w.now.seats.holding.placing (Some x.place))) (sym own)
-    (by o sized own x.place free w.now.seats.holding.placing refl placed.placed))
+    rw x.there (rw own (by o sized own x.place free w.now.seats.holding.placing refl placed.placed))
   where
     by : (o : Object) → IsSized o → object_now c w.now ≡ o → (place : Place) → header_at w.now.words place.page ≡ 0
         → (placing : Placing) → w.now.seats.holding.placing ≡ placing
@@ -202,12 +172,8 @@ mark_room c w seat p n b there room true is =
       | inl fit ↦ chosen_room c o w.now.words.pages place b.lengths.pages fit
       | inr fit ↦ absurd (first_header o sized (sym fit.header ∙ free))
     ]
-    by o sized own place free (Chosen found) is AsChosen =
-        subst (λ (y : Placing). RoomOn c o w.now.words.pages y) is
-        (subst (λ (y : Object). RoomOn c y w.now.words.pages w.now.seats.holding.placing) own room)
-    by o sized own place free (Used found) is AsUsed =
-        subst (λ (y : Placing). RoomOn c o w.now.words.pages y) is
-        (subst (λ (y : Object). RoomOn c y w.now.words.pages w.now.seats.holding.placing) own room)
+    by o sized own place free (Chosen found) is AsChosen = rw is at (rw own at room)
+    by o sized own place free (Used found) is AsUsed = rw is at (rw own at room)
     by o sized own place free Granted is out = elim out [ ]
 
 used_room : (c : Config) (w : World) (p n : ℕ) (four : Bool) (found : Option Place) → HasRoom c w
@@ -218,8 +184,7 @@ used_room c w p n four found room = by four found
     same : RoomOn c (object_now c w.now) (with_used_on w.now.words.pages p n) w.now.seats.holding.placing
     same =
         room_same c (object_now c w.now) w.now.words.pages (with_used_on w.now.words.pages p n)
-        w.now.seats.holding.placing
-        (λ q lt r. or_left (is_resident w.now.words.pages q)
+        w.now.seats.holding.placing (λ q lt r. or_left (is_resident w.now.words.pages q)
         (in_plot (plot_of (object_now c w.now) w.now.seats.holding.placing) q)
         (resident_used w.now.words.pages p n q r)) room
 
@@ -230,13 +195,11 @@ used_room c w p n four found room = by four found
     by false None = same
     by false (Some place) =
         room_unplaced c (object_now c w.now) (object_now c w.now) w.now.words.pages (with_used_on w.now.words.pages p n)
-        w.now.seats.holding.placing (Used place) refl
-        (λ q lt r. resident_used w.now.words.pages p n q r) room
+        w.now.seats.holding.placing (Used place) refl (λ q lt r. resident_used w.now.words.pages p n q r) room
 
 -- each kind of event, whatever the seat
 room_by_kind : (c : Config) (w : World) (seat : Seat) (x : Step) → Before c w → Meets c w.now seat x → IsLaidOut c w
-    → HasRoom c w
-    → RoomOn c (object_now c w.now) (WorldBehind c w seat x).now.words.pages
+    → HasRoom c w → RoomOn c (object_now c w.now) (WorldBehind c w seat x).now.words.pages
     (WorldBehind c w seat x).now.seats.holding.placing
 room_by_kind c w seat (step.Take o) b h laid room = by (w.now.words.turn == 0)
   where
@@ -248,12 +211,8 @@ room_by_kind c w seat (step.Take o) b h laid room = by (w.now.words.turn == 0)
 room_by_kind c w seat step.Give b h laid room =
     room_unplaced c (object_now c w.now) (object_now c w.now) w.now.words.pages w.now.words.pages
     w.now.seats.holding.placing Unplaced refl (λ q lt r. r) room
-room_by_kind c w seat step.Reg b h laid room =
-    subst (λ (ps : List Page). RoomOn c (object_now c w.now) ps w.now.seats.holding.placing)
-    (sym (reg_leaves_ground c w seat).pages) room
-room_by_kind c w seat (step.Tally n v) b h laid room =
-    subst (λ (ps : List Page). RoomOn c (object_now c w.now) ps w.now.seats.holding.placing)
-    (sym (tally_ground w.now.words n v).pages) room
+room_by_kind c w seat step.Reg b h laid room = rw (reg_leaves_ground c w seat).pages room
+room_by_kind c w seat (step.Tally n v) b h laid room = rw (tally_ground w.now.words n v).pages room
 room_by_kind c w seat (step.Head p n) b h laid room =
     head_room c w seat p n b h.seat (page_within c w p b h.range) laid room
     (head_step c w.now (flight_of w.now seat) p n h.holder)
@@ -269,10 +228,9 @@ room_by_kind c w seat (step.Mark p n) b h laid room =
 room_by_kind c w seat _ b h laid room = room
 
 no_plot : (o : Object) (placing : Placing) → has_place placing ≡ false → plot_of o placing ≡ NoPlot
-no_plot o Unplaced none = refl
-no_plot o Granted none = refl
 no_plot o (Chosen place) none = cc
 no_plot o (Used place) none = cc
+no_plot o _ none = refl
 
 pub room_behind : (c : Config) (w : World) (seat : Seat) (x : Step) → Before c w → Meets c w.now seat x → IsLaidOut c w
     → HasRoom c w → HasRoom c (WorldBehind c w seat x)
@@ -280,8 +238,7 @@ room_behind c w seat x b h laid room =
     let v : World = WorldBehind c w seat x in
     let kind = room_by_kind c w seat x b h laid room in
     elim (cases_Bool (has_place v.now.seats.holding.placing)) [
-      | inl has ↦ subst (λ (o : Object). RoomOn c o v.now.words.pages v.now.seats.holding.placing)
-          (sym (object_kind c w seat x b.known h has)) kind
+      | inl has ↦ rw (object_kind c w seat x b.known h has) kind
       | inr none ↦
           room_unplaced c (object_now c w.now) (object_now c v.now) v.now.words.pages v.now.words.pages
           v.now.seats.holding.placing v.now.seats.holding.placing

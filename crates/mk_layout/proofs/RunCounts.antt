@@ -1,11 +1,9 @@
 -- How many pages the run has that a header of an object heads.
-use Rattle.std.proofs.Common.{◌≡◌, ℕ, ◌≤◌, true, false, refl, sym, ◌∙◌, subst, inl, inr, arith}
+use Rattle.std.proofs.Common.{◌≡◌, ℕ, ◌≤◌, true, false, refl, sym, ◌∙◌, inl, inr, arith}
 use Rattle.std.specs.Prelude.{Option}
 use Rattle.std.proofs.lemmas.Bool.{cases_eq, true≢false}
-use Rattle.mk_geom.specs.declared.headers.Header.{Header}
-use Rattle.mk_core.specs.declared.seats.Object.{Object}
-use Rattle.mk_core.specs.NewPlaces.{is_small_object, pages_made}
-use Rattle.mk_core.specs.ObjectHeaders.{ShowsPart, OfBlock, OfLeafBlock, OfRun, OfLeafRun, OfLater}
+use Rattle.mk_protocol.proofs.Vocabulary.{Header, Object, OfBlock, OfLater, OfLeafBlock, OfLeafRun, OfRun, ShowsPart}
+use Rattle.mk_protocol.proofs.Vocabulary.{is_small_object, pages_made}
 use Rattle.mk_layout.specs.LayoutScene.{run_count}
 
 -- the head of a large object's run has its pages,
@@ -13,9 +11,8 @@ pub part_count : (o : Object) (x : Option Header) → ShowsPart o 0 x → is_sma
     → run_count x ≡ pages_made o
 part_count o x (OfBlock first small leaf) large = absurd (true≢false (sym small ∙ large))
 part_count o x (OfLeafBlock first small leaf) large = absurd (true≢false (sym small ∙ large))
-part_count o x (OfRun mapped first l leaf) large = refl
-part_count o x (OfLeafRun first l leaf) large = refl
 part_count o x (OfLater mapped some l) large = absurd (omega arith)
+part_count o x _ large = refl
 
 -- and no other page of an object has any.
 later_count : (o : Object) (distance : ℕ) (x : Option Header) → ShowsPart o distance x → 1 ≤ distance → run_count x ≡ 0
@@ -26,18 +23,14 @@ later_count o distance x (OfLeafRun first l leaf) some = absurd (omega arith)
 later_count o distance x (OfLater mapped far l) some = refl
 
 pub small_count : (o : Object) (x : Option Header) → ShowsPart o 0 x → is_small_object o ≡ true → run_count x ≡ 0
-small_count o x (OfBlock first small leaf) is = refl
-small_count o x (OfLeafBlock first small leaf) is = refl
 small_count o x (OfRun mapped first l leaf) is = absurd (true≢false (sym is ∙ l))
 small_count o x (OfLeafRun first l leaf) is = absurd (true≢false (sym is ∙ l))
-small_count o x (OfLater mapped some l) is = refl
+small_count o x _ is = refl
 
 pub same_count : (o : Object) (distance : ℕ) (x y : Option Header) → ShowsPart o distance x → ShowsPart o distance y
-    → is_small_object o ≡ false
-    → run_count x ≡ run_count y
+    → is_small_object o ≡ false → run_count x ≡ run_count y
 same_count o distance x y px py large = elim (cases_eq distance 0) [
   | inl z ↦
-      part_count o x (subst (λ i. ShowsPart o i x) z px) large
-      ∙ sym (part_count o y (subst (λ i. ShowsPart o i y) z py) large)
+      part_count o x (rw z at px) large ∙ sym (part_count o y (rw z at py) large)
   | inr ne ↦ later_count o distance x px (omega arith) ∙ sym (later_count o distance y py (omega arith))
 ]

@@ -1,26 +1,16 @@
 -- The steps of a New and of a Free on the terrain: `head`, `used`, `mark`.
-use Rattle.std.proofs.Common.{Bool, List, [], ap, append-nil, arith, false, inl, inr, length, refl, subst, sym, true, ℕ}
-use Rattle.std.proofs.Common.{◌++◌, ◌+◌, ◌-◌, ◌<◌, ◌^◌, ◌∙◌, ◌∷◌, ◌≡◌, ◌≢◌, ◌≤◌}
-use Rattle.std.specs.Prelude.{Option, Some, not, slice_index, ◌&&◌}
-use Rattle.mk_geom.specs.declared.pages.Place.{Place}
-use Rattle.mk_core.specs.Bits.{has_bit}
-use Rattle.mk_core.specs.Effects.{chosen}
-use Rattle.mk_core.specs.History.{World}
-use Rattle.mk_core.specs.NewPlaces.{header_made, pages_made, unmapped_header}
-use Rattle.mk_core.specs.ObjectHeaders.{IsSized, cells_made}
-use Rattle.mk_core.specs.TurnConditions.{is_used_once}
-use Rattle.mk_core.specs.Words.{header_at, used_at}
-use Rattle.mk_core.specs.declared.config.Config.{Config}
-use Rattle.mk_core.specs.declared.seats.Object.{Object}
-use Rattle.mk_core.specs.declared.seats.Placing.{Placing}
-use Rattle.mk_core.specs.declared.seats.Placing.TheVariants.{Chosen, Granted, Unplaced, Used}
-use Rattle.mk_core.specs.declared.seats.RunPages.{RunPages}
+use Rattle.std.proofs.Common.{Bool, List, ap, append-nil, arith, false, inl, inr, length, refl, subst, sym, true, ℕ, []}
+use Rattle.std.proofs.Common.{◌++◌, ◌+◌, ◌-◌, ◌<◌, ◌∙◌, ◌∷◌, ◌≡◌, ◌≢◌, ◌≤◌}
+use Rattle.std.specs.Prelude.{Option, Some, not}
+use Rattle.mk_protocol.proofs.Vocabulary.{Chosen, Config, Granted, IsSized, Object, Place, Placing, RunPages, Unplaced}
+use Rattle.mk_protocol.proofs.Vocabulary.{Used, World, cells_made, chosen, header_at, header_made, is_used_once}
+use Rattle.mk_protocol.proofs.Vocabulary.{pages_made, unmapped_header, used_at}
 use Rattle.mk_core.proofs.PageSteps.{Empties, GivesBack, Unmaps}
 use Rattle.mk_core.proofs.PlacesNow.{AsChosen, AsUsed, ByFit, IsPlaced}
 use Rattle.mk_core.proofs.ServingSteps.{IsCellTaken, IsNextHeader}
 use Rattle.mk_core.proofs.Sizes.{cells_some, pages_some, small_pages}
 use Rattle.mk_core.proofs.WordBits.{fewer_bits}
-use Rattle.mk_layout.specs.LayoutScene.{Among, Claim, InPlot, IsLaidOn, IsPlotShown, NoPlot, Plotted, LayoutScene}
+use Rattle.mk_layout.specs.LayoutScene.{Among, Claim, InPlot, IsLaidOn, IsPlotShown, Plotted, LayoutScene}
 use Rattle.mk_layout.specs.LayoutScene.{is_released_in}
 use Rattle.mk_protocol.specs.Ground.{Ground, ground_of}
 use Rattle.mk_layout.specs.Terrain.{HasLayout, IsClaimedRun, RunStands, claims_of, claims_on, claims_placed}
@@ -38,10 +28,8 @@ Laid c o releasing w t = HasLayout c o releasing w.now.words.marks t
 
 -- with another placing that is the same
 placed_as : (c : Config) (o : Object) (releasing : Bool) (w : World) (t : Ground) (placing : Placing)
-    → t.placing ≡ placing
-    → Laid c o releasing w t → Laid c o releasing w (record t { placing = placing })
-placed_as c o releasing w t placing is st =
-    subst (λ (x : Placing). Laid c o releasing w (record t { placing = x })) is st
+    → t.placing ≡ placing → Laid c o releasing w t → Laid c o releasing w (record t { placing = placing })
+placed_as c o releasing w t placing is st = rw is at st
 
 -- the claim of an allocation is one of the terrain's
 pub own_claim : (c : Config) (o : Object) (t : Ground) (x : Claim) → Among x (claims_of c t.run t.allocations)
@@ -58,12 +46,7 @@ pub head_empties : (c : Config) (o : Object) (w : World) (p n : ℕ) → p < len
     → Laid c o true w (record (ground_of w) { pages = with_header_on w.now.words.pages p n })
 head_empties c o w p n lt st h =
     record {
-      scene = subst (λ v. IsLaidOn
-          (layout_scene_of c o true w.now.words.marks (record (ground_of w) {
-            pages =
-                with_header_on w.now.words.pages p v;
-          })))
-          (sym h.is)
+      scene = rw h.is
           (layout_emptied (layout_scene_of c o true w.now.words.marks (ground_of w)) p st.scene lt refl h.unused);
       gone = st.gone;
       first = st.first;
@@ -84,19 +67,12 @@ head_unmaps c o releasing w p n st h =
     let near = next.near in
     let low = next.from in
     let at : x.claim.page + (p - h.run.page) ≡ p = omega arith in
-    let value : unmapped_header (pages_made x.claim.object) (p - h.run.page) ≡ n =
-    ap (λ k. unmapped_header k (p - h.run.page)) count ∙ sym next.is in
+    let value : unmapped_header (pages_made x.claim.object) (p - h.run.page) ≡ n = rw count (sym next.is) in
     record {
-      scene = subst (λ q. IsLaidOn
-          (layout_scene_of c o releasing w.now.words.marks
-          (record (ground_of w) { pages = with_header_on w.now.words.pages q n }))) at
-          (subst
-          (λ v. IsLaidOn (layout_scene_of c o releasing w.now.words.marks
-          (record (ground_of w) { pages = with_header_on w.now.words.pages (x.claim.page + (p - h.run.page)) v })))
-          value
+      scene = subst (λ q. IsLaidOn (layout_scene_of c o releasing w.now.words.marks
+          (record (ground_of w) { pages = with_header_on w.now.words.pages q n }))) at (rw value at
           (layout_page_unmapped (layout_scene_of c o releasing w.now.words.marks (ground_of w)) x.claim
-          (p - h.run.page) st.scene
-          (own_claim c o (ground_of w) x.claim x.among) x.mode x.large (omega arith)));
+          (p - h.run.page) st.scene (own_claim c o (ground_of w) x.claim x.among) x.mode x.large (omega arith)));
       gone = st.gone;
       first = st.first;
       cells = st.cells;
@@ -113,8 +89,7 @@ chosen_free c o releasing w place st is sized fit =
       scene = layout_chosen (layout_scene_of c o releasing w.now.words.marks (record (ground_of w) {
         placing =
             Unplaced;
-      }))
-          place.page o was.scene refl sized fit.within fit.free;
+      })) place.page o was.scene refl sized fit.within fit.free;
       gone = st.gone;
       first = fit.index;
       cells = st.cells;
@@ -129,19 +104,11 @@ carved_on c o w place p n st next =
     let low = next.from in
     let at : place.page + (p - place.page) ≡ p = omega arith in
     record {
-      scene = subst (λ q. IsLaidOn
-          (layout_scene_of c o false w.now.words.marks
+      scene = subst (λ q. IsLaidOn (layout_scene_of c o false w.now.words.marks
           (record (ground_of w) { pages = with_header_on w.now.words.pages q n; placing = Chosen place }))) at
-          (subst
-          (λ v. IsLaidOn (layout_scene_of c o false w.now.words.marks
-          (record (ground_of w) {
-            pages = with_header_on w.now.words.pages (place.page + (p - place.page)) v;
-            placing = Chosen place;
-          })))
-          (sym next.is)
+          (rw next.is
           (layout_carved (layout_scene_of c o false w.now.words.marks (record (ground_of w) { placing = Chosen place }))
-          place.page o (p - place.page) st.scene refl refl
-          (record {
+          place.page o (p - place.page) st.scene refl refl (record {
             within = next.near;
             not_yet = λ e. next.not_yet (ap (λ q. header_at w.now.words q) (sym at) ∙ e);
             before = next.before;
@@ -153,18 +120,15 @@ carved_on c o w place p n st next =
 
 -- `head` (a) and (b): a page of the place gets its header
 pub head_carves : (c : Config) (o : Object) (w : World) (place : Place) (p n : ℕ) → Laid c o false w (ground_of w)
-    → IsSized o
-    → IsPlaced c.resident w.now.words.pages o place w.now.seats.holding.placing
-    → IsNextHeader w.now.words place.page (pages_made o) (header_made o) p n
-    → Laid c o false w (record (ground_of w) {
+    → IsSized o → IsPlaced c.resident w.now.words.pages o place w.now.seats.holding.placing
+    → IsNextHeader w.now.words place.page (pages_made o) (header_made o) p n → Laid c o false w (record (ground_of w) {
       pages = with_header_on w.now.words.pages p n;
       placing = chosen w.now.seats.holding.placing (Some place);
     })
 head_carves c o w place p n st sized placed next = by w.now.seats.holding.placing refl placed
   where
     by : (placing : Placing) → w.now.seats.holding.placing ≡ placing
-        → IsPlaced c.resident w.now.words.pages o place placing
-        → Laid c o false w (record (ground_of w) {
+        → IsPlaced c.resident w.now.words.pages o place placing → Laid c o false w (record (ground_of w) {
           pages = with_header_on w.now.words.pages p n;
           placing = chosen placing (Some place);
         })
@@ -211,7 +175,7 @@ mark_places c o releasing w place st sized placed free made = by w.now.seats.hol
 
 -- `used` (a): the cell of the place is taken
 no_claims : (xs : List Claim) (x : Claim) → (xs ++ []) ++ x ∷ [] ≡ xs ++ x ∷ []
-no_claims xs x = ap (λ (ys : List Claim). ys ++ x ∷ []) (append-nil xs)
+no_claims xs x = rw (append-nil xs)
 
 taken_at : (c : Config) (o : Object) (releasing : Bool) (w : World) (placing : Placing) (place : Place) (p n : ℕ)
     → Laid c o releasing w (record (ground_of w) { placing = placing })
@@ -222,26 +186,18 @@ taken_at : (c : Config) (o : Object) (releasing : Bool) (w : World) (placing : P
 taken_at c o releasing w placing place p n st none next sized index within plot =
     let xs : List Claim = claims_of c w.now.seats.holding.freed w.allocations in
     let s : LayoutScene = layout_scene_of c o releasing w.now.words.marks (ground_of w) in
-    let was : IsLaidOn (record s { claims = xs ++ []; plot = plot_of o placing }) =
-    subst (λ (ys : List Claim). IsLaidOn (record s { claims = xs ++ ys; plot = plot_of o placing })) none st.scene in
+    let was : IsLaidOn (record s { claims = xs ++ []; plot = plot_of o placing }) = rw none at st.scene in
     record {
       scene =
-          subst (λ q. IsLaidOn
-          (layout_scene_of c o releasing w.now.words.marks
-          (record (ground_of w) { pages = with_used_on w.now.words.pages q n; placing = Used place })))
-          (sym next.at)
-          (subst (λ (ys : List Claim). IsLaidOn
-          (record s { pages = with_used_on w.now.words.pages place.page n; claims = ys; plot = NoPlot }))
-          (no_claims xs (place_claim o place))
-          (layout_taken (record s { claims = xs ++ []; plot = plot_of o placing }) (place_claim o place) n was
-          (record {
+          rw next.at (rw (no_claims xs (place_claim o place)) at
+          (layout_taken (record s { claims = xs ++ []; plot = plot_of o placing }) (place_claim o place) n was (record {
             sized = sized;
             mapped = refl;
             index = index;
             within = within;
             headers = next.headers;
-            unset = ap (λ q. has_bit (used_at w.now.words q) place.index) (sym next.at) ∙ next.unused;
-            value = next.is ∙ ap (λ q. used_at w.now.words q + 2 ^ place.index) next.at;
+            unset = rw (← next.at) next.unused;
+            value = next.is ∙ rw next.at;
             plot = plot;
           })));
       gone = st.gone;
@@ -257,8 +213,7 @@ pub used_takes : (c : Config) (o : Object) (releasing : Bool) (w : World) (place
 used_takes c o releasing w place p n st sized made once placed next = by w.now.seats.holding.placing refl once placed
   where
     by : (placing : Placing) → w.now.seats.holding.placing ≡ placing → is_used_once placing ≡ false
-        → IsPlaced c.resident w.now.words.pages o place placing
-        → Laid c o releasing w
+        → IsPlaced c.resident w.now.words.pages o place placing → Laid c o releasing w
         (record (ground_of w) { pages = with_used_on w.now.words.pages p n; placing = Used place })
     by Unplaced is once (ByFit at) = elim (fits c.resident w.now.words.pages o place sized at) [
       | inl fit ↦
@@ -282,8 +237,7 @@ used_takes c o releasing w place p n st sized made once placed next = by w.now.s
 
 -- `used` (b): released cells are given back
 pub used_gives_back : (c : Config) (o : Object) (w : World) (p n : ℕ) → p < length w.now.words.pages
-    → Laid c o true w (ground_of w) → GivesBack w.now.words p n
-    → ((x : Claim) → Among x (claims_on c o (ground_of w))
+    → Laid c o true w (ground_of w) → GivesBack w.now.words p n → ((x : Claim) → Among x (claims_on c o (ground_of w))
     → is_released_in true w.now.words.snapshot w.now.words.marks x.page x.index ≡ false)
     → Laid c o true w (record (ground_of w) { pages = with_used_on w.now.words.pages p n })
 used_gives_back c o w p n lt st h apart =
@@ -293,7 +247,7 @@ used_gives_back c o w p n lt st h apart =
             fewer = λ k bit. fewer_bits n (used_at w.now.words p) k h.fewer bit;
             gone = λ k bit out.
                 let goes = h.gone k bit out in
-                ap (λ b. b && not (has_bit (slice_index w.now.words.marks p) k)) goes.0 ∙ ap not goes.1;
+                rw goes.0 (ap not goes.1);
           }) apart;
       gone = st.gone;
       first = st.first;

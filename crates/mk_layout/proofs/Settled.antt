@@ -1,30 +1,20 @@
 -- What a laid out world says of its allocations; where nothing is on its way, its pages stand for the unreleased
 -- storage.
-use Rattle.std.proofs.Common.{List, ap, append-nil, false, length, refl, subst, sym, true, ◌*◌, ◌++◌, ◌∙◌, ◌≡◌}
+use Rattle.std.proofs.Common.{ap, append-nil, false, length, refl, sym, true, ◌*◌, ◌++◌, ◌∙◌, ◌≡◌}
 use Rattle.std.specs.Prelude.{None, Option, Some}
 use Rattle.std.proofs.lemmas.Bool.{and_parts}
-use Rattle.mk_geom.specs.Storages.{place_among_storages}
-use Rattle.mk_geom.specs.declared.addresses.Cell.{Cell}
+use Rattle.mk_protocol.proofs.Vocabulary.{Cell, Chosen, Config, Granted, IsWithinLimits, PlacedAllocation, Placing}
+use Rattle.mk_protocol.proofs.Vocabulary.{RunPages, Unplaced, Used, Words, World, is_phase, is_run_gone}
+use Rattle.mk_protocol.proofs.Vocabulary.{is_run_unmapped, left, placed_at, unreleased_storage, words_are_zero}
 use Rattle.mk_geom.proofs.Bridge.{same_places}
-use Rattle.mk_core.specs.Allocations.{PlacedAllocation, placed_at, unreleased_storage}
-use Rattle.mk_core.specs.Cells.{words_are_zero}
-use Rattle.mk_core.specs.Config.{IsWithinLimits}
-use Rattle.mk_core.specs.History.{World, left}
-use Rattle.mk_core.specs.Moments.{is_phase}
-use Rattle.mk_core.specs.NewPlaces.{is_run_gone, is_run_unmapped}
-use Rattle.mk_core.specs.Words.{Words}
-use Rattle.mk_core.specs.declared.config.Config.{Config}
-use Rattle.mk_core.specs.declared.seats.Placing.{Placing}
-use Rattle.mk_core.specs.declared.seats.Placing.TheVariants.{Chosen, Granted, Unplaced, Used}
-use Rattle.mk_core.specs.declared.seats.RunPages.{RunPages}
 use Rattle.mk_core.proofs.Lengths.{histories_keep_lengths}
 use Rattle.mk_protocol.specs.Protocol.{has_place}
-use Rattle.mk_layout.specs.LayoutScene.{Claim, IsLaidOn, NoPlot, Plot}
+use Rattle.mk_layout.specs.LayoutScene.{Claim, NoPlot}
 use Rattle.mk_layout.specs.SettledPages.{FirstFitIsThePlace, HeadersStand, IsSettled, UnreleasedAreApart}
 use Rattle.mk_layout.specs.SettledPages.{UnreleasedStand, is_freed_unmapped}
 use Rattle.mk_protocol.specs.Ground.{ground_of}
 use Rattle.mk_layout.specs.Terrain.{IsLaidOut, claim_of, claims_of, claims_placed, object_now, plot_of}
-use Rattle.mk_layout.proofs.Apart.{Rests, quiet_scene}
+use Rattle.mk_layout.proofs.Apart.{Rests}
 use Rattle.mk_layout.proofs.Claims.{claim_among}
 use Rattle.mk_layout.proofs.Freed.{gone_terrain}
 use Rattle.mk_layout.proofs.HeadersStand.{pages_stand}
@@ -61,17 +51,14 @@ gone_is_unmapped w (Some run) gone =
 
 pub unmapped_run : (w : World) → is_freed_unmapped w.now.words w.now.seats.holding.freed ≡ true → (run : RunPages)
     → w.now.seats.holding.freed ≡ Some run → is_run_unmapped w.now.words run ≡ true
-unmapped_run w unmapped run is =
-    ap (λ (x : Option RunPages). is_freed_unmapped w.now.words x) (sym is) ∙ unmapped
+unmapped_run w unmapped run is = ap (λ (x : Option RunPages). is_freed_unmapped w.now.words x) (sym is) ∙ unmapped
 
 settled_rests : (c : Config) (w : World) → IsWithinLimits c → length w.now.words.pages ≡ c.pages → IsLaidOut c w
     → IsSettled w → Rests c w.now.words w.allocations
 settled_rests c w limits len laid s = by w.now.seats.holding.placing refl s.placing
   where
     rested : Laid c (object_now c w.now) false w (record (ground_of w) { run = None })
-    rested =
-        gone_terrain c (object_now c w.now) false w (unmapped_run w s.unmapped)
-        (subst (λ b. Laid c (object_now c w.now) b w (ground_of w)) s.releasing laid)
+    rested = gone_terrain c (object_now c w.now) false w (unmapped_run w s.unmapped) (rw s.releasing at laid)
 
     rests : (placing : Placing)
         → Laid c (object_now c w.now) false w (record (ground_of w) { run = None; placing = placing })
@@ -82,20 +69,13 @@ settled_rests c w limits len laid s = by w.now.seats.holding.placing refl s.plac
         record {
           limits = limits;
           lengths = len;
-          laid = subst (λ (xs : List Claim). IsLaidOn
-              (record (quiet_scene c w.now.words w.allocations) { claims = xs })) claims
-              (subst (λ (p : Plot). IsLaidOn
-              (record (quiet_scene c w.now.words w.allocations)
-              { claims = claims_of c None w.allocations ++ claims_placed (object_now c w.now) placing; plot = p }))
-              plot st.scene);
+          laid = rw claims at (rw plot at st.scene);
           cells = st.cells;
         }
 
     at : (placing : Placing) → w.now.seats.holding.placing ≡ placing
         → Laid c (object_now c w.now) false w (record (ground_of w) { run = None; placing = placing })
-    at placing is = subst
-        (λ (x : Placing). Laid c (object_now c w.now) false w (record (ground_of w) { run = None; placing = x })) is
-        rested
+    at placing is = rw is at rested
 
     by : (placing : Placing) → w.now.seats.holding.placing ≡ placing → has_place placing ≡ false
         → Rests c w.now.words w.allocations
@@ -112,6 +92,4 @@ headers_stand c es limits laid s =
 pub first_fit_is_the_place : FirstFitIsThePlace
 first_fit_is_the_place c es o limits laid s =
     same_places (left c es).now.words.pages (unreleased_storage c (left c es).allocations) c.resident o.words o.leaf
-    (headers_stand c es limits laid s)
-    ∙ ap (λ n. place_among_storages n c.resident o.words o.leaf (unreleased_storage c (left c es).allocations))
-    (histories_keep_lengths c es).pages
+    (headers_stand c es limits laid s) ∙ rw (histories_keep_lengths c es).pages

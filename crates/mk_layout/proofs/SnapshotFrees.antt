@@ -1,21 +1,13 @@
 -- What is fresh and what is in the snapshot, after a `quar`.
-use Rattle.std.proofs.Common.{Bool, List, ap, arith, false, inl, inr, length, map, refl, subst, sym, true, ℕ, ◌%◌, ◌/◌}
-use Rattle.std.proofs.Common.{◌<◌, ◌^◌, ◌∙◌, ◌≡◌, ◌⊎◌}
+use Rattle.std.proofs.Common.{Bool, List, ap, arith, false, inl, inr, length, map, refl, sym, true, ℕ, ◌%◌, ◌/◌, ◌<◌}
+use Rattle.std.proofs.Common.{◌^◌, ◌∙◌, ◌≡◌, ◌⊎◌}
 use Rattle.std.specs.Prelude.{None, Option, Some, if◌then◌else◌, not, slice_index, slice_set, ◌&&◌, ◌==◌}
 use Rattle.std.proofs.lemmas.Bool.{and_parts, cases_Bool, eqb-true, false_from_ne_true, ltb-true, not-true, true≢false}
 use Rattle.std.proofs.lemmas.List.{set-get_or}
-use Rattle.mk_geom.specs.declared.addresses.Cell.{Cell}
-use Rattle.mk_core.specs.Allocations.{PlacedAllocation, cell_of_allocation, freed_where_it_stands, placed_at, stands_in}
-use Rattle.mk_core.specs.Bits.{has_bit}
-use Rattle.mk_core.specs.Cells.{first_word}
-use Rattle.mk_core.specs.History.{World}
-use Rattle.mk_core.specs.Moments.{flight_of, is_phase}
-use Rattle.mk_core.specs.TurnConditions.{cell_freed}
-use Rattle.mk_core.specs.Words.{phase_of}
-use Rattle.mk_core.specs.declared.config.Config.{Config}
-use Rattle.mk_core.specs.declared.events.Seat.{Seat}
+use Rattle.mk_protocol.proofs.Vocabulary.{Cell, Config, Flight, PlacedAllocation, Seat, World, cell_freed}
+use Rattle.mk_protocol.proofs.Vocabulary.{cell_of_allocation, first_word, flight_of, freed_where_it_stands, has_bit}
+use Rattle.mk_protocol.proofs.Vocabulary.{is_phase, phase_of, placed_at, stands_in}
 use Rattle.mk_core.specs.declared.events.Step.TheVariants as step
-use Rattle.mk_core.specs.declared.seats.Flight.{Flight}
 use Rattle.mk_core.proofs.ChangedAllocations.{changed_at, freed_leaves, none_freed}
 use Rattle.mk_core.proofs.PageSteps.{Drops, ItDrops, ItFrees, ItTakesSnapshot, QuarantineStep, quarantine_step}
 use Rattle.mk_core.proofs.PlacesNow.{freed_cell}
@@ -27,7 +19,7 @@ use Rattle.mk_layout.specs.Terrain.{IsLaidOut}
 use Rattle.mk_layout.proofs.Before.{Before}
 use Rattle.mk_layout.proofs.Claims.{LeavesCells}
 use Rattle.mk_layout.proofs.Freed.{freeing_leaves}
-use Rattle.mk_layout.proofs.QuarantineByKind.{QuarantinedAs, frees_here, frees_some}
+use Rattle.mk_layout.proofs.QuarantineByKind.{frees_here, frees_some}
 use Rattle.mk_layout.proofs.QuarantineChanges.{FreesHere, before_change, free_halves}
 use Rattle.mk_layout.proofs.QuarantineSteps.{and_both, bit_cases}
 
@@ -66,7 +58,7 @@ dropped_bits c w p f n i ls q d u = elim (bit_cases w.now.words.snapshot p n x.p
         let was = fewer_bits n (slice_index w.now.words.snapshot p) x.index d.fewer a in
         absurd (true≢false (sym (ap (λ j. has_bit (slice_index w.now.words.snapshot j) x.index) at ∙ was) ∙ b))
     same at (inr a) (inl b) =
-        let lost = d.gone x.index (ap (λ j. has_bit (slice_index w.now.words.snapshot j) x.index) (sym at) ∙ b) a in
+        let lost = d.gone x.index (rw (← at) b) a in
         let released = and_both (has_bit (slice_index w.now.words.snapshot x.page) x.index)
         (has_bit (slice_index w.now.words.marks x.page) x.index) b
         (ap (λ j. has_bit (slice_index w.now.words.marks j) x.index) at ∙ lost.0) in
@@ -74,11 +66,10 @@ dropped_bits c w p f n i ls q d u = elim (bit_cases w.now.words.snapshot p n x.p
 
 cycling_at : (w : World) (n : ℕ) → is_phase w.now.words n ≡ true → is_cycling n ≡ false
     → is_cycling (phase_of w.now.words) ≡ true → ⊥
-cycling_at w n at none on = true≢false (sym on ∙ ap (λ k. is_cycling k) (eqb-true (phase_of w.now.words) n at) ∙ none)
+cycling_at w n at none on = true≢false (sym on ∙ rw (eqb-true (phase_of w.now.words) n at) none)
 
 quar_none : (c : Config) (w : World) (f : Flight) (p n : ℕ) → p < length w.now.words.snapshot
-    → cell_freed c.pages w.now.words f p n ≡ None → QuarantineStep c w.now f p n
-    → IsQuarantined c w → KeepsSnapshot c w
+    → cell_freed c.pages w.now.words f p n ≡ None → QuarantineStep c w.now f p n → IsQuarantined c w → KeepsSnapshot c w
     → HasSnapshot c (is_cycling (phase_of w.now.words)) (slice_set w.now.words.snapshot p (n / 2 ^ 32)) w.allocations
 quar_none c w f p n ls none (ItFrees off x) q s = absurd (frees_some c.pages w.now.words f p n off x none)
 quar_none c w f p n ls none (ItTakesSnapshot x) q s =
@@ -87,8 +78,7 @@ quar_none c w f p n ls none (ItDrops four x) q s =
     record {
       fresh = s.fresh;
       quarantined = λ on i u.
-          dropped_bits c w p (n % 2 ^ 32) (n / 2 ^ 32) i ls (subst (λ b. QuarantinedAs c b w (ground_of w)) four q) x u
-          ∙ s.quarantined on i u;
+          dropped_bits c w p (n % 2 ^ 32) (n / 2 ^ 32) i ls (rw four at q) x u ∙ s.quarantined on i u;
     }
 
 quar_frees : (c : Config) (w : World) (cell : Cell) (n : ℕ) → FreesHere c w cell n
@@ -96,23 +86,19 @@ quar_frees : (c : Config) (w : World) (cell : Cell) (n : ℕ) → FreesHere c w 
     → HasSnapshot c (is_cycling (phase_of w.now.words)) (slice_set w.now.words.snapshot cell.page (n / 2 ^ 32))
     (map (freed_where_it_stands w.now.words (Some cell)) w.allocations)
 quar_frees c w cell n x q s =
-    subst (λ (ss : List ℕ). HasSnapshot c (is_cycling (phase_of w.now.words)) ss
-    (map (freed_where_it_stands w.now.words (Some cell)) w.allocations)) (sym same)
-    (record {
+    rw same (record {
       fresh = λ i f. fresh i (stands_in w.now.words cell (placed_at w.allocations i)) refl f;
       quarantined = λ on i u.
           let b = before_change c (freed_where_it_stands w.now.words (Some cell)) w.allocations i leaves u in
           ap (λ (y : Cell). has_bit (slice_index w.now.words.snapshot y.page) y.index) b.cell
-          ∙ bit on i b.was (stands_in w.now.words cell (placed_at w.allocations i)) refl
-          ∙ sym (ap (λ (y : PlacedAllocation). y.freed && not y.fresh) (at i));
+          ∙ bit on i b.was (stands_in w.now.words cell (placed_at w.allocations i)) refl ∙ sym (rw (at i));
     })
   where
     leaves : LeavesCells (freed_where_it_stands w.now.words (Some cell))
     leaves = freeing_leaves w.now.words (Some cell)
 
     same : slice_set w.now.words.snapshot cell.page (n / 2 ^ 32) ≡ w.now.words.snapshot
-    same = ap (λ v. slice_set w.now.words.snapshot cell.page v) (free_halves c w cell n x q).1
-        ∙ set-get_or w.now.words.snapshot cell.page 0
+    same = rw (free_halves c w cell n x q).1 (set-get_or w.now.words.snapshot cell.page 0)
 
     at : (i : ℕ) → placed_at (map (freed_where_it_stands w.now.words (Some cell)) w.allocations) i
         ≡ freed_where_it_stands w.now.words (Some cell) (placed_at w.allocations i)
@@ -135,8 +121,8 @@ quar_frees c w cell n x q s =
         let a : PlacedAllocation = placed_at w.allocations i in
         let r = fresh_by (stands_in w.now.words cell a) a
         (λ e. not-true a.released (and_parts (not a.released) (a.base == first_word w.now.words cell) e).0) (s.fresh i)
-        (ap (λ (y : PlacedAllocation). y.fresh) (sym (at i)) ∙ f) in
-        (ap (λ (y : PlacedAllocation). y.freed) (at i) ∙ r.0, ap (λ (y : PlacedAllocation). y.released) (at i) ∙ r.1)
+        (rw (← (at i)) f) in
+        (rw (at i) r.0, rw (at i) r.1)
 
     bit : is_cycling (phase_of w.now.words) ≡ true → (i : ℕ) → (placed_at w.allocations i).released ≡ false → (b : Bool)
         → stands_in w.now.words cell (placed_at w.allocations i) ≡ b
@@ -146,14 +132,10 @@ quar_frees c w cell n x q s =
     bit on i u true is =
         let a : PlacedAllocation = placed_at w.allocations i in
         ap (λ (y : Cell). has_bit (slice_index w.now.words.snapshot y.page) y.index) (x.others i u is)
-        ∙ unset_in_snapshot c false w.now.words.marks (ground_of w) cell.page cell.index q x.unset
-        ∙ sym (ap (λ b. (if b then record a { freed = true; fresh = true } else a).freed
-        && not (if b then record a { freed = true; fresh = true } else a).fresh) is)
+        ∙ unset_in_snapshot c false w.now.words.marks (ground_of w) cell.page cell.index q x.unset ∙ sym (rw is)
     bit on i u false is =
         let a : PlacedAllocation = placed_at w.allocations i in
-        s.quarantined on i u
-        ∙ sym (ap (λ b. (if b then record a { freed = true; fresh = true } else a).freed
-        && not (if b then record a { freed = true; fresh = true } else a).fresh) is)
+        s.quarantined on i u ∙ sym (rw is)
 
 pub snapshot_of_quar : (c : Config) (w : World) (seat : Seat) (p n : ℕ) → Before c w
     → Meets c w.now seat (step.Quar p n) → IsLaidOut c w → IsQuarantined c w → KeepsSnapshot c w
@@ -168,14 +150,9 @@ snapshot_of_quar c w seat p n b h laid q s = by (cell_freed c.pages w.now.words 
         → HasSnapshot c (is_cycling (phase_of w.now.words)) (slice_set w.now.words.snapshot p (n / 2 ^ 32))
         (map (freed_where_it_stands w.now.words cell) w.allocations)
     by None is =
-        subst (λ (xs : List PlacedAllocation). HasSnapshot c (is_cycling (phase_of w.now.words))
-        (slice_set w.now.words.snapshot p (n / 2 ^ 32)) xs)
-        (sym (none_freed w.now.words w.allocations))
+        rw (none_freed w.now.words w.allocations)
         (quar_none c w (flight_of w.now seat) p n ls is (quarantine_step c w.now (flight_of w.now seat) p n h.holder) q
         s)
     by (Some cell) is =
         let x = freed_cell c.pages w.now.words (flight_of w.now seat) p n cell is in
-        subst (λ i. HasSnapshot c (is_cycling (phase_of w.now.words)) (slice_set w.now.words.snapshot i (n / 2 ^ 32))
-        (map (freed_where_it_stands w.now.words (Some cell)) w.allocations)) (sym x.page)
-        (quar_frees c w cell n (frees_here c w seat p n cell b h laid x)
-        (subst (λ four. QuarantinedAs c four w (ground_of w)) x.phase q) s)
+        rw x.page (quar_frees c w cell n (frees_here c w seat p n cell b h laid x) (rw x.phase at q) s)

@@ -1,28 +1,16 @@
 -- What is fresh and what is in the snapshot, after each kind of event.
-use Rattle.std.proofs.Common.{Bool, List, [], ap, arith, false, inl, inr, length, map, refl, subst, sym, true, ℕ, ◌++◌}
-use Rattle.std.proofs.Common.{◌+◌, ◌/◌, ◌<◌, ◌∙◌, ◌∷◌, ◌≡◌, ◌≤◌, ◌⊎◌}
+use Rattle.std.proofs.Common.{Bool, ap, arith, false, inl, inr, length, map, refl, sym, true, ℕ, ◌++◌, ◌+◌, ◌/◌, ◌<◌}
+use Rattle.std.proofs.Common.{[]}
+use Rattle.std.proofs.Common.{◌∙◌, ◌∷◌, ◌≡◌, ◌≤◌, ◌⊎◌}
 use Rattle.std.specs.Prelude.{not, slice_index, ◌&&◌, ◌==◌}
 use Rattle.std.proofs.lemmas.Bool.{and_parts, cases_Bool, eqb-true, false_from_ne_true, true≢false}
-use Rattle.mk_geom.specs.declared.addresses.Cell.{Cell}
-use Rattle.mk_core.specs.Allocations.{PlacedAllocation, cell_of_allocation, granted, no_longer_fresh, placed_at}
-use Rattle.mk_core.specs.Allocations.{with_released}
-use Rattle.mk_core.specs.Bits.{has_bit}
-use Rattle.mk_core.specs.Bounded.{all_below}
-use Rattle.mk_core.specs.History.{World}
-use Rattle.mk_core.specs.Moments.{flight_of, is_phase}
-use Rattle.mk_core.specs.NewPlaces.{base_made, is_undecided_new, pages_made}
-use Rattle.mk_core.specs.StandingAllocations.{object_placed}
-use Rattle.mk_core.specs.StopConditions.{has_clean_page, may_begin}
-use Rattle.mk_core.specs.TurnConditions.{is_used_once}
-use Rattle.mk_core.specs.Words.{phase_of}
-use Rattle.mk_core.specs.declared.config.Config.{Config}
-use Rattle.mk_core.specs.declared.events.Seat.{Seat}
-use Rattle.mk_core.specs.declared.events.Step.{Step}
+use Rattle.mk_protocol.proofs.Vocabulary.{Cell, Chosen, Config, Flight, Granted, Object, PlacedAllocation, Placing}
+use Rattle.mk_protocol.proofs.Vocabulary.{Seat, Step, Unplaced, Used, World, all_below, cell_of_allocation, flight_of}
+use Rattle.mk_protocol.proofs.Vocabulary.{granted, has_bit, has_clean_page, is_phase, is_undecided_new, is_used_once}
+use Rattle.mk_protocol.proofs.Vocabulary.{no_longer_fresh, object_placed, pages_made, phase_of, placed_at}
+use Rattle.mk_protocol.proofs.Vocabulary.{with_released}
+use Rattle.mk_core.specs.StopConditions.{may_begin}
 use Rattle.mk_core.specs.declared.events.Step.TheVariants as step
-use Rattle.mk_core.specs.declared.seats.Flight.{Flight}
-use Rattle.mk_core.specs.declared.seats.Object.{Object}
-use Rattle.mk_core.specs.declared.seats.Placing.{Placing}
-use Rattle.mk_core.specs.declared.seats.Placing.TheVariants.{Chosen, Granted, Unplaced, Used}
 use Rattle.mk_core.proofs.AllBelow.{all_below-at}
 use Rattle.mk_core.proofs.ChangedAllocations.{changed_at, released_leaves}
 use Rattle.mk_core.proofs.GrantedAllocations.{granted_base_is, granted_object}
@@ -31,7 +19,7 @@ use Rattle.mk_protocol.proofs.Actors.{Meets, grants_new}
 use Rattle.mk_protocol.proofs.Ground.{tally_ground}
 use Rattle.mk_protocol.proofs.OthersMoves.{WorldBehind}
 use Rattle.mk_layout.specs.Quarantine.{HasSnapshot, IsQuarantined, KeepsSnapshot, has_bit_of, is_cycling}
-use Rattle.mk_layout.specs.LayoutScene.{Among, is_released_in}
+use Rattle.mk_layout.specs.LayoutScene.{Among}
 use Rattle.mk_protocol.specs.Ground.{ground_of}
 use Rattle.mk_layout.specs.Terrain.{IsLaidOut, claims_of, claims_placed, object_now, place_claim}
 use Rattle.mk_layout.proofs.Before.{Before, reg_leaves_ground}
@@ -44,7 +32,7 @@ use Rattle.mk_layout.proofs.OneCell.{numbers_apart}
 use Rattle.mk_layout.proofs.QuarantineByKind.{shown_at}
 use Rattle.mk_layout.proofs.QuarantineChanges.{before_change}
 use Rattle.mk_layout.proofs.Released.{all_stand, left_is, releasing_leaves}
-use Rattle.mk_layout.proofs.Serving.{Laid, placed_claim}
+use Rattle.mk_layout.proofs.Serving.{placed_claim}
 use Rattle.mk_layout.proofs.SnapshotFrees.{snapshot_of_quar, unset_in_snapshot}
 use Rattle.mk_layout.proofs.StandingClaims.{place_index}
 
@@ -54,12 +42,11 @@ begin_kind : (c : Config) (w : World) → Before c w → is_phase w.now.words 0 
     → HasSnapshot c true w.now.words.snapshot (map no_longer_fresh w.allocations)
 begin_kind c w b quiet own laid q =
     record {
-      fresh = λ i f. absurd (true≢false (sym f ∙ ap (λ (x : PlacedAllocation). x.fresh) (at i)));
+      fresh = λ i f. absurd (true≢false (sym f ∙ rw (at i)));
       quarantined = λ on i u.
           let x = before_change c no_longer_fresh w.allocations i fresh_cells u in
           ap (λ (y : Cell). has_bit (slice_index w.now.words.snapshot y.page) y.index) x.cell
-          ∙ bit i x.was (cases_Bool (placed_at w.allocations i).freed)
-          ∙ sym (ap (λ (y : PlacedAllocation). y.freed && not y.fresh) (at i));
+          ∙ bit i x.was (cases_Bool (placed_at w.allocations i).freed) ∙ sym (rw (at i));
     }
   where
     at : (i : ℕ) → placed_at (map no_longer_fresh w.allocations) i ≡ no_longer_fresh (placed_at w.allocations i)
@@ -84,36 +71,33 @@ begin_kind c w b quiet own laid q =
         let len = b.lengths.pages in
         let page : (cell_of_allocation c a).page < c.pages = (let lt : a.base / 64 < c.pages = omega arith in lt) in
         ap (λ v. has_bit v (cell_of_allocation c a).index) (sym (taken (cell_of_allocation c a).page page))
-        ∙ q.shown i u f ∙ sym (ap (λ x. x && true) f)
+        ∙ q.shown i u f ∙ sym (rw f)
     bit i u (inr f) =
         let a : PlacedAllocation = placed_at w.allocations i in
         let x : Cell = cell_of_allocation c a in
         false_from_ne_true (has_bit (slice_index w.now.words.snapshot x.page) x.index)
         (λ h. elim (q.owned x.page x.index (q.within x.page x.index h)) [
-          | inr r ↦ true≢false (sym r
-              ∙ ap (λ four. is_released_in four w.now.words.snapshot w.now.words.marks x.page x.index)
-              (off_at w 0 quiet (λ e. absurd (omega arith))))
+          | inr r ↦ true≢false (sym r ∙ rw (off_at w 0 quiet (λ e. absurd (omega arith))))
           | inl o ↦
               let one =
               numbers_apart c w.now.seats.holding.freed w.allocations o.number i
               (apart_left (claims_of c w.now.seats.holding.freed w.allocations)
               (claims_placed (object_now c w.now) w.now.seats.holding.placing) laid.scene.apart)
               o.unreleased u (ap (λ (y : Cell). y.page) o.cell, ap (λ (y : Cell). y.index) o.cell) in
-              true≢false (sym o.freed ∙ ap (λ j. (placed_at w.allocations j).freed) one ∙ f)
-        ]) ∙ sym (ap (λ y. y && true) f)
+              true≢false (sym o.freed ∙ rw one f)
+        ]) ∙ sym (rw f)
 
 -- `grant`: the new cell isn't in the snapshot
 grant_kind : (c : Config) (w : World) (seat : Seat) → Before c w → Meets c w.now seat step.Grant → IsLaidOut c w
-    → IsQuarantined c w → KeepsSnapshot c w
-    → HasSnapshot c (is_cycling (phase_of w.now.words)) w.now.words.snapshot
+    → IsQuarantined c w → KeepsSnapshot c w → HasSnapshot c (is_cycling (phase_of w.now.words)) w.now.words.snapshot
     (w.allocations ++ granted c w.now (flight_of w.now seat) ∷ [])
 grant_kind c w seat b h laid q s =
     record {
       fresh = λ i f. elim (pushed_any w.allocations a i) [
         | inl old ↦
-            let was = s.fresh i (ap (λ (x : PlacedAllocation). x.fresh) (sym old) ∙ f) in
-            (ap (λ (x : PlacedAllocation). x.freed) old ∙ was.0, ap (λ (x : PlacedAllocation). x.released) old ∙ was.1)
-        | inr new ↦ absurd (true≢false (sym f ∙ ap (λ (x : PlacedAllocation). x.fresh) new))
+            let was = s.fresh i (rw (← old) f) in
+            (rw old was.0, rw old was.1)
+        | inr new ↦ absurd (true≢false (sym f ∙ rw new))
       ];
       quarantined = λ on i u. elim (pushed_at w.allocations a i u) [
         | inl old ↦
@@ -143,18 +127,15 @@ grant_kind c w seat b h laid q s =
         let made = granted_object c w.now f new in
         let own : object_now c w.now ≡ o = holding_object c w.now seat b.known (new_has_turn c w.now seat h.seat new)
         ∙ sym made in
-        let base = granted_base_is c f w.now.seats.holding.placing place is
-        ∙ ap (λ (y : Object). base_made y place) (sym made) in
-        let there : Among (place_claim o place) (claims_placed o w.now.seats.holding.placing) =
-        subst (λ (x : Placing). Among (place_claim o place) (claims_placed o x)) (sym is) (inl refl) in
+        let base = granted_base_is c f w.now.seats.holding.placing place is ∙ rw (← made) in
+        let there : Among (place_claim o place) (claims_placed o w.now.seats.holding.placing) = rw is (inl refl) in
         let shown =
-        (subst (λ (y : Object). Laid c y (is_phase w.now.words 4) w (ground_of w)) own laid).scene.shown
+        (rw own at laid).scene.shown
         (place_claim o place) (placed_claim c o (ground_of w) (place_claim o place) there) in
         let cell = place_index c a place shown.sized base shown.known in
-        ap (λ p. has_bit (slice_index w.now.words.snapshot p) (cell_of_allocation c a).index) cell.0
-        ∙ ap (λ k. has_bit (slice_index w.now.words.snapshot place.page) k) cell.1
-        ∙ unset_in_snapshot c (is_phase w.now.words 4) w.now.words.marks (ground_of w) place.page place.index q
-        (q.taken place is)
+        rw cell.0 (rw cell.1
+        (unset_in_snapshot c (is_phase w.now.words 4) w.now.words.marks (ground_of w) place.page place.index q
+        (q.taken place is)))
 
 -- `release`: what is fresh isn't released
 release_kind : (c : Config) (w : World) → Before c w → is_phase w.now.words 3 ≡ true → IsLaidOut c w → KeepsSnapshot c w
@@ -165,14 +146,13 @@ release_kind c w b three laid s =
       fresh = λ i f.
           let g : PlacedAllocation = with_released c w.now.words (placed_at w.allocations i) in
           let was = s.fresh i (ap (λ (x : PlacedAllocation). x.fresh) (sym (at i)) ∙ f) in (
-            ap (λ (x : PlacedAllocation). x.freed) (at i) ∙ was.0,
-            ap (λ (x : PlacedAllocation). x.released) (at i)
-                ∙ stays i was.0 was.1 (ap (λ (x : PlacedAllocation). x.fresh) (sym (at i)) ∙ f),
+            rw (at i) was.0,
+            rw (at i) (stays i was.0 was.1 (ap (λ (x : PlacedAllocation). x.fresh) (sym (at i)) ∙ f)),
           );
       quarantined = λ on i u.
           let x = before_change c (with_released c w.now.words) w.allocations i (releasing_leaves c w.now.words) u in
           ap (λ (y : Cell). has_bit (slice_index w.now.words.snapshot y.page) y.index) x.cell ∙ s.quarantined on i x.was
-          ∙ sym (ap (λ (y : PlacedAllocation). y.freed && not y.fresh) (at i));
+          ∙ sym (rw (at i));
     }
   where
     at : (i : ℕ) → placed_at (map (with_released c w.now.words) w.allocations) i
@@ -180,7 +160,7 @@ release_kind c w b three laid s =
     at i = changed_at (with_released c w.now.words) w.allocations i (released_leaves c w.now.words).none
 
     none_of : (f g : Bool) → f ≡ true → g ≡ true → (f && not g) ≡ false
-    none_of f g ef eg = ap (λ x. x && not g) ef ∙ ap not eg
+    none_of f g ef eg = rw ef (ap not eg)
 
     stays : (i : ℕ) → (placed_at w.allocations i).freed ≡ true → (placed_at w.allocations i).released ≡ false
         → (placed_at w.allocations i).fresh ≡ true
@@ -188,25 +168,18 @@ release_kind c w b three laid s =
     stays i f u fresh =
         let a : PlacedAllocation = placed_at w.allocations i in
         let x : Cell = cell_of_allocation c a in
-        let off = subst (λ four. Laid c (object_now c w.now) four w (ground_of w))
-        (off_at w 3 three (λ e. absurd (omega arith))) laid in
-        let on : is_cycling (phase_of w.now.words) ≡ true =
-        ap (λ k. is_cycling k) (eqb-true (phase_of w.now.words) 3 three) in
+        let off = rw (off_at w 3 three (λ e. absurd (omega arith))) at laid in
+        let on : is_cycling (phase_of w.now.words) ≡ true = rw (eqb-true (phase_of w.now.words) 3 three) in
         left_is c w.now.words a b.limits (all_stand c (object_now c w.now) false w b.lengths.pages off i u)
-        ∙ ap (λ y. y && not (has_bit (slice_index w.now.words.marks x.page) x.index)) (s.quarantined on i u
-        ∙ none_of a.freed a.fresh f fresh)
+        ∙ rw (s.quarantined on i u ∙ none_of a.freed a.fresh f fresh)
 
 -- each kind of event, whatever the seat
 pub snapshot_by_kind : (c : Config) (w : World) (seat : Seat) (x : Step) → Before c w → Meets c w.now seat x
     → IsLaidOut c w → IsQuarantined c w → KeepsSnapshot c w
     → HasSnapshot c (is_cycling_behind x (is_cycling (phase_of w.now.words)))
     (WorldBehind c w seat x).now.words.snapshot (WorldBehind c w seat x).allocations
-snapshot_by_kind c w seat step.Reg b h laid q s =
-    subst (λ (ss : List ℕ). HasSnapshot c (is_cycling (phase_of w.now.words)) ss w.allocations)
-    (sym (reg_leaves_ground c w seat).snapshot) s
-snapshot_by_kind c w seat (step.Tally n v) b h laid q s =
-    subst (λ (ss : List ℕ). HasSnapshot c (is_cycling (phase_of w.now.words)) ss w.allocations)
-    (sym (tally_ground w.now.words n v).snapshot) s
+snapshot_by_kind c w seat step.Reg b h laid q s = rw (reg_leaves_ground c w seat).snapshot s
+snapshot_by_kind c w seat (step.Tally n v) b h laid q s = rw (tally_ground w.now.words n v).snapshot s
 snapshot_by_kind c w seat (step.Quar p n) b h laid q s = snapshot_of_quar c w seat p n b h laid q s
 snapshot_by_kind c w seat step.Begin b h laid q s = begin_kind c w b h.phase h.holder laid q
 snapshot_by_kind c w seat step.Grant b h laid q s = grant_kind c w seat b h laid q s
@@ -216,9 +189,5 @@ snapshot_by_kind c w seat step.End b h laid q s =
 snapshot_by_kind c w seat _ b h laid q s = s
 
 pub snapshot_behind : (c : Config) (w : World) (seat : Seat) (x : Step) → Before c w → Meets c w.now seat x
-    → IsLaidOut c w → IsQuarantined c w → KeepsSnapshot c w
-    → KeepsSnapshot c (WorldBehind c w seat x)
-snapshot_behind c w seat x b h laid q s =
-    subst (λ on. HasSnapshot c on (WorldBehind c w seat x).now.words.snapshot (WorldBehind c w seat x).allocations)
-    (sym (cycle_kind c w seat x h))
-    (snapshot_by_kind c w seat x b h laid q s)
+    → IsLaidOut c w → IsQuarantined c w → KeepsSnapshot c w → KeepsSnapshot c (WorldBehind c w seat x)
+snapshot_behind c w seat x b h laid q s = rw (cycle_kind c w seat x h) (snapshot_by_kind c w seat x b h laid q s)

@@ -1,17 +1,11 @@
 -- An unreleased allocation whose claim is shown stands on the heap with its headers.
-use Rattle.std.proofs.Common.{ap, arith, false, inl, inr, length, refl, ℕ, ◌%◌, ◌*◌, ◌+◌, ◌/◌, ◌<◌, ◌∙◌, ◌≡◌, ◌≤◌}
+use Rattle.std.proofs.Common.{ap, arith, false, inl, inr, length, refl, ℕ, ◌*◌, ◌+◌, ◌/◌, ◌<◌, ◌∙◌, ◌≡◌, ◌≤◌}
 use Rattle.std.specs.Prelude.{Option}
 use Rattle.std.proofs.lemmas.Bool.{cases_Bool}
-use Rattle.mk_geom.specs.declared.addresses.Cell.{Cell}
-use Rattle.mk_geom.specs.declared.pages.Place.{Place}
-use Rattle.mk_core.specs.Allocations.{PlacedAllocation, cell_of_allocation, storage_words}
-use Rattle.mk_core.specs.NewPlaces.{base_made, is_small_object, pages_made}
-use Rattle.mk_core.specs.ObjectHeaders.{IsSized, cells_made, words_made}
-use Rattle.mk_core.specs.StandingAllocations.{BeginsAtCell, HasItsHeaders, StandsOnHeap, object_placed}
-use Rattle.mk_core.specs.Words.{Words, header_at}
-use Rattle.mk_core.specs.declared.config.Config.{Config}
-use Rattle.mk_core.specs.declared.seats.Object.{Object}
-use Rattle.mk_core.specs.declared.seats.RunPages.{RunPages}
+use Rattle.mk_protocol.proofs.Vocabulary.{BeginsAtCell, Cell, Config, HasItsHeaders, IsSized, Object, Place}
+use Rattle.mk_protocol.proofs.Vocabulary.{PlacedAllocation, RunPages, StandsOnHeap, Words, base_made}
+use Rattle.mk_protocol.proofs.Vocabulary.{cell_of_allocation, cells_made, header_at, is_small_object, object_placed}
+use Rattle.mk_protocol.proofs.Vocabulary.{pages_made, storage_words, words_made}
 use Rattle.mk_core.proofs.Sizes.{large_words, small_pages}
 use Rattle.mk_core.proofs.SmallCycles.{small}
 use Rattle.mk_core.proofs.StandingAllocations.{cell_ends_within, made_begins, placed_cell, run_begins, run_cell}
@@ -40,8 +34,7 @@ pub record IsStanding (c : Config) (w : Words) (a : PlacedAllocation) : Type 0 w
   pub headers : HasItsHeaders c w a
 
 pub stands_there : (c : Config) (run : Option RunPages) (w : Words) (a : PlacedAllocation) → length w.pages ≡ c.pages
-    → IsShown w.pages (claim_of c run a)
-    → a.released ≡ false → IsAtCell c a → IsStanding c w a
+    → IsShown w.pages (claim_of c run a) → a.released ≡ false → IsAtCell c a → IsStanding c w a
 stands_there c run w a len shown u at =
     record {
       stands = record {
@@ -65,11 +58,10 @@ large_index c a sized large = ap (λ (x : Cell). x.index) (run_cell c a sized la
 
 -- Its cell has the place's page and index, where it has the place's base.
 pub place_index : (c : Config) (a : PlacedAllocation) (place : Place) → IsSized (object_placed c a)
-    → a.base ≡ base_made (object_placed c a) place
-    → place.index < cells_made (object_placed c a)
+    → a.base ≡ base_made (object_placed c a) place → place.index < cells_made (object_placed c a)
     → (a.base / 64 ≡ place.page) × ((cell_of_allocation c a).index ≡ place.index)
 place_index c a place sized base lt =
     let made = made_begins (object_placed c a) place sized lt in
     let begins : BeginsAtCell (object_placed c a) a.base =
-    record { index = made.0.index; known = made.0.known; first = ap (λ n. n % 64) base ∙ made.0.first } in
-    (ap (λ n. n / 64) base ∙ made.2, ap (λ (x : Cell). x.index) (placed_cell c a sized begins) ∙ made.1)
+    record { index = made.0.index; known = made.0.known; first = rw base made.0.first } in
+    (rw base made.2, ap (λ (x : Cell). x.index) (placed_cell c a sized begins) ∙ made.1)

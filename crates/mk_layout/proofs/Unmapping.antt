@@ -1,23 +1,16 @@
 -- The steps that unmap a run: it is freed, its pages get their headers, and the call that freed it ends.
-use Rattle.std.proofs.Common.{Bool, List, ap, arith, false, inl, inr, length, length-set, subst, sym, true, ℕ, ◌+◌, ◌-◌}
-use Rattle.std.proofs.Common.{◌<◌, ◌∙◌, ◌≡◌, ◌≢◌, ◌⊎◌}
+use Rattle.std.proofs.Common.{Bool, List, ap, arith, false, inl, inr, length, length-set, sym, true, ℕ, ◌+◌, ◌-◌, ◌<◌}
+use Rattle.std.proofs.Common.{◌∙◌, ◌≡◌, ◌≢◌, ◌⊎◌}
 use Rattle.std.specs.Prelude.{Some}
 use Rattle.std.proofs.lemmas.Bool.{cases_eq}
-use Rattle.mk_geom.specs.Addresses.{head_page_under}
-use Rattle.mk_geom.specs.Headers.{header_of}
-use Rattle.mk_geom.specs.declared.headers.Header.TheVariants.{Later}
-use Rattle.mk_core.specs.Bits.{has_bit}
-use Rattle.mk_core.specs.Cells.{cells_under}
-use Rattle.mk_core.specs.NewPlaces.{header_made, is_small_object, pages_made, stands, unmapped_header}
-use Rattle.mk_core.specs.ObjectHeaders.{ShowsPart, cells_made}
-use Rattle.mk_core.specs.declared.seats.Object.{Object}
+use Rattle.mk_protocol.proofs.Vocabulary.{Later, Object, ShowsPart, cells_made, cells_under, header_made, header_of}
+use Rattle.mk_protocol.proofs.Vocabulary.{is_small_object, pages_made, stands, unmapped_header}
 use Rattle.mk_core.proofs.ObjectHeaders.{later_part, made_shows, part_cells, part_head, same_cells, shown_later}
 use Rattle.mk_core.proofs.ObjectHeaders.{unmapped_shows}
 use Rattle.mk_core.proofs.Sizes.{large_cells, pages_some}
 use Rattle.mk_layout.specs.LayoutScene.{Among, AreApart, Claim, HasHeader, HasItsHead, IsClaimed, IsLaidOn, IsOfOneCell}
 use Rattle.mk_layout.specs.LayoutScene.{IsPlotShown, IsShown, Mode, NoPlot, Plot, PlotStands, Plotted, LayoutScene}
-use Rattle.mk_layout.specs.LayoutScene.{Unmapping}
-use Rattle.mk_layout.specs.LayoutScene.{head_on, header_on, is_released_on, run_count, shows_on, used_on}
+use Rattle.mk_layout.specs.LayoutScene.{Unmapping, head_on, header_on, is_released_on, run_count, shows_on, used_on}
 use Rattle.mk_layout.proofs.PageSets.{headed_here, headed_other, headed_used, with_header_on}
 use Rattle.mk_layout.proofs.Readings.{claimed, claimed_head, claimed_some, none_set, one_claim}
 use Rattle.mk_layout.proofs.Releasing.{head_of_other, shown_beside}
@@ -28,9 +21,8 @@ pub cells_at_claim : (s : LayoutScene) (x : Claim) → IsShown s.pages x
     → cells_under (shows_on s.pages x.page) ≡ cells_made x.object
 cells_at_claim s x shown =
     let zero : x.page + 0 ≡ x.page = omega arith in
-    ap (λ p. cells_under (shows_on s.pages p)) (sym zero)
-    ∙ part_cells x.object (shows_on s.pages (x.page + 0))
-    (claimed s.pages x 0 shown (let some = pages_some x.object shown.sized in omega arith))
+    rw (← zero) (part_cells x.object (shows_on s.pages (x.page + 0))
+    (claimed s.pages x 0 shown (let some = pages_some x.object shown.sized in omega arith)))
 
 -- a claim that shares a page with a run's is the run's
 pub shares_run : (s : LayoutScene) (x y : Claim) (d e : ℕ) → IsLaidOn s → Among x s.claims → Among y s.claims
@@ -43,16 +35,14 @@ shares_run s x y d e laid ix iy large ld le at =
     ∙ claimed_head s.pages x d sx ld in
     let one = large_cells x.object large in
     let cells = cells_at_claim s x sx in
-    let cells_y : cells_under (shows_on s.pages x.page) ≡ cells_made y.object =
-    ap (λ p. cells_under (shows_on s.pages p)) (sym page) ∙ cells_at_claim s y sy in
+    let cells_y : cells_under (shows_on s.pages x.page) ≡ cells_made y.object = rw (← page) (cells_at_claim s y sy) in
     let iix = sx.known in
     let iiy = sy.known in
     one_claim s.claims y x laid.apart iy ix (page, omega arith)
 
 -- and the page isn't one of a plot
 pub apart_of_plot : (s : LayoutScene) (x : Claim) (d first e : ℕ) (o : Object) → IsLaidOn s → Among x s.claims
-    → d < pages_made x.object → IsPlotShown s.pages first o
-    → e < pages_made o → first + e ≢ x.page + d
+    → d < pages_made x.object → IsPlotShown s.pages first o → e < pages_made o → first + e ≢ x.page + d
 apart_of_plot s x d first e o laid ix ld plot le at =
     let sx = laid.shown x ix in
     let head : head_on s.pages (first + e) ≡ x.page = ap (λ q. head_on s.pages q) at ∙ claimed_head s.pages x d sx ld in
@@ -60,44 +50,40 @@ apart_of_plot s x d first e o laid ix ld plot le at =
   where
     by : head_on s.pages (first + e) ≡ x.page
         → (header_on s.pages (first + e) ≡ 0) ⊎ (header_on s.pages (first + e) ≡ header_made o e) → ⊥
-    by head (inl z) = claimed_some s.pages x d (laid.shown x ix) ld (ap (λ q. header_on s.pages q) (sym at) ∙ z)
+    by head (inl z) = claimed_some s.pages x d (laid.shown x ix) ld (rw (← at) z)
     by head (inr is) =
         let own : head_on s.pages (first + e) ≡ first =
-        ap (λ h. head_page_under (header_of h) (first + e)) is
-        ∙ part_head o e first (header_of (header_made o e)) (made_shows o e plot.sized le) in
+        rw is (part_head o e first (header_of (header_made o e)) (made_shows o e plot.sized le)) in
         let zero : first + 0 ≡ first = omega arith in
         none_set (used_on s.pages x.page) x.index (ap (λ p. used_on s.pages p) (sym head ∙ own ∙ sym zero)
-        ∙ plot.used 0 (let some = pages_some o plot.sized in omega arith))
-        (laid.shown x ix).used
+        ∙ plot.used 0 (let some = pages_some o plot.sized in omega arith)) (laid.shown x ix).used
 
 -- `head` (c): a page of the run that is unmapping gets its header
 abbrev pub PageUnmapped : LayoutScene → Claim → ℕ → LayoutScene
 PageUnmapped s x d = record s { pages = with_header_on s.pages (x.page + d) (unmapped_header (pages_made x.object) d) }
 
 pub layout_page_unmapped : (s : LayoutScene) (x : Claim) (d : ℕ) → IsLaidOn s → Among x s.claims → x.mode ≡ Unmapping
-    → is_small_object x.object ≡ false → d < pages_made x.object
-    → IsLaidOn (PageUnmapped s x d)
+    → is_small_object x.object ≡ false → d < pages_made x.object → IsLaidOn (PageUnmapped s x d)
 layout_page_unmapped s x d laid ix mode large ld =
     record {
       shown = λ y iy. elim (same_or_not y x) [
         | inl same ↦ let e =
-            one_claim s.claims y x laid.apart iy ix same in subst
-            (λ (c : Claim). IsShown (with_header_on s.pages p n) c) (sym e) own
+            one_claim s.claims y x laid.apart iy ix same in rw e own
         | inr other ↦ shown_beside s.pages p n y lt (laid.shown y iy)
             (λ e le at. let is = shares_run s x y d e laid ix iy large ld le at in other
-            (ap (λ (c : Claim). c.page) is, ap (λ (c : Claim). c.index) is))
+            (rw is, rw is))
       ];
       apart = laid.apart;
-      used = λ q k h. let t = laid.used q k (ap (λ u. has_bit u k) (sym (headed_used s.pages p n q lt))
-          ∙ h) in (subst (λ c. k < c) (sym (cells q)) t.0, t.1);
+      used = λ q k h. let t = laid.used q k (rw (← (headed_used s.pages p n q lt))
+          h) in (rw (cells q) t.0, t.1);
       plot = plot s.plot laid.plot;
       occupied =
           λ q some empty. laid.occupied q (was_some q some)
-          (ap (λ i. used_on s.pages i) (sym (head q))
-          ∙ sym (headed_used s.pages p n (head_on (with_header_on s.pages p n) q) lt) ∙ empty);
+          (rw (← (head q))
+          (sym (headed_used s.pages p n (head_on (with_header_on s.pages p n) q) lt) ∙ empty));
       later = λ q e m is. elim (cases_eq q p) [
         | inl same ↦ own_later q e m same is
-        | inr ne ↦ kept q e m (laid.later q e m (ap (λ h. header_of h) (sym (headed_other s.pages p n q ne)) ∙ is))
+        | inr ne ↦ kept q e m (laid.later q e m (rw (← (headed_other s.pages p n q ne)) is))
       ];
     }
   where
@@ -139,13 +125,11 @@ layout_page_unmapped s x d laid ix mode large ld =
     header_of_run e le = elim (cases_eq e d) [
       | inl same ↦ inr (
         large,
-        ap (λ i. header_on (with_header_on s.pages (x.page + d) (unmapped_header (pages_made x.object) d))
-            (x.page + i)) same ∙ here ∙ ap (λ i. unmapped_header (pages_made x.object) i) (sym same),
+        rw same (here ∙ rw (← same)),
       )
-      | inr ne ↦ subst (λ h. HasHeader Unmapping x.object e h)
-          (sym (headed_other s.pages (x.page + d) (unmapped_header (pages_made x.object) d) (x.page + e)
-          (λ is. ne (omega arith))))
-          (subst (λ m. HasHeader m x.object e (header_on s.pages (x.page + e))) mode (sx.headers e le))
+      | inr ne ↦ rw (headed_other s.pages (x.page + d) (unmapped_header (pages_made x.object) d) (x.page + e)
+          (λ is. ne (omega arith)))
+          (rw mode at (sx.headers e le))
     ]
 
     own : IsShown (with_header_on s.pages (x.page + d) (unmapped_header (pages_made x.object) d)) x
@@ -155,12 +139,9 @@ layout_page_unmapped s x d laid ix mode large ld =
           known = sx.known;
           within = let l = len in let w = sx.within in omega arith;
           headers =
-              λ e le. subst (λ m. HasHeader m x.object e
-              (header_on (with_header_on s.pages (x.page + d) (unmapped_header (pages_made x.object) d))
-              (x.page + e))) (sym mode)
+              λ e le. rw mode
               (header_of_run e le);
-          used = ap (λ u. has_bit u x.index)
-              (headed_used s.pages (x.page + d) (unmapped_header (pages_made x.object) d) x.page lt) ∙ sx.used;
+          used = rw (headed_used s.pages (x.page + d) (unmapped_header (pages_made x.object) d) x.page lt) sx.used;
         }
 
     cells : (q : ℕ) → cells_under
@@ -168,13 +149,11 @@ layout_page_unmapped s x d laid ix mode large ld =
         ≡ cells_under (shows_on s.pages q)
     cells q = elim (cases_eq q (x.page + d)) [
       | inl e ↦
-          ap (λ i. cells_under
-          (shows_on (with_header_on s.pages (x.page + d) (unmapped_header (pages_made x.object) d)) i)) e
-          ∙ ap (λ h. cells_under (header_of h)) here
-          ∙ same_cells x.object d (header_of (unmapped_header (pages_made x.object) d)) (shows_on s.pages (x.page + d))
-          new old ∙ ap (λ i. cells_under (shows_on s.pages i)) (sym e)
-      | inr ne ↦ ap (λ h. cells_under (header_of h))
-          (headed_other s.pages (x.page + d) (unmapped_header (pages_made x.object) d) q ne)
+          rw e
+          (rw here
+          (same_cells x.object d (header_of (unmapped_header (pages_made x.object) d)) (shows_on s.pages (x.page + d))
+          new old ∙ rw (← e)))
+      | inr ne ↦ rw (headed_other s.pages (x.page + d) (unmapped_header (pages_made x.object) d) q ne)
     ]
 
     counts : (q : ℕ) → run_count
@@ -182,31 +161,29 @@ layout_page_unmapped s x d laid ix mode large ld =
         ≡ run_count (shows_on s.pages q)
     counts q = elim (cases_eq q (x.page + d)) [
       | inl e ↦
-          ap (λ i. run_count (shows_on (with_header_on s.pages (x.page + d) (unmapped_header (pages_made x.object) d))
-          i)) e ∙ ap (λ h. run_count (header_of h)) here
-          ∙ same_count x.object d (header_of (unmapped_header (pages_made x.object) d)) (shows_on s.pages (x.page + d))
+          rw e (rw here
+          (same_count x.object d (header_of (unmapped_header (pages_made x.object) d)) (shows_on s.pages (x.page + d))
           new old large
-          ∙ ap (λ i. run_count (shows_on s.pages i)) (sym e)
-      | inr ne ↦ ap (λ h. run_count (header_of h))
-          (headed_other s.pages (x.page + d) (unmapped_header (pages_made x.object) d) q ne)
+          ∙ rw (← e)))
+      | inr ne ↦ rw (headed_other s.pages (x.page + d) (unmapped_header (pages_made x.object) d) q ne)
     ]
 
     head : (q : ℕ) → head_on (with_header_on s.pages (x.page + d) (unmapped_header (pages_made x.object) d)) q
         ≡ head_on s.pages q
     head q = elim (cases_eq q (x.page + d)) [
       | inl e ↦
-          ap (λ i. head_on (with_header_on s.pages (x.page + d) (unmapped_header (pages_made x.object) d)) i) e
-          ∙ ap (λ h. head_page_under (header_of h) (x.page + d)) here
-          ∙ part_head x.object d x.page (header_of (unmapped_header (pages_made x.object) d)) new
+          rw e
+          (rw here
+          (part_head x.object d x.page (header_of (unmapped_header (pages_made x.object) d)) new
           ∙ sym (part_head x.object d x.page (shows_on s.pages (x.page + d)) old)
-          ∙ ap (λ i. head_on s.pages i) (sym e)
+          ∙ rw (← e)))
       | inr ne ↦ head_of_other s.pages (x.page + d) (unmapped_header (pages_made x.object) d) q ne
     ]
 
     was_some : (q : ℕ) → header_on (with_header_on s.pages (x.page + d) (unmapped_header (pages_made x.object) d)) q ≢ 0
         → header_on s.pages q ≢ 0
     was_some q some z = elim (cases_eq q (x.page + d)) [
-      | inl e ↦ claimed_some s.pages x d sx ld (ap (λ i. header_on s.pages i) (sym e) ∙ z)
+      | inl e ↦ claimed_some s.pages x d sx ld (rw (← e) z)
       | inr ne ↦ some (headed_other s.pages (x.page + d) (unmapped_header (pages_made x.object) d) q ne ∙ z)
     ]
 
@@ -218,9 +195,8 @@ layout_page_unmapped s x d laid ix mode large ld =
           sized = stands.sized;
           within = let l = len in let w = stands.within in omega arith;
           headers =
-              λ e le. subst (λ h. (h ≡ 0) ⊎ (h ≡ header_made o e))
-              (sym (headed_other s.pages (x.page + d) (unmapped_header (pages_made x.object) d) (first + e)
-              (apart_of_plot s x d first e o laid ix ld stands le)))
+              λ e le. rw (headed_other s.pages (x.page + d) (unmapped_header (pages_made x.object) d) (first + e)
+              (apart_of_plot s x d first e o laid ix ld stands le))
               (stands.headers e le);
           used = λ e le. headed_used s.pages (x.page + d) (unmapped_header (pages_made x.object) d) (first + e) lt
               ∙ stands.used e le;
@@ -232,9 +208,9 @@ layout_page_unmapped s x d laid ix mode large ld =
     kept q e m l = (
       l.0,
       elim l.1 [
-        | inl less ↦ inl (subst (λ c. e < c) (sym (counts (q - e))) less)
+        | inl less ↦ inl (rw (counts (q - e)) less)
         | inr lost ↦ elim (cases_eq (q - e) (x.page + d)) [
-          | inl at ↦ absurd (claimed_some s.pages x d sx ld (ap (λ i. header_on s.pages i) (sym at) ∙ lost.1))
+          | inl at ↦ absurd (claimed_some s.pages x d sx ld (rw (← at) lost.1))
           | inr ne ↦ inr (
             lost.0,
             headed_other s.pages (x.page + d) (unmapped_header (pages_made x.object) d) (q - e) ne
@@ -270,8 +246,7 @@ layout_changed s claims laid ch =
     record {
       shown =
           λ y iy. let was =
-          laid.shown (record y { mode = (ch.from y iy).0 })
-          (ch.from y iy).1 in record {
+          laid.shown (record y { mode = (ch.from y iy).0 }) (ch.from y iy).1 in record {
             sized = was.sized;
             known = was.known;
             within = was.within;

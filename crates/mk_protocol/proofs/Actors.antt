@@ -2,23 +2,15 @@
 use Rattle.std.proofs.Common.{◌≡◌, ◌≢◌, ℕ, ◌+◌, ◌<◌, Bool, true, false, refl, sym, ◌∙◌, ap, inl, inr}
 use Rattle.std.specs.Prelude.{Some, None, ◌&&◌}
 use Rattle.std.proofs.lemmas.Bool.{cases_Bool, ltb-true, eqb-true, eqb-false, not-true, and_parts}
-use Rattle.mk_never.specs.declared.operations.Op.{Op}
+use Rattle.mk_protocol.proofs.Vocabulary.{Caller, Config, Flight, Host, Marker, MeetsAll, Moment, Op, Seat, Stage, Step}
+use Rattle.mk_protocol.proofs.Vocabulary.{comes_next, flight_of, group_of, host_has_turn, is_new_at, is_of_turn}
+use Rattle.mk_protocol.proofs.Vocabulary.{is_open_to, is_phase, is_undecided_new, is_under_turn}
 use Rattle.mk_never.specs.declared.operations.Op.TheVariants as op
-use Rattle.mk_core.specs.declared.config.Config.{Config}
-use Rattle.mk_core.specs.declared.events.Seat.{Seat}
-use Rattle.mk_core.specs.declared.events.Seat.TheVariants.{Caller, Marker, Host}
-use Rattle.mk_core.specs.declared.events.Step.{Step}
 use Rattle.mk_core.specs.declared.events.Step.TheVariants as step
 use Rattle.mk_core.specs.declared.events.Group.{Group}
 use Rattle.mk_core.specs.declared.events.Group.TheVariants as group
-use Rattle.mk_core.specs.declared.seats.Stage.{Stage}
 use Rattle.mk_core.specs.declared.seats.Stage.TheVariants as stage
-use Rattle.mk_core.specs.declared.seats.Flight.{Flight}
-use Rattle.mk_core.specs.Calls.{is_under_turn}
-use Rattle.mk_core.specs.Order.{group_of, is_of_turn, is_open_to, comes_next, comes_next_to_host, host_has_turn}
-use Rattle.mk_core.specs.NewPlaces.{is_new_at, is_undecided_new}
-use Rattle.mk_core.specs.Moments.{Moment, flight_of, is_phase}
-use Rattle.mk_core.specs.Enabled.{MeetsAll}
+use Rattle.mk_core.specs.Order.{comes_next_to_host}
 use Rattle.mk_protocol.proofs.Standings.{standing, is_astray}
 use Rattle.mk_protocol.proofs.Stages.{turns_stand}
 use Rattle.mk_protocol.proofs.NextSteps.{is_take, of_turn, at_take, at_no_take}

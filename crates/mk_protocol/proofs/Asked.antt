@@ -2,14 +2,11 @@
 use Rattle.std.proofs.Common.{◌≡◌, ◌≢◌, ◌⊎◌, ℕ, ◌<◌, ◌≤◌, true, false, List, [], ◌∷◌, refl, inl, inr, arith, zero, suc}
 use Rattle.std.specs.Prelude.{slice_index, slice_index_or, not, ◌&&◌, ◌||◌, ◌==◌, nat_lt}
 use Rattle.std.proofs.lemmas.Bool.{not-true, ltb-true, eqb-true, eqb-false, and_parts, or_cases}
-use Rattle.mk_core.specs.declared.config.Config.{Config}
-use Rattle.mk_core.specs.declared.events.Seat.{Seat}
-use Rattle.mk_core.specs.declared.events.Seat.TheVariants.{Caller, Marker, Host}
-use Rattle.mk_core.specs.declared.seats.Marker.{Marker as MarkerState}
-use Rattle.mk_core.specs.Bounded.{all_below}
-use Rattle.mk_core.specs.Words.{Words}
-use Rattle.mk_core.specs.Moments.{Moment, outside, holder_number, others_are_held, none_is_held, is_number_of, is_held}
-use Rattle.mk_core.specs.StopConditions.{is_attending, none_attends, may_close, has_closed_page, roots_point_well}
+use Rattle.mk_protocol.proofs.Vocabulary.{Caller, Config, Host, Marker, MarkerState, Moment, Seat, Words, all_below}
+use Rattle.mk_protocol.proofs.Vocabulary.{has_closed_page, holder_number, is_attending, is_held, is_number_of}
+use Rattle.mk_protocol.proofs.Vocabulary.{none_attends, others_are_held, outside, roots_point_well}
+use Rattle.mk_core.specs.Moments.{none_is_held}
+use Rattle.mk_core.specs.StopConditions.{may_close}
 use Rattle.mk_core.proofs.AllBelow.{all_below-at}
 use Rattle.mk_protocol.proofs.Views.{view_of}
 use Rattle.mk_protocol.proofs.Moves.{OthersAreHeld}
@@ -22,8 +19,7 @@ none_held c w h j lt =
 
 number_is : (c : Config) (seat : Seat) (j : ℕ) → is_number_of seat j ≡ true → holder_number c seat ≡ j
 number_is c (Caller k) j h = eqb-true k j h
-number_is c (Marker k) j h = cc
-number_is c Host j h = cc
+number_is c _ j h = cc
 
 pub others_held : (c : Config) (m : Moment) (seat : Seat) → others_are_held c.callers m.words seat ≡ true
     → OthersAreHeld c (view_of m) seat

@@ -3,24 +3,13 @@ use Rattle.std.proofs.Common.{◌≡◌, ℕ, ◌<◌, Bool, true, false, List, 
 use Rattle.std.specs.Prelude.{None, slice_index, slice_set, if◌then◌else◌}
 use Rattle.std.proofs.lemmas.Bool.{cases_eq, eq-eqb, ne_eqb}
 use Rattle.std.proofs.lemmas.List.{set-get_or}
-use Rattle.mk_never.specs.declared.operations.Op.{Op}
-use Rattle.mk_geom.specs.Headers.{header_of}
-use Rattle.mk_core.specs.declared.config.Config.{Config}
+use Rattle.mk_protocol.proofs.Vocabulary.{Caller, Config, Event, Flight, Moment, Op, Stage, Step, access, accessed}
+use Rattle.mk_protocol.proofs.Vocabulary.{at_rest, begun, flight_of, found, group_of, header_of, is_under_turn}
+use Rattle.mk_protocol.proofs.Vocabulary.{is_unmapped_header, onward, progress_reg, refused, reg_access, register_met}
+use Rattle.mk_protocol.proofs.Vocabulary.{stage_behind, steps_of, still, word_accessed}
 use Rattle.mk_core.specs.declared.events.Answer.TheVariants as answer
 use Rattle.mk_core.specs.declared.events.Group.TheVariants as group
-use Rattle.mk_core.specs.declared.events.Seat.TheVariants.{Caller}
-use Rattle.mk_core.specs.declared.events.Step.{Step}
 use Rattle.mk_core.specs.declared.events.Step.TheVariants as step
-use Rattle.mk_core.specs.declared.events.Event.{Event}
-use Rattle.mk_core.specs.declared.seats.Stage.{Stage}
-use Rattle.mk_core.specs.declared.seats.Flight.{Flight}
-use Rattle.mk_core.specs.Words.{accessed}
-use Rattle.mk_core.specs.Cells.{is_unmapped_header}
-use Rattle.mk_core.specs.Calls.{steps_of, stage_behind, is_under_turn, begun, at_rest, still, onward, refused}
-use Rattle.mk_core.specs.Calls.{progress_reg}
-use Rattle.mk_core.specs.Moments.{Moment, flight_of}
-use Rattle.mk_core.specs.Order.{group_of}
-use Rattle.mk_core.specs.Accesses.{found, access, word_accessed, register_met, reg_access}
 use Rattle.mk_protocol.proofs.Standings.{Standing, Resting, InCall, UnderTurn, Astray, standing_at, standing, is_astray}
 use Rattle.mk_protocol.proofs.Stages.{is_call_stage, is_reg_stage, goes_on, calls_stand, onward_stands, refused_stands}
 use Rattle.mk_protocol.proofs.Stages.{regs_work, loads_under_turn, begun_in_call, read_stands, either_stands}
@@ -35,14 +24,12 @@ use Rattle.mk_protocol.proofs.SameWords.{Moves, finds, reg_keeps, with_words}
 -- a change of nothing
 
 pub same_flight : (v : View) (k : ℕ) → record v { flights = slice_set v.flights k (flight_in v k) } ≡ v
-same_flight v k = ap (λ (fs : List Flight). record v { flights = fs }) (set-get_or v.flights k at_rest)
+same_flight v k = rw (set-get_or v.flights k at_rest)
 
 same_both : (v : View) (k : ℕ)
     → record v { gates = slice_set v.gates k (gate_in v k); flights = slice_set v.flights k (flight_in v k) } ≡ v
 same_both v k =
-    ap (λ (fs : List Flight). record v { gates = slice_set v.gates k (gate_in v k); flights = fs })
-    (set-get_or v.flights k at_rest)
-    ∙ ap (λ (gs : List ℕ). record v { gates = gs }) (set-get_or v.gates k 0)
+    rw (set-get_or v.flights k at_rest) (ap (λ (gs : List ℕ). record v { gates = gs }) (set-get_or v.gates k 0))
 
 -- a caller in its call
 
@@ -59,13 +46,9 @@ enter_move : (c : Config) (m : Moment) (k : ℕ) (o : Op) → k < c.callers → 
     → Moves c m (Caller k) (step.Enter o)
 enter_move c m k o lt was out = elim (cases_eq (slice_index m.words.gates k) 0) [
   | inl z ↦
-      subst (λ (b : Bool). Move c (view_of m) (Caller k) (entered (view_of m) k o b))
-      (sym (eq-eqb (slice_index m.words.gates k) 0 z))
-      (Enters (begun o) lt z was (begun_in_call o out))
+      rw (eq-eqb (slice_index m.words.gates k) 0 z) (Enters (begun o) lt z was (begun_in_call o out))
   | inr ne ↦
-      subst (λ (b : Bool). Move c (view_of m) (Caller k) (entered (view_of m) k o b))
-      (sym (ne_eqb (slice_index m.words.gates k) 0 ne))
-      (subst (λ (n : View). Move c (view_of m) (Caller k) n) (sym (same_both (view_of m) k)) Stays)
+      rw (ne_eqb (slice_index m.words.gates k) 0 ne) (rw (same_both (view_of m) k) Stays)
 ]
 
 -- `reg`, in a call outside the turn or of a Free
@@ -120,7 +103,7 @@ pub call_moves : (c : Config) (m : Moment) (k : ℕ) (x : Step) → k < c.caller
     → is_astray (standing (flight_of m (Caller k))) ≡ false → Meets c m (Caller k) x → Moves c m (Caller k) x
 call_moves c m k (step.Enter o) lt g a h =
     let s = at_enter (flight_of m (Caller k)).stage (flight_of m (Caller k)).op o h.order in
-    enter_move c m k o lt (ap (λ (t : Stage). standing_at t (flight_of m (Caller k)).op) s.0) s.1
+    enter_move c m k o lt (rw s.0) s.1
 call_moves c m k step.Leave lt g a h = Leaves lt (on c m k step.Leave h refl refl a)
 call_moves c m k step.Reg lt g a h =
     reg_move c m k lt (at_reg (flight_of m (Caller k)).stage (flight_of m (Caller k)).op h.order) a

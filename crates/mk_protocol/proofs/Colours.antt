@@ -3,29 +3,18 @@ use Rattle.std.proofs.Common.{◌≡◌, ◌⊎◌, ℕ, Bool, true, false, List
 use Rattle.std.specs.Prelude.{Option, None, is_some, slice_index, slice_set, bit_or, not, ◌&&◌, ◌||◌, ◌==◌}
 use Rattle.std.specs.Prelude.{if◌then◌else◌}
 use Rattle.std.proofs.lemmas.Bool.{not-true, eqb-true, or_cases, and_parts}
-use Rattle.mk_geom.specs.PageUses.{or_else}
-use Rattle.mk_core.specs.declared.config.Config.{Config}
-use Rattle.mk_core.specs.declared.accesses.Access.{Access}
-use Rattle.mk_core.specs.declared.accesses.Access.TheVariants.{Load, Store}
-use Rattle.mk_core.specs.declared.accesses.TableWord.TheVariants.{Named}
-use Rattle.mk_core.specs.declared.events.Seat.{Seat}
-use Rattle.mk_core.specs.declared.events.Tally.{Tally}
+use Rattle.mk_protocol.proofs.Vocabulary.{Access, Config, Hand, Load, Moment, Named, OnlyGrow, Seat, Step, Store, Tally}
+use Rattle.mk_protocol.proofs.Vocabulary.{Word, Words, accessed, caller_number, cell_seen, flight_of, found, head_page}
+use Rattle.mk_protocol.proofs.Vocabulary.{is_attending, is_phase, marker_at, marker_of, none_attends, nothing_done}
+use Rattle.mk_protocol.proofs.Vocabulary.{or_else, page_met, phase_of, reg_access, register_met, scan_page, seen_bit}
+use Rattle.mk_protocol.proofs.Vocabulary.{seen_page, tally_word}
 use Rattle.mk_core.specs.declared.events.Tally.TheVariants as tally
-use Rattle.mk_core.specs.declared.events.Word.{Word}
 use Rattle.mk_core.specs.declared.events.Word.TheVariants as word
-use Rattle.mk_core.specs.declared.events.Step.{Step}
 use Rattle.mk_core.specs.declared.events.Step.TheVariants as step
-use Rattle.mk_core.specs.declared.seats.Hand.{Hand}
-use Rattle.mk_core.specs.Words.{Words, accessed, phase_of}
-use Rattle.mk_core.specs.Calls.{page_met}
-use Rattle.mk_core.specs.Cells.{head_page}
-use Rattle.mk_core.specs.Moments.{Moment, flight_of, marker_of, marker_at, is_phase, nothing_done}
-use Rattle.mk_core.specs.StopConditions.{is_attending, none_attends, may_mark, may_undirty, may_black}
-use Rattle.mk_core.specs.MarkerConditions.{cell_seen, may_mblack}
-use Rattle.mk_core.specs.Accesses.{caller_number, found, register_met, reg_access, tally_word, seen_page, seen_bit}
-use Rattle.mk_core.specs.Accesses.{scan_page, scan_bit}
+use Rattle.mk_core.specs.StopConditions.{may_mark, may_undirty, may_black}
+use Rattle.mk_core.specs.MarkerConditions.{may_mblack}
+use Rattle.mk_core.specs.Accesses.{scan_bit}
 use Rattle.mk_core.specs.Effects.{hand_given}
-use Rattle.mk_core.specs.Frames.{OnlyGrow}
 use Rattle.mk_protocol.proofs.Asked.{none_at}
 use Rattle.mk_protocol.proofs.Actors.{Meets}
 use Rattle.mk_protocol.proofs.SameWords.{Behind}
@@ -124,11 +113,9 @@ pub colour_step : (c : Config) (m : Moment) (seat : Seat) (x : Step) → Meets c
     → ColourStep c m seat (colours_of (Behind c m seat x))
 colour_step c m seat step.Reg h =
     let f = flight_of m seat in
-    subst (λ (y : Colours). ColourStep c m seat y)
-    (sym (reg_colours m.words (caller_number seat) (register_met f f.stage)
-    (reg_access f f.stage) m.seats.holding.hand)) Leaves
-colour_step c m seat (step.Tally n v) h =
-    subst (λ (y : Colours). ColourStep c m seat y) (sym (tally_colours m.words n v m.seats.holding.hand)) Leaves
+    rw (reg_colours m.words (caller_number seat) (register_met f f.stage)
+    (reg_access f f.stage) m.seats.holding.hand) Leaves
+colour_step c m seat (step.Tally n v) h = rw (tally_colours m.words n v m.seats.holding.hand) Leaves
 colour_step c m seat (step.Take o) h = takes_or_not c m seat (m.words.turn == 0)
 colour_step c m seat step.Give h = DropsHand
 colour_step c m seat (step.Look w) h = TakesHand w
@@ -140,15 +127,11 @@ colour_step c m seat step.Mmark h = MarksSeen _ _ h.marker refl refl
 colour_step c m seat (step.Black p v) h = Blackens p v (eqb-true (phase_of m.words) 2 h.phase) h.holder
 colour_step c m seat step.Mblack h = BlackensScanned _ _ h.marker refl refl
 colour_step c m seat (step.Unblack p) h =
-    Whitens p (quiet m true h.phase
-    (ap (λ b. not (is_phase m.words 2) || b) (sym (and_true (none_attends m.seats.markers))) ∙ h.holder))
+    Whitens p (quiet m true h.phase (rw (← (and_true (none_attends m.seats.markers))) h.holder))
 colour_step c m seat (step.Undirty p) h =
-    Cleans p
-    (quiet m (is_blank m p) h.phase
-    (ap (λ b. not (is_phase m.words 2) || b)
-    (sym (and_moved (none_attends m.seats.markers) (slice_index m.words.blacks p == 0)
-    (slice_index m.words.blacks (head_page m.words p) == 0))) ∙ h.holder))
-    h.holder
+    Cleans p (quiet m (is_blank m p) h.phase
+    (rw (← (and_moved (none_attends m.seats.markers) (slice_index m.words.blacks p == 0)
+    (slice_index m.words.blacks (head_page m.words p) == 0))) h.holder)) h.holder
 colour_step c m seat _ h = Leaves
 
 -- While a marker attends, no mark and no black bit is cleared.

@@ -5,30 +5,16 @@ use Rattle.std.specs.Prelude.{slice_index, slice_set, ◌||◌, ◌==◌, ◌/�
 use Rattle.std.proofs.lemmas.Bool.{cases_lt, eq-eqb}
 use Rattle.std.proofs.lemmas.List.{get_or-set_other, get_or_past}
 use Rattle.std.proofs.lemmas.List.Sums.{sum_by-append}
-use Rattle.mk_core.specs.declared.config.Config.{Config}
-use Rattle.mk_core.specs.declared.events.Seat.{Seat}
-use Rattle.mk_core.specs.declared.events.Seat.TheVariants.{Caller, Marker, Host}
-use Rattle.mk_core.specs.declared.events.Event.{Event}
-use Rattle.mk_core.specs.declared.events.Step.{Step}
-use Rattle.mk_core.specs.declared.seats.Flight.{Flight}
-use Rattle.mk_core.specs.declared.seats.Marker.{Marker as MarkerState}
-use Rattle.mk_core.specs.Bounded.{all_below}
-use Rattle.mk_core.specs.Words.{Words, phase_of}
-use Rattle.mk_core.specs.Cells.{header_in, is_unmapped_header}
-use Rattle.mk_core.specs.Calls.{at_rest}
-use Rattle.mk_core.specs.Moments.{Moment, flight_of, marker_at, outside, holder_number, others_are_held, is_number_of}
-use Rattle.mk_core.specs.StopConditions.{is_attending}
-use Rattle.mk_core.specs.Effects.{answer_decided}
-use Rattle.mk_core.specs.Accesses.{caller_number}
-use Rattle.mk_core.specs.Decided.{Decided}
-use Rattle.mk_core.specs.Cycles.{is_end}
-use Rattle.mk_core.specs.Counts.{ends}
-use Rattle.mk_core.specs.History.{World, first_world, world_behind, left_from, left, AreEnabledFrom, call_decided}
-use Rattle.mk_core.specs.History.{calls_from, calls}
-use Rattle.mk_core.specs.Growing.{is_same_seat, is_one_of, AreOfOthers}
-use Rattle.mk_core.specs.Readings.{is_in_call, is_in_turn, is_in, Holds}
-use Rattle.mk_core.specs.Frames.{IsInCall, Attends, IsIn, HoldsAll, OnlyGrow, OwnIsLeft, Steady, Written, written_of}
-use Rattle.mk_core.specs.Frames.{TurnIsLeft, CountsAreLeft, ScanIsLeft, IsLeft, OthersLeave}
+use Rattle.mk_protocol.proofs.Vocabulary.{AreEnabledFrom, AreOfOthers, Caller, Config, Decided, Event, Flight, Holds}
+use Rattle.mk_protocol.proofs.Vocabulary.{Host, IsInCall, IsLeft, Marker, MarkerState, Moment, OnlyGrow, Seat, Steady}
+use Rattle.mk_protocol.proofs.Vocabulary.{Step, TurnIsLeft, Words, World, Written, all_below, answer_decided, at_rest}
+use Rattle.mk_protocol.proofs.Vocabulary.{call_decided, caller_number, calls, calls_from, ends, first_world, flight_of}
+use Rattle.mk_protocol.proofs.Vocabulary.{header_in, holder_number, is_attending, is_end, is_in, is_number_of}
+use Rattle.mk_protocol.proofs.Vocabulary.{is_one_of, is_unmapped_header, left, left_from, marker_at, others_are_held}
+use Rattle.mk_protocol.proofs.Vocabulary.{outside, phase_of, world_behind}
+use Rattle.mk_core.specs.Growing.{is_same_seat}
+use Rattle.mk_core.specs.Readings.{is_in_call, is_in_turn}
+use Rattle.mk_core.specs.Frames.{Attends, IsIn, HoldsAll, OwnIsLeft, written_of, CountsAreLeft, ScanIsLeft, OthersLeave}
 use Rattle.mk_core.proofs.Conditions.{enabled_meets}
 use Rattle.mk_core.proofs.Histories.{left_append, enabled_parts, calls_append}
 use Rattle.mk_protocol.specs.Protocol.{Protocol}
@@ -54,21 +40,17 @@ use Rattle.mk_protocol.proofs.OthersCounts.{counts_nothing, fulls_of, entry_full
 
 others_flight : (c : Config) (w : World) (seat s : Seat) (x : Step) → seat ≢ s
     → flight_of (WorldBehind c w seat x).now s ≡ flight_of w.now s
-others_flight c w (Caller j) (Caller k) x ne =
-    get_or-set_other w.now.seats.flights j k _ at_rest (λ e. ne (ap (λ i. Caller i) (sym e)))
+others_flight c w (Caller j) (Caller k) x ne = get_or-set_other w.now.seats.flights j k _ at_rest (λ e. ne (rw (← e)))
 others_flight c w (Marker j) (Caller k) x ne = refl
 others_flight c w Host (Caller k) x ne = refl
-others_flight c w seat (Marker k) x ne = refl
-others_flight c w seat Host x ne = refl
+others_flight c w seat _ x ne = refl
 
 others_marker : (c : Config) (w : World) (seat s : Seat) (x : Step) → seat ≢ s
     → marker_at (WorldBehind c w seat x).now s ≡ marker_at w.now s
-others_marker c w (Marker j) (Marker k) x ne =
-    get_or-set_other w.now.seats.markers j k _ outside (λ e. ne (ap (λ i. Marker i) (sym e)))
+others_marker c w (Marker j) (Marker k) x ne = get_or-set_other w.now.seats.markers j k _ outside (λ e. ne (rw (← e)))
 others_marker c w (Caller j) (Marker k) x ne = refl
 others_marker c w Host (Marker k) x ne = refl
-others_marker c w seat (Caller k) x ne = refl
-others_marker c w seat Host x ne = refl
+others_marker c w seat _ x ne = refl
 
 -- A seat that holds the turn holds it still, after an event of another.
 others_out : (c : Config) (w : World) (seat s : Seat) (x : Step) → Known c w.now → Meets c w.now seat x → seat ≢ s
@@ -82,7 +64,7 @@ others_out c w seat s x known h ne holds =
 
 still_holds : (c : Config) (s : Seat) (w v : World) → flight_of v.now s ≡ flight_of w.now s
     → v.now.words.turn ≡ w.now.words.turn → Holds c w.now s → Holds c v.now s
-still_holds c (Caller k) w v flight turn h = (h.0, ap (λ (f : Flight). is_in_turn f) flight ∙ h.1)
+still_holds c (Caller k) w v flight turn h = (h.0, rw flight h.1)
 still_holds c (Marker k) w v flight turn h = h
 still_holds c Host w v flight turn h = turn ∙ h
 
@@ -137,8 +119,7 @@ mapped_after : (c : Config) (w : World) (seat s : Seat) (x : Step) → Known c w
 mapped_after c w seat (Caller k) x known h ne call p is =
     let g = in_call_gate c w.now k known call in
     stays_mapped w.now.words _ p (header_step c w.now seat x k h g.0 ne g.1) is
-mapped_after c w seat (Marker k) x known h ne call p is = absurd call
-mapped_after c w seat Host x known h ne call p is = absurd call
+mapped_after c w seat _ x known h ne call p is = absurd call
 
 -- Where all other gates are held, callers do nothing, and markers don't change what callers do.
 marks_leave : (w : World) (k : ℕ) (y : MarkerState) (ms : List MarkerState) (x : Words) → MarkerWrite k w.now y x
@@ -167,8 +148,7 @@ scan_after : (c : Config) (w : World) (seat s : Seat) (x : Step) → Known c w.n
 scan_after c w seat (Marker k) x known h a =
     attending_grows c w.now seat (colours_of (WorldBehind c w seat x).now) k (known.orderly.attends k a) a
     (colour_step c w.now seat x h)
-scan_after c w seat (Caller k) x known h a = absurd a
-scan_after c w seat Host x known h a = absurd a
+scan_after c w seat _ x known h a = absurd a
 
 -- one event of another seat
 pub left_after : (c : Config) (w : World) (seat s : Seat) (x : Step) → Known c w.now → Meets c w.now seat x → seat ≢ s
@@ -197,18 +177,15 @@ left_same c s w =
 
 still_calls : (c : Config) (s : Seat) (w u : World) → OwnIsLeft c s w u → IsInCall w.now s → IsInCall u.now s
 still_calls c (Caller k) w u l call = ap (λ (f : Flight). is_in_call f) l.flight ∙ call
-still_calls c (Marker k) w u l call = call
-still_calls c Host w u l call = call
+still_calls c _ w u l call = call
 
 pub still_attends : (c : Config) (s : Seat) (w u : World) → OwnIsLeft c s w u → Attends w.now s → Attends u.now s
 still_attends c (Marker k) w u l a = ap (λ (y : MarkerState). is_attending y.presence) l.marker ∙ a
-still_attends c (Caller k) w u l a = a
-still_attends c Host w u l a = a
+still_attends c _ w u l a = a
 
 still_in : (c : Config) (s : Seat) (w u : World) → OwnIsLeft c s w u → IsIn w.now s → IsIn u.now s
 still_in c (Marker k) w u l i = ap (λ (y : MarkerState). is_in y) l.marker ∙ i
-still_in c (Caller k) w u l i = i
-still_in c Host w u l i = i
+still_in c _ w u l i = i
 
 still_stopped : (c : Config) (s : Seat) (w u : World) → Left c s w u → HoldsAll c w.now s → HoldsAll c u.now s
 still_stopped c s w u l all = (
@@ -246,8 +223,7 @@ same_seat Host = refl
 
 pub other_seat : (s seat : Seat) → is_one_of (s ∷ []) seat ≡ false → seat ≢ s
 other_seat s seat h e =
-    let f : true ≡ false = sym (ap (λ b. b || false) (same_seat s)) ∙ ap (λ (t : Seat). is_one_of (s ∷ []) t) (sym e)
-    ∙ h in
+    let f : true ≡ false = sym (rw (same_seat s)) ∙ ap (λ (t : Seat). is_one_of (s ∷ []) t) (sym e) ∙ h in
     cc
 
 pub left_later : (c : Config) (s : Seat) (w : World) (es : List Event) → Known c w.now → AreEnabledFrom c w es
@@ -279,7 +255,7 @@ counts_later c s w (e ∷ es) k on others holds =
     let one = left_after c w e.seat s e.step k h ne in
     let rest = counts_later c s (world_behind c w e) es (known_behind c w.now e k on.0) on.1 others.1
     (one.own.holding holds).0 in
-    let first : cond {A = ℕ} (is_end e.step) 1 0 ≡ 0 = ap (λ b. cond {A = ℕ} b 1 0) now.0 in
+    let first : cond {A = ℕ} (is_end e.step) 1 0 ≡ 0 = rw now.0 in
     let entry = entry_fulls (caller_number e.seat) (flight_of w.now e.seat).op (answer_decided c w.now e) now.1 in
     record {
       none_ends = sum_by-append (λ (x : Event). cond {A = ℕ} (is_end x.step) 1 0) (e ∷ []) es
@@ -294,9 +270,8 @@ counts_left c es more h =
       ends = sum_by-append (λ (x : Event). cond {A = ℕ} (is_end x.step) 1 0) es more
           ∙ (let r = h.none_ends in omega arith);
       fulls =
-          ap (λ (ds : List Decided). fulls_of ds) (calls_append c (first_world c) es more)
-          ∙ fulls_append (calls c es) (calls_from c (left c es) more)
-          ∙ (let r = h.none_full in omega arith);
+          rw (calls_append c (first_world c) es more) (fulls_append (calls c es) (calls_from c (left c es) more)
+          ∙ (let r = h.none_full in omega arith));
     }
 
 -- the law
@@ -313,8 +288,7 @@ scan_left c s w v l p a =
 
 visit_left : (c : Config) (s : Seat) (m : Moment) → Protocol c m → IsIn m s → 1 ≤ m.words.phase / 8
 visit_left c (Marker k) m p i = in_counts c m k p i
-visit_left c (Caller k) m p i = absurd i
-visit_left c Host m p i = absurd i
+visit_left c _ m p i = absurd i
 
 is_left : (c : Config) (s : Seat) (es more : List Event) → Left c s (left c es) (left c (es ++ more))
     → Known c (left c (es ++ more)).now
@@ -325,8 +299,7 @@ is_left c s es more l known counts =
       own = l.own;
       in_call = λ k is call. record {
         gate =
-            (in_call_gate c (left c (es ++ more)).now k known
-            (subst (λ (t : Seat). IsInCall (left c (es ++ more)).now t) is
+            (in_call_gate c (left c (es ++ more)).now k known (rw is at
             (still_calls c s (left c es) (left c (es ++ more)) l.own call))).1;
         mapped = l.mapped call;
       };
@@ -340,8 +313,6 @@ pub others_leave : OthersLeave
 others_leave c es more s limits on others =
     let parts = enabled_parts c (first_world c) es more on in
     let known = known_left c es limits parts.0 in
-    is_left c s es more
-    (subst (λ (v : World). Left c s (left c es) v) (sym (left_append c (first_world c) es more))
-    (left_later c s (left c es) more known parts.1 others))
-    (known_left c (es ++ more) limits on)
+    is_left c s es more (rw (left_append c (first_world c) es more)
+    (left_later c s (left c es) more known parts.1 others)) (known_left c (es ++ more) limits on)
     (λ holds. counts_left c es more (counts_later c s (left c es) more known parts.1 others holds))

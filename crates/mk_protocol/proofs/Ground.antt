@@ -3,37 +3,19 @@ use Rattle.std.proofs.Common.{◌≡◌, ◌≢◌, ◌⊎◌, ℕ, ◌/◌, ◌
 use Rattle.std.proofs.Common.{sym, subst, inl, inr}
 use Rattle.std.specs.Prelude.{Option, Some, None, slice_set, not, ◌&&◌, ◌||◌, ◌==◌, if◌then◌else◌}
 use Rattle.std.proofs.lemmas.Bool.{not-true, eqb-true, eqb-false, and_parts, or_cases}
-use Rattle.mk_never.specs.declared.operations.Op.{Op}
-use Rattle.mk_geom.specs.declared.addresses.Cell.{Cell}
-use Rattle.mk_geom.specs.declared.pages.Page.{Page}
-use Rattle.mk_geom.specs.PageUses.{or_else}
-use Rattle.mk_core.specs.declared.config.Config.{Config}
-use Rattle.mk_core.specs.declared.accesses.Access.{Access}
-use Rattle.mk_core.specs.declared.accesses.Access.TheVariants.{Load, Store}
-use Rattle.mk_core.specs.declared.accesses.TableWord.TheVariants.{Named}
-use Rattle.mk_core.specs.declared.events.Seat.{Seat}
-use Rattle.mk_core.specs.declared.events.Seat.TheVariants.{Caller, Marker, Host}
-use Rattle.mk_core.specs.declared.events.Tally.{Tally}
+use Rattle.mk_protocol.proofs.Vocabulary.{Access, Caller, Cell, Config, Flight, Granted, Host, Load, Marker, Moment}
+use Rattle.mk_protocol.proofs.Vocabulary.{Named, Op, Page, PlacedAllocation, Placing, RunPages, Seat, Step, Store}
+use Rattle.mk_protocol.proofs.Vocabulary.{Tally, Unplaced, Words, World, accessed, caller_number, carves, cell_freed}
+use Rattle.mk_protocol.proofs.Vocabulary.{chosen, empties, flight_of, freed_where_it_stands, frees, gives_back, granted}
+use Rattle.mk_protocol.proofs.Vocabulary.{header_at, is_phase, is_undecided_new, is_used_once, marks_place}
+use Rattle.mk_protocol.proofs.Vocabulary.{no_longer_fresh, nothing_done, object_made, or_else, phase_of, place_now}
+use Rattle.mk_protocol.proofs.Vocabulary.{reg_access, register_met, run_of_cell, taken, takes_cell, tally_word, target}
+use Rattle.mk_protocol.proofs.Vocabulary.{unmaps, used_at, with_released}
 use Rattle.mk_core.specs.declared.events.Tally.TheVariants as tally
 use Rattle.mk_core.specs.declared.events.Word.TheVariants as word
-use Rattle.mk_core.specs.declared.events.Step.{Step}
 use Rattle.mk_core.specs.declared.events.Step.TheVariants as step
-use Rattle.mk_core.specs.declared.seats.Flight.{Flight}
 use Rattle.mk_core.specs.declared.seats.Stage.TheVariants as stage
-use Rattle.mk_core.specs.declared.seats.Placing.{Placing}
-use Rattle.mk_core.specs.declared.seats.Placing.TheVariants.{Unplaced, Granted}
-use Rattle.mk_core.specs.declared.seats.RunPages.{RunPages}
-use Rattle.mk_core.specs.Words.{Words, header_at, used_at, accessed, phase_of}
-use Rattle.mk_core.specs.Moments.{Moment, flight_of, is_phase, nothing_done}
-use Rattle.mk_core.specs.NewPlaces.{object_made, target, is_undecided_new}
-use Rattle.mk_core.specs.TurnConditions.{may_give, may_head, may_use, may_quarantine, place_now, carves, unmaps}
-use Rattle.mk_core.specs.TurnConditions.{empties, takes_cell, gives_back, frees, takes_snapshot, drops, cell_freed}
-use Rattle.mk_core.specs.TurnConditions.{is_used_once}
-use Rattle.mk_core.specs.StopConditions.{marks_place}
-use Rattle.mk_core.specs.Allocations.{PlacedAllocation, granted, freed_where_it_stands, with_released, no_longer_fresh}
-use Rattle.mk_core.specs.Accesses.{caller_number, tally_word, register_met, reg_access}
-use Rattle.mk_core.specs.Effects.{chosen, taken, run_of_cell}
-use Rattle.mk_core.specs.History.{World}
+use Rattle.mk_core.specs.TurnConditions.{may_give, may_head, may_use, may_quarantine, takes_snapshot, drops}
 use Rattle.mk_protocol.specs.Ground.{Ground, ground_of}
 use Rattle.mk_protocol.proofs.Asked.{give_phase}
 use Rattle.mk_protocol.proofs.NextSteps.{at_take, at_no_take}
@@ -153,11 +135,7 @@ reg_ground w k r _ = record { pages = refl; freed = refl; snapshot = refl }
 rests : (c : Config) (w : World) (f : Flight) (x : Words) → KeepsGround w.now.words x
     → GroundStep c w f (record (ground_of w) { pages = x.pages; freed = x.freed; snapshot = x.snapshot })
 rests c w f x g =
-    subst (λ (ps : List Page). GroundStep c w f
-    (record (ground_of w) { pages = ps; freed = x.freed; snapshot = x.snapshot })) (sym g.pages)
-    (subst (λ (fs : List ℕ). GroundStep c w f (record (ground_of w) { freed = fs; snapshot = x.snapshot }))
-    (sym g.freed)
-    (subst (λ (ss : List ℕ). GroundStep c w f (record (ground_of w) { snapshot = ss })) (sym g.snapshot) Rests))
+    rw g.pages (rw g.freed (rw g.snapshot Rests))
 
 -- the kinds that go by the phase
 
@@ -238,8 +216,7 @@ taker_idle : (c : Config) (m : Moment) (seat : Seat) (o : Option Op) → Meets c
 taker_idle c m (Caller k) (Some o) h = (at_take (flight_of m (Caller k)).stage (flight_of m (Caller k)).op o h.order).0
 taker_idle c m (Caller k) None h =
     absurd (at_no_take (flight_of m (Caller k)).stage (flight_of m (Caller k)).op h.order)
-taker_idle c m Host o h = refl
-taker_idle c m (Marker k) o h = refl
+taker_idle c m _ o h = refl
 
 -- all kinds, whatever the seat
 pub ground_step : (c : Config) (w : World) (seat : Seat) (x : Step) → Meets c w.now seat x

@@ -5,8 +5,7 @@ use Rattle.std.specs.Int.{bit_at}
 use Rattle.std.proofs.lemmas.Bool.{cases_eq, cases_lt, eqb-true, eq-eqb}
 use Rattle.std.proofs.lemmas.List.{get_or-set_same, get_or-set_other, set_past}
 use Rattle.std.proofs.lemmas.Nat.Bits.{bit_at_or}
-use Rattle.mk_core.specs.Bits.{has_bit}
-use Rattle.mk_core.specs.Frames.{OnlyGrow}
+use Rattle.mk_protocol.proofs.Vocabulary.{OnlyGrow, has_bit}
 
 more : (a b k : ℕ) → has_bit a k ≡ true → has_bit (bit_or a b) k ≡ true
 more a b k is =
@@ -24,11 +23,9 @@ pub grows_more : (xs : List ℕ) (q bits : ℕ) → OnlyGrow xs (slice_set xs q 
 grows_more xs q bits p k is = elim (cases_eq p q) [
   | inl e ↦ elim (cases_lt q (length xs)) [
     | inl lt ↦
-        ap (λ n. has_bit n k) (ap (λ i. slice_index (slice_set xs q (bit_or (slice_index xs q) bits)) i) e
-        ∙ get_or-set_same xs q (bit_or (slice_index xs q) bits) 0 lt)
-        ∙ more (slice_index xs q) bits k (sym (ap (λ i. has_bit (slice_index xs i) k) e) ∙ is)
-    | inr past ↦ ap (λ (ys : List ℕ). has_bit (slice_index ys p) k)
-        (set_past xs q (bit_or (slice_index xs q) bits) past) ∙ is
+        rw (ap (λ i. slice_index (slice_set xs q (bit_or (slice_index xs q) bits)) i) e
+        ∙ get_or-set_same xs q (bit_or (slice_index xs q) bits) 0 lt) (more (slice_index xs q) bits k (sym (rw e) ∙ is))
+    | inr past ↦ rw (set_past xs q (bit_or (slice_index xs q) bits) past) is
   ]
-  | inr ne ↦ ap (λ n. has_bit n k) (get_or-set_other xs q p (bit_or (slice_index xs q) bits) 0 ne) ∙ is
+  | inr ne ↦ rw (get_or-set_other xs q p (bit_or (slice_index xs q) bits) 0 ne) is
 ]

@@ -3,24 +3,13 @@ use Rattle.std.proofs.Common.{◌≡◌, ◌≢◌, ℕ, ◌<◌, true, false, L
 use Rattle.std.specs.Prelude.{slice_index, slice_index_or, slice_set, not, ◌||◌}
 use Rattle.std.proofs.lemmas.Bool.{cases_eq, cases_lt, not-true, eqb-true, or_cases}
 use Rattle.std.proofs.lemmas.List.{get_or-set_same, get_or-set_other, set_past}
-use Rattle.mk_geom.specs.declared.pages.Page.{Page}
-use Rattle.mk_geom.specs.Storages.{free_page}
-use Rattle.mk_geom.specs.Headers.{header_of}
-use Rattle.mk_core.specs.declared.config.Config.{Config}
-use Rattle.mk_core.specs.declared.accesses.Access.{Access}
-use Rattle.mk_core.specs.declared.accesses.Access.TheVariants.{Load, Store}
-use Rattle.mk_core.specs.declared.accesses.TableWord.TheVariants.{Named}
-use Rattle.mk_core.specs.declared.events.Seat.{Seat}
-use Rattle.mk_core.specs.declared.events.Seat.TheVariants.{Caller, Marker, Host}
-use Rattle.mk_core.specs.declared.events.Tally.{Tally}
+use Rattle.mk_protocol.proofs.Vocabulary.{Access, Caller, Config, Host, Load, Marker, Moment, Named, Page, Seat, Step}
+use Rattle.mk_protocol.proofs.Vocabulary.{Store, Tally, Words, accessed, caller_number, flight_of, free_page, header_at}
+use Rattle.mk_protocol.proofs.Vocabulary.{header_in, header_of, is_held, is_number_of, is_unmapped_header}
+use Rattle.mk_protocol.proofs.Vocabulary.{others_are_held, reg_access, register_met, tally_word, used_at}
 use Rattle.mk_core.specs.declared.events.Tally.TheVariants as tally
 use Rattle.mk_core.specs.declared.events.Word.TheVariants as word
-use Rattle.mk_core.specs.declared.events.Step.{Step}
 use Rattle.mk_core.specs.declared.events.Step.TheVariants as step
-use Rattle.mk_core.specs.Words.{Words, accessed, header_at, used_at}
-use Rattle.mk_core.specs.Cells.{header_in, is_unmapped_header}
-use Rattle.mk_core.specs.Moments.{Moment, flight_of, is_number_of, is_held, others_are_held}
-use Rattle.mk_core.specs.Accesses.{caller_number, register_met, reg_access, tally_word}
 use Rattle.mk_core.proofs.AllBelow.{all_below-at}
 use Rattle.mk_protocol.proofs.Actors.{Meets}
 use Rattle.mk_protocol.proofs.SameWords.{Behind}
@@ -65,12 +54,10 @@ pub header_step : (c : Config) (m : Moment) (seat : Seat) (x : Step) (k : ℕ) �
     → HeaderStep m.words (Behind c m seat x).words.pages
 header_step c m seat (step.Head p v) k h lt ne one = SetsHeader p v (not_unmapped c m.words seat k v lt ne one h.gates)
 header_step c m seat (step.Used p v) k h lt ne one = SetsUsed p v
-header_step c m seat (step.Tally n v) k h lt ne one =
-    subst (λ (ps : List Page). HeaderStep m.words ps) (sym (tally_pages m.words n v)) KeepsPages
+header_step c m seat (step.Tally n v) k h lt ne one = rw (tally_pages m.words n v) KeepsPages
 header_step c m seat step.Reg k h lt ne one =
-    subst (λ (ps : List Page). HeaderStep m.words ps)
-    (sym (reg_pages m.words (caller_number seat) (register_met (flight_of m seat) (flight_of m seat).stage)
-    (reg_access (flight_of m seat) (flight_of m seat).stage))) KeepsPages
+    rw (reg_pages m.words (caller_number seat) (register_met (flight_of m seat) (flight_of m seat).stage)
+    (reg_access (flight_of m seat) (flight_of m seat).stage)) KeepsPages
 header_step c m seat _ k h lt ne one = KeepsPages
 
 -- a page's header after a change of one page
@@ -79,21 +66,19 @@ pub page_set : (ps : List Page) (p q : ℕ) (x : Page) → (P : ℕ → Type 0) 
     → P (slice_index_or (slice_set ps p x) q free_page).header
 page_set ps p q x P mine other = elim (cases_eq q p) [
   | inl e ↦ elim (cases_lt p (length ps)) [
-    | inl lt ↦ subst (λ (y : Page). P y.header) (sym (ap (λ j. slice_index_or (slice_set ps p x) j free_page) e
-        ∙ get_or-set_same ps p x free_page lt)) (mine lt)
-    | inr le ↦ subst (λ (ys : List Page). P (slice_index_or ys q free_page).header) (sym (set_past ps p x le)) other
+    | inl lt ↦ rw (ap (λ j. slice_index_or (slice_set ps p x) j free_page) e
+        ∙ get_or-set_same ps p x free_page lt) (mine lt)
+    | inr le ↦ rw (set_past ps p x le) other
   ]
-  | inr ne ↦ subst (λ (y : Page). P y.header) (sym (get_or-set_other ps p q x free_page ne)) other
+  | inr ne ↦ rw (get_or-set_other ps p q x free_page ne) other
 ]
 
 -- a header stays where only the used word changes
 pub used_set : (w : Words) (p q n : ℕ) → (P : ℕ → Type 0) → P (header_at w q)
     → P (slice_index_or (slice_set w.pages p (record { header = header_at w p; used = n })) q free_page).header
 used_set w p q n P is = elim (cases_eq q p) [
-  | inl e ↦ page_set w.pages p q (record { header = header_at w p; used = n }) P
-      (λ lt. subst (λ i. P (header_at w i)) e is) is
-  | inr ne ↦ subst (λ (y : Page). P y.header)
-      (sym (get_or-set_other w.pages p q (record { header = header_at w p; used = n }) free_page ne)) is
+  | inl e ↦ page_set w.pages p q (record { header = header_at w p; used = n }) P (λ lt. rw e at is) is
+  | inr ne ↦ rw (get_or-set_other w.pages p q (record { header = header_at w p; used = n }) free_page ne) is
 ]
 
 pub stays_mapped : (w : Words) (ps : List Page) (q : ℕ) → HeaderStep w ps → is_unmapped_header (header_in w q) ≡ false

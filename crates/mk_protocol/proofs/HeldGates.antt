@@ -4,14 +4,9 @@ use Rattle.std.proofs.Common.{inl, inr}
 use Rattle.std.specs.Prelude.{not, ◌==◌, if◌then◌else◌, slice_index, slice_set}
 use Rattle.std.proofs.lemmas.Bool.{cases_eq, cases_lt, not-true, eqb-true, eqb-false, eq-eqb, ne_eqb}
 use Rattle.std.proofs.lemmas.List.{get_or-set_same, get_or-set_other, set_past}
-use Rattle.mk_core.specs.declared.config.Config.{Config}
-use Rattle.mk_core.specs.declared.events.Seat.{Seat}
-use Rattle.mk_core.specs.declared.events.Step.{Step}
+use Rattle.mk_protocol.proofs.Vocabulary.{Config, Event, Moment, Seat, Step, World, caller_number, first_world}
+use Rattle.mk_protocol.proofs.Vocabulary.{flight_of, left, left_from, reg_access, register_met, world_behind}
 use Rattle.mk_core.specs.declared.events.Step.TheVariants as step
-use Rattle.mk_core.specs.declared.events.Event.{Event}
-use Rattle.mk_core.specs.Moments.{Moment, flight_of}
-use Rattle.mk_core.specs.Accesses.{caller_number, register_met, reg_access}
-use Rattle.mk_core.specs.History.{World, first_world, world_behind, left_from, left}
 use Rattle.mk_core.specs.HeldGates.{is_hold_of, changes_gate, is_gate_held_from, is_gate_held}
 use Rattle.mk_protocol.proofs.SameWords.{Behind, reg_keeps, tally_keeps}
 use Rattle.mk_protocol.proofs.OrderlyLists.{at_first}
@@ -31,16 +26,13 @@ changed : (gs : List ℕ) (j x i : ℕ) → not (slice_index (slice_set gs j x) 
 changed gs j x i h = elim (cases_eq i j) [
   | inl e ↦ elim (cases_lt j (length gs)) [
     | inl lt ↦
-        let now : slice_index (slice_set gs j x) i ≡ x = ap (λ k. slice_index (slice_set gs j x) k) e
-        ∙ get_or-set_same gs j x 0 lt in
+        let now : slice_index (slice_set gs j x) i ≡ x = rw e (get_or-set_same gs j x 0 lt) in
         let ne = eqb-false (slice_index (slice_set gs j x) i) (slice_index gs i)
         (not-true (slice_index (slice_set gs j x) i == slice_index gs i) h) in
         record { same = e; now = now; other = λ old. ne (now ∙ old ∙ ap (λ k. slice_index gs k) (sym e)) }
-    | inr past ↦ absurd (unchanged gs i
-        (subst (λ (xs : List ℕ). not (slice_index xs i == slice_index gs i) ≡ true) (set_past gs j x past) h))
+    | inr past ↦ absurd (unchanged gs i (rw (set_past gs j x past) at h))
   ]
-  | inr ne ↦ absurd (unchanged gs i
-      (subst (λ (y : ℕ). not (y == slice_index gs i) ≡ true) (get_or-set_other gs j i x 0 ne) h))
+  | inr ne ↦ absurd (unchanged gs i (rw (get_or-set_other gs j i x 0 ne) at h))
 ]
 
 -- a value that isn't 2, and an exchange of 0 for a value
@@ -48,7 +40,7 @@ changed gs j x i h = elim (cases_eq i j) [
 set_told : (gs : List ℕ) (j x i : ℕ) → (x == 2) ≡ false
     → not (slice_index (slice_set gs j x) i == slice_index gs i) ≡ true
     → (slice_index (slice_set gs j x) i == 2) ≡ false
-set_told gs j x i other h = ap (λ y. y == 2) (changed gs j x i h).now ∙ other
+set_told gs j x i other h = rw (changed gs j x i h).now other
 
 exchanged : (n g : ℕ) → (if g == 0 then n else g) ≢ g → (if g == 0 then n else g) ≡ n
 exchanged n g ne = by (g == 0) ne
@@ -78,12 +70,9 @@ gate_told c m seat step.Reg i h =
     let same =
     (reg_keeps m.words (caller_number seat) (register_met (flight_of m seat) (flight_of m seat).stage)
     (reg_access (flight_of m seat) (flight_of m seat).stage)).gates in
-    absurd (unchanged m.words.gates i
-    (subst (λ (gs : List ℕ). not (slice_index gs i == slice_index m.words.gates i) ≡ true) same h))
+    absurd (unchanged m.words.gates i (rw same at h))
 gate_told c m seat (step.Tally n v) i h =
-    absurd (unchanged m.words.gates i
-    (subst (λ (gs : List ℕ). not (slice_index gs i == slice_index m.words.gates i) ≡ true)
-    (tally_keeps m.words n v).gates h))
+    absurd (unchanged m.words.gates i (rw (tally_keeps m.words n v).gates at h))
 gate_told c m seat _ i h = absurd (unchanged m.words.gates i h)
 
 -- one event, and many
@@ -97,9 +86,8 @@ held_behind c w e i held is = by (changes_gate i w (world_behind c w e)) refl
     by true h = sym (gate_told c w.now e.seat e.step i h)
     by false h = is ∙ elim
         (cases_eq (slice_index (world_behind c w e).now.words.gates i) (slice_index w.now.words.gates i)) [
-          | inl same ↦ ap (λ y. y == 2) (sym same)
-          | inr ne ↦ let x : false ≡ true = sym h
-              ∙ ap not (ne_eqb (slice_index (world_behind c w e).now.words.gates i)
+          | inl same ↦ rw (← same)
+          | inr ne ↦ let x : false ≡ true = sym h ∙ ap not (ne_eqb (slice_index (world_behind c w e).now.words.gates i)
               (slice_index w.now.words.gates i) ne)
               in cc
         ]

@@ -1,28 +1,13 @@
 -- How a step of the turn's holder serves its call.
 use Rattle.std.proofs.Common.{List, ◌≡◌, Bool, true, false, refl, ap}
 use Rattle.std.specs.Prelude.{ℕ, Option, Some, None, is_some, ◌&&◌, not, if◌then◌else◌}
-use Rattle.mk_geom.specs.declared.addresses.Cell.{Cell}
-use Rattle.mk_geom.specs.declared.pages.Page.{Page}
-use Rattle.mk_geom.specs.declared.pages.Place.{Place}
-use Rattle.mk_geom.specs.PageUses.{or_else}
-use Rattle.mk_core.specs.declared.config.Config.{Config}
+use Rattle.mk_protocol.proofs.Vocabulary.{Cell, Config, Flight, Granted, Hand, Holding, Moment, Object, OwnCycle, Page}
+use Rattle.mk_protocol.proofs.Vocabulary.{Place, Placing, Unplaced, Word, Words, cell_freed, chosen, decided, frees}
+use Rattle.mk_protocol.proofs.Vocabulary.{is_phase, is_undecided_free, is_undecided_new, may_answer_full, object_made}
+use Rattle.mk_protocol.proofs.Vocabulary.{or_else, place_by_placing, place_now, pointed_cell, progress_freed}
+use Rattle.mk_protocol.proofs.Vocabulary.{run_of_cell, sees_double, still, taken, target}
 use Rattle.mk_core.specs.declared.events.Answer.TheVariants as answer
-use Rattle.mk_core.specs.declared.events.Word.{Word}
 use Rattle.mk_core.specs.declared.events.Word.TheVariants as word
-use Rattle.mk_core.specs.declared.seats.Flight.{Flight}
-use Rattle.mk_core.specs.declared.seats.Hand.{Hand}
-use Rattle.mk_core.specs.declared.seats.Holding.{Holding}
-use Rattle.mk_core.specs.declared.seats.Object.{Object}
-use Rattle.mk_core.specs.declared.seats.OwnCycle.{OwnCycle}
-use Rattle.mk_core.specs.declared.seats.Placing.{Placing}
-use Rattle.mk_core.specs.declared.seats.Placing.TheVariants.{Unplaced, Granted}
-use Rattle.mk_core.specs.Words.{Words}
-use Rattle.mk_core.specs.Calls.{still}
-use Rattle.mk_core.specs.Cells.{pointed_cell}
-use Rattle.mk_core.specs.NewPlaces.{is_undecided_new, is_undecided_free, place_by_placing, object_made, target}
-use Rattle.mk_core.specs.TurnConditions.{place_now, cell_freed, frees, may_answer_full}
-use Rattle.mk_core.specs.Moments.{Moment, is_phase}
-use Rattle.mk_core.specs.Effects.{progress_freed, sees_double, decided, chosen, taken, run_of_cell}
 use Rattle.mk_protocol.specs.Protocol.{is_granted}
 use Rattle.mk_protocol.proofs.Services.{Service, Goes, Places, Frees}
 
@@ -37,8 +22,7 @@ pub placed_new : (c : Config) (m : Moment) (f : Flight) (place : Place) → plac
     → is_undecided_new f ≡ true
 placed_new c m f place e =
     (where_some (is_undecided_new f) (place_by_placing c.resident m.words.pages
-    (object_made c f.op) m.seats.holding.placing)
-    (ap (λ (x : Option Place). is_some x) e)).0
+    (object_made c f.op) m.seats.holding.placing) (rw e)).0
 
 pub target_free : (pages : ℕ) (w : Words) (f : Flight) → is_some (target pages w f) ≡ true → is_undecided_free f ≡ true
 target_free pages w f h = (where_some (is_undecided_free f) (pointed_cell pages w.pages f.p) h).0
@@ -46,9 +30,8 @@ target_free pages w f h = (where_some (is_undecided_free f) (pointed_cell pages 
 pub freed_free : (pages : ℕ) (w : Words) (f : Flight) (p v : ℕ) (cell : Cell) → cell_freed pages w f p v ≡ Some cell
     → is_undecided_free f ≡ true
 freed_free pages w f p v cell e =
-    target_free pages w f
-    (where_some (not (is_phase w 4) && frees w (target pages w f) p v) (target pages w f)
-    (ap (λ (x : Option Cell). is_some x) e)).1
+    target_free pages w f (where_some (not (is_phase w 4) && frees w (target pages w f) p v) (target pages w f)
+    (rw e)).1
 
 double_some : (w : Words) (cell : Option Cell) (x : Word) → sees_double w cell x ≡ true → is_some cell ≡ true
 double_some w (Some cell) x h = refl

@@ -2,17 +2,12 @@
 use Rattle.std.proofs.Common.{◌≡◌, ℕ, Bool, true, false, refl, sym, ◌∙◌, ap, inl, inr}
 use Rattle.std.specs.Prelude.{Option, Some, None, is_none, is_some, ◌&&◌}
 use Rattle.std.proofs.lemmas.Bool.{cases_Bool, and_parts}
-use Rattle.mk_core.specs.declared.config.Config.{Config}
-use Rattle.mk_core.specs.declared.events.Step.{Step}
+use Rattle.mk_protocol.proofs.Vocabulary.{Config, SeenHeader, Step, Word, behind_mlook, cell_seen, has_next_word}
+use Rattle.mk_protocol.proofs.Vocabulary.{has_seen_cell, is_attending, is_scanned, marker_behind, marker_may}
 use Rattle.mk_core.specs.declared.events.Step.TheVariants as step
-use Rattle.mk_core.specs.declared.events.Word.{Word}
 use Rattle.mk_core.specs.declared.events.Word.TheVariants as word
-use Rattle.mk_core.specs.declared.seats.SeenHeader.{SeenHeader}
 use Rattle.mk_core.specs.declared.seats.Marker.{Marker}
-use Rattle.mk_core.specs.StopConditions.{is_attending}
-use Rattle.mk_core.specs.MarkerConditions.{is_markers_word, has_seen_cell, has_next_word, is_scanned, cell_seen}
-use Rattle.mk_core.specs.Enabled.{marker_may}
-use Rattle.mk_core.specs.Effects.{marker_behind, behind_mlook}
+use Rattle.mk_core.specs.MarkerConditions.{is_markers_word}
 use Rattle.mk_protocol.proofs.Moves.{IdlesOutside}
 
 -- what a marker has only while it attends

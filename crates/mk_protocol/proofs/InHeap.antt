@@ -2,23 +2,12 @@
 use Rattle.std.proofs.Common.{◌≡◌, ℕ, ◌<◌, true, List, [], ◌∷◌, refl, sym, subst}
 use Rattle.std.specs.Prelude.{nat_lt}
 use Rattle.std.proofs.lemmas.Bool.{ltb-true, and_parts}
-use Rattle.mk_geom.specs.declared.pages.Page.{Page}
-use Rattle.mk_geom.specs.Storages.{free_page}
-use Rattle.mk_core.specs.declared.config.Config.{Config}
-use Rattle.mk_core.specs.declared.events.Event.{Event}
-use Rattle.mk_core.specs.declared.events.Seat.{Seat}
-use Rattle.mk_core.specs.declared.events.Seat.TheVariants.{Caller, Marker, Host}
-use Rattle.mk_core.specs.declared.events.Step.{Step}
+use Rattle.mk_protocol.proofs.Vocabulary.{AreEnabled, AreEnabledFrom, AreOfPages, Caller, Config, Event, Host}
+use Rattle.mk_protocol.proofs.Vocabulary.{IsWithinLimits, Marker, MarkerState, Moment, Page, Seat, Step, World, access}
+use Rattle.mk_protocol.proofs.Vocabulary.{first_moment, first_world, flight_of, found, free_page, is_in_range, left}
+use Rattle.mk_protocol.proofs.Vocabulary.{left_from, marker_behind, marker_of, outside, word_accessed, world_behind}
 use Rattle.mk_core.specs.declared.events.Step.TheVariants as step
 use Rattle.mk_core.specs.declared.events.Word.TheVariants as word
-use Rattle.mk_core.specs.declared.seats.Marker.{Marker as MarkerState}
-use Rattle.mk_core.specs.Config.{IsWithinLimits}
-use Rattle.mk_core.specs.Layout.{AreOfPages}
-use Rattle.mk_core.specs.Moments.{Moment, first_moment, outside, flight_of, marker_of}
-use Rattle.mk_core.specs.Ranges.{is_in_range}
-use Rattle.mk_core.specs.Accesses.{word_accessed, access, found}
-use Rattle.mk_core.specs.Effects.{marker_behind}
-use Rattle.mk_core.specs.History.{World, first_world, world_behind, left_from, left, AreEnabledFrom, AreEnabled}
 use Rattle.mk_core.proofs.Conditions.{enabled_meets}
 use Rattle.mk_core.proofs.Lengths.{zero_lengths, accessed_lengths}
 use Rattle.mk_protocol.proofs.Markers.{marker_set}
@@ -46,22 +35,20 @@ own_fits c m k x h in_heap =
   where
     looked : (x : Step) (p : ℕ) → x ≡ step.Mlook (word.Head p)
         → RunFits c p (found c m (record { seat = Marker k; step = x }))
-    looked x p e = subst (λ (y : Step). RunFits c p (found c m (record { seat = Marker k; step = y }))) (sym e)
-        (in_heap.runs p)
+    looked x p e = rw e (in_heap.runs p)
 
     claimed : (x : Step) → is_in_range c (Marker k) (flight_of m (Marker k)) x ≡ true → (p i : ℕ) → x ≡ step.Claim p i
         → p < c.pages
     claimed x range p i e =
-        let r = subst (λ (y : Step). is_in_range c (Marker k) (flight_of m (Marker k)) y ≡ true) e range in
+        let r = rw e at range in
         ltb-true p c.pages (and_parts (nat_lt p c.pages) (nat_lt i 32) r).0
 
 markers_fit : (c : Config) (w : World) (seat : Seat) (x : Step) → InHeap c w.now → Meets c w.now seat x → (k : ℕ)
     → MarkerFits c (marker_of (WorldBehind c w seat x).now k)
-markers_fit c w (Caller j) x in_heap h k = in_heap.markers k
-markers_fit c w Host x in_heap h k = in_heap.markers k
 markers_fit c w (Marker j) x in_heap h k =
     marker_set w.now.seats.markers j k _ (λ (y : MarkerState). MarkerFits c y) (λ lt. own_fits c w.now j x h in_heap)
     (in_heap.markers k)
+markers_fit c w _ x in_heap h k = in_heap.markers k
 
 in_heap_behind : (c : Config) (w : World) (seat : Seat) (x : Step) → Known c w.now → InHeap c w.now
     → Meets c w.now seat x → InHeap c (WorldBehind c w seat x).now
@@ -89,10 +76,9 @@ in_heap_at_first : (c : Config) → InHeap c (first_moment c)
 in_heap_at_first c =
     record {
       lengths = zero_lengths c.pages;
-      runs = λ p. subst (λ (y : Page). RunFits c p y.header) (sym (at_first c.pages p free_page)) (λ count shows. cc);
+      runs = λ p. rw (at_first c.pages p free_page) (λ count shows. cc);
       places = λ k lt new place held. cc;
-      markers = λ k. subst (λ (y : MarkerState). MarkerFits c y) (sym (at_first 8 k outside))
-          (nothing_fits c outside refl refl);
+      markers = λ k. rw (at_first 8 k outside) (nothing_fits c outside refl refl);
     }
 
 pub in_heap_left : (c : Config) (es : List Event) → IsWithinLimits c → AreEnabled c es → InHeap c (left c es).now

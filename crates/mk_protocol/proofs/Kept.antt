@@ -4,16 +4,8 @@ use Rattle.std.proofs.Common.{sym, ◌∙◌, ap, subst, inl, inr, arith}
 use Rattle.std.specs.Prelude.{slice_index, slice_index_or, slice_set}
 use Rattle.std.proofs.lemmas.Bool.{cases_eq}
 use Rattle.std.proofs.lemmas.List.{get_or-set_same, get_or-set_other}
-use Rattle.mk_core.specs.declared.config.Config.{Config}
-use Rattle.mk_core.specs.declared.events.Seat.{Seat}
-use Rattle.mk_core.specs.declared.events.Seat.TheVariants.{Caller, Marker, Host}
-use Rattle.mk_core.specs.declared.seats.Flight.{Flight}
-use Rattle.mk_core.specs.declared.seats.Holding.{Holding}
-use Rattle.mk_core.specs.declared.seats.Presence.{Presence}
-use Rattle.mk_core.specs.declared.seats.Marker.{Marker as MarkerState}
-use Rattle.mk_core.specs.Calls.{at_rest}
-use Rattle.mk_core.specs.Moments.{outside, holder_number}
-use Rattle.mk_core.specs.StopConditions.{is_attending}
+use Rattle.mk_protocol.proofs.Vocabulary.{Caller, Config, Flight, Holding, Host, Marker, MarkerState, Presence, Seat}
+use Rattle.mk_protocol.proofs.Vocabulary.{at_rest, holder_number, is_attending, outside}
 use Rattle.mk_protocol.proofs.Standings.{Standing, Resting, InCall, standing, Shows, shows_taken, shows_given}
 use Rattle.mk_protocol.proofs.Standings.{shows_held, shows_opened}
 use Rattle.mk_protocol.proofs.Services.{Served, Service, Goes, service_stands, service_rests, served_on, nothing_served}
@@ -35,10 +27,8 @@ flights_kept c v seat f h = length_with v.flights seat f ∙ h.flights
 others_served : (c : Config) (v : View) (k : ℕ) (f : Flight) → Orderly c v → v.turn ≢ 1 + k
     → Served (slice_index_or (slice_set v.flights k f) (v.turn - 1) at_rest) v.holding
 others_served c v k f h ne = elim (cases_eq v.turn 0) [
-  | inl z ↦ subst (λ (i : Holding). Served (slice_index_or (slice_set v.flights k f) (v.turn - 1) at_rest) i)
-      (sym (h.free z)) (nothing_served _ _)
-  | inr held ↦ subst (λ (x : Flight). Served x v.holding)
-      (sym (get_or-set_other v.flights k (v.turn - 1) f at_rest (λ e. ne (omega arith)))) h.served
+  | inl z ↦ rw (h.free z) (nothing_served _ _)
+  | inr held ↦ rw (get_or-set_other v.flights k (v.turn - 1) f at_rest (λ e. ne (omega arith))) h.served
 ]
 
 -- the holder goes on
@@ -46,9 +36,8 @@ works_served : (c : Config) (v : View) (seat : Seat) (f : Flight) (i : Holding) 
     → Service (flight_at v.flights seat) v.holding f i
     → Served (slice_index_or (flights_with v.flights seat f) (v.turn - 1) at_rest) i
 works_served c v seat f i h t s =
-    subst (λ (x : Flight). Served x i) (sym (behind c v seat f i h t s))
-    (served_on (flight_at v.flights seat) v.holding f i
-    (subst (λ (x : Flight). Served x v.holding) (holders_flight c v seat h t) h.served) s)
+    rw (behind c v seat f i h t s) (served_on (flight_at v.flights seat) v.holding f i
+    (rw (holders_flight c v seat h t) at h.served) s)
   where
     behind : (c : Config) (v : View) (seat : Seat) (f : Flight) (i : Holding) → Orderly c v → HoldsTurn c v seat
         → Service (flight_at v.flights seat) v.holding f i
@@ -80,7 +69,7 @@ gate_shown c v j x small h lj s = all_but_gate c.callers v.turn j x v.gates v.fl
 held_or : (gs : List ℕ) (j b : ℕ) → j < length gs → (b ≢ j → slice_index gs b ≡ 2)
     → slice_index (slice_set gs j 2) b ≡ 2
 held_or gs j b lt other = elim (cases_eq b j) [
-  | inl e ↦ ap (λ i. slice_index (slice_set gs j 2) i) e ∙ get_or-set_same gs j 2 0 lt
+  | inl e ↦ rw e (get_or-set_same gs j 2 0 lt)
   | inr ne ↦ get_or-set_other gs j b 2 0 ne ∙ other ne
 ]
 
@@ -90,8 +79,7 @@ attends_set : (v : View) (p k : ℕ) (x : MarkerState)
     → ((b : ℕ) → is_attending (marker_in v b).presence ≡ true → (v.phase % 8 ≡ 1) ⊎ (v.phase % 8 ≡ 2)) → p ≡ v.phase % 8
     → (b : ℕ) → is_attending (slice_index_or (slice_set v.markers k x) b outside).presence ≡ true → (p ≡ 1) ⊎ (p ≡ 2)
 attends_set v p k x own others e b a =
-    subst (λ n. (n ≡ 1) ⊎ (n ≡ 2)) (sym e)
-    (marker_set v.markers k b x (λ (y : MarkerState). is_attending y.presence ≡ true
+    rw e (marker_set v.markers k b x (λ (y : MarkerState). is_attending y.presence ≡ true
     → (v.phase % 8 ≡ 1) ⊎ (v.phase % 8 ≡ 2)) (λ lk. own) (others b) a)
 
 pub kept : (c : Config) (v : View) (seat : Seat) (n : View) → c.callers ≤ 16 → Orderly c v → Move c v seat n
@@ -106,7 +94,7 @@ kept c v seat n small h (Enters {k} f lt free was is) =
       markers = h.markers;
       turn = h.turn;
       each = all_but_both c.callers v.turn k 1 v.gates v.flights f (omega (arith, h.gates)) (omega (arith, h.flights))
-          (subst (λ (x : Standing). Shows v.turn 1 k x) (sym is) (refl, s.3)) h.each;
+          (rw is (refl, s.3)) h.each;
       served = others_served c v k f h s.3;
       free = h.free;
       phase = h.phase;
@@ -125,7 +113,7 @@ kept c v seat n small h (GoesOn {k} f lt was is) =
       turn = h.turn;
       each =
           all_but_flight c.callers v.turn k v.gates v.flights f (omega (arith, h.flights))
-          (subst (λ (x : Standing). Shows v.turn (gate_in v k) k x) (sym is) s) (λ b lb ne. h.each b lb);
+          (rw is s) (λ b lb ne. h.each b lb);
       served = others_served c v k f h s.1;
       free = h.free;
       phase = h.phase;
@@ -164,7 +152,7 @@ kept c v seat n small h (Takes f z may) =
       turn = omega (arith, taker_number c v seat f may);
       each = all_but_seat c (1 + holder_number c seat) seat v.gates v.flights f (taker_shows c v seat f h z may)
           (λ b lb ne. shows_taken (gate_in v b) b (holder_number c seat) (standing (flight_in v b)) ne
-          (subst (λ t. Shows t (gate_in v b) b (standing (flight_in v b))) z (h.each b lb)));
+          (rw z at (h.each b lb)));
       served = nothing_served _ _;
       free = λ e. absurd (omega arith);
       phase = h.phase;
@@ -218,9 +206,8 @@ kept c v seat n small h (Holds j t lj ne was) =
       markers = h.markers;
       turn = h.turn;
       each =
-          gate_shown c v j 2 small h lj
-          (shows_held v.turn j (holder_number c seat) (standing (flight_in v j)) ne turn
-          (subst (λ x. Shows v.turn x j (standing (flight_in v j))) was (h.each j lj)));
+          gate_shown c v j 2 small h lj (shows_held v.turn j (holder_number c seat) (standing (flight_in v j)) ne turn
+          (rw was at (h.each j lj)));
       served = h.served;
       free = λ e. absurd (omega arith);
       phase = h.phase;
@@ -238,9 +225,8 @@ kept c v seat n small h (Opens j t lj ne was open3) =
       markers = h.markers;
       turn = h.turn;
       each =
-          gate_shown c v j 0 small h lj
-          (shows_opened v.turn j (holder_number c seat) (standing (flight_in v j)) ne turn
-          (subst (λ x. Shows v.turn x j (standing (flight_in v j))) was (h.each j lj)));
+          gate_shown c v j 0 small h lj (shows_opened v.turn j (holder_number c seat) (standing (flight_in v j)) ne turn
+          (rw was at (h.each j lj)));
       served = h.served;
       free = λ e. absurd (omega arith);
       phase = h.phase;
@@ -321,7 +307,6 @@ kept c v seat n small h (Scans {k} x lt same idle) =
       low = h.low;
       cycle = h.cycle;
       stopped = h.stopped;
-      attends = attends_set v (v.phase % 8) k x (λ y. h.attends k (ap (λ (p : Presence). is_attending p) (sym same)
-          ∙ y)) h.attends refl;
+      attends = attends_set v (v.phase % 8) k x (λ y. h.attends k (rw (← same) y)) h.attends refl;
       idle = λ b. marker_set v.markers k b x (λ (y : MarkerState). IdlesOutside y) (λ lk. idle (h.idle k)) (h.idle b);
     }

@@ -1,17 +1,9 @@
 -- All that is known of a moment after an enabled list, of whatever calls.
 use Rattle.std.proofs.Common.{◌≡◌, ◌≤◌, true, List, [], ◌∷◌, refl, sym, ◌∙◌, subst}
-use Rattle.mk_core.specs.declared.config.Config.{Config}
-use Rattle.mk_core.specs.declared.events.Seat.{Seat}
-use Rattle.mk_core.specs.declared.events.Seat.TheVariants.{Caller, Marker, Host}
-use Rattle.mk_core.specs.declared.events.Event.{Event}
-use Rattle.mk_core.specs.declared.seats.Flight.{Flight}
-use Rattle.mk_core.specs.Config.{IsWithinLimits}
-use Rattle.mk_core.specs.Calls.{has_operands, at_rest}
-use Rattle.mk_core.specs.Moments.{Moment, first_moment, flight_of}
-use Rattle.mk_core.specs.Enabled.{IsEnabled}
+use Rattle.mk_protocol.proofs.Vocabulary.{AreEnabled, AreEnabledFrom, Caller, Config, Event, Flight, Holds, Host}
+use Rattle.mk_protocol.proofs.Vocabulary.{IsEnabled, IsWithinLimits, Marker, Moment, Seat, World, at_rest, first_moment}
+use Rattle.mk_protocol.proofs.Vocabulary.{first_world, flight_of, has_operands, left, left_from, world_behind}
 use Rattle.mk_core.specs.Effects.{moment_behind}
-use Rattle.mk_core.specs.History.{World, first_world, world_behind, left_from, left, AreEnabledFrom, AreEnabled}
-use Rattle.mk_core.specs.Readings.{Holds}
 use Rattle.mk_core.proofs.Conditions.{enabled_meets}
 use Rattle.mk_protocol.proofs.Standings.{in_turn_told, under_turn_is, standing}
 use Rattle.mk_protocol.proofs.Views.{view_of, HoldsTurn}
@@ -44,7 +36,7 @@ known_at_first c limits =
     record {
       small = limits.callers.1;
       orderly = orderly_at_first c limits.callers.1;
-      operands = λ k. subst (λ (f : Flight). has_operands c f.op ≡ true) (sym (at_first c.callers k at_rest)) refl;
+      operands = λ k. rw (at_first c.callers k at_rest) refl;
     }
 
 pub known_left : (c : Config) (es : List Event) → IsWithinLimits c → AreEnabled c es → Known c (left c es).now
@@ -58,5 +50,4 @@ holds_turn c m (Caller k) o h = (
   under_turn_is (standing (flight_of m (Caller k)))
       (in_turn_told (flight_of m (Caller k)).stage (flight_of m (Caller k)).op (not_astray c m o k h.0) ∙ h.1),
 )
-holds_turn c m (Marker k) o h = h
-holds_turn c m Host o h = h
+holds_turn c m _ o h = h

@@ -6,14 +6,13 @@ pub mod Frames
 pub mod Ground
 pub mod Growth
 pub mod HeaderSteps
-pub mod HeadersStay
 pub mod HeldGates
-pub mod Holders
 pub mod HoldersSteps
 pub mod IdleMarkers
 pub mod InHeap
 pub mod Kept
 pub mod Known
+pub mod LongerLists
 pub mod MarkerMoves
 pub mod Markers
 pub mod Moves
@@ -37,5 +36,7 @@ pub mod Shown
 pub mod Sorts
 pub mod Stages
 pub mod Standings
+pub mod StepKinds
 pub mod TurnFrame
 pub mod Views
+pub mod Vocabulary

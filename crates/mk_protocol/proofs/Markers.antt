@@ -5,11 +5,8 @@ use Rattle.std.specs.Prelude.{slice_index_or, slice_set, not, cond, count_by}
 use Rattle.std.proofs.lemmas.Bool.{cases_eq, cases_lt}
 use Rattle.std.proofs.lemmas.List.{get_or-set_same, get_or-set_other, set_past}
 use Rattle.std.proofs.lemmas.List.Sums.{sum_by-set}
-use Rattle.mk_core.specs.declared.seats.Presence.{Presence}
-use Rattle.mk_core.specs.declared.seats.Marker.{Marker as MarkerState}
-use Rattle.mk_core.specs.Moments.{outside}
+use Rattle.mk_protocol.proofs.Vocabulary.{MarkerState, Presence, is_in, outside}
 use Rattle.mk_core.specs.MarkerConditions.{is_out}
-use Rattle.mk_core.specs.Readings.{is_in}
 
 -- where the markers that are in are counted
 abbrev pub count_in : List MarkerState → ℕ
@@ -25,8 +22,7 @@ pub counted_same : (xs : List MarkerState) (k : ℕ) (x : MarkerState) → k < l
     → count_in (slice_set xs k x) ≡ count_in xs
 counted_same xs k x lt same =
     let s = counted xs k x lt in
-    let e : cond {A = ℕ} (is_in x) 1 0 ≡ cond {A = ℕ} (is_in (slice_index_or xs k outside)) 1 0 =
-    ap (λ (p : Presence). cond {A = ℕ} (not (is_out p)) 1 0) same in
+    let e : cond {A = ℕ} (is_in x) 1 0 ≡ cond {A = ℕ} (is_in (slice_index_or xs k outside)) 1 0 = rw same in
     omega arith
 
 pub counted_more : (xs : List MarkerState) (k : ℕ) (x : MarkerState) → k < length xs
@@ -34,8 +30,8 @@ pub counted_more : (xs : List MarkerState) (k : ℕ) (x : MarkerState) → k < l
     → count_in (slice_set xs k x) ≡ count_in xs + 1
 counted_more xs k x lt was is =
     let s = counted xs k x lt in
-    let a : cond {A = ℕ} (is_in (slice_index_or xs k outside)) 1 0 ≡ 0 = ap (λ b. cond {A = ℕ} b 1 0) was in
-    let b : cond {A = ℕ} (is_in x) 1 0 ≡ 1 = ap (λ b. cond {A = ℕ} b 1 0) is in
+    let a : cond {A = ℕ} (is_in (slice_index_or xs k outside)) 1 0 ≡ 0 = rw was in
+    let b : cond {A = ℕ} (is_in x) 1 0 ≡ 1 = rw is in
     omega arith
 
 pub counted_less : (xs : List MarkerState) (k : ℕ) (x : MarkerState) → k < length xs
@@ -43,8 +39,8 @@ pub counted_less : (xs : List MarkerState) (k : ℕ) (x : MarkerState) → k < l
     → count_in (slice_set xs k x) + 1 ≡ count_in xs
 counted_less xs k x lt was is =
     let s = counted xs k x lt in
-    let a : cond {A = ℕ} (is_in (slice_index_or xs k outside)) 1 0 ≡ 1 = ap (λ b. cond {A = ℕ} b 1 0) was in
-    let b : cond {A = ℕ} (is_in x) 1 0 ≡ 0 = ap (λ b. cond {A = ℕ} b 1 0) is in
+    let a : cond {A = ℕ} (is_in (slice_index_or xs k outside)) 1 0 ≡ 1 = rw was in
+    let b : cond {A = ℕ} (is_in x) 1 0 ≡ 0 = rw is in
     omega arith
 
 -- a marker that is in counts
@@ -58,11 +54,11 @@ pub marker_set : (xs : List MarkerState) (k b : ℕ) (x : MarkerState) → (P : 
     → P (slice_index_or (slice_set xs k x) b outside)
 marker_set xs k b x P mine other = elim (cases_eq b k) [
   | inl e ↦ elim (cases_lt k (length xs)) [
-    | inl lt ↦ subst (λ (y : MarkerState). P y) (sym (ap (λ j. slice_index_or (slice_set xs k x) j outside) e
-        ∙ get_or-set_same xs k x outside lt)) (mine lt)
-    | inr le ↦ subst (λ (ys : List MarkerState). P (slice_index_or ys b outside)) (sym (set_past xs k x le)) other
+    | inl lt ↦ rw (ap (λ j. slice_index_or (slice_set xs k x) j outside) e
+        ∙ get_or-set_same xs k x outside lt) (mine lt)
+    | inr le ↦ rw (set_past xs k x le) other
   ]
-  | inr ne ↦ subst (λ (y : MarkerState). P y) (sym (get_or-set_other xs k b x outside ne)) other
+  | inr ne ↦ rw (get_or-set_other xs k b x outside ne) other
 ]
 
 -- the numbers of the phase word

@@ -1,16 +1,8 @@
 -- The moves of the protocol: what an event may do to what it reads.
 use Rattle.std.proofs.Common.{◌≡◌, ◌≢◌, ◌⊎◌, ℕ, ◌+◌, ◌-◌, ◌%◌, ◌^◌, ◌<◌, ◌≤◌, true, false}
 use Rattle.std.specs.Prelude.{slice_set}
-use Rattle.mk_core.specs.declared.config.Config.{Config}
-use Rattle.mk_core.specs.declared.events.Seat.{Seat}
-use Rattle.mk_core.specs.declared.events.Seat.TheVariants.{Caller, Marker, Host}
-use Rattle.mk_core.specs.declared.seats.Flight.{Flight}
-use Rattle.mk_core.specs.declared.seats.Holding.{Holding}
-use Rattle.mk_core.specs.declared.seats.Marker.{Marker as MarkerState}
-use Rattle.mk_core.specs.Calls.{at_rest}
-use Rattle.mk_core.specs.Moments.{nothing_done, outside, holder_number}
-use Rattle.mk_core.specs.StopConditions.{is_attending}
-use Rattle.mk_core.specs.Readings.{is_in}
+use Rattle.mk_protocol.proofs.Vocabulary.{Caller, Config, Flight, Holding, Host, Marker, MarkerState, Seat, at_rest}
+use Rattle.mk_protocol.proofs.Vocabulary.{holder_number, is_attending, is_in, nothing_done, outside}
 use Rattle.mk_protocol.specs.Protocol.{IsIdle}
 use Rattle.mk_protocol.proofs.Standings.{Resting, InCall, UnderTurn, standing}
 use Rattle.mk_protocol.proofs.Services.{Service}

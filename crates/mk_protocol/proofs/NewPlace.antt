@@ -4,28 +4,12 @@ use Rattle.std.proofs.Common.{inl, inr}
 use Rattle.std.specs.Prelude.{Option, Some, None, slice_index_or, slice_set, if◌then◌else◌}
 use Rattle.std.proofs.lemmas.Bool.{cases_eq, cases_lt, ltb-true, leb-false}
 use Rattle.std.proofs.lemmas.List.{get_or-set_same, get_or-set_other, set_past}
-use Rattle.mk_never.specs.declared.operations.Op.{Op}
-use Rattle.mk_geom.specs.declared.pages.Page.{Page}
-use Rattle.mk_geom.specs.declared.pages.Place.{Place}
-use Rattle.mk_geom.specs.Classes.{run_pages_of}
+use Rattle.mk_protocol.proofs.Vocabulary.{Caller, Chosen, Config, Flight, Granted, Holding, Host, Marker, Moment}
+use Rattle.mk_protocol.proofs.Vocabulary.{Object, Op, Page, Place, Placing, Seat, Step, Unplaced, Used, World, at_rest}
+use Rattle.mk_protocol.proofs.Vocabulary.{chosen, flight_of, is_new_at, is_small_object, is_undecided_new, object_made}
+use Rattle.mk_protocol.proofs.Vocabulary.{place_by_placing, place_now, place_on_pages, run_pages_of, taken}
 use Rattle.mk_geom.proofs.FirstFit.{run_place_is}
-use Rattle.mk_core.specs.declared.config.Config.{Config}
-use Rattle.mk_core.specs.declared.events.Seat.{Seat}
-use Rattle.mk_core.specs.declared.events.Seat.TheVariants.{Caller, Marker, Host}
-use Rattle.mk_core.specs.declared.events.Step.{Step}
-use Rattle.mk_core.specs.declared.seats.Flight.{Flight}
-use Rattle.mk_core.specs.declared.seats.Holding.{Holding}
-use Rattle.mk_core.specs.declared.seats.Object.{Object}
-use Rattle.mk_core.specs.declared.seats.Placing.{Placing}
-use Rattle.mk_core.specs.declared.seats.Placing.TheVariants.{Unplaced, Chosen, Used, Granted}
 use Rattle.mk_core.specs.declared.seats.Stage.TheVariants as stage
-use Rattle.mk_core.specs.Calls.{at_rest}
-use Rattle.mk_core.specs.NewPlaces.{object_made, is_small_object, place_on_pages, place_by_placing, is_new_at}
-use Rattle.mk_core.specs.NewPlaces.{is_undecided_new}
-use Rattle.mk_core.specs.TurnConditions.{place_now}
-use Rattle.mk_core.specs.Effects.{chosen, taken}
-use Rattle.mk_core.specs.Moments.{Moment, flight_of}
-use Rattle.mk_core.specs.History.{World}
 use Rattle.mk_protocol.proofs.Standings.{InCall, UnderTurn, standing}
 use Rattle.mk_protocol.proofs.Stages.{new_stands}
 use Rattle.mk_protocol.proofs.Services.{Service, Goes, Loads, Places as PlacesNew, Fills, Grants as GrantsNew}
@@ -68,11 +52,9 @@ in_fits : (c : Config) (pages : List Page) (o : Op) (placing : Placing) (place :
     → ((y : Place) → held_place placing ≡ Some y → PlaceFits c o y)
     → place_by_placing c.resident pages (object_made c o) placing ≡ Some place → PlaceFits c o place
 in_fits c pages o Unplaced place count held is =
-    λ large. subst (λ n. place.page + run_pages_of (object_made c o).words ≤ n) count
-    (first_fits c.resident pages (object_made c o) place is large)
-in_fits c pages o (Chosen y) place count held is = held place is
-in_fits c pages o (Used y) place count held is = held place is
+    λ large. rw count at (first_fits c.resident pages (object_made c o) place is large)
 in_fits c pages o Granted place count held is = cc
+in_fits c pages o _ place count held is = held place is
 
 now_is : (c : Config) (m : Moment) (f : Flight) (place : Place) → place_now c m f ≡ Some place
     → (is_undecided_new f ≡ true)
@@ -120,32 +102,28 @@ set_new : (fs : List Flight) (k j : ℕ) (f : Flight) → (is_undecided_new f �
 set_new fs k j f same new = elim (cases_eq j k) [
   | inl e ↦ elim (cases_lt k (length fs)) [
     | inl lt ↦
-        let now : slice_index_or (slice_set fs k f) j at_rest ≡ f =
-        ap (λ i. slice_index_or (slice_set fs k f) i at_rest) e ∙ get_or-set_same fs k f at_rest lt in
-        now ∙ same (ap (λ (x : Flight). is_undecided_new x) (sym now) ∙ new)
-        ∙ ap (λ i. slice_index_or fs i at_rest) (sym e)
-    | inr past ↦ ap (λ (xs : List Flight). slice_index_or xs j at_rest) (set_past fs k f past)
+        let now : slice_index_or (slice_set fs k f) j at_rest ≡ f = rw e (get_or-set_same fs k f at_rest lt) in
+        now ∙ same (rw (← now) new) ∙ ap (λ i. slice_index_or fs i at_rest) (sym e)
+    | inr past ↦ rw (set_past fs k f past)
   ]
   | inr ne ↦ get_or-set_other fs k j f at_rest ne
 ]
 
-call_no_new : (f : Flight) → standing f ≡ InCall → is_undecided_new f ≡ true → ⊥
+pub call_no_new : (f : Flight) → standing f ≡ InCall → is_undecided_new f ≡ true → ⊥
 call_no_new f is new = let e : InCall ≡ UnderTurn = sym is ∙ new_stands f.stage f.op new in absurd (apart e)
   where
     apart : InCall ≡ UnderTurn → ⊥
     apart e = cc
 
-give_no_new : (o : Op) → is_new_at stage.Give o ≡ true → ⊥
+pub give_no_new : (o : Op) → is_new_at stage.Give o ≡ true → ⊥
 give_no_new o h = cc
 
-service_new : (f : Flight) (h : Holding) (g : Flight) (i : Holding) → Service f h g i → is_undecided_new g ≡ true
+pub service_new : (f : Flight) (h : Holding) (g : Flight) (i : Holding) → Service f h g i → is_undecided_new g ≡ true
     → g ≡ f
 service_new f h g i (Goes _ p q) new = refl
 service_new f h g i (Loads _ at stands no_new) new = let e : true ≡ false = sym new ∙ no_new in cc
 service_new f h g i (PlacesNew _ was p q) new = refl
-service_new f h g i (Fills was p) new = absurd (give_no_new f.op new)
-service_new f h g i (GrantsNew was) new = absurd (give_no_new f.op new)
-service_new f h g i (FreesRun _ free p) new = absurd (give_no_new f.op new)
+service_new f h g i _ new = absurd (give_no_new f.op new)
 
 pub new_was : (c : Config) (v : View) (seat : Seat) (n : View) (j : ℕ) → Move c v seat n
     → is_undecided_new (flight_in n j) ≡ true
@@ -172,8 +150,7 @@ pub new_holds : (c : Config) (m : Moment) (seat : Seat) (x : Step) → Meets c m
     → is_undecided_new (flight_of m seat) ≡ true
     → (k : ℕ) × (k < c.callers) × (seat ≡ Caller k)
 new_holds c m (Caller k) x h new = (k, ltb-true k c.callers h.seat, refl)
-new_holds c m (Marker k) x h new = cc
-new_holds c m Host x h new = cc
+new_holds c m _ x h new = cc
 
 -- the place of a step
 pub place_fits_now : (c : Config) (m : Moment) (seat : Seat) (x : Step) (place : Place) → length m.words.pages ≡ c.pages
@@ -183,10 +160,9 @@ pub place_fits_now : (c : Config) (m : Moment) (seat : Seat) (x : Step) (place :
 place_fits_now c m seat x place count fits h now =
     let is = now_is c m (flight_of m seat) place now in
     let own = new_holds c m seat x h is.0 in
-    let own_new : is_undecided_new (flight_of m (Caller own.0)) ≡ true =
-    subst (λ (s : Seat). is_undecided_new (flight_of m s) ≡ true) own.2 is.0 in
+    let own_new : is_undecided_new (flight_of m (Caller own.0)) ≡ true = rw own.2 at is.0 in
     in_fits c m.words.pages (flight_of m seat).op m.seats.holding.placing place count
-    (λ y old. subst (λ (s : Seat). PlaceFits c (flight_of m s).op y) (sym own.2) (fits own.0 own.1 own_new y old)) is.1
+    (λ y old. rw own.2 (fits own.0 own.1 own_new y old)) is.1
 
 pub places_behind : (c : Config) (w : World) (seat : Seat) (x : Step) → Known c w.now
     → length w.now.words.pages ≡ c.pages → PlacesFit c w.now
@@ -196,10 +172,8 @@ places_behind c w seat x known count fits h k lt new place held =
     (event_moves c w.now seat x known.orderly h) new) [
       | inr none ↦ let e : None ≡ Some place = sym none ∙ held in absurd (none_some e)
       | inl same ↦
-          let was : is_undecided_new (flight_of w.now (Caller k)) ≡ true =
-          ap (λ (f : Flight). is_undecided_new f) (sym same) ∙ new in
-          subst (λ (f : Flight). PlaceFits c f.op place) (sym same)
-          (before was (ground_place c w (flight_of w.now seat) _ place (ground_step c w seat x h) held))
+          let was : is_undecided_new (flight_of w.now (Caller k)) ≡ true = rw (← same) new in
+          rw same (before was (ground_place c w (flight_of w.now seat) _ place (ground_step c w seat x h) held))
     ]
   where
     none_some : None ≡ Some place → ⊥
@@ -207,20 +181,16 @@ places_behind c w seat x known count fits h k lt new place held =
 
     before : is_undecided_new (flight_of w.now (Caller k)) ≡ true
         → (held_place w.now.seats.holding.placing ≡ Some place)
-        ⊎ (place_now c w.now (flight_of w.now seat) ≡ Some place)
-        → PlaceFits c (flight_of w.now (Caller k)).op place
+        ⊎ (place_now c w.now (flight_of w.now seat) ≡ Some place) → PlaceFits c (flight_of w.now (Caller k)).op place
     before was (inl old) = fits k lt was place old
     before was (inr now) =
         let is = now_is c w.now (flight_of w.now seat) place now in
         let own = new_holds c w.now seat x h is.0 in
-        let own_new : is_undecided_new (flight_of w.now (Caller own.0)) ≡ true =
-        subst (λ (s : Seat). is_undecided_new (flight_of w.now s) ≡ true) own.2 is.0 in
+        let own_new : is_undecided_new (flight_of w.now (Caller own.0)) ≡ true = rw own.2 at is.0 in
         let stands : standing (flight_of w.now (Caller own.0)) ≡ UnderTurn =
-        new_stands (flight_of w.now (Caller own.0)).stage
-        (flight_of w.now (Caller own.0)).op own_new in
+        new_stands (flight_of w.now (Caller own.0)).stage (flight_of w.now (Caller own.0)).op own_new in
         let mine : standing (flight_of w.now (Caller k)) ≡ UnderTurn =
         new_stands (flight_of w.now (Caller k)).stage (flight_of w.now (Caller k)).op was in
         let that : seat ≡ Caller k = own.2
         ∙ same_holder c (view_of w.now) (Caller own.0) (Caller k) known.orderly (own.1, stands) (lt, mine) in
-        subst (λ (s : Seat). PlaceFits c (flight_of w.now s).op place) that
-        (place_fits_now c w.now seat x place count fits h now)
+        rw that at (place_fits_now c w.now seat x place count fits h now)

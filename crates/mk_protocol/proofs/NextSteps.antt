@@ -2,15 +2,12 @@
 use Rattle.std.proofs.Common.{◌≡◌, Bool, true, false, refl}
 use Rattle.std.specs.Prelude.{Some, None}
 use Rattle.std.proofs.lemmas.Bool.{not-true}
-use Rattle.mk_never.specs.declared.operations.Op.{Op}
+use Rattle.mk_protocol.proofs.Vocabulary.{Op, Stage, Step, comes_next, group_of, is_under_turn}
 use Rattle.mk_never.specs.declared.operations.Op.TheVariants as op
-use Rattle.mk_core.specs.declared.events.Step.{Step}
 use Rattle.mk_core.specs.declared.events.Step.TheVariants as step
 use Rattle.mk_core.specs.declared.events.Group.TheVariants as group
-use Rattle.mk_core.specs.declared.seats.Stage.{Stage}
 use Rattle.mk_core.specs.declared.seats.Stage.TheVariants as stage
-use Rattle.mk_core.specs.Calls.{is_under_turn}
-use Rattle.mk_core.specs.Order.{group_of, is_of_any_holder, may_decide, comes_next}
+use Rattle.mk_core.specs.Order.{is_of_any_holder, may_decide}
 use Rattle.mk_protocol.proofs.Stages.{is_turn_stage, is_reg_stage}
 
 abbrev pub is_take : Step → Bool
@@ -62,49 +59,15 @@ has_stage_of_its_own step.Setg = true
 has_stage_of_its_own step.Dirty = true
 has_stage_of_its_own _ = false
 
-at_leave : (s : Stage) (o : Op) → comes_next s o step.Leave ≡ true → s ≡ stage.Leave
-at_leave stage.Turn o h = let e = (deciding_kind o step.Leave h).0 in cc
-at_leave _ o h = cc
-
-at_probe : (s : Stage) (o : Op) → comes_next s o step.Probe ≡ true → s ≡ stage.Probe
-at_probe stage.Turn o h = let e = (deciding_kind o step.Probe h).0 in cc
-at_probe _ o h = cc
-
-at_read : (s : Stage) (o : Op) → comes_next s o step.Read ≡ true → s ≡ stage.Read
-at_read stage.Turn o h = let e = (deciding_kind o step.Read h).0 in cc
-at_read _ o h = cc
-
-at_write : (s : Stage) (o : Op) → comes_next s o step.Write ≡ true → s ≡ stage.Write
-at_write stage.Turn o h = let e = (deciding_kind o step.Write h).0 in cc
-at_write _ o h = cc
-
-at_cas : (s : Stage) (o : Op) → comes_next s o step.Cas ≡ true → s ≡ stage.Cas
-at_cas stage.Turn o h = let e = (deciding_kind o step.Cas h).0 in cc
-at_cas _ o h = cc
-
-at_getg : (s : Stage) (o : Op) → comes_next s o step.Getg ≡ true → s ≡ stage.Getg
-at_getg stage.Turn o h = let e = (deciding_kind o step.Getg h).0 in cc
-at_getg _ o h = cc
-
-at_setg : (s : Stage) (o : Op) → comes_next s o step.Setg ≡ true → s ≡ stage.Setg
-at_setg stage.Turn o h = let e = (deciding_kind o step.Setg h).0 in cc
-at_setg _ o h = cc
-
-at_dirty : (s : Stage) (o : Op) → comes_next s o step.Dirty ≡ true → s ≡ stage.Dirty
-at_dirty stage.Turn o h = let e = (deciding_kind o step.Dirty h).0 in cc
-at_dirty _ o h = cc
+not_of_turn : (x : Step) → has_stage_of_its_own x ≡ true → group_of x ≡ group.Turn → ⊥
+not_of_turn step.Leave own turn = cc
+not_of_turn _ own turn = cc
 
 pub at_its_stage : (s : Stage) (o : Op) (x : Step) → has_stage_of_its_own x ≡ true → comes_next s o x ≡ true
     → s ≡ stage_of x
-at_its_stage s o step.Leave i h = at_leave s o h
-at_its_stage s o step.Probe i h = at_probe s o h
-at_its_stage s o step.Read i h = at_read s o h
-at_its_stage s o step.Write i h = at_write s o h
-at_its_stage s o step.Cas i h = at_cas s o h
-at_its_stage s o step.Getg i h = at_getg s o h
-at_its_stage s o step.Setg i h = at_setg s o h
-at_its_stage s o step.Dirty i h = at_dirty s o h
-at_its_stage s o _ i h = cc
+at_its_stage stage.Turn o x i h = absurd (not_of_turn x i (deciding_kind o x h).0)
+at_its_stage _ o step.Leave i h = cc
+at_its_stage _ o _ i h = cc
 
 pub at_reg : (s : Stage) (o : Op) → comes_next s o step.Reg ≡ true → is_reg_stage s ≡ true
 at_reg stage.Turn o h = let e = (deciding_kind o step.Reg h).0 in cc

@@ -3,25 +3,14 @@ use Rattle.std.proofs.Common.{◌≡◌, ℕ, ◌<◌, Bool, true, false, List, 
 use Rattle.std.specs.Prelude.{Option, Some, None, slice_index_or, slice_set, if◌then◌else◌, ◌==◌, ◌&&◌, nat_lt}
 use Rattle.std.proofs.lemmas.Bool.{cases_eq, cases_lt, ltb-true, and_parts}
 use Rattle.std.proofs.lemmas.List.{get_or-set_same, get_or-set_other, set_past}
-use Rattle.mk_never.specs.declared.operations.Op.{Op}
+use Rattle.mk_protocol.proofs.Vocabulary.{Caller, Cell, Config, Flight, Host, Marker, Moment, Op, Progress, Seat, Stage}
+use Rattle.mk_protocol.proofs.Vocabulary.{Step, at_rest, cell_freed, d_of, flight_of, found, g_of, has_operands}
+use Rattle.mk_protocol.proofs.Vocabulary.{is_in_range, p_of, progress, progress_freed, progress_p, progress_q}
+use Rattle.mk_protocol.proofs.Vocabulary.{progress_read, progress_reg, q_of, r_of, register_met}
 use Rattle.mk_never.specs.declared.operations.Op.TheVariants as op
-use Rattle.mk_geom.specs.declared.addresses.Cell.{Cell}
-use Rattle.mk_core.specs.declared.config.Config.{Config}
-use Rattle.mk_core.specs.declared.events.Seat.{Seat}
-use Rattle.mk_core.specs.declared.events.Seat.TheVariants.{Caller, Marker, Host}
-use Rattle.mk_core.specs.declared.events.Step.{Step}
 use Rattle.mk_core.specs.declared.events.Step.TheVariants as step
-use Rattle.mk_core.specs.declared.seats.Stage.{Stage}
 use Rattle.mk_core.specs.declared.seats.Stage.TheVariants as stage
-use Rattle.mk_core.specs.declared.seats.Flight.{Flight}
-use Rattle.mk_core.specs.declared.seats.Progress.{Progress}
-use Rattle.mk_core.specs.Calls.{has_operands, has_type, at_rest, q_of, p_of, r_of, d_of, g_of, progress_reg}
-use Rattle.mk_core.specs.Calls.{progress_read, progress_q, progress_p}
-use Rattle.mk_core.specs.Moments.{Moment, flight_of}
-use Rattle.mk_core.specs.Accesses.{found, register_met}
-use Rattle.mk_core.specs.Effects.{progress, progress_freed}
-use Rattle.mk_core.specs.TurnConditions.{cell_freed}
-use Rattle.mk_core.specs.Ranges.{is_in_range}
+use Rattle.mk_core.specs.Calls.{has_type}
 use Rattle.mk_protocol.proofs.Actors.{Meets}
 use Rattle.mk_protocol.proofs.SameWords.{Behind}
 
@@ -86,13 +75,11 @@ set_operands : (c : Config) (fs : List Flight) (k : ℕ) (f : Flight) → HaveOp
 set_operands c fs k f h s b = elim (cases_eq b k) [
   | inl e ↦ elim (cases_lt k (length fs)) [
     | inl lt ↦
-        subst (λ (x : Flight). has_operands c x.op ≡ true) (sym (ap (λ j. slice_index_or (slice_set fs k f) j at_rest) e
-        ∙ get_or-set_same fs k f at_rest lt))
+        rw (ap (λ j. slice_index_or (slice_set fs k f) j at_rest) e ∙ get_or-set_same fs k f at_rest lt)
         (checked c (slice_index_or fs k at_rest).op f.op (h k) s)
-    | inr le ↦ subst (λ (xs : List Flight). has_operands c (slice_index_or xs b at_rest).op ≡ true)
-        (sym (set_past fs k f le)) (h b)
+    | inr le ↦ rw (set_past fs k f le) (h b)
   ]
-  | inr ne ↦ subst (λ (x : Flight). has_operands c x.op ≡ true) (sym (get_or-set_other fs k b f at_rest ne)) (h b)
+  | inr ne ↦ rw (get_or-set_other fs k b f at_rest ne) (h b)
 ]
 
 pub operands_behind : (c : Config) (m : Moment) (seat : Seat) (x : Step) → HaveOperands c m.seats.flights
@@ -101,8 +88,7 @@ pub operands_behind : (c : Config) (m : Moment) (seat : Seat) (x : Step) → Hav
 operands_behind c m (Caller k) x h on =
     set_operands c m.seats.flights k _ h
     (op_step c m (Caller k) (flight_of m (Caller k)) (found c m (record { seat = Caller k; step = x })) x on.range)
-operands_behind c m (Marker k) x h on = h
-operands_behind c m Host x h on = h
+operands_behind c m _ x h on = h
 
 -- the registers and the global of a call
 pub record Operands (o : Op) : Type 0 where

@@ -2,14 +2,8 @@
 use Rattle.std.proofs.Common.{◌≡◌, ◌≢◌, ◌⊎◌, ℕ, ◌+◌, ◌-◌, ◌*◌, ◌%◌, ◌<◌, ◌≤◌, true, length, refl, sym, ap, subst, arith}
 use Rattle.std.proofs.lemmas.List.{get_or_past}
 use Rattle.std.proofs.lemmas.List.Sums.{count_by-le-length}
-use Rattle.mk_core.specs.declared.config.Config.{Config}
-use Rattle.mk_core.specs.declared.events.Seat.{Seat}
-use Rattle.mk_core.specs.declared.events.Seat.TheVariants.{Caller, Marker, Host}
-use Rattle.mk_core.specs.declared.seats.Flight.{Flight}
-use Rattle.mk_core.specs.Calls.{at_rest}
-use Rattle.mk_core.specs.Moments.{nothing_done, holder_number}
-use Rattle.mk_core.specs.StopConditions.{is_attending}
-use Rattle.mk_core.specs.Readings.{is_in}
+use Rattle.mk_protocol.proofs.Vocabulary.{Caller, Config, Flight, Host, Marker, Seat, at_rest, holder_number}
+use Rattle.mk_protocol.proofs.Vocabulary.{is_attending, is_in, nothing_done}
 use Rattle.mk_protocol.proofs.Standings.{Standing, Resting, UnderTurn, standing, Shows}
 use Rattle.mk_protocol.proofs.Services.{Served}
 use Rattle.mk_protocol.proofs.Views.{View, flight_in, gate_in, marker_in, flight_at, HoldsTurn}
@@ -38,7 +32,7 @@ pub record Orderly (c : Config) (v : View) : Type 0 where
 -- what a caller shows, at the standing that it is known to have
 pub shows_at : (c : Config) (v : View) (k : ℕ) (s : Standing) → Orderly c v → k < c.callers
     → standing (flight_in v k) ≡ s → Shows v.turn (gate_in v k) k s
-shows_at c v k s h lt is = subst (λ (x : Standing). Shows v.turn (gate_in v k) k x) is (h.each k lt)
+shows_at c v k s h lt is = rw is at (h.each k lt)
 
 -- the holder is named by the turn word
 pub turn_of : (c : Config) (v : View) (seat : Seat) → Orderly c v → HoldsTurn c v seat
@@ -80,40 +74,34 @@ pub holder_shows : (c : Config) (v : View) (seat : Seat) (f : Flight) → Orderl
     → (standing (flight_at v.flights seat) ≡ UnderTurn → standing f ≡ UnderTurn)
     → OwnShows c v.flights v.turn v.gates seat (standing f)
 holder_shows c v (Caller k) f h t is = (
-  subst (λ n. k < n) (sym h.flights) t.0,
-  subst (λ (x : Standing). Shows v.turn (gate_in v k) k x) (sym (is t.1))
-      (shows_at c v k UnderTurn h t.0 t.1),
+  rw h.flights t.0,
+  rw (is t.1) (shows_at c v k UnderTurn h t.0 t.1),
 )
-holder_shows c v (Marker k) f h t is = tt
-holder_shows c v Host f h t is = tt
+holder_shows c v _ f h t is = tt
 
 pub giver_shows : (c : Config) (v : View) (seat : Seat) → Orderly c v → HoldsTurn c v seat
     → OwnShows c v.flights 0 v.gates seat Resting
 giver_shows c v (Caller k) h t =
     let s = shows_at c v k UnderTurn h t.0 t.1 in
     let g : gate_in v k ≡ 0 = s.0 in (
-      subst (λ n. k < n) (sym h.flights) t.0,
+      rw h.flights t.0,
       (λ e. absurd (omega arith), omega arith, λ e. g, λ e. absurd (omega arith)),
     )
-giver_shows c v (Marker k) h t = tt
-giver_shows c v Host h t = tt
+giver_shows c v _ h t = tt
 
 pub taker_shows : (c : Config) (v : View) (seat : Seat) (f : Flight) → Orderly c v → v.turn ≡ 0 → MayTake c v seat f
     → OwnShows c v.flights (1 + holder_number c seat) v.gates seat (standing f)
 taker_shows c v (Caller k) f h z t =
     let s = shows_at c v k Resting h t.0 t.1 in (
-      subst (λ n. k < n) (sym h.flights) t.0,
-      subst (λ (x : Standing). Shows (1 + k) (gate_in v k) k x) (sym t.2)
-          (s.2 z, refl),
+      rw h.flights t.0,
+      rw t.2 (s.2 z, refl),
     )
-taker_shows c v (Marker k) f h z t = tt
-taker_shows c v Host f h z t = tt
+taker_shows c v _ f h z t = tt
 
 pub taker_number : (c : Config) (v : View) (seat : Seat) (f : Flight) → MayTake c v seat f
     → holder_number c seat ≤ c.callers
 taker_number c v (Caller k) f t = omega (arith, t.0)
-taker_number c v (Marker k) f t = omega arith
-taker_number c v Host f t = omega arith
+taker_number c v _ f t = omega arith
 
 -- there are few markers
 pub few_in : (c : Config) (v : View) → Orderly c v → count_in v.markers ≤ 8

@@ -3,17 +3,10 @@ use Rattle.std.proofs.Common.{◌≡◌, ℕ, ◌<◌, ◌≤◌, true, false, L
 use Rattle.std.specs.Prelude.{replicate, slice_index, slice_index_or}
 use Rattle.std.proofs.lemmas.Bool.{cases_lt}
 use Rattle.std.proofs.lemmas.List.{length-replicate, get_or-replicate, get_or_past}
-use Rattle.mk_core.specs.declared.config.Config.{Config}
-use Rattle.mk_core.specs.declared.events.Seat.{Seat}
-use Rattle.mk_core.specs.declared.events.Seat.TheVariants.{Caller}
-use Rattle.mk_core.specs.declared.events.Step.{Step}
-use Rattle.mk_core.specs.declared.events.Event.{Event}
-use Rattle.mk_core.specs.declared.seats.Flight.{Flight}
+use Rattle.mk_protocol.proofs.Vocabulary.{AreEnabledFrom, Caller, Config, Event, Flight, Moment, Seat, Step, World}
+use Rattle.mk_protocol.proofs.Vocabulary.{at_rest, first_moment, flight_of, is_attending, left_from, outside}
+use Rattle.mk_protocol.proofs.Vocabulary.{world_behind}
 use Rattle.mk_core.specs.declared.seats.Marker.{Marker}
-use Rattle.mk_core.specs.Calls.{at_rest}
-use Rattle.mk_core.specs.Moments.{Moment, first_moment, outside, flight_of}
-use Rattle.mk_core.specs.StopConditions.{is_attending}
-use Rattle.mk_core.specs.History.{World, world_behind, left_from, AreEnabledFrom}
 use Rattle.mk_core.proofs.Conditions.{enabled_meets}
 use Rattle.mk_protocol.proofs.Standings.{Resting, standing, is_astray, Shows, shown_not_astray}
 use Rattle.mk_protocol.proofs.Services.{nothing_served}
@@ -48,15 +41,6 @@ pub orderly_behind : (c : Config) (m : Moment) (seat : Seat) (x : Step) → c.ca
 orderly_behind c m seat x small o h =
     kept c (view_of m) seat (view_of (Behind c m seat x)) small o (event_moves c m seat x o h)
 
-pub orderly_from : (c : Config) (w : World) (es : List Event) → c.callers ≤ 16 → Orderly c (view_of w.now)
-    → AreEnabledFrom c w es
-    → Orderly c (view_of (left_from c w es).now)
-unfolding left_from AreEnabledFrom
-orderly_from c w [] small o on = o
-orderly_from c w (e ∷ es) small o on =
-    orderly_from c (world_behind c w e) es small
-    (orderly_behind c w.now e.seat e.step small o (enabled_meets c w.now e on.0)) on.1
-
 pub at_first : {A : Type 0} (n k : ℕ) (x : A) → slice_index_or (replicate n x) k x ≡ x
 at_first n k x = elim (cases_lt k n) [
   | inl lt ↦ get_or-replicate n k x x lt
@@ -70,9 +54,7 @@ orderly_at_first c small =
       gates = refl;
       markers = refl;
       turn = omega arith;
-      each = λ k lt. subst (λ (f : Flight). Shows 0 (slice_index (replicate 16 0) k) k (standing f))
-          (sym (at_first c.callers k at_rest))
-          (subst (λ (g : ℕ). Shows 0 g k Resting) (sym (at_first 16 k 0))
+      each = λ k lt. rw (at_first c.callers k at_rest) (subst (λ (g : ℕ). Shows 0 g k Resting) (sym (at_first 16 k 0))
           (λ e. absurd (omega arith), omega arith, λ e. refl, λ e. absurd (omega arith)));
       served = nothing_served _ _;
       free = λ e. refl;
@@ -83,8 +65,8 @@ orderly_at_first c small =
       attends = λ k a. let e : false ≡ true = ap (λ (x : Marker). is_attending x.presence) (sym (at_first 8 k outside))
           ∙ a in cc;
       idle = λ k a. record {
-        scan = ap (λ (x : Marker). x.scan) (at_first 8 k outside);
-        hand = ap (λ (x : Marker). x.hand) (at_first 8 k outside);
-        seen = ap (λ (x : Marker). x.seen) (at_first 8 k outside);
+        scan = rw (at_first 8 k outside);
+        hand = rw (at_first 8 k outside);
+        seen = rw (at_first 8 k outside);
       };
     }

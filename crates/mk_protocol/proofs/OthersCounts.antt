@@ -3,30 +3,15 @@ use Rattle.std.proofs.Common.{◌≡◌, ℕ, ◌+◌, Bool, true, false, List, 
 use Rattle.std.specs.Prelude.{Option, Some, None, count_by, cond, if◌then◌else◌, ◌==◌}
 use Rattle.std.proofs.lemmas.List.{map-append}
 use Rattle.std.proofs.lemmas.List.Sums.{sum_by-append}
-use Rattle.mk_never.specs.declared.operations.Op.{Op}
+use Rattle.mk_protocol.proofs.Vocabulary.{Answer, Caller, Config, Decided, Flight, Moment, Op, Progress, Seat, Stage}
+use Rattle.mk_protocol.proofs.Vocabulary.{Step, answer_decided, answered, begun, entry_of, flight_of, found, group_of}
+use Rattle.mk_protocol.proofs.Vocabulary.{header_of, is_end, is_some_and, is_unmapped_header, onward, progress}
+use Rattle.mk_protocol.proofs.Vocabulary.{progress_p, progress_q, progress_read, progress_reg, refused, still}
 use Rattle.mk_never.specs.declared.operations.Op.TheVariants as op
-use Rattle.mk_core.specs.declared.config.Config.{Config}
-use Rattle.mk_core.specs.declared.events.Answer.{Answer}
 use Rattle.mk_core.specs.declared.events.Answer.TheVariants as answer
 use Rattle.mk_core.specs.declared.events.Group.TheVariants as group
-use Rattle.mk_core.specs.declared.events.Seat.{Seat}
-use Rattle.mk_core.specs.declared.events.Seat.TheVariants.{Caller}
-use Rattle.mk_core.specs.declared.events.Step.{Step}
 use Rattle.mk_core.specs.declared.events.Step.TheVariants as step
-use Rattle.mk_core.specs.declared.seats.Stage.{Stage}
 use Rattle.mk_core.specs.declared.seats.Stage.TheVariants as stage
-use Rattle.mk_core.specs.declared.seats.Flight.{Flight}
-use Rattle.mk_core.specs.declared.seats.Progress.{Progress}
-use Rattle.mk_core.specs.Bounded.{is_some_and}
-use Rattle.mk_geom.specs.Headers.{header_of}
-use Rattle.mk_core.specs.Cells.{is_unmapped_header}
-use Rattle.mk_core.specs.Calls.{begun, still, onward, refused, progress_q, progress_p, progress_reg, progress_read}
-use Rattle.mk_core.specs.Order.{group_of}
-use Rattle.mk_core.specs.Moments.{Moment, flight_of}
-use Rattle.mk_core.specs.Accesses.{found}
-use Rattle.mk_core.specs.Effects.{progress, answer_decided}
-use Rattle.mk_core.specs.Decided.{Decided, entry_of, answered}
-use Rattle.mk_core.specs.Cycles.{is_end}
 use Rattle.mk_core.specs.Counts.{is_full_answer}
 use Rattle.mk_protocol.proofs.Views.{view_of, HoldsTurn}
 use Rattle.mk_protocol.proofs.Actors.{Actor, InCallOf, AsMarker, CallTakes, HostTakes, AsHolder}
@@ -103,11 +88,10 @@ abbrev pub fulls_of : List Decided → ℕ
 fulls_of ds = count_by is_full_answer (answered ds)
 
 pub entry_fulls : (k : ℕ) (o : Op) (a : Option Answer) → answers_full a ≡ false → fulls_of (entry_of k o a) ≡ 0
-entry_fulls k o None h = refl
 entry_fulls k o (Some answer.Full) h = cc
-entry_fulls k o (Some _) h = refl
+entry_fulls k o _ h = refl
 
 pub fulls_append : (xs ys : List Decided) → fulls_of (xs ++ ys) ≡ fulls_of xs + fulls_of ys
 fulls_append xs ys =
-    ap (λ (zs : List Answer). count_by is_full_answer zs) (map-append (λ (d : Decided). d.answer) xs ys)
-    ∙ sum_by-append (λ (a : Answer). cond {A = ℕ} (is_full_answer a) 1 0) (answered xs) (answered ys)
+    rw (map-append (λ (d : Decided). d.answer) xs ys)
+    (sum_by-append (λ (a : Answer). cond {A = ℕ} (is_full_answer a) 1 0) (answered xs) (answered ys))

@@ -4,37 +4,24 @@ use Rattle.std.proofs.Common.{ap, subst, inl, inr, arith}
 use Rattle.std.specs.Prelude.{Some, None, slice_index, slice_set, bit_or, if◌then◌else◌}
 use Rattle.std.proofs.lemmas.Bool.{cases_eq, eq-eqb, ne_eqb}
 use Rattle.std.proofs.lemmas.List.{set-get_or}
-use Rattle.mk_never.specs.declared.operations.Op.{Op}
-use Rattle.mk_core.specs.declared.config.Config.{Config}
-use Rattle.mk_core.specs.declared.accesses.TableWord.TheVariants.{Named}
+use Rattle.mk_protocol.proofs.Vocabulary.{Caller, Config, Flight, Host, Marker, MarkerState, Moment, Named, Op, Seat}
+use Rattle.mk_protocol.proofs.Vocabulary.{Stage, Step, Words, World, accessed, at_rest, begun, flight_of, found}
+use Rattle.mk_protocol.proofs.Vocabulary.{group_of, is_attending, is_in, marker_of, nothing_done, outside, reg_access}
+use Rattle.mk_protocol.proofs.Vocabulary.{register_met, still, world_behind}
 use Rattle.mk_core.specs.declared.events.Group.TheVariants as group
-use Rattle.mk_core.specs.declared.events.Seat.{Seat}
-use Rattle.mk_core.specs.declared.events.Seat.TheVariants.{Caller, Marker, Host}
 use Rattle.mk_core.specs.declared.events.Word.TheVariants as word
-use Rattle.mk_core.specs.declared.events.Step.{Step}
 use Rattle.mk_core.specs.declared.events.Step.TheVariants as step
-use Rattle.mk_core.specs.declared.seats.Stage.{Stage}
 use Rattle.mk_core.specs.declared.seats.Stage.TheVariants as stage
-use Rattle.mk_core.specs.declared.seats.Flight.{Flight}
-use Rattle.mk_core.specs.declared.seats.Marker.{Marker as MarkerState}
-use Rattle.mk_core.specs.Words.{Words, accessed}
-use Rattle.mk_core.specs.Calls.{at_rest, begun, still}
-use Rattle.mk_core.specs.Order.{group_of}
-use Rattle.mk_core.specs.Moments.{Moment, Seats, flight_of, marker_of, outside, nothing_done}
-use Rattle.mk_core.specs.StopConditions.{is_attending}
-use Rattle.mk_core.specs.Accesses.{found, register_met, reg_access}
-use Rattle.mk_core.specs.History.{World, world_behind}
-use Rattle.mk_core.specs.Readings.{is_in}
+use Rattle.mk_core.specs.Moments.{Seats}
 use Rattle.mk_protocol.proofs.Standings.{Standing, Resting, InCall, UnderTurn, Astray, standing, is_astray}
 use Rattle.mk_protocol.proofs.Stages.{is_call_stage, is_reg_stage, calls_stand, regs_work}
-use Rattle.mk_protocol.proofs.NextSteps.{stage_of, has_stage_of_its_own, at_its_stage, at_reg}
+use Rattle.mk_protocol.proofs.NextSteps.{stage_of, has_stage_of_its_own, at_its_stage, at_reg, is_take}
 use Rattle.mk_protocol.proofs.Views.{view_of, HoldsTurn}
 use Rattle.mk_protocol.proofs.Orderly.{shows_at, turn_of}
 use Rattle.mk_protocol.proofs.Actors.{Meets, Actor, InCallOf, AsMarker, CallTakes, HostTakes, AsHolder}
 use Rattle.mk_protocol.proofs.IdleMarkers.{work_attends, look_stays}
 use Rattle.mk_protocol.proofs.MarkerMoves.{attends_at}
 use Rattle.mk_protocol.proofs.Markers.{count_in-at}
-use Rattle.mk_protocol.proofs.NextSteps.{is_take}
 use Rattle.mk_protocol.proofs.OrderlyLists.{not_astray, actor_of}
 use Rattle.mk_protocol.proofs.Operands.{Operands, operands_of, register_small}
 use Rattle.mk_protocol.proofs.Known.{Known}
@@ -96,10 +83,7 @@ waits_flight : (c : Config) (w : World) (k : ℕ)
     → OthersMove c w (Caller k)
     (with_words_seats w w.now.words
     (record w.now.seats { flights = slice_set w.now.seats.flights k (flight_of w.now (Caller k)) }))
-waits_flight c w k =
-    subst (λ (fs : List Flight). OthersMove c w (Caller k)
-    (with_words_seats w w.now.words (record w.now.seats { flights = fs })))
-    (sym (set-get_or w.now.seats.flights k at_rest)) Waits
+waits_flight c w k = rw (set-get_or w.now.seats.flights k at_rest) Waits
 
 -- a call that begins where it may
 abbrev begun_if : Bool → Op → Flight → Flight
@@ -115,47 +99,17 @@ entered w k o b =
 enter_out : (c : Config) (w : World) (k : ℕ) (o : Op) → k < c.callers → Outs c w (Caller k) (step.Enter o)
 enter_out c w k o lt = elim (cases_eq (slice_index w.now.words.gates k) 0) [
   | inl z ↦
-      subst (λ (b : Bool). OthersMove c w (Caller k) (entered w k o b))
-      (sym (eq-eqb (slice_index w.now.words.gates k) 0 z))
-      (Calls (begun o) lt (omega arith) (SetsGate 1 (omega arith)))
+      rw (eq-eqb (slice_index w.now.words.gates k) 0 z) (Calls (begun o) lt (omega arith) (SetsGate 1 (omega arith)))
   | inr ne ↦
-      subst (λ (b : Bool). OthersMove c w (Caller k) (entered w k o b))
-      (sym (ne_eqb (slice_index w.now.words.gates k) 0 ne))
-      (subst (λ (gs : List ℕ). OthersMove c w (Caller k)
-      (with_words_seats w (record w.now.words { gates = gs })
-      (record w.now.seats { flights = slice_set w.now.seats.flights k (flight_of w.now (Caller k)) })))
-      (sym (set-get_or w.now.words.gates k 0)) (waits_flight c w k))
+      rw (ne_eqb (slice_index w.now.words.gates k) 0 ne) (rw (set-get_or w.now.words.gates k 0) (waits_flight c w k))
 ]
 
 -- the turn is held, so nobody takes it
 take_out : (c : Config) (w : World) (k : ℕ) (o : Op) → w.now.words.turn ≢ 0 → Outs c w (Caller k) (step.Take (Some o))
-take_out c w k o ne =
-    subst (λ (b : Bool). OthersMove c w (Caller k) (record {
-      now = record {
-        words = record w.now.words { turn = if b then 1 + k else w.now.words.turn };
-        seats = record {
-          flights = slice_set w.now.seats.flights k
-              ((if b then record { flight = begun o; answer = None } else still (flight_of w.now (Caller k))).flight);
-          holding = if b then nothing_done else w.now.seats.holding;
-          markers = w.now.seats.markers;
-        };
-        fresh_words = w.now.fresh_words;
-      };
-      allocations = w.allocations;
-    }))
-    (sym (ne_eqb w.now.words.turn 0 ne)) (waits_flight c w k)
+take_out c w k o ne = rw (ne_eqb w.now.words.turn 0 ne) (waits_flight c w k)
 
 host_take_out : (c : Config) (w : World) → w.now.words.turn ≢ 0 → Outs c w Host (step.Take None)
-host_take_out c w ne =
-    subst (λ (b : Bool). OthersMove c w Host (record {
-      now = record {
-        words = record w.now.words { turn = if b then 1 + c.callers else w.now.words.turn };
-        seats = record w.now.seats { holding = if b then nothing_done else w.now.seats.holding };
-        fresh_words = w.now.fresh_words;
-      };
-      allocations = w.allocations;
-    }))
-    (sym (ne_eqb w.now.words.turn 0 ne)) Waits
+host_take_out c w ne = rw (ne_eqb w.now.words.turn 0 ne) Waits
 
 -- the gate of a caller in a call
 

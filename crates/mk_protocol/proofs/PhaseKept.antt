@@ -1,8 +1,6 @@
 -- What a step of the phase leaves.
 use Rattle.std.proofs.Common.{◌≡◌, ◌≢◌, ◌⊎◌, ℕ, ◌+◌, ◌*◌, ◌%◌, ◌<◌, ◌≤◌, true, false, sym, ◌∙◌, inl, inr, arith}
-use Rattle.mk_core.specs.declared.config.Config.{Config}
-use Rattle.mk_core.specs.declared.events.Seat.{Seat}
-use Rattle.mk_core.specs.StopConditions.{is_attending}
+use Rattle.mk_protocol.proofs.Vocabulary.{Config, Seat, is_attending}
 use Rattle.mk_protocol.proofs.Views.{View, gate_in, marker_in, HoldsTurn}
 use Rattle.mk_protocol.proofs.Moves.{PhaseStep, Begins, Wants, Closes, Releases, Ends, Stops}
 use Rattle.mk_protocol.proofs.Markers.{count_in, up_one, down_four, up_five}

@@ -4,14 +4,8 @@ use Rattle.std.proofs.Common.{arith}
 use Rattle.std.specs.Prelude.{Option, is_some}
 use Rattle.std.proofs.lemmas.Bool.{cases_lt}
 use Rattle.std.proofs.lemmas.List.{get_or_past}
-use Rattle.mk_core.specs.declared.config.Config.{Config}
-use Rattle.mk_core.specs.declared.events.Seat.TheVariants.{Caller}
-use Rattle.mk_core.specs.declared.seats.Flight.{Flight}
-use Rattle.mk_core.specs.declared.seats.RunPages.{RunPages}
-use Rattle.mk_core.specs.Calls.{at_rest}
-use Rattle.mk_core.specs.NewPlaces.{is_undecided_new}
-use Rattle.mk_core.specs.Moments.{Moment, flight_of}
-use Rattle.mk_core.specs.History.{left}
+use Rattle.mk_protocol.proofs.Vocabulary.{Caller, Config, Flight, Moment, RunPages, at_rest, flight_of}
+use Rattle.mk_protocol.proofs.Vocabulary.{is_undecided_new, left}
 use Rattle.mk_protocol.specs.Protocol.{is_decided_new, is_decided_free, SomeCaller, Protocol, ListsKeepTheProtocol}
 use Rattle.mk_protocol.proofs.Standings.{standing, is_standing_in_call, shows_turn, shows_gate, in_call_told}
 use Rattle.mk_protocol.proofs.Standings.{in_turn_told, stage_told}
@@ -61,12 +55,10 @@ told c m o operands =
       free = o.free;
       placed = λ e. some_caller c m is_undecided_new o refl (o.served.placed e);
       granted = λ e. some_caller c m is_decided_new o refl (o.served.granted e);
-      freed = λ run e. some_caller c m is_decided_free o refl
-          (o.served.freed (ap (λ (x : Option RunPages). is_some x) e));
+      freed = λ run e. some_caller c m is_decided_free o refl (o.served.freed (rw e));
     }
   where
-    gates : (k : ℕ) → k < c.callers
-        → (gate_in (view_of m) k ≤ 2)
+    gates : (k : ℕ) → k < c.callers → (gate_in (view_of m) k ≤ 2)
         × ((gate_in (view_of m) k ≡ 1) ↔ (is_standing_in_call (standing (flight_of m (Caller k))) ≡ true))
         × (gate_in (view_of m) k ≡ 2 → (m.words.turn ≢ 0) × (m.words.turn ≢ 1 + k))
     gates k lt = shows_gate m.words.turn (gate_in (view_of m) k) k (standing (flight_of m (Caller k))) (o.each k lt)

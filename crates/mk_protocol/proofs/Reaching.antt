@@ -2,29 +2,20 @@
 use Rattle.std.proofs.Common.{◌≡◌, ℕ, ◌*◌, ◌<◌, ◌≤◌, Bool, true, false, ◌++◌, refl, sym, ◌∙◌, ap, subst, arith}
 use Rattle.std.specs.Prelude.{nat_le, nat_lt, not, is_none, ◌&&◌}
 use Rattle.std.proofs.lemmas.Bool.{ltb-true, and_parts}
-use Rattle.mk_core.specs.declared.config.Config.{Config}
-use Rattle.mk_core.specs.declared.events.Seat.{Seat}
-use Rattle.mk_core.specs.declared.events.Seat.TheVariants.{Caller, Marker, Host}
-use Rattle.mk_core.specs.declared.events.Step.{Step}
+use Rattle.mk_protocol.proofs.Vocabulary.{Caller, Config, Flight, Holding, Holds, Host, Marker, MarkerState, Moment}
+use Rattle.mk_protocol.proofs.Vocabulary.{Placing, Seat, Step, Tally, Word, access, caller_number, flight_of}
+use Rattle.mk_protocol.proofs.Vocabulary.{has_next_word, holder_number, is_number_of, is_scanned, is_undecided_new}
+use Rattle.mk_protocol.proofs.Vocabulary.{left, marker_at, outside, page_met, seat_exists, tally_word, word_accessed}
+use Rattle.mk_protocol.proofs.Vocabulary.{Op, Stage, is_new_at, is_under_turn, word_met}
+use Rattle.mk_never.specs.declared.operations.Op.TheVariants as op
+use Rattle.mk_core.specs.declared.seats.Stage.TheVariants as stage
+use Rattle.mk_core.specs.Readings.{is_idle}
 use Rattle.mk_core.specs.declared.events.Step.TheVariants as step
-use Rattle.mk_core.specs.declared.events.Tally.{Tally}
 use Rattle.mk_core.specs.declared.events.Tally.TheVariants as tally
-use Rattle.mk_core.specs.declared.events.Word.{Word}
 use Rattle.mk_core.specs.declared.events.Word.TheVariants as word
-use Rattle.mk_core.specs.declared.seats.Flight.{Flight}
-use Rattle.mk_core.specs.declared.seats.Holding.{Holding}
-use Rattle.mk_core.specs.declared.seats.Marker.{Marker as MarkerState}
-use Rattle.mk_core.specs.declared.seats.Placing.{Placing}
-use Rattle.mk_core.specs.Calls.{word_met, page_met}
 use Rattle.mk_core.specs.Layout.{NamesWord, IsOfTable}
 use Rattle.mk_core.specs.Ranges.{is_word, is_word_met}
-use Rattle.mk_core.specs.Moments.{Moment, flight_of, marker_at, outside, is_number_of, holder_number}
-use Rattle.mk_core.specs.MarkerConditions.{has_next_word, is_scanned}
-use Rattle.mk_core.specs.NewPlaces.{is_undecided_new}
-use Rattle.mk_core.specs.Order.{seat_exists}
-use Rattle.mk_core.specs.Accesses.{caller_number, tally_word, word_reached, access_by, word_accessed, access}
-use Rattle.mk_core.specs.History.{left}
-use Rattle.mk_core.specs.Readings.{Holds}
+use Rattle.mk_core.specs.Accesses.{word_reached, access_by}
 use Rattle.mk_core.proofs.Conditions.{enabled_meets}
 use Rattle.mk_protocol.specs.Reaching.{EventsReachTheTable, OthersLeaveAccesses}
 use Rattle.mk_protocol.proofs.Actors.{Meets, grants_new}
@@ -32,16 +23,15 @@ use Rattle.mk_protocol.proofs.Operands.{Operands, operands_of, register_small}
 use Rattle.mk_protocol.proofs.Known.{Known, known_left}
 use Rattle.mk_protocol.proofs.NewPlace.{new_holds}
 use Rattle.mk_protocol.proofs.ScansInHeap.{MarkerFits, nothing_fits, next_in_heap, scan_page_in_heap, seen_page_in_heap}
-use Rattle.mk_protocol.proofs.Holders.{new_in_turn}
 use Rattle.mk_protocol.proofs.InHeap.{InHeap, in_heap_left}
 use Rattle.mk_protocol.proofs.Frames.{others_leave}
+use Rattle.mk_protocol.proofs.StepKinds.{is_grant}
 
 -- what is known of a seat
 
 number_small : (c : Config) (seat : Seat) → c.callers ≤ 16 → seat_exists c seat ≡ true → caller_number seat < 16
 number_small c (Caller k) small h = let lt = ltb-true k c.callers h in omega arith
-number_small c (Marker k) small h = omega arith
-number_small c Host small h = omega arith
+number_small c _ small h = omega arith
 
 seat_operands : (c : Config) (m : Moment) (seat : Seat) → Known c m → Operands (flight_of m seat).op
 seat_operands c m (Caller k) known = operands_of c (flight_of m (Caller k)).op (known.operands k)
@@ -50,17 +40,10 @@ seat_operands c m Host known = operands_of c (flight_of m Host).op refl
 
 seat_marker : (c : Config) (m : Moment) (seat : Seat) → InHeap c m → MarkerFits c (marker_at m seat)
 seat_marker c m (Marker k) h = h.markers k
-seat_marker c m (Caller k) h = nothing_fits c outside refl refl
-seat_marker c m Host h = nothing_fits c outside refl refl
+seat_marker c m _ h = nothing_fits c outside refl refl
 
 -- a word that is looked at
 looked_at : (c : Config) (x : Word) → c.callers ≤ 16 → is_word c x ≡ true → NamesWord c.pages x
-looked_at c word.Phase small h = tt
-looked_at c word.Held small h = tt
-looked_at c word.Fresh small h = tt
-looked_at c word.Cycles small h = tt
-looked_at c word.Released small h = tt
-looked_at c word.Full small h = tt
 looked_at c (word.Gate j) small h = let lt = ltb-true j c.callers h in omega arith
 looked_at c (word.Reg j r) small h =
     let both = and_parts (nat_lt j c.callers) (nat_lt r 8) h in
@@ -74,6 +57,7 @@ looked_at c (word.Mark p) small h = ltb-true p c.pages h
 looked_at c (word.Black p) small h = ltb-true p c.pages h
 looked_at c (word.Dirty p) small h = ltb-true p c.pages h
 looked_at c (word.Heap n) small h = ltb-true n (64 * c.pages) h
+looked_at c _ small h = tt
 
 tallied : (pages : ℕ) (t : Tally) → NamesWord pages (tally_word t)
 tallied pages tally.Held = tt
@@ -141,23 +125,23 @@ events_reach_the_table c es e limits on now =
 
 -- the access is the same where the call, the marker and a New's place are
 
-abbrev is_grant : Step → Bool
-is_grant step.Grant = true
-is_grant _ = false
-
 placing_apart : (c : Config) (n : ℕ) (f : Flight) (p q : Placing) (x : MarkerState) (s : Step) → is_grant s ≡ false
     → access_by c n f p x s ≡ access_by c n f q x s
 placing_apart c n f p q x step.Grant g = cc
 placing_apart c n f p q x _ g = refl
 
+-- whoever is in a New holds the turn
+new_in_turn : (s : Stage) (o : Op) → is_new_at s o ≡ true → (not (is_idle s) && is_under_turn o) ≡ true
+new_in_turn stage.Turn (op.New d ty full) h = refl
+new_in_turn _ _ h = cc
+
 granter_holds : (c : Config) (m : Moment) (seat : Seat) → Meets c m seat step.Grant → Holds c m seat
 granter_holds c m seat h =
     let new = grants_new c m seat h in
     let own = new_holds c m seat step.Grant h new in
-    subst (λ (s : Seat). Holds c m s) (sym own.2) (
+    rw own.2 (
       own.1,
-      new_in_turn (flight_of m (Caller own.0)).stage (flight_of m (Caller own.0)).op
-          (subst (λ (s : Seat). is_undecided_new (flight_of m s) ≡ true) own.2 new),
+      new_in_turn (flight_of m (Caller own.0)).stage (flight_of m (Caller own.0)).op (rw own.2 at new),
     )
 
 same_access : (c : Config) (m n : Moment) (seat : Seat) (x : Step) → flight_of n seat ≡ flight_of m seat
@@ -165,9 +149,9 @@ same_access : (c : Config) (m n : Moment) (seat : Seat) (x : Step) → flight_of
     → (is_grant x ≡ true → n.seats.holding ≡ m.seats.holding)
     → access c n (record { seat = seat; step = x }) ≡ access c m (record { seat = seat; step = x })
 same_access c m n seat x flight marker holding =
-    ap (λ (f : Flight). access_by c (holder_number c seat) f n.seats.holding.placing (marker_at n seat) x) flight
-    ∙ ap (λ (y : MarkerState). access_by c (holder_number c seat) (flight_of m seat) n.seats.holding.placing y x) marker
-    ∙ by (is_grant x) refl
+    rw flight
+    (ap (λ (y : MarkerState). access_by c (holder_number c seat) (flight_of m seat) n.seats.holding.placing y x) marker
+    ∙ by (is_grant x) refl)
   where
     by : (b : Bool) → is_grant x ≡ b
         → access_by c (holder_number c seat) (flight_of m seat) n.seats.holding.placing (marker_at m seat) x
@@ -181,10 +165,9 @@ pub others_leave_accesses : OthersLeaveAccesses
 others_leave_accesses c es more e limits on others now =
     let l = (others_leave c es more e.seat limits on others).own in
     record {
-      word = ap (λ (f : Flight). word_reached c (caller_number e.seat) f (marker_at (left c (es ++ more)).now e.seat)
-          e.step) l.flight
-          ∙ ap (λ (y : MarkerState). word_reached c (caller_number e.seat) (flight_of (left c es).now e.seat) y e.step)
-          l.marker;
+      word = rw l.flight
+          (ap (λ (y : MarkerState). word_reached c (caller_number e.seat) (flight_of (left c es).now e.seat) y e.step)
+          l.marker);
       access =
           same_access c (left c es).now (left c (es ++ more)).now e.seat e.step l.flight l.marker
           (λ g. (l.holding (granting e.step g (enabled_meets c (left c es).now e now))).1);

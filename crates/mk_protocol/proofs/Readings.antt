@@ -4,18 +4,11 @@ use Rattle.std.proofs.Common.{arith}
 use Rattle.std.specs.Prelude.{not}
 use Rattle.std.proofs.lemmas.Bool.{cases_Bool, cases_eq, cases_lt}
 use Rattle.std.proofs.lemmas.List.{get_or_past}
-use Rattle.mk_core.specs.declared.config.Config.{Config}
-use Rattle.mk_core.specs.declared.events.Seat.{Seat}
-use Rattle.mk_core.specs.declared.events.Seat.TheVariants.{Caller, Marker, Host}
-use Rattle.mk_core.specs.declared.events.Event.{Event}
-use Rattle.mk_core.specs.declared.seats.Marker.{Marker as MarkerState}
-use Rattle.mk_core.specs.declared.seats.Presence.{Presence}
+use Rattle.mk_protocol.proofs.Vocabulary.{Caller, Config, Event, Holds, Host, Marker, MarkerState, Moment, Presence}
+use Rattle.mk_protocol.proofs.Vocabulary.{Seat, is_attending, is_in, left, marker_of, outside}
 use Rattle.mk_core.specs.declared.seats.Presence.TheVariants.{Attending}
-use Rattle.mk_core.specs.Moments.{Moment, outside, marker_of}
-use Rattle.mk_core.specs.StopConditions.{is_attending}
 use Rattle.mk_core.specs.MarkerConditions.{is_out}
-use Rattle.mk_core.specs.History.{left}
-use Rattle.mk_core.specs.Readings.{Holds, is_in, TurnTells, GateTells, PhaseTells}
+use Rattle.mk_core.specs.Readings.{TurnTells, GateTells, PhaseTells}
 use Rattle.mk_protocol.specs.Protocol.{Protocol}
 use Rattle.mk_protocol.specs.Readings.{WordsTell}
 use Rattle.mk_protocol.proofs.Markers.{count_in-at}

@@ -2,35 +2,20 @@
 use Rattle.std.proofs.Common.{◌≡◌, ◌≢◌, ℕ, ◌+◌, ◌*◌, ◌<◌, List, refl, sym, ap, subst, arith}
 use Rattle.std.specs.Prelude.{slice_index, slice_set}
 use Rattle.std.proofs.lemmas.List.{get_or-set_other}
-use Rattle.mk_core.specs.declared.config.Config.{Config}
-use Rattle.mk_core.specs.declared.accesses.Access.TheVariants.{Store}
-use Rattle.mk_core.specs.declared.accesses.TableWord.TheVariants.{Named}
-use Rattle.mk_core.specs.declared.events.Seat.{Seat}
-use Rattle.mk_core.specs.declared.events.Seat.TheVariants.{Caller, Marker, Host}
-use Rattle.mk_core.specs.declared.events.Tally.{Tally}
+use Rattle.mk_protocol.proofs.Vocabulary.{Caller, Config, Flight, Host, Marker, Moment, Named, Seat, Stage, Step, Store}
+use Rattle.mk_protocol.proofs.Vocabulary.{Tally, Words, accessed, d_of, flight_of, reg_access, register_met, tally_word}
 use Rattle.mk_core.specs.declared.events.Tally.TheVariants as tally
 use Rattle.mk_core.specs.declared.events.Word.TheVariants as word
-use Rattle.mk_core.specs.declared.events.Step.{Step}
 use Rattle.mk_core.specs.declared.events.Step.TheVariants as step
-use Rattle.mk_core.specs.declared.seats.Stage.{Stage}
 use Rattle.mk_core.specs.declared.seats.Stage.TheVariants as stage
-use Rattle.mk_core.specs.declared.seats.Flight.{Flight}
-use Rattle.mk_core.specs.Words.{Words, accessed}
-use Rattle.mk_core.specs.Calls.{d_of}
-use Rattle.mk_core.specs.Moments.{Moment, flight_of}
-use Rattle.mk_core.specs.Accesses.{register_met, reg_access, tally_word}
 use Rattle.mk_protocol.proofs.Actors.{Meets, grants_new}
 use Rattle.mk_protocol.proofs.SameWords.{Behind}
 use Rattle.mk_protocol.proofs.Operands.{HaveOperands, Operands, operands_of, register_small}
+use Rattle.mk_core.proofs.RegisterAccesses.{tally_leaves_registers}
 
 pub data RegisterStep (w : Words) : Seat → List ℕ → Type 0 where
   KeepsRegisters : {seat : Seat} → RegisterStep w seat w.registers
   SetsOwn : {k : ℕ} (r v : ℕ) → r < 8 → RegisterStep w (Caller k) (slice_set w.registers (8 * k + r) v)
-
-tally_registers : (w : Words) (n : Tally) (v : ℕ)
-    → (accessed w (Named (tally_word n)) (Store v)).registers ≡ w.registers
-tally_registers w tally.Held v = refl
-tally_registers w _ v = refl
 
 reg_registers : (w : Words) (k : ℕ) (f : Flight) (s : Stage) → Operands f.op
     → RegisterStep w (Caller k) (accessed w (Named (word.Reg k (register_met f s))) (reg_access f s)).registers
@@ -50,8 +35,7 @@ register_step c m (Caller k) step.Grant ops h =
     SetsOwn (d_of (flight_of m (Caller k)).op) _ (operands_of c (flight_of m (Caller k)).op (ops k)).d
 register_step c m (Marker k) step.Grant ops h = let kind = h.kind in cc
 register_step c m Host step.Grant ops h = let new = grants_new c m Host h in cc
-register_step c m seat (step.Tally n v) ops h =
-    subst (λ (rs : List ℕ). RegisterStep m.words seat rs) (sym (tally_registers m.words n v)) KeepsRegisters
+register_step c m seat (step.Tally n v) ops h = rw (tally_leaves_registers m.words n v) KeepsRegisters
 register_step c m seat _ ops h = KeepsRegisters
 
 pub others_registers : (w : Words) (seat : Seat) (rs : List ℕ) (k r : ℕ) → RegisterStep w seat rs → seat ≢ Caller k
@@ -59,5 +43,4 @@ pub others_registers : (w : Words) (seat : Seat) (rs : List ℕ) (k r : ℕ) →
     → slice_index rs (8 * k + r) ≡ slice_index w.registers (8 * k + r)
 others_registers w seat rs k r KeepsRegisters ne lt = refl
 others_registers w seat rs k r (SetsOwn {k = j} s v ls) ne lt =
-    get_or-set_other w.registers (8 * j + s) (8 * k + r) v 0
-    (λ e. ne (ap (λ i. Caller i) (let same : j ≡ k = omega arith in same)))
+    get_or-set_other w.registers (8 * j + s) (8 * k + r) v 0 (λ e. ne (rw (let same : j ≡ k = omega arith in same)))

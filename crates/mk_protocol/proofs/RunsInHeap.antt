@@ -5,24 +5,14 @@ use Rattle.std.specs.Prelude.{Option, Some, None, unwrap_or, nat_le, nat_lt, not
 use Rattle.std.specs.Prelude.{slice_index_or, slice_set}
 use Rattle.std.proofs.lemmas.Bool.{cases_eq, eqb-true, leb-true, and_parts}
 use Rattle.std.proofs.lemmas.List.{get_or-set_other}
-use Rattle.mk_geom.specs.declared.headers.Header.TheVariants.{Run}
-use Rattle.mk_geom.specs.declared.pages.Page.{Page}
-use Rattle.mk_geom.specs.declared.pages.Place.{Place}
-use Rattle.mk_geom.specs.Classes.{class_for, run_pages_of}
-use Rattle.mk_geom.specs.Headers.{word_of, header_of}
-use Rattle.mk_geom.specs.Storages.{free_page, block_header, run_header}
+use Rattle.mk_protocol.proofs.Vocabulary.{Config, Flight, Object, Page, Place, Run, RunPages, Words, World, all_below}
+use Rattle.mk_protocol.proofs.Vocabulary.{block_header, carves, class_made, empties, free_page, header_at, header_made}
+use Rattle.mk_protocol.proofs.Vocabulary.{header_of, is_marked_first, is_next_header, is_small_object, object_made}
+use Rattle.mk_protocol.proofs.Vocabulary.{pages_made, place_now, run_header, run_pages_of, stands, unmapped_header}
+use Rattle.mk_protocol.proofs.Vocabulary.{unmaps, used_at, word_of}
+use Rattle.mk_geom.specs.Classes.{class_for}
 use Rattle.mk_geom.proofs.HeaderLemmas.{word_of-header_of}
 use Rattle.mk_geom.proofs.ClassTable.{class_for-some}
-use Rattle.mk_core.specs.declared.config.Config.{Config}
-use Rattle.mk_core.specs.declared.seats.Flight.{Flight}
-use Rattle.mk_core.specs.declared.seats.Object.{Object}
-use Rattle.mk_core.specs.declared.seats.RunPages.{RunPages}
-use Rattle.mk_core.specs.Bounded.{all_below}
-use Rattle.mk_core.specs.Words.{Words, header_at, used_at}
-use Rattle.mk_core.specs.NewPlaces.{object_made, is_small_object, class_made, pages_made, header_made, unmapped_header}
-use Rattle.mk_core.specs.NewPlaces.{stands, is_next_header}
-use Rattle.mk_core.specs.TurnConditions.{is_marked_first, place_now, carves, unmaps, empties}
-use Rattle.mk_core.specs.History.{World}
 use Rattle.mk_protocol.proofs.HeaderSteps.{page_set, used_set}
 use Rattle.mk_protocol.specs.Ground.{Ground}
 use Rattle.mk_protocol.proofs.Ground.{GroundStep, Carves, Unmaps, Empties, TakesCell, GivesBack}
@@ -55,12 +45,12 @@ block_apart class count false lt e = omega arith
 run_shown : (pages count distance : ℕ) (mapped leaf : Bool)
     → 9 + 16 * count ≡ word_of (run_header pages mapped leaf distance)
     → (mapped ≡ true) × (distance ≡ 0) × (count ≡ pages)
-run_shown pages count zero true true e = absurd (omega arith)
 run_shown pages count zero true false e = (refl, refl, omega arith)
-run_shown pages count zero false true e = absurd (omega arith)
 run_shown pages count zero false false e = absurd (omega arith)
 run_shown pages count (suc d) true leaf e = absurd (omega arith)
 run_shown pages count (suc d) false leaf e = absurd (omega arith)
+run_shown pages count zero true true e = absurd (omega arith)
+run_shown pages count zero false true e = absurd (omega arith)
 
 made_shown : (o : Object) (distance count : ℕ) → 9 + 16 * count ≡ header_made o distance
     → (is_small_object o ≡ false) × (distance ≡ 0) × (count ≡ run_pages_of o.words)
@@ -135,15 +125,14 @@ header_set c ps p n u fits all q = elim (cases_eq q p) [
   | inl e ↦
       let own : RunFits c p (slice_index_or (slice_set ps p (record { header = n; used = u })) q free_page).header =
       page_set ps p q (record { header = n; used = u }) (λ y. RunFits c p y) (λ lt. fits)
-      (λ count shows. subst (λ i. i + count ≤ c.pages) e (all q count shows)) in
-      λ count shows. subst (λ i. i + count ≤ c.pages) (sym e) (own count shows)
+      (λ count shows. rw e at (all q count shows)) in
+      λ count shows. rw e (own count shows)
   | inr ne ↦ page_set_other ps p q (record { header = n; used = u }) ne (all q)
 ]
   where
     page_set_other : (ps : List Page) (p q : ℕ) (x : Page) → q ≢ p → RunFits c q (slice_index_or ps q free_page).header
         → RunFits c q (slice_index_or (slice_set ps p x) q free_page).header
-    page_set_other ps p q x ne h =
-        subst (λ (y : Page). RunFits c q y.header) (sym (get_or-set_other ps p q x free_page ne)) h
+    page_set_other ps p q x ne h = rw (get_or-set_other ps p q x free_page ne) h
 
 pub runs_behind : (c : Config) (w : World) (f : Flight) (g : Ground)
     → ((x : Place) → place_now c w.now f ≡ Some x → PlaceFits c f.op x)

@@ -1,20 +1,9 @@
 -- The moment after an event, and steps that leave the words of the protocol as they are.
 use Rattle.std.proofs.Common.{◌≡◌, ℕ, List, refl, sym, subst}
-use Rattle.mk_core.specs.declared.config.Config.{Config}
-use Rattle.mk_core.specs.declared.accesses.Access.{Access}
-use Rattle.mk_core.specs.declared.accesses.Access.TheVariants.{Load, Store}
-use Rattle.mk_core.specs.declared.accesses.TableWord.TheVariants.{Named}
-use Rattle.mk_core.specs.declared.events.Seat.{Seat}
-use Rattle.mk_core.specs.declared.events.Tally.{Tally}
+use Rattle.mk_protocol.proofs.Vocabulary.{Access, Config, Flight, Holding, Load, MarkerState, Moment, Named, Seat, Step}
+use Rattle.mk_protocol.proofs.Vocabulary.{Store, Tally, Words, accessed, found, tally_word}
 use Rattle.mk_core.specs.declared.events.Tally.TheVariants as tally
 use Rattle.mk_core.specs.declared.events.Word.TheVariants as word
-use Rattle.mk_core.specs.declared.events.Step.{Step}
-use Rattle.mk_core.specs.declared.seats.Flight.{Flight}
-use Rattle.mk_core.specs.declared.seats.Holding.{Holding}
-use Rattle.mk_core.specs.declared.seats.Marker.{Marker as MarkerState}
-use Rattle.mk_core.specs.Words.{Words, accessed}
-use Rattle.mk_core.specs.Moments.{Moment}
-use Rattle.mk_core.specs.Accesses.{found, tally_word}
 use Rattle.mk_core.specs.Effects.{moment_behind}
 use Rattle.mk_protocol.proofs.Views.{View, view_of}
 use Rattle.mk_protocol.proofs.Moves.{Move}
@@ -62,12 +51,4 @@ pub with_words : (c : Config) (v : View) (seat : Seat) (w x : Words) (fs : List 
       markers = ms;
     })
 with_words c v seat w x fs h ms same move =
-    subst (λ t. Move c v seat
-    (record { turn = t; phase = x.phase; gates = x.gates; flights = fs; holding = h; markers = ms }))
-    (sym same.turn)
-    (subst (λ p. Move c v seat
-    (record { turn = w.turn; phase = p; gates = x.gates; flights = fs; holding = h; markers = ms }))
-    (sym same.phase)
-    (subst (λ (gs : List ℕ). Move c v seat
-    (record { turn = w.turn; phase = w.phase; gates = gs; flights = fs; holding = h; markers = ms }))
-    (sym same.gates) move))
+    rw same.turn (rw same.phase (rw same.gates move))

@@ -2,28 +2,16 @@
 use Rattle.std.proofs.Common.{◌≡◌, ℕ, ◌+◌, ◌*◌, ◌<◌, ◌≤◌, Bool, true, false, refl, sym, ◌∙◌, ap, subst, arith}
 use Rattle.std.specs.Prelude.{Option, Some, None, is_some, is_none, nat_lt, ◌==◌, ◌&&◌, if◌then◌else◌}
 use Rattle.std.proofs.lemmas.Bool.{eqb-true, ltb-true, and_parts}
-use Rattle.mk_geom.specs.declared.addresses.Cell.{Cell}
-use Rattle.mk_geom.specs.declared.headers.Header.{Header}
-use Rattle.mk_geom.specs.declared.headers.Header.TheVariants.{Free, Block, Run, Later, LeafBlock, LeafRun}
-use Rattle.mk_geom.specs.Classes.{class_words_of}
-use Rattle.mk_geom.specs.Headers.{header_of}
-use Rattle.mk_geom.specs.Addresses.{cell_at, page_at_address}
+use Rattle.mk_protocol.proofs.Vocabulary.{Block, Cell, Config, Free, Header, Later, LeafBlock, LeafRun, Run, Scan}
+use Rattle.mk_protocol.proofs.Vocabulary.{SeenHeader, Step, Word, behind_mlook, cell_at, cell_seen, cells_under}
+use Rattle.mk_protocol.proofs.Vocabulary.{class_words_of, has_bit, has_next_word, has_no_pointers, has_seen_cell}
+use Rattle.mk_protocol.proofs.Vocabulary.{header_of, is_attending, is_scanned, marker_behind, marker_may, next_word}
+use Rattle.mk_protocol.proofs.Vocabulary.{page_at_address, scan_begun, scan_claimed, scan_onward, scan_page, seen_page}
+use Rattle.mk_protocol.proofs.Vocabulary.{words_under}
 use Rattle.mk_geom.proofs.ClassTable.{cell_ends}
-use Rattle.mk_core.specs.declared.config.Config.{Config}
-use Rattle.mk_core.specs.declared.events.Step.{Step}
 use Rattle.mk_core.specs.declared.events.Step.TheVariants as step
-use Rattle.mk_core.specs.declared.events.Word.{Word}
 use Rattle.mk_core.specs.declared.events.Word.TheVariants as word
-use Rattle.mk_core.specs.declared.seats.Scan.{Scan}
-use Rattle.mk_core.specs.declared.seats.SeenHeader.{SeenHeader}
 use Rattle.mk_core.specs.declared.seats.Marker.{Marker}
-use Rattle.mk_core.specs.Bits.{has_bit}
-use Rattle.mk_core.specs.Cells.{cells_under, words_under, has_no_pointers}
-use Rattle.mk_core.specs.StopConditions.{is_attending}
-use Rattle.mk_core.specs.MarkerConditions.{has_seen_cell, has_next_word, is_scanned, cell_seen}
-use Rattle.mk_core.specs.Enabled.{marker_may}
-use Rattle.mk_core.specs.Effects.{scan_begun, scan_claimed, scan_onward, behind_mlook, marker_behind}
-use Rattle.mk_core.specs.Accesses.{next_word, scan_page, seen_page}
 use Rattle.mk_protocol.proofs.RunsInHeap.{RunFits}
 use Rattle.mk_core.proofs.PointedPages.{cell_within}
 
@@ -53,16 +41,14 @@ scan_end c p i (Some (LeafBlock class)) lt li fits = omega (arith, cell_ends i (
 scan_end c p i (Some (Run count true)) lt li fits =
     let room = fits count refl in
     let z : i ≡ 0 = omega arith in
-    subst (λ j. 64 * p + j * (64 * count) + 64 * count ≤ 64 * c.pages) (sym z) (omega arith)
+    rw z (omega arith)
 scan_end c p i (Some (Run count false)) lt li fits =
     let z : i ≡ 0 = omega arith in
-    subst (λ j. 64 * p + j * (64 * count) + 0 ≤ 64 * c.pages) (sym z) (omega arith)
+    rw z (omega arith)
 scan_end c p i (Some (LeafRun count)) lt li fits =
     let z : i ≡ 0 = omega arith in
-    subst (λ j. 64 * p + j * (64 * count) + 0 ≤ 64 * c.pages) (sym z) (omega arith)
-scan_end c p i (Some Free) lt li fits = absurd (omega arith)
-scan_end c p i (Some (Later distance mapped)) lt li fits = absurd (omega arith)
-scan_end c p i None lt li fits = absurd (omega arith)
+    rw z (omega arith)
+scan_end c p i _ lt li fits = absurd (omega arith)
 
 seen_cell : (x : Option SeenHeader) (p i : ℕ) → has_seen_cell x p i ≡ true → (s : SeenHeader) → x ≡ Some s
     → (s.page ≡ p) × (i < cells_under (header_of s.header))
@@ -89,14 +75,13 @@ claims : (c : Config) (p i marks : ℕ) (x : Marker) → p < c.pages → has_see
 claims c p i marks x lt seen h =
     record {
       seen = h.seen;
-      page = λ s e. let k = claimed_is p i marks x.seen s e in subst (λ (t : Scan). t.page < c.pages) (sym k.2) lt;
+      page = λ s e. let k = claimed_is p i marks x.seen s e in rw k.2 lt;
       end = λ s e.
           let k = claimed_is p i marks x.seen s e in
           let at = seen_cell x.seen p i seen k.0 k.1 in
           let fits : (count : ℕ) → header_of k.0.header ≡ Some (Run count true)
-          → p + count ≤ c.pages = λ count shows. subst
-          (λ q. q + count ≤ c.pages) at.0 (h.seen k.0 k.1 count shows) in
-          subst (λ (t : Scan). t.end ≤ 64 * c.pages) (sym k.2) (scan_end c p i (header_of k.0.header) lt at.1 fits);
+          → p + count ≤ c.pages = λ count shows. rw at.0 at (h.seen k.0 k.1 count shows) in
+          rw k.2 (scan_end c p i (header_of k.0.header) lt at.1 fits);
     }
 
 loads : (c : Config) (hand : Option ℕ) (x : Marker) → MarkerFits c x
@@ -143,8 +128,7 @@ pub marker_fits_behind : (c : Config) (n : ℕ) (s : Step) (x : Marker)
     → marker_may c x s ≡ true → MarkerFits c x → MarkerFits c (marker_behind c n s x)
 marker_fits_behind c n step.Attend x looked claimed m h = nothing_fits c _ refl refl
 marker_fits_behind c n step.Quit x looked claimed m h = nothing_fits c _ refl refl
-marker_fits_behind c n (step.Mlook w) x looked claimed m h =
-    looks c n w x (λ p e. looked p (ap (λ (y : Word). step.Mlook y) e)) h
+marker_fits_behind c n (step.Mlook w) x looked claimed m h = looks c n w x (λ p e. looked p (rw e)) h
 marker_fits_behind c n (step.Claim p i) x looked claimed m h =
     claims c p i n x (claimed p i refl)
     (and_parts (is_attending x.presence && is_none x.scan) (has_seen_cell x.seen p i) m).1 h

@@ -1,16 +1,10 @@
 -- What the turn's holder has done in its call: where a New is, and what a Free has freed.
 use Rattle.std.proofs.Common.{◌≡◌, true, false, refl, sym, ◌∙◌, ap}
 use Rattle.std.specs.Prelude.{Option, None, is_some}
-use Rattle.mk_never.specs.declared.operations.Op.{Op}
+use Rattle.mk_protocol.proofs.Vocabulary.{Flight, Granted, Holding, Op, Placing, RunPages, Stage, Unplaced, is_free_at}
+use Rattle.mk_protocol.proofs.Vocabulary.{is_new_at, is_undecided_free, is_undecided_new}
 use Rattle.mk_never.specs.declared.operations.Op.TheVariants as op
-use Rattle.mk_core.specs.declared.seats.Stage.{Stage}
 use Rattle.mk_core.specs.declared.seats.Stage.TheVariants as stage
-use Rattle.mk_core.specs.declared.seats.Flight.{Flight}
-use Rattle.mk_core.specs.declared.seats.Holding.{Holding}
-use Rattle.mk_core.specs.declared.seats.Placing.{Placing}
-use Rattle.mk_core.specs.declared.seats.Placing.TheVariants.{Unplaced, Granted}
-use Rattle.mk_core.specs.declared.seats.RunPages.{RunPages}
-use Rattle.mk_core.specs.NewPlaces.{is_new_at, is_free_at, is_undecided_new, is_undecided_free}
 use Rattle.mk_protocol.specs.Protocol.{has_place, is_granted, is_decided_new_at, is_decided_free_at}
 use Rattle.mk_protocol.proofs.Standings.{UnderTurn, standing}
 use Rattle.mk_protocol.proofs.Stages.{gives_stand}
@@ -42,21 +36,18 @@ pub service_stands : (f : Flight) (h : Holding) (g : Flight) (i : Holding) → s
 service_stands f h g i is (Goes _ p q) = is
 service_stands f h g i is (Loads _ at stands no_new) = stands
 service_stands f h g i is (Places _ new p q) = is
-service_stands f h g i is (Fills new p) = gives_stand f.stage f.op is
-service_stands f h g i is (Grants new) = gives_stand f.stage f.op is
-service_stands f h g i is (Frees _ free p) = gives_stand f.stage f.op is
+service_stands f h g i is _ = gives_stand f.stage f.op is
 
 pub service_rests : (f : Flight) (h : Holding) (g : Flight) (i : Holding) → f.stage ≡ stage.Idle → Service f h g i
     → g ≡ f
-service_rests f h g i idle (Goes _ p q) = refl
 service_rests f h g i idle (Loads _ at stands no_new) = let e : stage.Idle ≡ stage.LoadP = sym idle ∙ at in cc
-service_rests f h g i idle (Places _ new p q) = refl
 service_rests f h g i idle (Fills new p) = let e : false ≡ true = ap (λ (s : Stage). is_new_at s f.op) (sym idle)
     ∙ new in cc
 service_rests f h g i idle (Grants new) = let e : false ≡ true = ap (λ (s : Stage). is_new_at s f.op) (sym idle)
     ∙ new in cc
 service_rests f h g i idle (Frees _ free p) = let e : false ≡ true = ap (λ (s : Stage). is_free_at s f.op) (sym idle)
     ∙ free in cc
+service_rests f h g i idle _ = refl
 
 -- what the stages exclude
 

@@ -3,12 +3,7 @@ use Rattle.std.proofs.Common.{◌≡◌, ◌≢◌, ℕ, ◌<◌, List, length, 
 use Rattle.std.specs.Prelude.{slice_index, slice_index_or, slice_set}
 use Rattle.std.proofs.lemmas.Bool.{cases_eq}
 use Rattle.std.proofs.lemmas.List.{get_or-set_same, get_or-set_other}
-use Rattle.mk_core.specs.declared.config.Config.{Config}
-use Rattle.mk_core.specs.declared.events.Seat.{Seat}
-use Rattle.mk_core.specs.declared.events.Seat.TheVariants.{Caller, Marker, Host}
-use Rattle.mk_core.specs.declared.seats.Flight.{Flight}
-use Rattle.mk_core.specs.Calls.{at_rest}
-use Rattle.mk_core.specs.Moments.{holder_number}
+use Rattle.mk_protocol.proofs.Vocabulary.{Caller, Config, Flight, Host, Marker, Seat, at_rest, holder_number}
 use Rattle.mk_protocol.proofs.Standings.{Standing, standing, Shows}
 use Rattle.mk_protocol.proofs.Views.{flights_with}
 
@@ -23,10 +18,8 @@ pub all_but_flight : (n t k : ℕ) (gs : List ℕ) (fs : List Flight) (f : Fligh
     → AllShow n t gs (slice_set fs k f)
 all_but_flight n t k gs fs f lt mine others b lb = elim (cases_eq b k) [
   | inl e ↦
-      subst (λ (j : ℕ). Shows t (slice_index gs j) j (standing (slice_index_or (slice_set fs k f) j at_rest))) (sym e)
-      (subst (λ (x : Flight). Shows t (slice_index gs k) k (standing x)) (sym (get_or-set_same fs k f at_rest lt)) mine)
-  | inr ne ↦ subst (λ (x : Flight). Shows t (slice_index gs b) b (standing x))
-      (sym (get_or-set_other fs k b f at_rest ne)) (others b lb (λ e. ne (sym e)))
+      rw e (rw (get_or-set_same fs k f at_rest lt) mine)
+  | inr ne ↦ rw (get_or-set_other fs k b f at_rest ne) (others b lb (λ e. ne (sym e)))
 ]
 
 -- one gate is set
@@ -36,10 +29,8 @@ pub all_but_gate : (n t k x : ℕ) (gs : List ℕ) (fs : List Flight) → k < le
     → AllShow n t (slice_set gs k x) fs
 all_but_gate n t k x gs fs lt mine others b lb = elim (cases_eq b k) [
   | inl e ↦
-      subst (λ (j : ℕ). Shows t (slice_index (slice_set gs k x) j) j (standing (slice_index_or fs j at_rest))) (sym e)
-      (subst (λ (y : ℕ). Shows t y k (standing (slice_index_or fs k at_rest))) (sym (get_or-set_same gs k x 0 lt)) mine)
-  | inr ne ↦ subst (λ (y : ℕ). Shows t y b (standing (slice_index_or fs b at_rest)))
-      (sym (get_or-set_other gs k b x 0 ne)) (others b lb (λ e. ne (sym e)))
+      rw e (rw (get_or-set_same gs k x 0 lt) mine)
+  | inr ne ↦ rw (get_or-set_other gs k b x 0 ne) (others b lb (λ e. ne (sym e)))
 ]
 
 -- what the seat itself is to show after its step
@@ -54,20 +45,16 @@ pub all_but_seat : (c : Config) (t : ℕ) (seat : Seat) (gs : List ℕ) (fs : Li
     → Shows t (slice_index gs b) b (standing (slice_index_or fs b at_rest)))
     → AllShow c.callers t gs (flights_with fs seat f)
 all_but_seat c t (Caller k) gs fs f mine others = all_but_flight c.callers t k gs fs f mine.0 mine.1 others
-all_but_seat c t (Marker k) gs fs f mine others = λ b lb. others b lb (λ e. absurd (omega arith))
-all_but_seat c t Host gs fs f mine others = λ b lb. others b lb (λ e. absurd (omega arith))
+all_but_seat c t _ gs fs f mine others = λ b lb. others b lb (λ e. absurd (omega arith))
 
 pub length_with : (fs : List Flight) (seat : Seat) (f : Flight) → length (flights_with fs seat f) ≡ length fs
 length_with fs (Caller k) f = length-set fs k f
-length_with fs (Marker k) f = refl
-length_with fs Host f = refl
+length_with fs _ f = refl
 
 -- a caller's gate and flight are set
 pub all_but_both : (n t k x : ℕ) (gs : List ℕ) (fs : List Flight) (f : Flight) → k < length gs → k < length fs
     → Shows t x k (standing f)
     → AllShow n t gs fs → AllShow n t (slice_set gs k x) (slice_set fs k f)
 all_but_both n t k x gs fs f lg lf mine all =
-    all_but_flight n t k (slice_set gs k x) fs f lf
-    (subst (λ (y : ℕ). Shows t y k (standing f)) (sym (get_or-set_same gs k x 0 lg)) mine)
-    (λ b lb ne. subst (λ (y : ℕ). Shows t y b (standing (slice_index_or fs b at_rest)))
-    (sym (get_or-set_other gs k b x 0 (λ e. ne (sym e)))) (all b lb))
+    all_but_flight n t k (slice_set gs k x) fs f lf (rw (get_or-set_same gs k x 0 lg) mine)
+    (λ b lb ne. rw (get_or-set_other gs k b x 0 (λ e. ne (sym e))) (all b lb))

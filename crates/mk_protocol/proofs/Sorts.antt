@@ -3,27 +3,12 @@ use Rattle.std.proofs.Common.{◌≡◌, ◌≢◌, ℕ, ◌+◌, ◌<◌, Bool,
 use Rattle.std.specs.Prelude.{Some, None, slice_index, slice_set, ◌==◌, if◌then◌else◌}
 use Rattle.std.proofs.lemmas.Bool.{cases_eq, not-true, eqb-true, eqb-false, eq-eqb, ne_eqb, and_parts}
 use Rattle.std.proofs.lemmas.List.{set-get_or}
-use Rattle.mk_never.specs.declared.operations.Op.{Op}
-use Rattle.mk_core.specs.declared.config.Config.{Config}
-use Rattle.mk_core.specs.declared.accesses.Access.TheVariants.{Store}
-use Rattle.mk_core.specs.declared.accesses.TableWord.TheVariants.{Named}
-use Rattle.mk_core.specs.declared.events.Seat.{Seat}
-use Rattle.mk_core.specs.declared.events.Seat.TheVariants.{Caller, Marker, Host}
-use Rattle.mk_core.specs.declared.events.Step.{Step}
+use Rattle.mk_protocol.proofs.Vocabulary.{Caller, Config, Flight, Holding, Host, Marker, Moment, Named, Op, Seat, Stage}
+use Rattle.mk_protocol.proofs.Vocabulary.{Step, Store, accessed, at_rest, begun, chosen, flight_of, holder_number}
+use Rattle.mk_protocol.proofs.Vocabulary.{host_has_turn, is_phase, is_under_turn, marks_place, nothing_done}
+use Rattle.mk_protocol.proofs.Vocabulary.{object_made, phase_of, place_now, progress, still, taken, tally_word}
 use Rattle.mk_core.specs.declared.events.Step.TheVariants as step
-use Rattle.mk_core.specs.declared.seats.Stage.{Stage}
 use Rattle.mk_core.specs.declared.seats.Stage.TheVariants as stage
-use Rattle.mk_core.specs.declared.seats.Flight.{Flight}
-use Rattle.mk_core.specs.declared.seats.Holding.{Holding}
-use Rattle.mk_core.specs.Words.{phase_of, accessed}
-use Rattle.mk_core.specs.NewPlaces.{object_made}
-use Rattle.mk_core.specs.TurnConditions.{place_now}
-use Rattle.mk_core.specs.Calls.{is_under_turn, begun, at_rest, still}
-use Rattle.mk_core.specs.Moments.{Moment, flight_of, is_phase, nothing_done, holder_number}
-use Rattle.mk_core.specs.StopConditions.{marks_place}
-use Rattle.mk_core.specs.Order.{host_has_turn}
-use Rattle.mk_core.specs.Accesses.{tally_word}
-use Rattle.mk_core.specs.Effects.{progress, chosen, taken}
 use Rattle.mk_protocol.proofs.Standings.{standing_at, standing, is_astray}
 use Rattle.mk_protocol.proofs.Stages.{begun_under_turn}
 use Rattle.mk_protocol.proofs.Services.{Service, Goes, Fills, Grants}
@@ -57,12 +42,11 @@ call_takes c m k o lt idle is = elim (cases_eq m.words.turn 0) [
       subst (λ (b : Bool). Move c (view_of m) (Caller k) (taken_by (view_of m) k o b)) (sym (eq-eqb m.words.turn 0 z))
       (Takes (begun o) z (
         lt,
-        ap (λ (t : Stage). standing_at t (flight_of m (Caller k)).op) idle,
+        rw idle,
         begun_under_turn o is,
       ))
   | inr ne ↦
-      subst (λ (b : Bool). Move c (view_of m) (Caller k) (taken_by (view_of m) k o b)) (sym (ne_eqb m.words.turn 0 ne))
-      (subst (λ (n : View). Move c (view_of m) (Caller k) n) (sym (same_flight (view_of m) k)) Stays)
+      rw (ne_eqb m.words.turn 0 ne) (rw (same_flight (view_of m) k) Stays)
 ]
 
 abbrev taken_by_host : Config → View → Bool → View
@@ -74,10 +58,8 @@ taken_by_host c v b = record v {
 
 pub host_takes : (c : Config) (m : Moment) → Moves c m Host (step.Take None)
 host_takes c m = elim (cases_eq m.words.turn 0) [
-  | inl z ↦ subst (λ (b : Bool). Move c (view_of m) Host (taken_by_host c (view_of m) b))
-      (sym (eq-eqb m.words.turn 0 z)) (Takes at_rest z tt)
-  | inr ne ↦ subst (λ (b : Bool). Move c (view_of m) Host (taken_by_host c (view_of m) b))
-      (sym (ne_eqb m.words.turn 0 ne)) Stays
+  | inl z ↦ rw (eq-eqb m.words.turn 0 z) (Takes at_rest z tt)
+  | inr ne ↦ rw (ne_eqb m.words.turn 0 ne) Stays
 ]
 
 -- the holder, whose seat is a caller's or the host's
@@ -93,14 +75,13 @@ HolderMoves c m seat x =
 
 from_seat : (c : Config) (m : Moment) (seat : Seat) (x : Step) → HoldsTurn c (view_of m) seat → HolderMoves c m seat x
     → Moves c m seat x
-from_seat c m (Caller k) x t move = move
 from_seat c m (Marker k) x t move = absurd t
-from_seat c m Host x t move = move
+from_seat c m _ x t move = move
 
 works : (c : Config) (m : Moment) (seat : Seat) (g : Flight) (i : Holding) → HoldsTurn c (view_of m) seat
     → Service (flight_of m seat) m.seats.holding g i
     → Move c (view_of m) seat (record (view_of m) { flights = flights_with m.seats.flights seat g; holding = i })
-works c m seat g i t s = Works g i t (subst (λ (f : Flight). Service f m.seats.holding g i) (flight_is m seat) s)
+works c m seat g i t s = Works g i t (rw (flight_is m seat) at s)
 
 works_on : (c : Config) (m : Moment) (seat : Seat) → HoldsTurn c (view_of m) seat
     → Move c (view_of m) seat (record (view_of m) { flights = flights_with m.seats.flights seat (flight_of m seat) })
@@ -109,15 +90,12 @@ works_on c m seat t = works c m seat (flight_of m seat) m.seats.holding t (Goes 
 -- its call stays as it is
 same_call : (m : Moment) (seat : Seat) → flights_with m.seats.flights seat (flight_of m seat) ≡ m.seats.flights
 same_call m (Caller k) = set-get_or m.seats.flights k at_rest
-same_call m (Marker k) = refl
-same_call m Host = refl
+same_call m _ = refl
 
 stays_at : (c : Config) (m : Moment) (seat : Seat) (v : View)
     → Move c (view_of m) seat (record v { flights = m.seats.flights; markers = m.seats.markers })
     → Move c (view_of m) seat (with_call m seat (flight_of m seat) v)
-stays_at c m seat v move =
-    subst (λ (fs : List Flight). Move c (view_of m) seat (record v { flights = fs; markers = m.seats.markers }))
-    (sym (same_call m seat)) move
+stays_at c m seat v move = rw (same_call m seat) move
 
 -- a gate that is 0 or 1 is held or not
 hold_move : (c : Config) (m : Moment) (seat : Seat) (j : ℕ) → HoldsTurn c (view_of m) seat → j < c.callers
@@ -129,15 +107,9 @@ hold_move : (c : Config) (m : Moment) (seat : Seat) (j : ℕ) → HoldsTurn c (v
     })
 hold_move c m seat j t lj ne = elim (cases_eq (slice_index m.words.gates j) 0) [
   | inl z ↦
-      subst (λ (b : Bool). Move c (view_of m) seat
-      (record (view_of m) { gates = slice_set m.words.gates j (if b then 2 else slice_index m.words.gates j) }))
-      (sym (eq-eqb (slice_index m.words.gates j) 0 z)) (Holds j t lj ne z)
+      rw (eq-eqb (slice_index m.words.gates j) 0 z) (Holds j t lj ne z)
   | inr nz ↦
-      subst (λ (b : Bool). Move c (view_of m) seat
-      (record (view_of m) { gates = slice_set m.words.gates j (if b then 2 else slice_index m.words.gates j) }))
-      (sym (ne_eqb (slice_index m.words.gates j) 0 nz))
-      (subst (λ (gs : List ℕ). Move c (view_of m) seat (record (view_of m) { gates = gs }))
-      (sym (set-get_or m.words.gates j 0)) Stays)
+      rw (ne_eqb (slice_index m.words.gates j) 0 nz) (rw (set-get_or m.words.gates j 0) Stays)
 ]
 
 by_kind : (c : Config) (m : Moment) (seat : Seat) (x : Step) → HoldsTurn c (view_of m) seat → is_holders x ≡ true

@@ -1,15 +1,11 @@
 -- How the stages of a call follow one another.
 use Rattle.std.proofs.Common.{◌≡◌, ℕ, Bool, true, false, refl}
 use Rattle.std.specs.Prelude.{if◌then◌else◌, ◌==◌}
-use Rattle.mk_never.specs.declared.operations.Op.{Op}
+use Rattle.mk_protocol.proofs.Vocabulary.{Flight, Op, Progress, Stage, begun, is_new_at, is_undecided_new}
+use Rattle.mk_protocol.proofs.Vocabulary.{is_under_turn, progress_read, progress_reg, stage_behind, stage_refused}
+use Rattle.mk_protocol.proofs.Vocabulary.{steps_of}
 use Rattle.mk_never.specs.declared.operations.Op.TheVariants as op
-use Rattle.mk_core.specs.declared.seats.Stage.{Stage}
 use Rattle.mk_core.specs.declared.seats.Stage.TheVariants as stage
-use Rattle.mk_core.specs.declared.seats.Flight.{Flight}
-use Rattle.mk_core.specs.declared.seats.Progress.{Progress}
-use Rattle.mk_core.specs.Calls.{steps_of, stage_behind, is_under_turn, stage_refused, begun, progress_reg}
-use Rattle.mk_core.specs.Calls.{progress_read}
-use Rattle.mk_core.specs.NewPlaces.{is_new_at, is_undecided_new}
 use Rattle.mk_protocol.proofs.Standings.{Standing, Resting, InCall, UnderTurn, standing_at, standing, is_astray}
 
 -- the stages of calls outside the turn, those of the turn's steps, and those of `reg`

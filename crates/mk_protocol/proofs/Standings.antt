@@ -1,11 +1,8 @@
 -- Where a caller stands, and what the turn word and its gate show of it.
 use Rattle.std.proofs.Common.{◌≡◌, ◌≢◌, ◌↔◌, ℕ, ◌+◌, ◌≤◌, Bool, true, false, refl, arith}
 use Rattle.std.specs.Prelude.{◌&&◌, not}
-use Rattle.mk_never.specs.declared.operations.Op.{Op}
-use Rattle.mk_core.specs.declared.seats.Stage.{Stage}
+use Rattle.mk_protocol.proofs.Vocabulary.{Flight, Op, Stage, is_under_turn}
 use Rattle.mk_core.specs.declared.seats.Stage.TheVariants as stage
-use Rattle.mk_core.specs.declared.seats.Flight.{Flight}
-use Rattle.mk_core.specs.Calls.{is_under_turn}
 use Rattle.mk_core.specs.Readings.{is_idle}
 use Rattle.mk_protocol.specs.Protocol.{has_stage}
 

@@ -4,18 +4,11 @@ use Rattle.std.proofs.Common.{ap, inl, inr, arith}
 use Rattle.std.specs.Prelude.{slice_index, slice_set}
 use Rattle.std.proofs.lemmas.Bool.{cases_eq, cases_lt, cases_Bool}
 use Rattle.std.proofs.lemmas.List.{get_or-set_same, get_or-set_other, set_past}
-use Rattle.mk_core.specs.declared.config.Config.{Config}
-use Rattle.mk_core.specs.declared.events.Seat.{Seat}
-use Rattle.mk_core.specs.declared.events.Seat.TheVariants.{Caller}
-use Rattle.mk_core.specs.declared.seats.Flight.{Flight}
-use Rattle.mk_core.specs.declared.seats.Marker.{Marker as MarkerState}
-use Rattle.mk_core.specs.Words.{Words, register_word, phase_of}
-use Rattle.mk_core.specs.Calls.{at_rest}
-use Rattle.mk_core.specs.Moments.{Moment, flight_of, marker_of}
-use Rattle.mk_core.specs.StopConditions.{is_attending}
-use Rattle.mk_core.specs.History.{World}
+use Rattle.mk_protocol.proofs.Vocabulary.{Caller, Config, Flight, MarkerState, Moment, OnlyGrow, Seat, Steady}
+use Rattle.mk_protocol.proofs.Vocabulary.{TurnIsLeft, Words, World, at_rest, flight_of, is_attending, marker_of}
+use Rattle.mk_protocol.proofs.Vocabulary.{phase_of, register_word}
 use Rattle.mk_core.specs.Readings.{NoneAttends}
-use Rattle.mk_core.specs.Frames.{OnlyGrow, steady_of, Steady, TurnIsLeft}
+use Rattle.mk_core.specs.Frames.{steady_of}
 use Rattle.mk_protocol.proofs.Markers.{marker_set}
 use Rattle.mk_protocol.proofs.Growth.{grows_same, grows_joined, grows_more}
 use Rattle.mk_protocol.proofs.Known.{Known}
@@ -58,16 +51,16 @@ holding_out c w seat v _ = refl
 held_set : (gs : List ℕ) (k v j : ℕ) → slice_index gs k ≤ 1 → slice_index gs j ≡ 2
     → slice_index (slice_set gs k v) j ≡ 2
 held_set gs k v j le is = elim (cases_eq j k) [
-  | inl e ↦ let g : slice_index gs j ≡ slice_index gs k = ap (λ i. slice_index gs i) e in absurd (omega arith)
+  | inl e ↦ let g : slice_index gs j ≡ slice_index gs k = rw e in absurd (omega arith)
   | inr ne ↦ get_or-set_other gs k j v 0 ne ∙ is
 ]
 
 free_set : (gs : List ℕ) (k v j : ℕ) → v ≤ 1 → slice_index gs j ≢ 2 → slice_index (slice_set gs k v) j ≢ 2
 free_set gs k v j lv is = elim (cases_eq j k) [
   | inl e ↦ elim (cases_lt k (length gs)) [
-    | inl lt ↦ let g : slice_index (slice_set gs k v) j ≡ v = ap (λ i. slice_index (slice_set gs k v) i) e
-        ∙ get_or-set_same gs k v 0 lt in λ two. absurd (omega arith)
-    | inr past ↦ λ two. is (sym (ap (λ (xs : List ℕ). slice_index xs j) (set_past gs k v past)) ∙ two)
+    | inl lt ↦ let g : slice_index (slice_set gs k v) j ≡ v = rw e
+        (get_or-set_same gs k v 0 lt) in λ two. absurd (omega arith)
+    | inr past ↦ λ two. is (sym (rw (set_past gs k v past)) ∙ two)
   ]
   | inr ne ↦ λ two. is (sym (get_or-set_other gs k j v 0 ne) ∙ two)
 ]
@@ -94,22 +87,19 @@ held_out : (c : Config) (w : World) (seat : Seat) (v : World) → OthersMove c w
     → slice_index v.now.words.gates j ≡ 2
 held_out c w seat v Waits j is = is
 held_out c w seat v (Calls {k} f {x} lt le write) j is = held_call k w.now.words x j le write is
-held_out c w seat v (Marks {k} y {x} lt write) j is =
-    ap (λ (gs : List ℕ). slice_index gs j) (same_written w.now k y x write).0 ∙ is
+held_out c w seat v (Marks {k} y {x} lt write) j is = rw (same_written w.now k y x write).0 is
 
 free_out : (c : Config) (w : World) (seat : Seat) (v : World) → OthersMove c w seat v → (j : ℕ)
     → slice_index w.now.words.gates j ≢ 2
     → slice_index v.now.words.gates j ≢ 2
 free_out c w seat v Waits j is = is
 free_out c w seat v (Calls {k} f {x} lt le write) j is = free_call k w.now.words x j write is
-free_out c w seat v (Marks {k} y {x} lt write) j is =
-    λ two. is (ap (λ (gs : List ℕ). slice_index gs j) (sym (same_written w.now k y x write).0) ∙ two)
+free_out c w seat v (Marks {k} y {x} lt write) j is = λ two. is (rw (← (same_written w.now k y x write).0) two)
 
 -- the call and the registers of a caller whose gate is held
 
 not_that : (gs : List ℕ) (k j : ℕ) → slice_index gs k ≤ 1 → slice_index gs j ≡ 2 → j ≢ k
-not_that gs k j le is e = let g : slice_index gs j ≡ slice_index gs k =
-    ap (λ i. slice_index gs i) e in absurd (omega arith)
+not_that gs k j le is e = let g : slice_index gs j ≡ slice_index gs k = rw e in absurd (omega arith)
 
 callers_out : (c : Config) (w : World) (seat : Seat) (v : World) → OthersMove c w seat v → (j : ℕ)
     → slice_index w.now.words.gates j ≡ 2
@@ -130,8 +120,7 @@ registers_out : (c : Config) (w : World) (seat : Seat) (v : World) → OthersMov
 registers_out c w seat v Waits j r lt is = refl
 registers_out c w seat v (Calls {k} f {x} lk le write) j r lt is =
     registers_call k w.now.words x j r write lt (not_that w.now.words.gates k j le is)
-registers_out c w seat v (Marks {k} y {x} lk write) j r lt is =
-    ap (λ (xs : List ℕ). slice_index xs (8 * j + r)) (same_written w.now k y x write).1
+registers_out c w seat v (Marks {k} y {x} lk write) j r lt is = rw (same_written w.now k y x write).1
 
 -- marks and blacks
 
@@ -200,10 +189,9 @@ dirty_call : (k : ℕ) (w x : Words) (p : ℕ) → CallWrite k w x → slice_ind
 dirty_call k w x p (SetsDirty q) is = elim (cases_eq p q) [
   | inl e ↦ elim (cases_lt q (length w.dirty)) [
     | inl lt ↦
-        let g : slice_index (slice_set w.dirty q 1) p ≡ 1 = ap (λ i. slice_index (slice_set w.dirty q 1) i) e
-        ∙ get_or-set_same w.dirty q 1 0 lt in
+        let g : slice_index (slice_set w.dirty q 1) p ≡ 1 = rw e (get_or-set_same w.dirty q 1 0 lt) in
         λ z. absurd (omega arith)
-    | inr past ↦ λ z. is (ap (λ (xs : List ℕ). slice_index xs p) (sym (set_past w.dirty q 1 past)) ∙ z)
+    | inr past ↦ λ z. is (rw (← (set_past w.dirty q 1 past)) z)
   ]
   | inr ne ↦ λ z. is (sym (get_or-set_other w.dirty q p 1 0 ne) ∙ z)
 ]
@@ -214,8 +202,7 @@ dirty_out : (c : Config) (w : World) (seat : Seat) (v : World) → OthersMove c 
     → slice_index v.now.words.dirty p ≢ 0
 dirty_out c w seat v Waits p is = is
 dirty_out c w seat v (Calls {k} f {x} lt le write) p is = dirty_call k w.now.words x p write is
-dirty_out c w seat v (Marks {k} y {x} lt write) p is =
-    λ z. is (ap (λ (xs : List ℕ). slice_index xs p) (sym (same_written w.now k y x write).3) ∙ z)
+dirty_out c w seat v (Marks {k} y {x} lt write) p is = λ z. is (rw (← (same_written w.now k y x write).3) z)
 
 -- one event of another
 pub turn_after : (c : Config) (w : World) (seat : Seat) (v : World) → Known c w.now → OthersMove c w seat v

@@ -1,14 +1,8 @@
 -- What the protocol reads of a moment, and who holds the turn by it.
 use Rattle.std.proofs.Common.{◌≡◌, ℕ, ◌+◌, ◌<◌, List, refl}
 use Rattle.std.specs.Prelude.{slice_index, slice_index_or, slice_set}
-use Rattle.mk_core.specs.declared.config.Config.{Config}
-use Rattle.mk_core.specs.declared.events.Seat.{Seat}
-use Rattle.mk_core.specs.declared.events.Seat.TheVariants.{Caller, Marker, Host}
-use Rattle.mk_core.specs.declared.seats.Flight.{Flight}
-use Rattle.mk_core.specs.declared.seats.Holding.{Holding}
-use Rattle.mk_core.specs.declared.seats.Marker.{Marker as MarkerState}
-use Rattle.mk_core.specs.Calls.{at_rest}
-use Rattle.mk_core.specs.Moments.{Moment, outside, flight_of}
+use Rattle.mk_protocol.proofs.Vocabulary.{Caller, Config, Flight, Holding, Host, Marker, MarkerState, Moment, Seat}
+use Rattle.mk_protocol.proofs.Vocabulary.{at_rest, flight_of, outside}
 use Rattle.mk_protocol.proofs.Standings.{UnderTurn, standing}
 
 pub record View : Type 0 where
@@ -42,13 +36,11 @@ marker_in v k = slice_index_or v.markers k outside
 -- a seat's call among these, and with another call of it
 abbrev pub flight_at : List Flight → Seat → Flight
 flight_at fs (Caller k) = slice_index_or fs k at_rest
-flight_at fs (Marker k) = at_rest
-flight_at fs Host = at_rest
+flight_at fs _ = at_rest
 
 abbrev pub flights_with : List Flight → Seat → Flight → List Flight
 flights_with fs (Caller k) f = slice_set fs k f
-flights_with fs (Marker k) f = fs
-flights_with fs Host f = fs
+flights_with fs _ f = fs
 
 pub flight_is : (m : Moment) (seat : Seat) → flight_of m seat ≡ flight_at m.seats.flights seat
 flight_is m (Caller k) = refl

@@ -2,16 +2,9 @@
 use Rattle.std.proofs.Common.{◌≡◌, ◌≢◌, ℕ, ◌+◌, ◌-◌, ◌/◌, ◌<◌, ◌≤◌, false, refl, sym, ◌∙◌, ap, subst, inl, inr, arith}
 use Rattle.std.specs.Prelude.{slice_index, Option, nat_le, nat_lt}
 use Rattle.std.proofs.lemmas.Bool.{and_parts, cases_eq, leb-true, ltb-true}
-use Rattle.mk_geom.specs.Headers.{header_of}
-use Rattle.mk_core.specs.declared.config.Config.{Config}
-use Rattle.mk_core.specs.declared.seats.Object.{Object}
-use Rattle.mk_core.specs.declared.seats.RunPages.{RunPages}
-use Rattle.mk_core.specs.Moments.{is_phase}
-use Rattle.mk_core.specs.NewPlaces.{pages_made, header_made}
-use Rattle.mk_core.specs.ObjectHeaders.{ShowsPart, words_made}
-use Rattle.mk_core.specs.Allocations.{PlacedAllocation, placed_at, storage_words}
-use Rattle.mk_core.specs.StandingAllocations.{object_placed}
-use Rattle.mk_core.specs.History.{World}
+use Rattle.mk_protocol.proofs.Vocabulary.{Config, Object, PlacedAllocation, RunPages, ShowsPart, World, header_made}
+use Rattle.mk_protocol.proofs.Vocabulary.{header_of, is_phase, object_placed, pages_made, placed_at, storage_words}
+use Rattle.mk_protocol.proofs.Vocabulary.{words_made}
 use Rattle.mk_core.proofs.ObjectHeaders.{made_shows, part_head}
 use Rattle.mk_core.proofs.Sizes.{pages_some}
 use Rattle.mk_layout.specs.LayoutScene.{Claim, Among, IsShown, IsPlotShown, header_on, used_on, shows_on, head_on}

@@ -1,23 +1,13 @@
 -- What each kind of event makes of the words that may hold values.
-use Rattle.std.proofs.Common.{◌≡◌, ℕ, Bool, true, false, List, [], ◌∷◌, ◌++◌, map, refl, sym, ◌∙◌, subst, inl, inr}
-use Rattle.std.proofs.Common.{arith}
+use Rattle.std.proofs.Common.{◌≡◌, ℕ, Bool, true, false, List, ◌∷◌, ◌++◌, map, refl, sym, ◌∙◌, subst, inl, inr, arith}
+use Rattle.std.proofs.Common.{[]}
 use Rattle.std.specs.Prelude.{◌&&◌, ◌==◌, slice_index, None, if◌then◌else◌}
 use Rattle.std.proofs.lemmas.Bool.{and_parts, cases_Bool, eqb-true, true≢false}
-use Rattle.mk_geom.specs.Addresses.{address_of}
-use Rattle.mk_core.specs.declared.config.Config.{Config}
-use Rattle.mk_core.specs.declared.events.Seat.{Seat}
-use Rattle.mk_core.specs.declared.events.Step.{Step}
+use Rattle.mk_protocol.proofs.Vocabulary.{Config, Holding, PlacedAllocation, Seat, Step, World, address_of}
+use Rattle.mk_protocol.proofs.Vocabulary.{caller_number, cell_of_allocation, flight_of, granted, held_by_pages}
+use Rattle.mk_protocol.proofs.Vocabulary.{is_decided, is_left_unmarked, is_phase, is_run_gone, may_end, nothing_done}
+use Rattle.mk_protocol.proofs.Vocabulary.{object_placed, placed_at, reg_access, register_met, with_released, word_met}
 use Rattle.mk_core.specs.declared.events.Step.TheVariants as step
-use Rattle.mk_core.specs.declared.seats.Holding.{Holding}
-use Rattle.mk_core.specs.Calls.{word_met}
-use Rattle.mk_core.specs.Cells.{is_left_unmarked}
-use Rattle.mk_core.specs.Moments.{flight_of, is_phase, nothing_done}
-use Rattle.mk_core.specs.Accesses.{caller_number, register_met, reg_access}
-use Rattle.mk_core.specs.NewPlaces.{is_run_gone}
-use Rattle.mk_core.specs.TurnConditions.{is_decided, held_by_pages}
-use Rattle.mk_core.specs.StopConditions.{may_end}
-use Rattle.mk_core.specs.Allocations.{PlacedAllocation, placed_at, cell_of_allocation, with_released, granted}
-use Rattle.mk_core.specs.History.{World}
 use Rattle.mk_core.proofs.BitsWithout.{has_bit_without}
 use Rattle.mk_core.proofs.PageSteps.{head_step, used_step, quarantine_step}
 use Rattle.mk_core.proofs.PointedAllocations.{word_points}
@@ -30,15 +20,14 @@ use Rattle.mk_layout.proofs.ByKind.{off_at}
 use Rattle.mk_layout.proofs.Dropped.{settled_page}
 use Rattle.mk_layout.proofs.QuarantineByKind.{shown_at}
 use Rattle.mk_layout.proofs.QuarantineChanges.{index_small}
-use Rattle.mk_core.specs.StandingAllocations.{object_placed}
 use Rattle.mk_zeros.specs.Zeros.{is_released_there, ZeroScene, zero_scene_with, IsMappedWord, IsReleasedWord, MayHold}
-use Rattle.mk_zeros.specs.Zeros.{OfMapped}
-use Rattle.mk_zeros.specs.Zeros.{OfReleased, OfFreedRun, OthersAreZero, HasZeros}
+use Rattle.mk_zeros.specs.Zeros.{OfMapped, OfReleased, OfFreedRun, OthersAreZero, HasZeros}
 use Rattle.mk_zeros.proofs.MappedWords.{mapped_stays, word_of_longer, word_of_fresh, word_of_unreleased}
 use Rattle.mk_zeros.proofs.FreedWords.{gone_word}
-use Rattle.mk_zeros.proofs.ChangedScenes.{Before, here, standing, changed_words, early_words}
-use Rattle.mk_zeros.proofs.ChangedScenes.{stored_words, wiped_words, reg_heap, tally_heap, kept_heap}
+use Rattle.mk_zeros.proofs.ChangedScenes.{Before, here, standing, changed_words, early_words, stored_words, wiped_words}
+use Rattle.mk_zeros.proofs.ChangedScenes.{kept_heap}
 use Rattle.mk_zeros.proofs.PageKinds.{head_kind, used_kind, quar_kind}
+use Rattle.mk_core.proofs.RegisterAccesses.{register_leaves, tally_leaves}
 
 -- `take` and `give`
 take_kind : (c : Config) (w : World) (seat : Seat) (x : Step) → Before c w seat x → HasZeros c w → (t : Bool)
@@ -53,8 +42,7 @@ give_kind : (c : Config) (w : World) (seat : Seat) → Meets c w.now seat step.G
     → OthersAreZero c (record (here w) { run = None })
 give_kind c w seat h z =
     changed_words c (here w) (record (here w) { run = None }) z (λ n ne. ne) (λ n m. OfMapped m)
-    (λ n some r. OfReleased r)
-    (λ n some f. absurd (some (gone_word w.now.words w.now.seats.holding.freed n gone f)))
+    (λ n some r. OfReleased r) (λ n some f. absurd (some (gone_word w.now.words w.now.seats.holding.freed n gone f)))
   where
     gone : is_run_gone w.now.words w.now.seats.holding.freed ≡ true
     gone =
@@ -80,8 +68,7 @@ released_scene c w =
     record (zero_scene_with true w.now.words.marks w) { allocations = map (with_released c w.now.words) w.allocations }
 
 release_kind : (c : Config) (w : World) (seat : Seat) → Before c w seat step.Release → is_phase w.now.words 3 ≡ true
-    → HasZeros c w
-    → OthersAreZero c (released_scene c w)
+    → HasZeros c w → OthersAreZero c (released_scene c w)
 release_kind c w seat b three z =
     early_words c w (released_scene c w) (off_at w 3 three (λ e. absurd (omega arith))) z (λ n ne. ne) mapped
     (λ n f. OfFreedRun f)
@@ -127,16 +114,15 @@ end_kind c w own z =
 
 -- each kind of event, whatever the seat
 pub by_kind : (c : Config) (w : World) (seat : Seat) (x : Step) → Before c w seat x → Meets c w.now seat x
-    → HasZeros c w
-    → OthersAreZero c (zero_scene_with (is_releasing_behind x (is_phase w.now.words 4)) w.now.words.marks
+    → HasZeros c w → OthersAreZero c (zero_scene_with (is_releasing_behind x (is_phase w.now.words 4)) w.now.words.marks
     (WorldBehind c w seat x))
 by_kind c w seat (step.Take o) b h z = take_kind c w seat (step.Take o) b z (w.now.words.turn == 0) refl
 by_kind c w seat step.Give b h z = give_kind c w seat h z
 by_kind c w seat step.Reg b h z =
     kept_heap c w _
-    (reg_heap w.now.words (caller_number seat) (register_met (flight_of w.now seat) (flight_of w.now seat).stage)
+    (register_leaves w.now.words (caller_number seat) (register_met (flight_of w.now seat) (flight_of w.now seat).stage)
     (reg_access (flight_of w.now seat) (flight_of w.now seat).stage)) z
-by_kind c w seat (step.Tally n v) b h z = kept_heap c w _ (tally_heap w.now.words n v) z
+by_kind c w seat (step.Tally n v) b h z = kept_heap c w _ (tally_leaves w.now.words n v) z
 by_kind c w seat step.Write b h z = stored_words c (here w) (word_met (flight_of w.now seat)) _ (b.others.stored refl) z
 by_kind c w seat step.Cas b h z = stored_words c (here w) (word_met (flight_of w.now seat)) _ (b.others.stored refl) z
 by_kind c w seat (step.Wipe n) b h z = wiped_words c (here w) n z

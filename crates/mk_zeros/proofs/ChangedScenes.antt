@@ -3,32 +3,16 @@ use Rattle.std.proofs.Common.{◌≡◌, ◌≢◌, ℕ, false, List, refl, sym,
 use Rattle.std.specs.Prelude.{slice_index, slice_set}
 use Rattle.std.proofs.lemmas.Bool.{and_parts, true≢false}
 use Rattle.mk_never.proofs.Edits.{set_by}
-use Rattle.mk_geom.specs.declared.pages.Page.{Page}
-use Rattle.mk_core.specs.declared.config.Config.{Config}
-use Rattle.mk_core.specs.declared.accesses.Access.{Access}
-use Rattle.mk_core.specs.declared.accesses.Access.TheVariants.{Load, Store}
-use Rattle.mk_core.specs.declared.accesses.TableWord.TheVariants.{Named}
-use Rattle.mk_core.specs.declared.events.Seat.{Seat}
-use Rattle.mk_core.specs.declared.events.Step.{Step}
-use Rattle.mk_core.specs.declared.events.Tally.{Tally}
-use Rattle.mk_core.specs.declared.events.Tally.TheVariants as tally
-use Rattle.mk_core.specs.declared.events.Word.TheVariants as word
-use Rattle.mk_core.specs.Config.{IsWithinLimits}
-use Rattle.mk_core.specs.Words.{Words, accessed}
-use Rattle.mk_core.specs.Bits.{has_bit, without}
-use Rattle.mk_core.specs.Layout.{AreOfPages}
-use Rattle.mk_core.specs.Moments.{is_phase}
-use Rattle.mk_core.specs.Accesses.{tally_word}
-use Rattle.mk_core.specs.Allocations.{placed_at}
-use Rattle.mk_core.specs.History.{World}
+use Rattle.mk_protocol.proofs.Vocabulary.{AreOfPages, Config, IsWithinLimits, Page, Seat, Step, Words, World, has_bit}
+use Rattle.mk_protocol.proofs.Vocabulary.{is_phase, placed_at, without}
 use Rattle.mk_protocol.proofs.Known.{Known}
 use Rattle.mk_layout.specs.Terrain.{object_now}
 use Rattle.mk_layout.proofs.Released.{all_stand}
 use Rattle.mk_layout.proofs.StandingClaims.{IsStanding}
 use Rattle.mk_zeros.specs.Zeros.{is_released_there, ZeroScene, zero_scene_with, IsMappedWord, IsReleasedWord}
-use Rattle.mk_zeros.specs.Zeros.{IsFreedWord}
-use Rattle.mk_zeros.specs.Zeros.{MayHold, OfMapped, OfReleased, OfFreedRun, OthersAreZero, HasZeros}
+use Rattle.mk_zeros.specs.Zeros.{IsFreedWord, MayHold, OfMapped, OfReleased, OfFreedRun, OthersAreZero, HasZeros}
 use Rattle.mk_zeros.specs.ZeroLaws.{ZeroPremises}
+use Rattle.mk_core.proofs.RegisterAccesses.{LeavesTable}
 
 -- all that is known of the world before
 pub record Before (c : Config) (w : World) (seat : Seat) (x : Step) : Type 0 where
@@ -42,8 +26,7 @@ abbrev pub here : World → ZeroScene
 here w = zero_scene_with (is_phase w.now.words 4) w.now.words.marks w
 
 pub standing : (c : Config) (w : World) (seat : Seat) (x : Step) (i : ℕ) → Before c w seat x
-    → (placed_at w.allocations i).released ≡ false
-    → IsStanding c w.now.words (placed_at w.allocations i)
+    → (placed_at w.allocations i).released ≡ false → IsStanding c w.now.words (placed_at w.allocations i)
 standing c w seat x i b u =
     all_stand c (object_now c w.now) (is_phase w.now.words 4) w b.lengths.pages b.others.laid_out i u
 
@@ -98,20 +81,7 @@ wiped_words c s j z =
     (λ n m. OfMapped m) (λ n some r. OfReleased r) (λ n some f. OfFreedRun f)
 
 -- Registers and counts
-pub record KeepsHeap (w x : Words) : Type 0 where
-  pub heap : x.heap ≡ w.heap
-  pub pages : x.pages ≡ w.pages
-  pub snapshot : x.snapshot ≡ w.snapshot
-
-pub reg_heap : (w : Words) (k r : ℕ) (a : Access) → KeepsHeap w (accessed w (Named (word.Reg k r)) a)
-reg_heap w k r Load = record { heap = refl; pages = refl; snapshot = refl }
-reg_heap w k r _ = record { heap = refl; pages = refl; snapshot = refl }
-
-pub tally_heap : (w : Words) (n : Tally) (v : ℕ) → KeepsHeap w (accessed w (Named (tally_word n)) (Store v))
-tally_heap w tally.Held v = record { heap = refl; pages = refl; snapshot = refl }
-tally_heap w _ v = record { heap = refl; pages = refl; snapshot = refl }
-
-pub kept_heap : (c : Config) (w : World) (x : Words) → KeepsHeap w.now.words x → HasZeros c w
+pub kept_heap : (c : Config) (w : World) (x : Words) → LeavesTable w.now.words x → HasZeros c w
     → OthersAreZero c (record (here w) { heap = x.heap; pages = x.pages; snapshot = x.snapshot })
 kept_heap c w x k z =
     subst (λ (hs : List ℕ). OthersAreZero c (record (here w) { heap = hs; pages = x.pages; snapshot = x.snapshot }))

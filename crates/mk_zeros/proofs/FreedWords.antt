@@ -3,20 +3,10 @@ use Rattle.std.proofs.Common.{◌≡◌, ◌⊎◌, ℕ, ◌+◌, ◌-◌, ◌*�
 use Rattle.std.proofs.Common.{map, inl, inr, arith}
 use Rattle.std.specs.Prelude.{◌==◌, nat_le, nat_lt, slice_index, Option, Some, None, if◌then◌else◌}
 use Rattle.std.proofs.lemmas.Bool.{and_parts, and_from, cases_Bool, eqb-true, leb-true, ltb-true, le-leb, lt-ltb}
-use Rattle.mk_geom.specs.declared.addresses.Cell.{Cell}
-use Rattle.mk_geom.specs.Storages.{Storage}
-use Rattle.mk_core.specs.declared.config.Config.{Config}
-use Rattle.mk_core.specs.declared.seats.RunPages.{RunPages}
-use Rattle.mk_core.specs.Config.{IsWithinLimits}
-use Rattle.mk_core.specs.Words.{Words}
-use Rattle.mk_core.specs.Cells.{header_in, words_are_zero}
-use Rattle.mk_core.specs.Effects.{run_of_cell}
-use Rattle.mk_core.specs.NewPlaces.{is_run_gone, is_run_unmapped, is_small_object, pages_made}
-use Rattle.mk_core.specs.ObjectHeaders.{ShowsPart}
-use Rattle.mk_core.specs.Allocations.{PlacedAllocation, placed_at, is_mapped, storage_words, cell_of_allocation}
-use Rattle.mk_core.specs.Allocations.{stands_in, freed_where_it_stands}
-use Rattle.mk_core.specs.StandingAllocations.{object_placed}
-use Rattle.mk_core.specs.History.{World}
+use Rattle.mk_protocol.proofs.Vocabulary.{Cell, Config, IsWithinLimits, PlacedAllocation, RunPages, ShowsPart, Storage}
+use Rattle.mk_protocol.proofs.Vocabulary.{Words, World, cell_of_allocation, freed_where_it_stands, header_in, is_mapped}
+use Rattle.mk_protocol.proofs.Vocabulary.{is_run_gone, is_run_unmapped, is_small_object, object_placed, pages_made}
+use Rattle.mk_protocol.proofs.Vocabulary.{placed_at, run_of_cell, stands_in, storage_words, words_are_zero}
 use Rattle.mk_core.proofs.AllBelow.{all_below-at}
 use Rattle.mk_core.proofs.ChangedAllocations.{freed_leaves, freed_storage}
 use Rattle.mk_core.proofs.Sizes.{large_words}
@@ -37,8 +27,7 @@ gone_word w freed n gone f =
     let from = leb-true run.page (n / 64) parts.0 in
     let to = ltb-true (n / 64 - run.page) run.count parts.1 in
     let at : 64 * run.page + (n - 64 * run.page) ≡ n = omega arith in
-    ap (λ i. slice_index w.heap i) (sym at)
-    ∙ eqb-true (slice_index w.heap (64 * run.page + (n - 64 * run.page))) 0
+    ap (λ i. slice_index w.heap i) (sym at) ∙ eqb-true (slice_index w.heap (64 * run.page + (n - 64 * run.page))) 0
     (all_below-at (64 * run.count) (n - 64 * run.page) (λ i. slice_index w.heap (64 * run.page + i) == 0) zero
     (omega arith))
 
@@ -50,8 +39,7 @@ word_where_none_is_freed c w n m = word_of_changed c (freed_where_it_stands w.no
 
 -- and where one is
 pub word_of_freed : (c : Config) (w : World) (cell : Cell) (n : ℕ) → IsWithinLimits c
-    → (m : IsMappedWord c w.allocations n)
-    → IsStanding c w.now.words (placed_at w.allocations m.number)
+    → (m : IsMappedWord c w.allocations n) → IsStanding c w.now.words (placed_at w.allocations m.number)
     → (stands_in w.now.words cell (placed_at w.allocations m.number) ≡ true
     → cell_of_allocation c (placed_at w.allocations m.number) ≡ cell)
     → IsMappedWord c (map (freed_where_it_stands w.now.words (Some cell)) w.allocations) n

@@ -1,21 +1,13 @@
 -- Only words that may hold values aren't 0, after every list of enabled events.
-use Rattle.std.proofs.Common.{◌≡◌, ℕ, ◌*◌, Bool, true, false, List, [], ◌∷◌, refl, sym, ◌∙◌, ap, subst}
+use Rattle.std.proofs.Common.{◌≡◌, ℕ, ◌*◌, Bool, true, false, List, ◌∷◌, refl, sym, ◌∙◌, ap, subst, []}
 use Rattle.std.specs.Prelude.{Some, None}
 use Rattle.std.proofs.lemmas.Bool.{true≢false}
-use Rattle.mk_core.specs.declared.events.Seat.{Seat}
-use Rattle.mk_core.specs.declared.events.Seat.TheVariants.{Caller, Marker, Host}
-use Rattle.mk_core.specs.Calls.{at_rest}
-use Rattle.mk_core.specs.NewPlaces.{target}
+use Rattle.mk_protocol.proofs.Vocabulary.{AreEnabledFrom, AreOfPages, Caller, Config, Event, Host, IsEnabled}
+use Rattle.mk_protocol.proofs.Vocabulary.{IsWithinLimits, Marker, Seat, World, access, at_rest, first_moment}
+use Rattle.mk_protocol.proofs.Vocabulary.{first_world, flight_of, is_phase, left, left_from, target, word_accessed}
+use Rattle.mk_protocol.proofs.Vocabulary.{world_behind}
 use Rattle.mk_layout.specs.LayoutLaws as layout
 use Rattle.mk_layout.proofs.Histories.{histories_are_laid_out}
-use Rattle.mk_core.specs.declared.config.Config.{Config}
-use Rattle.mk_core.specs.declared.events.Event.{Event}
-use Rattle.mk_core.specs.Config.{IsWithinLimits}
-use Rattle.mk_core.specs.Layout.{AreOfPages}
-use Rattle.mk_core.specs.Accesses.{word_accessed, access}
-use Rattle.mk_core.specs.Enabled.{IsEnabled}
-use Rattle.mk_core.specs.Moments.{first_moment, flight_of, is_phase}
-use Rattle.mk_core.specs.History.{World, first_world, world_behind, left, left_from, AreEnabledFrom}
 use Rattle.mk_core.proofs.Conditions.{enabled_meets}
 use Rattle.mk_core.proofs.Lengths.{histories_keep_lengths, zero_lengths, accessed_lengths}
 use Rattle.mk_protocol.proofs.Known.{Known, known_behind, known_at_first, known_left}
@@ -36,8 +28,7 @@ with_marks c v old new z =
 
 -- One event, from the world before it.
 pub zeros_behind : (c : Config) (w : World) (e : Event) → IsWithinLimits c → AreOfPages c.pages w.now.words
-    → Known c w.now → IsEnabled c w.now e → ZeroPremises c w e
-    → HasZeros c w → HasZeros c (world_behind c w e)
+    → Known c w.now → IsEnabled c w.now e → ZeroPremises c w e → HasZeros c w → HasZeros c (world_behind c w e)
 zeros_behind c w e limits lengths known on others z =
     let h = enabled_meets c w.now e on in
     let v : World = world_behind c w e in
@@ -59,15 +50,13 @@ events_keep_the_zeros c es e limits on enabled others z =
     zeros_behind c (left c es) e limits (histories_keep_lengths c es) (known_left c es limits on) enabled others z
 
 zeros_from : (c : Config) (w : World) (es : List Event) → IsWithinLimits c → AreOfPages c.pages w.now.words
-    → Known c w.now → AreEnabledFrom c w es
-    → ZeroPremisesFrom c w es → HasZeros c w → HasZeros c (left_from c w es)
+    → Known c w.now → AreEnabledFrom c w es → ZeroPremisesFrom c w es → HasZeros c w → HasZeros c (left_from c w es)
 unfolding left_from AreEnabledFrom ZeroPremisesFrom
 zeros_from c w [] limits lengths known on others z = z
 zeros_from c w (e ∷ es) limits lengths known on others z =
     zeros_from c (world_behind c w e) es limits
     (accessed_lengths c.pages w.now.words (word_accessed c w.now e) (access c w.now e) lengths)
-    (known_behind c w.now e known on.0) on.1 others.1
-    (zeros_behind c w e limits lengths known on.0 others.0 z)
+    (known_behind c w.now e known on.0) on.1 others.1 (zeros_behind c w e limits lengths known on.0 others.0 z)
 
 pub zeros_at_first : (c : Config) → HasZeros c (first_world c)
 zeros_at_first c n some = absurd (some (at_first (64 * c.pages) n 0))

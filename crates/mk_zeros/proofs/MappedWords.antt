@@ -1,20 +1,14 @@
 -- Words of mapped allocations, after a change of the allocations.
-use Rattle.std.proofs.Common.{◌≡◌, ℕ, ◌+◌, ◌<◌, ◌≤◌, Bool, true, false, List, [], ◌∷◌, ◌++◌, length, map, sym, ◌∙◌, ap}
+use Rattle.std.proofs.Common.{◌≡◌, ℕ, ◌+◌, ◌<◌, ◌≤◌, Bool, true, false, List, ◌∷◌, ◌++◌, length, map, sym, ◌∙◌, ap, []}
 use Rattle.std.proofs.Common.{subst, inl, inr, arith}
 use Rattle.std.specs.Prelude.{not, ◌&&◌}
 use Rattle.std.proofs.lemmas.Bool.{and_parts, and_from, not-true, cases_lt, true≢false}
 use Rattle.std.proofs.lemmas.List.{get_or_past}
-use Rattle.mk_geom.specs.StorageWords.{IsWordOf}
-use Rattle.mk_never.specs.Types.{kinds_of, is_large}
-use Rattle.mk_core.specs.declared.config.Config.{Config}
-use Rattle.mk_core.specs.Config.{IsWithinLimits}
-use Rattle.mk_core.specs.Words.{Words}
-use Rattle.mk_core.specs.Cells.{is_left_unmarked}
+use Rattle.mk_protocol.proofs.Vocabulary.{Config, HasItsHeaders, IsWithinLimits, IsWordOf, PlacedAllocation}
+use Rattle.mk_protocol.proofs.Vocabulary.{StandsOnHeap, Words, cell_of_allocation, is_large, is_left_unmarked}
+use Rattle.mk_protocol.proofs.Vocabulary.{is_mapped, kinds_of, never_granted, no_longer_fresh, placed_at, storage_of}
+use Rattle.mk_protocol.proofs.Vocabulary.{storage_words, with_released, words_made}
 use Rattle.mk_core.specs.NewPlaces.{object_of}
-use Rattle.mk_core.specs.ObjectHeaders.{words_made}
-use Rattle.mk_core.specs.Allocations.{PlacedAllocation, never_granted, placed_at, is_mapped, storage_of, storage_words}
-use Rattle.mk_core.specs.Allocations.{cell_of_allocation, no_longer_fresh, with_released}
-use Rattle.mk_core.specs.StandingAllocations.{StandsOnHeap, HasItsHeaders}
 use Rattle.mk_core.proofs.ChangedAllocations.{LeavesPlaces, changed_at, earlier_at, fresh_leaves, released_leaves}
 use Rattle.mk_core.proofs.PointedAllocations.{released_where_left}
 use Rattle.mk_zeros.specs.Zeros.{IsMappedWord}
@@ -65,8 +59,7 @@ word_of_fresh c xs n m = word_of_changed c no_longer_fresh xs n fresh_leaves m m
 
 -- `release`, where the allocation's cell isn't left unmarked
 pub word_of_unreleased : (c : Config) (w : Words) (xs : List PlacedAllocation) (n : ℕ) → IsWithinLimits c
-    → (m : IsMappedWord c xs n)
-    → StandsOnHeap c (placed_at xs m.number) → HasItsHeaders c w (placed_at xs m.number)
+    → (m : IsMappedWord c xs n) → StandsOnHeap c (placed_at xs m.number) → HasItsHeaders c w (placed_at xs m.number)
     → is_left_unmarked w (cell_of_allocation c (placed_at xs m.number)) ≡ false
     → IsMappedWord c (map (with_released c w) xs) n
 word_of_unreleased c w xs n limits m stands headers kept =

@@ -2,21 +2,10 @@
 use Rattle.std.proofs.Common.{◌≡◌, ◌≢◌, ℕ, ◌/◌, ◌%◌, ◌^◌, Bool, true, false, List, map, refl, sym, ◌∙◌, ap, subst, inl}
 use Rattle.std.proofs.Common.{inr, arith}
 use Rattle.std.specs.Prelude.{not, ◌&&◌, slice_index, slice_set, Option, Some, None, if◌then◌else◌}
-use Rattle.mk_geom.specs.PageUses.{or_else}
-use Rattle.mk_geom.specs.declared.addresses.Cell.{Cell}
-use Rattle.mk_geom.specs.declared.pages.Page.{Page}
-use Rattle.mk_core.specs.declared.config.Config.{Config}
-use Rattle.mk_core.specs.declared.events.Seat.{Seat}
+use Rattle.mk_protocol.proofs.Vocabulary.{Cell, Config, Flight, Page, RunPages, Seat, World, cell_freed, flight_of}
+use Rattle.mk_protocol.proofs.Vocabulary.{freed_where_it_stands, frees, header_at, is_phase, or_else, placed_at}
+use Rattle.mk_protocol.proofs.Vocabulary.{run_of_cell, target, used_at}
 use Rattle.mk_core.specs.declared.events.Step.TheVariants as step
-use Rattle.mk_core.specs.declared.seats.Flight.{Flight}
-use Rattle.mk_core.specs.declared.seats.RunPages.{RunPages}
-use Rattle.mk_core.specs.Words.{header_at, used_at}
-use Rattle.mk_core.specs.Moments.{flight_of, is_phase}
-use Rattle.mk_core.specs.NewPlaces.{target}
-use Rattle.mk_core.specs.TurnConditions.{cell_freed, frees}
-use Rattle.mk_core.specs.Effects.{run_of_cell}
-use Rattle.mk_core.specs.Allocations.{placed_at, freed_where_it_stands}
-use Rattle.mk_core.specs.History.{World}
 use Rattle.mk_core.proofs.PageSteps.{HeadStep, ItCarves, ItUnmaps, ItEmpties, UsedStep, ItTakes, ItGivesBack}
 use Rattle.mk_core.proofs.PageSteps.{QuarantineStep, ItFrees, ItTakesSnapshot, ItDrops}
 use Rattle.mk_core.proofs.PlacesNow.{freed_cell, undecided_free}
@@ -28,8 +17,7 @@ use Rattle.mk_layout.proofs.Freed.{standing_cell}
 use Rattle.mk_layout.proofs.Holders.{free_has_turn, none_on_its_way}
 use Rattle.mk_layout.proofs.Serving.{Laid}
 use Rattle.mk_zeros.specs.Zeros.{is_released_there, ZeroScene, zero_scene_with, IsMappedWord, IsReleasedWord}
-use Rattle.mk_zeros.specs.Zeros.{IsFreedWord}
-use Rattle.mk_zeros.specs.Zeros.{MayHold, OfMapped, OfReleased, OfFreedRun, OthersAreZero, HasZeros}
+use Rattle.mk_zeros.specs.Zeros.{IsFreedWord, MayHold, OfMapped, OfReleased, OfFreedRun, OthersAreZero, HasZeros}
 use Rattle.mk_zeros.proofs.MappedWords.{mapped_stays}
 use Rattle.mk_zeros.proofs.ReleasedWords.{emptied_word, unwiped_word, dropped_word}
 use Rattle.mk_zeros.proofs.FreedWords.{word_where_none_is_freed, word_of_freed}
@@ -46,8 +34,7 @@ other_pages c w pages off z = early_words c w (with_pages w pages) off z (λ n n
 
 late_pages : (c : Config) (w : World) (pages : List Page) → HasZeros c w
     → ((n : ℕ) → slice_index w.now.words.heap n ≢ 0 → IsReleasedWord c w.now.words.pages (is_released_there (here w)) n
-    → IsReleasedWord c pages (is_released_there (here w)) n)
-    → OthersAreZero c (with_pages w pages)
+    → IsReleasedWord c pages (is_released_there (here w)) n) → OthersAreZero c (with_pages w pages)
 late_pages c w pages z keeps =
     changed_words c (here w) (with_pages w pages) z (λ n ne. ne) (λ n m. OfMapped m)
     (λ n some r. OfReleased (keeps n some r)) (λ n some f. OfFreedRun f)
@@ -81,8 +68,7 @@ first_there None y n f = let e : None ≡ Some f.run = f.there in cc
 first_there (Some run) y n f = f
 
 quar_early : (c : Config) (w : World) (seat : Seat) (p v : ℕ) → Before c w seat (step.Quar p v)
-    → Meets c w.now seat (step.Quar p v)
-    → is_phase w.now.words 4 ≡ false → HasZeros c w
+    → Meets c w.now seat (step.Quar p v) → is_phase w.now.words 4 ≡ false → HasZeros c w
     → (cell : Option Cell) → cell_freed c.pages w.now.words (flight_of w.now seat) p v ≡ cell
     → OthersAreZero c (quarantined (is_phase w.now.words 4) w p v cell)
 quar_early c w seat p v b h off z None is =
@@ -123,8 +109,7 @@ quar_late c w p v keeps z =
     (λ n m. OfMapped (word_where_none_is_freed c w n m)) (λ n some r. OfReleased (keeps n r)) (λ n some f. OfFreedRun f)
 
 pub quar_kind : (c : Config) (w : World) (seat : Seat) (p v : ℕ) → Before c w seat (step.Quar p v)
-    → Meets c w.now seat (step.Quar p v) → HasZeros c w
-    → QuarantineStep c w.now (flight_of w.now seat) p v
+    → Meets c w.now seat (step.Quar p v) → HasZeros c w → QuarantineStep c w.now (flight_of w.now seat) p v
     → OthersAreZero c (quarantined (is_phase w.now.words 4) w p v
     (cell_freed c.pages w.now.words (flight_of w.now seat) p v))
 quar_kind c w seat p v b h z (ItFrees off x) = quar_early c w seat p v b h off z _ refl

@@ -4,18 +4,10 @@ use Rattle.std.proofs.Common.{inr, arith}
 use Rattle.std.specs.Prelude.{not, ◌==◌, slice_index, slice_set, Option, Some}
 use Rattle.std.proofs.lemmas.Bool.{and_parts, and_from, cases_Bool, eqb-true, true≢false}
 use Rattle.mk_never.proofs.Edits.{set_by}
-use Rattle.mk_geom.specs.declared.addresses.Cell.{Cell}
-use Rattle.mk_geom.specs.declared.headers.Header.{Header}
-use Rattle.mk_geom.specs.declared.headers.Header.TheVariants.{Later}
-use Rattle.mk_geom.specs.declared.pages.Page.{Page}
-use Rattle.mk_geom.specs.Addresses.{address_of, page_at_address, head_page_under, cell_at}
-use Rattle.mk_geom.specs.Headers.{header_of}
-use Rattle.mk_geom.specs.Storages.{free_page}
-use Rattle.mk_core.specs.declared.config.Config.{Config}
-use Rattle.mk_core.specs.Words.{header_at, used_at}
-use Rattle.mk_core.specs.Bits.{has_bit, without}
-use Rattle.mk_core.specs.Cells.{pointed_cell, words_under, header_in, head_page, first_word, cell_words}
-use Rattle.mk_core.specs.History.{World}
+use Rattle.mk_protocol.proofs.Vocabulary.{Cell, Config, Header, Later, Page, World, address_of, cell_at, cell_words}
+use Rattle.mk_protocol.proofs.Vocabulary.{first_word, free_page, has_bit, head_page, head_page_under, header_at}
+use Rattle.mk_protocol.proofs.Vocabulary.{header_in, header_of, page_at_address, pointed_cell, used_at, without}
+use Rattle.mk_protocol.proofs.Vocabulary.{words_under}
 use Rattle.mk_core.proofs.AllBelow.{all_below-at}
 use Rattle.mk_core.proofs.BitsWithout.{has_bit_without}
 use Rattle.mk_core.proofs.PageSteps.{Empties, GivesBack, Drops, wiped_cell}
@@ -59,8 +51,7 @@ pub emptied_word : (c : Config) (w : World) (is_gone : Cell → Bool) (p v n : �
     → IsReleasedWord c (slice_set w.now.words.pages p (record { header = v; used = used_at w.now.words p })) is_gone n
 emptied_word c w is_gone p v n h r =
     kept_word c w.now.words.pages (slice_set w.now.words.pages p (record { header = v; used = used_at w.now.words p }))
-    is_gone n r
-    (same (page_at_address (address_of n)) not_here) (same r.cell.page not_there)
+    is_gone n r (same (page_at_address (address_of n)) not_here) (same r.cell.page not_there)
     (set_by (λ (x : Page). has_bit x.used r.cell.index ≡ true) w.now.words.pages p r.cell.page _ free_page
     (λ e. ap (λ q. has_bit (used_at w.now.words q) r.cell.index) (sym e) ∙ r.used) r.used)
   where
@@ -93,8 +84,7 @@ same_headers pages p v q =
 
 -- `used` (b): the words of a cell that is given back are 0
 pub unwiped_word : (c : Config) (w : World) (is_gone : Cell → Bool) (p v n : ℕ) → GivesBack w.now.words p v
-    → slice_index w.now.words.heap n ≢ 0
-    → IsReleasedWord c w.now.words.pages is_gone n
+    → slice_index w.now.words.heap n ≢ 0 → IsReleasedWord c w.now.words.pages is_gone n
     → IsReleasedWord c (slice_set w.now.words.pages p (record { header = header_at w.now.words p; used = v })) is_gone n
 unwiped_word c w is_gone p v n h some r =
     kept_word c w.now.words.pages
@@ -139,8 +129,7 @@ dropped_word c w p f v n h r =
       cell = r.cell;
       small = r.small;
       released = set_by (λ x. has_bit (without x (slice_index w.now.words.marks r.cell.page)) r.cell.index ≡ true)
-          w.now.words.snapshot p r.cell.page v 0
-          still r.released;
+          w.now.words.snapshot p r.cell.page v 0 still r.released;
       used = r.used;
       pointed = r.pointed;
       from = r.from;

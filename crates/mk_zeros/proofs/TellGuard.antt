@@ -4,38 +4,19 @@ use Rattle.std.proofs.Common.{subst, inl, inr, arith}
 use Rattle.std.specs.Prelude.{not, ◌&&◌, ◌==◌, slice_index, Option, Some}
 use Rattle.std.proofs.lemmas.Bool.{and_parts, not-true, cases_eq, cases_lt, lt-ltb, ne_eqb, true≢false, false≢true}
 use Rattle.std.proofs.lemmas.List.{get_or_past}
-use Rattle.mk_never.specs.Types.{kinds_of, is_large}
-use Rattle.mk_geom.specs.declared.headers.Header.{Header}
-use Rattle.mk_geom.specs.declared.headers.Header.TheVariants.{Run}
-use Rattle.mk_geom.specs.declared.pages.Place.{Place}
-use Rattle.mk_geom.specs.Addresses.{head_page_under}
-use Rattle.mk_geom.specs.Headers.{header_of}
-use Rattle.mk_core.specs.declared.config.Config.{Config}
-use Rattle.mk_core.specs.declared.events.Seat.{Seat}
-use Rattle.mk_core.specs.declared.events.Seat.TheVariants.{Caller, Marker, Host}
-use Rattle.mk_core.specs.declared.seats.Flight.{Flight}
-use Rattle.mk_core.specs.declared.seats.Object.{Object}
-use Rattle.mk_core.specs.declared.seats.Placing.{Placing}
-use Rattle.mk_core.specs.declared.seats.Placing.TheVariants.{Unplaced, Chosen, Used, Granted}
-use Rattle.mk_core.specs.declared.seats.RunPages.{RunPages}
-use Rattle.mk_core.specs.Words.{phase_of}
-use Rattle.mk_core.specs.Calls.{at_rest}
-use Rattle.mk_core.specs.Cells.{heads_run, cells_under, head_page}
-use Rattle.mk_core.specs.Layout.{AreOfPages}
-use Rattle.mk_core.specs.Moments.{Moment, flight_of, is_phase}
-use Rattle.mk_core.specs.Order.{seat_exists}
-use Rattle.mk_core.specs.NewPlaces.{object_made, pages_made, header_made, is_undecided_new, is_small_object}
-use Rattle.mk_core.specs.ObjectHeaders.{IsSized, IsHeaderOf, ShowsPart, OfBlock, OfLeafBlock, OfRun, OfLeafRun, OfLater}
-use Rattle.mk_core.specs.Allocations.{PlacedAllocation, placed_at, is_mapped}
-use Rattle.mk_core.specs.StandingAllocations.{object_placed}
-use Rattle.mk_core.specs.History.{World, left}
+use Rattle.mk_protocol.proofs.Vocabulary.{AreOfPages, Caller, Chosen, Config, Flight, Granted, Header, IsHeaderOf}
+use Rattle.mk_protocol.proofs.Vocabulary.{IsSized, Moment, Object, OfLeafRun, OfRun, Place, PlacedAllocation, Placing}
+use Rattle.mk_protocol.proofs.Vocabulary.{Run, RunPages, Seat, ShowsPart, Unplaced, Used, World, at_rest, cells_under}
+use Rattle.mk_protocol.proofs.Vocabulary.{flight_of, head_page, head_page_under, header_made, header_of, heads_run}
+use Rattle.mk_protocol.proofs.Vocabulary.{is_large, is_mapped, is_phase, is_small_object, is_undecided_new, kinds_of}
+use Rattle.mk_protocol.proofs.Vocabulary.{left, object_made, object_placed, pages_made, phase_of, placed_at}
+use Rattle.mk_protocol.proofs.Vocabulary.{seat_exists}
 use Rattle.mk_core.proofs.ObjectHeaders.{made_shows, part_head}
 use Rattle.mk_core.proofs.PlacesNow.{IsPlaced, ByFit, AsChosen, AsUsed, placed_now}
 use Rattle.mk_core.proofs.Sizes.{large_is_not_small, pages_some, small_pages}
 use Rattle.mk_protocol.proofs.Known.{Known}
-use Rattle.mk_layout.specs.LayoutScene.{Claim, Among, Mode, Mapped, Plot, NoPlot, Plotted, PlotStands}
-use Rattle.mk_layout.specs.LayoutScene.{InPlot, HasHeader, IsClaimed, IsPlotShown, header_on, used_on, shows_on}
-use Rattle.mk_layout.specs.LayoutScene.{head_on}
+use Rattle.mk_layout.specs.LayoutScene.{Claim, Among, Mode, Mapped, Plot, NoPlot, Plotted, PlotStands, InPlot}
+use Rattle.mk_layout.specs.LayoutScene.{HasHeader, IsClaimed, IsPlotShown, header_on, used_on, shows_on, head_on}
 use Rattle.mk_layout.specs.LayoutScene.{run_count}
 use Rattle.mk_protocol.specs.Ground.{ground_of}
 use Rattle.mk_layout.specs.Terrain.{IsLaidOut, RunStands, IsClaimedRun, claims_of, claims_on, claims_placed}
@@ -59,13 +40,10 @@ use Rattle.mk_zeros.proofs.BarePages.{Unreleasing, shown_there, bare_page, plot_
 
 -- what shows a run's head is the first page of its object, and has its pages
 run_part : (o : Object) (distance count : ℕ) (mapped : Bool) (x : Option Header) → ShowsPart o distance x
-    → x ≡ Some (Run count mapped)
-    → (distance ≡ 0) × (count ≡ pages_made o)
-run_part o distance count mapped x (OfBlock first small leaf) is = absurd (false≢true (ap heads_run is))
-run_part o distance count mapped x (OfLeafBlock first small leaf) is = absurd (false≢true (ap heads_run is))
+    → x ≡ Some (Run count mapped) → (distance ≡ 0) × (count ≡ pages_made o)
 run_part o distance count mapped x (OfRun m first large leaf) is = (first, sym (ap run_count is))
 run_part o distance count mapped x (OfLeafRun first large leaf) is = (first, sym (ap run_count is))
-run_part o distance count mapped x (OfLater m some large) is = absurd (false≢true (ap heads_run is))
+run_part o distance count mapped x _ is = absurd (false≢true (ap heads_run is))
 
 pub later_pages : (c : Config) (w : World) → Unreleasing c w → LaterPagesAreKnown w.now.words
 later_pages c w q p count distance is some lt = elim (cases_eq (used_on w.now.words.pages p) 0) [
@@ -114,8 +92,7 @@ later_pages c w q p count distance is some lt = elim (cases_eq (used_on w.now.wo
           | inr made ↦
               let part : ShowsPart o (p - first) (shows_on w.now.words.pages p) =
               subst (λ h. ShowsPart o (p - first) (header_of h)) (sym (ap (λ i. header_on w.now.words.pages i) (sym at)
-              ∙ made))
-              (made_shows o (p - first) plot.sized (omega arith)) in
+              ∙ made)) (made_shows o (p - first) plot.sized (omega arith)) in
               let head = run_part o (p - first) count true (shows_on w.now.words.pages p) part is in
               let zero = head.0 in
               let pages = head.1 in
@@ -151,8 +128,7 @@ new_exists c m (Caller k) known new = elim (cases_lt k c.callers) [
       let none = get_or_past m.seats.flights k at_rest (let count = known.orderly.flights in omega arith) in
       absurd (false≢true (sym (ap (λ (f : Flight). is_undecided_new f) none) ∙ new))
 ]
-new_exists c m (Marker k) known new = absurd (false≢true new)
-new_exists c m Host known new = absurd (false≢true new)
+new_exists c m _ known new = absurd (false≢true new)
 
 bare_place : (c : Config) (w : World) (o : Object) (place : Place) → Unreleasing c w → Laid c o false w (ground_of w)
     → IsSized o
@@ -220,8 +196,7 @@ run_has_object c w run q is =
     }
 
 mapped_stands : (c : Config) (w : World) (i : ℕ) → AreOfPages c.pages w.now.words → IsLaidOut c w
-    → is_mapped c (placed_at w.allocations i) ≡ true
-    → StandsMapped c w.now.words (placed_at w.allocations i)
+    → is_mapped c (placed_at w.allocations i) ≡ true → StandsMapped c w.now.words (placed_at w.allocations i)
 mapped_stands c w i lengths laid mapped =
     let a : PlacedAllocation = placed_at w.allocations i in
     let u = mapped_stays c a mapped in

@@ -1,18 +1,9 @@
 -- What the zero words tell the images, and the images them.
 use Rattle.std.proofs.Common.{◌≡◌, ℕ, true, refl, inl, inr}
 use Rattle.std.proofs.lemmas.Bool.{false≢true}
-use Rattle.mk_never.specs.NeverHeap.{NeverState}
-use Rattle.mk_never.specs.Admitted.{AreAdmitted}
-use Rattle.mk_core.specs.declared.config.Config.{Config}
-use Rattle.mk_core.specs.declared.events.Seat.{Seat}
-use Rattle.mk_core.specs.declared.events.Seat.TheVariants.{Caller, Marker, Host}
-use Rattle.mk_core.specs.declared.events.Step.{Step}
+use Rattle.mk_protocol.proofs.Vocabulary.{AreAdmitted, Caller, Config, Host, IsEnabled, Marker, NeverState, Seat, Step}
+use Rattle.mk_protocol.proofs.Vocabulary.{World, asked, call_decided, flight_of, word_met}
 use Rattle.mk_core.specs.declared.events.Step.TheVariants as step
-use Rattle.mk_core.specs.Calls.{word_met}
-use Rattle.mk_core.specs.Enabled.{IsEnabled}
-use Rattle.mk_core.specs.Decided.{asked}
-use Rattle.mk_core.specs.Moments.{flight_of}
-use Rattle.mk_core.specs.History.{World, call_decided}
 use Rattle.mk_core.proofs.Conditions.{enabled_meets}
 use Rattle.mk_images.specs.ImagePremises.{MayHoldWords}
 use Rattle.mk_images.specs.ImagePremises as images
