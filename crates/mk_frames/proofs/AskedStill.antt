@@ -2,24 +2,14 @@
 -- and so the answer, but not whether it decides, nor what for.
 use Rattle.std.proofs.Common.{Bool, ap, false, refl, sym, true, ℕ, ◌∙◌, ◌≡◌}
 use Rattle.std.specs.Prelude.{None, Option, Some, if◌then◌else◌, ◌==◌}
-use Rattle.mk_never.specs.declared.operations.Op.{Op}
+use Rattle.mk_protocol.proofs.Vocabulary.{Answer, Cell, Config, Flight, Moment, Op, Step, Word, asked, begun}
+use Rattle.mk_protocol.proofs.Vocabulary.{cell_freed, decided, entry_of, header_of, is_unmapped_header, onward}
+use Rattle.mk_protocol.proofs.Vocabulary.{progress, progress_freed, progress_read, progress_reg, refused, sees_double}
+use Rattle.mk_protocol.proofs.Vocabulary.{still, target}
 use Rattle.mk_never.specs.declared.operations.Op.TheVariants as op
-use Rattle.mk_geom.specs.declared.addresses.Cell.{Cell}
-use Rattle.mk_geom.specs.Headers.{header_of}
-use Rattle.mk_core.specs.declared.config.Config.{Config}
-use Rattle.mk_core.specs.declared.events.Answer.{Answer}
 use Rattle.mk_core.specs.declared.events.Answer.TheVariants as answer
-use Rattle.mk_core.specs.declared.events.Step.{Step}
 use Rattle.mk_core.specs.declared.events.Step.TheVariants as step
-use Rattle.mk_core.specs.declared.events.Word.{Word}
-use Rattle.mk_core.specs.declared.seats.Flight.{Flight}
-use Rattle.mk_core.specs.Calls.{begun, onward, progress_read, progress_reg, refused, still}
-use Rattle.mk_core.specs.Cells.{is_unmapped_header}
-use Rattle.mk_core.specs.Decided.{asked, entry_of}
-use Rattle.mk_core.specs.Effects.{begins_where_free, decided, progress, progress_freed, sees_double}
-use Rattle.mk_core.specs.Moments.{Moment}
-use Rattle.mk_core.specs.NewPlaces.{target}
-use Rattle.mk_core.specs.TurnConditions.{cell_freed}
+use Rattle.mk_core.specs.Effects.{begins_where_free}
 
 -- What two moments have in common where the answer reads it: an own register, whether a page is unmapped, the target.
 pub record SeesTheSame (c : Config) (m n : Moment) (f : Flight) (found find : ℕ) (x : Step) : Type 0 where

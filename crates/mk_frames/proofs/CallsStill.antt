@@ -1,33 +1,18 @@
 -- A caller whose gate is held decides no call, so its registers stay as they are in the heap that never reuses storage,
 -- and where all gates are held, all of that heap does.
-use Rattle.std.proofs.Common.{List, [], ap, arith, false, inl, inr, refl, subst, sym, true, ℕ, ◌++◌, ◌<◌, ◌∙◌, ◌∷◌, ◌≡◌}
+use Rattle.std.proofs.Common.{List, ap, arith, false, inl, inr, refl, subst, sym, true, ℕ, ◌++◌, ◌<◌, ◌∙◌, ◌∷◌, ◌≡◌, []}
 use Rattle.std.proofs.Common.{◌≢◌}
 use Rattle.std.specs.Prelude.{None, Option, Some, slice_index, ◌==◌, ◌||◌}
 use Rattle.std.proofs.lemmas.Bool.{cases_eq, ltb-true}
-use Rattle.mk_never.specs.declared.operations.Op.{Op}
-use Rattle.mk_never.specs.Laws.{KeepsRegisters}
-use Rattle.mk_never.specs.NeverHeap.{Call, NeverState, after_calls, register_at}
+use Rattle.mk_protocol.proofs.Vocabulary.{Answer, AreOfOthers, Call, Caller, Config, Event, Flight, Holds, Host}
+use Rattle.mk_protocol.proofs.Vocabulary.{IsHistory, KeepsRegisters, Marker, Moment, NeverState, Op, Seat, Stage, Step}
+use Rattle.mk_protocol.proofs.Vocabulary.{World, Written, after_calls, all_below, asked, call_decided, comes_next}
+use Rattle.mk_protocol.proofs.Vocabulary.{entry_of, flight_of, found, holder_number, is_number_of, is_one_of, left}
+use Rattle.mk_protocol.proofs.Vocabulary.{never_behind, progress, register_at}
 use Rattle.mk_never.proofs.Registers.{admitted_keep}
-use Rattle.mk_core.specs.declared.config.Config.{Config}
-use Rattle.mk_core.specs.declared.events.Answer.{Answer}
-use Rattle.mk_core.specs.declared.events.Event.{Event}
-use Rattle.mk_core.specs.declared.events.Seat.{Seat}
-use Rattle.mk_core.specs.declared.events.Seat.TheVariants.{Caller, Host, Marker}
-use Rattle.mk_core.specs.declared.events.Step.{Step}
 use Rattle.mk_core.specs.declared.events.Step.TheVariants as step
-use Rattle.mk_core.specs.declared.seats.Flight.{Flight}
-use Rattle.mk_core.specs.declared.seats.Stage.{Stage}
 use Rattle.mk_core.specs.declared.seats.Stage.TheVariants as stage
-use Rattle.mk_core.specs.Accesses.{found}
-use Rattle.mk_core.specs.Bounded.{all_below}
-use Rattle.mk_core.specs.Decided.{asked, entry_of}
-use Rattle.mk_core.specs.Effects.{progress}
-use Rattle.mk_core.specs.Frames.{HoldsAll, Written}
-use Rattle.mk_core.specs.Growing.{AreOfOthers, is_one_of}
-use Rattle.mk_core.specs.History.{IsHistory, World, call_decided, left, never_behind}
-use Rattle.mk_core.specs.Moments.{Moment, flight_of, holder_number, is_number_of}
-use Rattle.mk_core.specs.Order.{comes_next}
-use Rattle.mk_core.specs.Readings.{Holds}
+use Rattle.mk_core.specs.Frames.{HoldsAll}
 use Rattle.mk_protocol.proofs.Actors.{Meets}
 use Rattle.mk_protocol.proofs.Asked.{others_held}
 use Rattle.mk_protocol.proofs.Frames.{left_after, other_seat}
@@ -49,12 +34,10 @@ idle_decides_nothing c m f stage.Idle o n _ is h = cc
 idle_decides_nothing c m f _ o n x is h = cc
 
 held_decides_nothing : (c : Config) (m : Moment) (k : ℕ) (x : Step) → Known c m → Meets c m (Caller k) x
-    → slice_index m.words.gates k ≡ 2
-    → asked (call_decided c m (record { seat = Caller k; step = x })) ≡ []
+    → slice_index m.words.gates k ≡ 2 → asked (call_decided c m (record { seat = Caller k; step = x })) ≡ []
 held_decides_nothing c m k x known h two =
     let f = flight_of m (Caller k) in
-    ap (λ (a : Option Answer). asked (entry_of k f.op a))
-    (idle_decides_nothing c m f f.stage f.op (found c m (record { seat = Caller k; step = x })) x
+    rw (idle_decides_nothing c m f f.stage f.op (found c m (record { seat = Caller k; step = x })) x
     (held_idle c (view_of m) k known.orderly (ltb-true k c.callers h.seat) two) h.order)
 
 -- a caller whose gate the turn's holder holds
@@ -79,11 +62,9 @@ held_step : (c : Config) (w : World) (n : NeverState) (seat : Seat) (x : Step) (
     → KeepsRegisters k n (never_after c w n (record { seat = seat; step = x }))
 held_step c w n (Caller j) x k known h two other = elim (cases_eq j k) [
   | inr ne ↦ other (caller_apart j k ne)
-  | inl e ↦ λ r lt. ap (λ (ys : List Call). register_at (after_calls n ys) k r)
-      (held_decides_nothing c w.now j x known h (ap (λ i. slice_index w.now.words.gates i) e ∙ two))
+  | inl e ↦ λ r lt. rw (held_decides_nothing c w.now j x known h (rw e two))
 ]
-held_step c w n (Marker j) x k known h two other = λ r lt. refl
-held_step c w n Host x k known h two other = λ r lt. refl
+held_step c w n _ x k known h two other = λ r lt. refl
 
 held_one : (c : Config) (s : Seat) (k : ℕ) (es : List Event) (e : Event) → IsHistory c (es ++ e ∷ [])
     → is_one_of (s ∷ []) e.seat ≡ false → KeepsHeld c s k es (es ++ e ∷ [])
@@ -92,11 +73,9 @@ held_one c s k es e h other held =
     let known = (stands c es last.before).known.now in
     let own = left_after c (left c es) e.seat s e.step known last.meets (other_seat s e.seat other) in
     let turn = own.turn held.holds in (
-      subst (λ (v : World). HoldsGate c s k v) (sym last.leaves)
-          (record { holds = (own.own.holding held.holds).0; gate = turn.held_gates k held.gate }),
-      subst (λ (m : NeverState). KeepsRegisters k (never_behind c es) m) (sym last.never)
-          (held_step c (left c es) (never_behind c es) e.seat e.step k known last.meets held.gate
-          (λ ne. admitted_keep c.globals (never_behind c es) k (asked (call_decided c (left c es).now e)) last.admitted
+      rw last.leaves (record { holds = (own.own.holding held.holds).0; gate = turn.held_gates k held.gate }),
+      rw last.never (held_step c (left c es) (never_behind c es) e.seat e.step k known last.meets held.gate
+          (λ ne. admitted_keep c.globals (never_behind c es) k _ last.admitted
           (call_not_by c (left c es) e.seat e.step k ne))),
     )
 
@@ -116,19 +95,17 @@ KeepsAll c s es fs = HoldsAll c (left c es).now s
 
 other_number : (c : Config) (m : Moment) (s : Seat) (j : ℕ) → j < c.callers → Holds c m s → Caller j ≢ s
     → holder_number c s ≢ j
-other_number c m (Caller k) j lt holds ne = λ e. ne (ap (λ i. Caller i) (sym e))
+other_number c m (Caller k) j lt holds ne = λ e. ne (rw (← e))
 other_number c m (Marker k) j lt holds ne = absurd holds
 other_number c m Host j lt holds ne = λ e. absurd (omega arith)
 
 all_step : (c : Config) (w : World) (n : NeverState) (s seat : Seat) (x : Step) → Known c w.now → Meets c w.now seat x
-    → seat ≢ s → HoldsAll c w.now s
-    → never_after c w n (record { seat = seat; step = x }) ≡ n
+    → seat ≢ s → HoldsAll c w.now s → never_after c w n (record { seat = seat; step = x }) ≡ n
 all_step c w n s (Caller j) x known h ne all =
     let lt = ltb-true j c.callers h.seat in
     ap (λ (ys : List Call). after_calls n ys)
     (held_decides_nothing c w.now j x known h (others_held c w.now s all.1 j lt (other_number c w.now s j lt all.0 ne)))
-all_step c w n s (Marker j) x known h ne all = refl
-all_step c w n s Host x known h ne all = refl
+all_step c w n s _ x known h ne all = refl
 
 all_one : (c : Config) (s : Seat) (es : List Event) (e : Event) → IsHistory c (es ++ e ∷ [])
     → is_one_of (s ∷ []) e.seat ≡ false → KeepsAll c s es (es ++ e ∷ [])
@@ -138,17 +115,15 @@ all_one c s es e h other all =
     let ne = other_seat s e.seat other in
     let own = left_after c (left c es) e.seat s e.step known last.meets ne in
     let gates = ap (λ (y : Written). y.gates) (own.stop all) in (
-      subst (λ (v : World). HoldsAll c v.now s) (sym last.leaves) (
+      rw last.leaves (
         (own.own.holding all.0).0,
-        ap (λ (gs : List ℕ). all_below c.callers (λ j. is_number_of s j
-            || (slice_index gs j == 2))) gates ∙ all.1,
+        rw gates all.1,
       ),
       last.never ∙ all_step c (left c es) (never_behind c es) s e.seat e.step known last.meets ne all,
     )
 
 pub never_stands_still : (c : Config) (s : Seat) (es more : List Event) → IsHistory c (es ++ more)
-    → AreOfOthers (s ∷ []) more → HoldsAll c (left c es).now s
-    → never_behind c (es ++ more) ≡ never_behind c es
+    → AreOfOthers (s ∷ []) more → HoldsAll c (left c es).now s → never_behind c (es ++ more) ≡ never_behind c es
 never_stands_still c s es more h others all =
     (along_others c (s ∷ []) (KeepsAll c s) (λ xs a. (a, refl))
     (λ xs ys zs a b all. let x = a all in let y = b x.0 in (y.0, y.1 ∙ x.1)) (all_one c s) es more h others all).1

@@ -1,35 +1,18 @@
 -- The call that an event decides after a list, it decides after what others did since, and it is admitted there.
-use Rattle.std.proofs.Common.{Bool, List, [], ap, inl, inr, refl, subst, sym, true, ℕ, ◌++◌, ◌<◌, ◌∙◌, ◌∷◌, ◌≡◌}
+use Rattle.std.proofs.Common.{Bool, List, ap, inl, inr, refl, subst, sym, true, ℕ, ◌++◌, ◌<◌, ◌∙◌, ◌∷◌, ◌≡◌, []}
 use Rattle.std.specs.Prelude.{None, Some, if◌then◌else◌, is_some, not, ◌&&◌, ◌==◌}
 use Rattle.std.proofs.lemmas.Bool.{cases_Bool, ltb-true}
-use Rattle.mk_never.specs.Admitted.{AreAdmitted}
-use Rattle.mk_never.specs.NeverHeap.{Call}
-use Rattle.mk_geom.specs.Headers.{header_of}
+use Rattle.mk_protocol.proofs.Vocabulary.{AreAdmitted, AreOfOthers, Call, Caller, Config, Event, Flight, Holds}
+use Rattle.mk_protocol.proofs.Vocabulary.{IsEnabled, IsHistory, IsInCall, IsLeft, Seat, Steady, Step, Word, Words}
+use Rattle.mk_protocol.proofs.Vocabulary.{World, answer_decided, asked, call_decided, cell_freed, entry_of, flight_of}
+use Rattle.mk_protocol.proofs.Vocabulary.{found, frees, header_in, header_of, is_unmapped_header, left, never_behind}
+use Rattle.mk_protocol.proofs.Vocabulary.{onward, page_met, progress, q_of, refused, register_met, sees_double, target}
+use Rattle.mk_protocol.proofs.Vocabulary.{word_accessed}
 use Rattle.mk_core.specs.declared.accesses.TableWord.{TableWord}
-use Rattle.mk_core.specs.declared.config.Config.{Config}
 use Rattle.mk_core.specs.declared.events.Answer.TheVariants as answer
-use Rattle.mk_core.specs.declared.events.Event.{Event}
-use Rattle.mk_core.specs.declared.events.Seat.{Seat}
-use Rattle.mk_core.specs.declared.events.Seat.TheVariants.{Caller, Host, Marker}
-use Rattle.mk_core.specs.declared.events.Step.{Step}
 use Rattle.mk_core.specs.declared.events.Step.TheVariants as step
-use Rattle.mk_core.specs.declared.events.Word.{Word}
-use Rattle.mk_core.specs.declared.seats.Flight.{Flight}
 use Rattle.mk_core.specs.declared.seats.Stage.TheVariants as stage
-use Rattle.mk_core.specs.Accesses.{found, word_accessed, register_met}
-use Rattle.mk_core.specs.Calls.{onward, page_met, q_of, refused}
-use Rattle.mk_core.specs.Cells.{header_in, is_unmapped_header}
-use Rattle.mk_core.specs.Decided.{asked, entry_of}
-use Rattle.mk_core.specs.Effects.{answer_decided, progress, sees_double}
-use Rattle.mk_core.specs.Enabled.{IsEnabled}
-use Rattle.mk_core.specs.Frames.{IsInCall, IsLeft, Steady}
-use Rattle.mk_core.specs.Growing.{AreOfOthers}
-use Rattle.mk_core.specs.History.{IsHistory, World, call_decided, left, never_behind}
-use Rattle.mk_core.specs.Moments.{flight_of}
-use Rattle.mk_core.specs.NewPlaces.{target}
-use Rattle.mk_core.specs.Readings.{Holds}
-use Rattle.mk_core.specs.TurnConditions.{cell_freed, frees}
-use Rattle.mk_core.specs.Words.{Words, word_in}
+use Rattle.mk_core.specs.Words.{word_in}
 use Rattle.mk_core.proofs.Conditions.{enabled_meets}
 use Rattle.mk_protocol.proofs.Actors.{Meets, is_holders}
 use Rattle.mk_protocol.proofs.NextSteps.{at_its_stage}
@@ -94,17 +77,13 @@ module _ (c : Config) (es more : List Event) (k : ℕ) (x : Step) (h : IsHistory
   -- An own register shows what it did.
   finds_register : x ≡ step.Reg → found c v.now (of_caller k x) ≡ found c w.now (of_caller k x)
   finds_register is =
-      ap (λ (y : TableWord). word_in v.now.words y) same_word
-      ∙ subst (λ (s : Step). word_in v.now.words (word_accessed c w.now (of_caller k s))
-      ≡ word_in w.now.words (word_accessed c w.now (of_caller k s))) (sym is)
-      (kept.own.registers k (register_met f f.stage) refl
-      (register_small f f.stage (operands_of c f.op (here.known.now.operands k))))
+      rw same_word (rw is (kept.own.registers k _ refl
+      (register_small f f.stage (operands_of c f.op (here.known.now.operands k)))))
 
   -- A page shows the call whether it is unmapped, as it did.
 
   at_probe : x ≡ step.Probe → f.stage ≡ stage.Probe
-  at_probe is =
-      at_its_stage f.stage f.op step.Probe refl (subst (λ (s : Step). Meets c w.now (Caller k) s) is meets).order
+  at_probe is = at_its_stage f.stage f.op step.Probe refl (rw is at meets).order
 
   in_call : x ≡ step.Probe → standing f ≡ InCall
   in_call is = calls_stand f.stage f.op (ap is_call_stage (at_probe is))
@@ -135,12 +114,7 @@ module _ (c : Config) (es more : List Event) (k : ℕ) (x : Step) (h : IsHistory
 
   finds_header : x ≡ step.Probe → is_unmapped_header (header_of (found c v.now (of_caller k x)))
       ≡ is_unmapped_header (header_of (found c w.now (of_caller k x)))
-  finds_header is =
-      ap (λ (y : TableWord). is_unmapped_header (header_of (word_in v.now.words y))) same_word
-      ∙ subst (λ (s : Step).
-      is_unmapped_header (header_of (word_in v.now.words (word_accessed c w.now (of_caller k s))))
-      ≡ is_unmapped_header (header_of (word_in w.now.words (word_accessed c w.now (of_caller k s)))))
-      (sym is) (probes_the_same is)
+  finds_header is = rw same_word (rw is (probes_the_same is))
 
   -- The turn's holder sees the same freed bits and target.
 
@@ -155,12 +129,10 @@ module _ (c : Config) (es more : List Event) (k : ℕ) (x : Step) (h : IsHistory
   frees_the_same : (p n : ℕ) → x ≡ step.Quar p n
       → cell_freed c.pages v.now.words f p n ≡ cell_freed c.pages w.now.words f p n
   frees_the_same p n is =
-      ap (λ (s : Steady).
-      if not (s.phase == 4)
+      ap (λ (s : Steady). if not (s.phase == 4)
       && frees (record w.now.words { pages = s.pages; freed = s.freed; snapshot = s.snapshot })
       (target c.pages (record w.now.words { pages = s.pages; freed = s.freed; snapshot = s.snapshot }) f) p n
-      then target c.pages (record w.now.words { pages = s.pages; freed = s.freed; snapshot = s.snapshot }) f
-      else None)
+      then target c.pages (record w.now.words { pages = s.pages; freed = s.freed; snapshot = s.snapshot }) f else None)
       (kept.turn (holding (ap is_holders is))).0.steady
 
   pub caller_asks_the_same : asked (call_decided c v.now (of_caller k x)) ≡ asked (call_decided c w.now (of_caller k x))
@@ -173,10 +145,8 @@ module _ (c : Config) (es more : List Event) (k : ℕ) (x : Step) (h : IsHistory
   pub caller_is_admitted : AreAdmitted c.globals (never_behind c (es ++ more))
       (asked (call_decided c v.now (of_caller k x)))
   caller_is_admitted =
-      subst (λ (ys : List Call). AreAdmitted c.globals (never_behind c (es ++ more)) ys) (sym caller_asks_the_same)
-      (call_on c.globals (never_behind c es) (never_behind c (es ++ more)) k (never_continues c es more)
-      (registers_are_left c es more k h others) here.all.mirrors.typed
-      f.op (answer_decided c w.now (of_caller k x)) admitted)
+      rw caller_asks_the_same (call_on c.globals (never_behind c es) _ k (never_continues c es more)
+      (registers_are_left c es more k h others) here.all.mirrors.typed f.op _ admitted)
 
   -- whether a `probe` decides
   pub caller_decides_the_same : x ≡ step.Probe
@@ -189,25 +159,20 @@ module _ (c : Config) (es more : List Event) (k : ℕ) (x : Step) (h : IsHistory
       ∙ ap (λ (b : Bool). is_some (if b then refused f answer.Fault else onward f None).answer) (probes_the_same is))
 
 pub still_admitted : (c : Config) (es more : List Event) (seat : Seat) (x : Step) → IsHistory c (es ++ more)
-    → AreOfOthers (seat ∷ []) more
-    → IsEnabled c (left c es).now (record { seat = seat; step = x })
+    → AreOfOthers (seat ∷ []) more → IsEnabled c (left c es).now (record { seat = seat; step = x })
     → AreAdmitted c.globals (never_behind c es)
     (asked (call_decided c (left c es).now (record { seat = seat; step = x })))
     → AreAdmitted c.globals (never_behind c (es ++ more))
     (asked (call_decided c (left c (es ++ more)).now (record { seat = seat; step = x })))
 still_admitted c es more (Caller k) x h others on admitted = caller_is_admitted c es more k x h others on admitted
-still_admitted c es more (Marker k) x h others on admitted = tt
-still_admitted c es more Host x h others on admitted = tt
+still_admitted c es more _ x h others on admitted = tt
 
 pub still_decides : (c : Config) (es more : List Event) (seat : Seat) (x : Step) → IsHistory c (es ++ more)
-    → AreOfOthers (seat ∷ []) more
-    → IsEnabled c (left c es).now (record { seat = seat; step = x })
+    → AreOfOthers (seat ∷ []) more → IsEnabled c (left c es).now (record { seat = seat; step = x })
     → AreAdmitted c.globals (never_behind c es)
-    (asked (call_decided c (left c es).now (record { seat = seat; step = x })))
-    → x ≡ step.Probe
+    (asked (call_decided c (left c es).now (record { seat = seat; step = x }))) → x ≡ step.Probe
     → is_some (answer_decided c (left c (es ++ more)).now (record { seat = seat; step = x }))
     ≡ is_some (answer_decided c (left c es).now (record { seat = seat; step = x }))
 still_decides c es more (Caller k) x h others on admitted is =
     caller_decides_the_same c es more k x h others on admitted is
-still_decides c es more (Marker k) x h others on admitted is = refl
-still_decides c es more Host x h others on admitted is = refl
+still_decides c es more _ x h others on admitted is = refl

@@ -1,26 +1,16 @@
 -- An event that is enabled after a list is enabled after what others did since.
-use Rattle.std.proofs.Common.{Bool, List, [], ap, arith, false, inl, inr, refl, subst, sym, true, ◌++◌, ◌+◌, ◌∙◌, ◌∷◌}
-use Rattle.std.proofs.Common.{◌≡◌, ◌≢◌}
+use Rattle.std.proofs.Common.{Bool, List, ap, arith, false, inl, inr, refl, subst, sym, true, ◌++◌, ◌+◌, ◌∙◌, ◌∷◌, ◌≡◌}
+use Rattle.std.proofs.Common.{[]}
+use Rattle.std.proofs.Common.{◌≢◌}
 use Rattle.std.specs.Prelude.{Option, if◌then◌else◌, ◌==◌}
 use Rattle.std.proofs.lemmas.Bool.{cases_Bool, eq-eqb, eqb-false, eqb-true, ltb-true, ne_eqb}
-use Rattle.mk_never.specs.declared.operations.Op.{Op}
-use Rattle.mk_core.specs.declared.config.Config.{Config}
-use Rattle.mk_core.specs.declared.events.Event.{Event}
-use Rattle.mk_core.specs.declared.events.Seat.{Seat}
-use Rattle.mk_core.specs.declared.events.Seat.TheVariants.{Caller, Host, Marker}
-use Rattle.mk_core.specs.declared.events.Step.{Step}
+use Rattle.mk_protocol.proofs.Vocabulary.{AreOfOthers, Caller, Config, Event, Flight, Host, IsEnabled, IsHistory}
+use Rattle.mk_protocol.proofs.Vocabulary.{IsLeft, Marker, MarkerState, MeetsAll, Moment, Op, Seat, Step, World}
+use Rattle.mk_protocol.proofs.Vocabulary.{caller_number, comes_next, flight_of, has_gates, has_phase, holder_may}
+use Rattle.mk_protocol.proofs.Vocabulary.{host_has_turn, is_in_range, left, marker_may, phase_of, reg_access}
+use Rattle.mk_protocol.proofs.Vocabulary.{register_met}
 use Rattle.mk_core.specs.declared.events.Step.TheVariants as step
-use Rattle.mk_core.specs.declared.seats.Flight.{Flight}
-use Rattle.mk_core.specs.declared.seats.Marker.{Marker as MarkerState}
-use Rattle.mk_core.specs.Accesses.{caller_number, reg_access, register_met}
-use Rattle.mk_core.specs.Enabled.{IsEnabled, MeetsAll, holder_may, marker_may}
-use Rattle.mk_core.specs.Frames.{IsLeft}
-use Rattle.mk_core.specs.Growing.{AreOfOthers}
-use Rattle.mk_core.specs.History.{IsHistory, World, left}
-use Rattle.mk_core.specs.Moments.{Moment, flight_of}
-use Rattle.mk_core.specs.Order.{comes_next, comes_next_to_host, host_has_turn, is_in_order}
-use Rattle.mk_core.specs.Ranges.{has_gates, has_phase, is_in_range}
-use Rattle.mk_core.specs.Words.{phase_of}
+use Rattle.mk_core.specs.Order.{comes_next_to_host, is_in_order}
 use Rattle.mk_core.proofs.Conditions.{enabled_meets, meets_enabled}
 use Rattle.mk_core.proofs.HistoryParts.{earlier_part_is_history}
 use Rattle.mk_protocol.proofs.Actors.{Meets}
@@ -38,8 +28,7 @@ use Rattle.mk_frames.proofs.WipedStill.{wiped_still}
 -- Nobody but the host takes the turn for the host.
 
 taken_turn : (c : Config) (m : Moment) (seat : Seat) (o : Option Op) → Meets c m seat (step.Take o) → seat ≢ Host
-    → m.words.turn ≢ 1 + c.callers
-    → (Behind c m seat (step.Take o)).words.turn ≢ 1 + c.callers
+    → m.words.turn ≢ 1 + c.callers → (Behind c m seat (step.Take o)).words.turn ≢ 1 + c.callers
 taken_turn c m (Caller k) o h ne out = by (m.words.turn == 0)
   where
     by : (b : Bool) → (if b then 1 + k else m.words.turn) ≢ 1 + c.callers
@@ -52,32 +41,26 @@ turn_after : (c : Config) (m : Moment) (seat : Seat) (x : Step) → Meets c m se
     → m.words.turn ≢ 1 + c.callers → (Behind c m seat x).words.turn ≢ 1 + c.callers
 turn_after c m seat (step.Take o) h ne out = taken_turn c m seat o h ne out
 turn_after c m seat step.Give h ne out = λ e. absurd (omega arith)
-turn_after c m seat step.Reg h ne out =
-    λ e. out (sym (reg_keeps m.words (caller_number seat) (register_met (flight_of m seat) (flight_of m seat).stage)
-    (reg_access (flight_of m seat) (flight_of m seat).stage)).turn ∙ e)
+turn_after c m seat step.Reg h ne out = λ e. out (sym (reg_keeps m.words (caller_number seat) _ _).turn ∙ e)
 turn_after c m seat (step.Tally n v) h ne out = λ e. out (sym (tally_keeps m.words n v).turn ∙ e)
 turn_after c m seat _ h ne out = out
 
 host_stays_out : (c : Config) (es more : List Event) → IsHistory c (es ++ more) → AreOfOthers (Host ∷ []) more
-    → (left c es).now.words.turn ≢ 1 + c.callers
-    → (left c (es ++ more)).now.words.turn ≢ 1 + c.callers
+    → (left c es).now.words.turn ≢ 1 + c.callers → (left c (es ++ more)).now.words.turn ≢ 1 + c.callers
 host_stays_out c es more h others =
     along_others c (Host ∷ []) (λ xs ys. (left c xs).now.words.turn ≢ 1 + c.callers
-    → (left c ys).now.words.turn ≢ 1 + c.callers)
-    (λ xs out. out) (λ xs ys zs f g out. g (f out))
+    → (left c ys).now.words.turn ≢ 1 + c.callers) (λ xs out. out) (λ xs ys zs f g out. g (f out))
     (λ xs e whole other out.
     let last = comes_last c xs e whole in
-    subst (λ (v : World). v.now.words.turn ≢ 1 + c.callers) (sym last.leaves) (turn_after c (left c xs).now e.seat
-    e.step last.meets (other_seat Host e.seat other) out))
-    es more h others
+    rw last.leaves (turn_after c (left c xs).now e.seat
+    e.step last.meets (other_seat Host e.seat other) out)) es more h others
 
 -- the order of steps
 order_on : (c : Config) (m n : Moment) (s : Seat) (x : Step) → flight_of n s ≡ flight_of m s
-    → (s ≡ Host → host_has_turn c n ≡ host_has_turn c m)
-    → is_in_order c m s x ≡ true → is_in_order c n s x ≡ true
+    → (s ≡ Host → host_has_turn c n ≡ host_has_turn c m) → is_in_order c m s x ≡ true → is_in_order c n s x ≡ true
 order_on c m n (Caller k) x flight host h = ap (λ (f : Flight). comes_next f.stage f.op x) flight ∙ h
 order_on c m n (Marker k) x flight host h = refl
-order_on c m n Host x flight host h = ap (λ b. comes_next_to_host b x) (host refl) ∙ h
+order_on c m n Host x flight host h = rw (host refl) h
 
 module _ (c : Config) (es more : List Event) (e : Event) (h : IsHistory c (es ++ more))
     (others : AreOfOthers (e.seat ∷ []) more) where
@@ -96,12 +79,11 @@ module _ (c : Config) (es more : List Event) (e : Event) (h : IsHistory c (es ++
   host_same : e.seat ≡ Host → host_has_turn c v.now ≡ host_has_turn c w.now
   host_same is = elim (cases_Bool (host_has_turn c w.now)) [
     | inl on ↦
-        let turn = subst (λ (s : Seat). IsLeft c s es (es ++ more)) is left_to in
+        let turn = rw is at left_to in
         eq-eqb v.now.words.turn (1 + c.callers) (turn.own.holding (eqb-true w.now.words.turn (1 + c.callers) on)).0
         ∙ sym on
     | inr off ↦
-        ne_eqb v.now.words.turn (1 + c.callers)
-        (host_stays_out c es more h (subst (λ (s : Seat). AreOfOthers (s ∷ []) more) is others)
+        ne_eqb v.now.words.turn (1 + c.callers) (host_stays_out c es more h (rw is at others)
         (eqb-false w.now.words.turn (1 + c.callers) off)) ∙ sym off
   ]
 
@@ -122,13 +104,12 @@ module _ (c : Config) (es more : List Event) (e : Event) (h : IsHistory c (es ++
       let finds = holder_finds c e.seat es more h others holds in
       let pages = pages_same c w v turn in
       record {
-        gates = ap (λ (f : Flight). has_gates c v.now.words e.seat f e.step) left_to.own.flight
-            ∙ gates_on c w v turn e.seat (flight_of w.now e.seat) e.step meets.gates;
-        phase = ap (λ n. has_phase n e.step) (phase_same c w v turn) ∙ meets.phase;
-        holder = ap (λ (f : Flight). holder_may c v.now f e.step) left_to.own.flight
-            ∙ holder_on c w v turn finds.holding e.seat (flight_of w.now e.seat) e.step meets.gates meets.phase
+        gates = rw left_to.own.flight (gates_on c w v turn e.seat (flight_of w.now e.seat) e.step meets.gates);
+        phase = rw (phase_same c w v turn) meets.phase;
+        holder = rw left_to.own.flight
+            (holder_on c w v turn finds.holding e.seat (flight_of w.now e.seat) e.step meets.gates meets.phase
             (λ all. left_to.stop (holds, all)) finds.gone
-            (λ p n four back. wiped_still c w v _ st.known st.all pages finds.outside p n four back) meets.holder;
+            (λ p n four back. wiped_still c w v _ st.known st.all pages finds.outside p n four back) meets.holder);
       }
 
   pub enabled_still : IsEnabled c w.now e → IsEnabled c v.now e
@@ -140,9 +121,9 @@ module _ (c : Config) (es more : List Event) (e : Event) (h : IsHistory c (es ++
         seat = meets.seat;
         kind = meets.kind;
         order = order_on c w.now v.now e.seat e.step left_to.own.flight host_same meets.order;
-        range = ap (λ (f : Flight). is_in_range c e.seat f e.step) left_to.own.flight ∙ meets.range;
+        range = rw left_to.own.flight meets.range;
         gates = still.gates;
         phase = still.phase;
-        marker = ap (λ (y : MarkerState). marker_may c y e.step) left_to.own.marker ∙ meets.marker;
+        marker = rw left_to.own.marker meets.marker;
         holder = still.holder;
       })

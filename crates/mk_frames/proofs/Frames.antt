@@ -1,12 +1,8 @@
 -- The frame law of histories: what the events of others leave where all calls are admitted.
-use Rattle.std.proofs.Common.{List, [], append_assoc, subst, sym, ◌++◌, ◌∷◌, ◌≡◌}
-use Rattle.mk_core.specs.declared.config.Config.{Config}
-use Rattle.mk_core.specs.declared.events.Event.{Event}
-use Rattle.mk_core.specs.declared.events.Seat.{Seat}
-use Rattle.mk_core.specs.Frames.{AdmittedOthersLeave, HeapIsLeft, IsInCall}
-use Rattle.mk_core.specs.Growing.{AreOfOthers}
-use Rattle.mk_core.specs.History.{IsHistory, World, left, never_behind}
-use Rattle.mk_core.specs.Readings.{Holds}
+use Rattle.std.proofs.Common.{List, append_assoc, subst, sym, ◌++◌, ◌∷◌, ◌≡◌, []}
+use Rattle.mk_protocol.proofs.Vocabulary.{AreOfOthers, Config, Event, Holds, IsHistory, IsInCall, Seat, World, left}
+use Rattle.mk_protocol.proofs.Vocabulary.{never_behind}
+use Rattle.mk_core.specs.Frames.{AdmittedOthersLeave, HeapIsLeft}
 use Rattle.mk_core.proofs.HistoryParts.{earlier_part_is_history}
 use Rattle.mk_guard.specs.Kept.{GuardPremisesFrom}
 use Rattle.mk_guard.proofs.OthersLeave.{others_leave_headers, others_leave_wells}
@@ -23,16 +19,15 @@ unfolding GuardPremisesFrom
 said_along c es [] h = tt
 said_along c es (e ∷ more) h =
     let split : es ++ e ∷ more ≡ (es ++ e ∷ []) ++ more = sym (append_assoc es (e ∷ []) more) in
-    let parts : IsHistory c ((es ++ e ∷ []) ++ more) = subst (λ (xs : List Event). IsHistory c xs) split h in
+    let parts : IsHistory c ((es ++ e ∷ []) ++ more) = rw split at h in
     let last = comes_last c es e (earlier_part_is_history c (es ++ e ∷ []) more parts) in
     let st = stands c es last.before in (
       told_to_guard c (left c es) (never_behind c es) st.known st.all,
-      subst (λ (w : World). GuardPremisesFrom c w more) last.leaves (said_along c (es ++ e ∷ []) more parts),
+      rw last.leaves at (said_along c (es ++ e ∷ []) more parts),
     )
 
 heap_is_left : (c : Config) (es more : List Event) (s : Seat) → IsHistory c (es ++ more) → AreOfOthers (s ∷ []) more
-    → Holds c (left c es).now s
-    → HeapIsLeft c (left c es) (left c (es ++ more))
+    → Holds c (left c es).now s → HeapIsLeft c (left c es) (left c (es ++ more))
 heap_is_left c es more s h others holds =
     record {
       outside = λ n none. (holder_finds c s es more h others holds).outside n (λ m. none m.number m.mapped m.word);
@@ -42,11 +37,9 @@ heap_is_left c es more s h others holds =
 pub admitted_others_leave : AdmittedOthersLeave
 admitted_others_leave c es more s h others =
     record {
-      registers = λ k r is lt. registers_are_left c es more k h
-          (subst (λ (x : Seat). AreOfOthers (x ∷ []) more) is others) r lt;
+      registers = λ k r is lt. registers_are_left c es more k h (rw is at others) r lt;
       in_call = λ k is call.
-          targets_are_left c es more k h (subst (λ (x : Seat). AreOfOthers (x ∷ []) more) is others)
-          (subst (λ (x : Seat). IsInCall (left c es).now x) is call);
+          targets_are_left c es more k h (rw is at others) (rw is at call);
       turn = heap_is_left c es more s h others;
       held = λ holds k r lt two. held_registers c s es more k h others holds two r lt;
       stop = never_stands_still c s es more h others;

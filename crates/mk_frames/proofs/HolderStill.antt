@@ -1,39 +1,26 @@
 -- What a step of the turn's holder asks of the words still holds, whatever others did since.
-use Rattle.std.proofs.Common.{Bool, List, ap, arith, refl, sym, true, ℕ, ◌+◌, ◌-◌, ◌/◌, ◌%◌, ◌^◌, ◌∙◌, ◌≡◌, ◌≢◌}
+use Rattle.std.proofs.Common.{Bool, List, ap, arith, refl, sym, true, ℕ, ◌+◌, ◌-◌, ◌/◌, ◌%◌, ◌^◌, ◌∙◌, ◌≡◌, ◌≢◌, inl}
+use Rattle.std.proofs.Common.{inr}
 use Rattle.std.specs.Prelude.{Option, if◌then◌else◌, not, slice_index, ◌&&◌, ◌||◌, ◌==◌, bit_and}
-use Rattle.std.proofs.Common.{inl, inr}
 use Rattle.std.proofs.lemmas.Bool.{and_parts, cases_Bool, eqb-true, or_left, or_right}
-use Rattle.mk_geom.specs.declared.addresses.Cell.{Cell}
-use Rattle.mk_geom.specs.declared.pages.Page.{Page}
-use Rattle.mk_geom.specs.declared.pages.Place.{Place}
-use Rattle.mk_geom.specs.Addresses.{address_of}
-use Rattle.mk_core.specs.declared.config.Config.{Config}
-use Rattle.mk_core.specs.declared.events.Step.{Step}
+use Rattle.mk_protocol.proofs.Vocabulary.{Cell, Config, Flight, Holding, Object, Page, Place, Seat, Steady, Step}
+use Rattle.mk_protocol.proofs.Vocabulary.{TurnIsLeft, Words, World, Written, address_of, all_below, carves, empties}
+use Rattle.mk_protocol.proofs.Vocabulary.{frees, gives_back, has_closed_page, has_gates, has_phase, head_page}
+use Rattle.mk_protocol.proofs.Vocabulary.{header_at, header_made, held_by_pages, holder_may, is_decided}
+use Rattle.mk_protocol.proofs.Vocabulary.{is_left_unmarked, is_marked_first, is_next_header, is_phase, is_released_cell}
+use Rattle.mk_protocol.proofs.Vocabulary.{is_run_gone, is_some_and, is_used_once, marks_place, may_answer_full, may_end}
+use Rattle.mk_protocol.proofs.Vocabulary.{may_turn_black, none_attends, object_made, others_are_held, pages_made}
+use Rattle.mk_protocol.proofs.Vocabulary.{phase_of, place_now, pointed_cell, quarantine_word, roots_point_well}
+use Rattle.mk_protocol.proofs.Vocabulary.{takes_cell, target, unmaps, used_at, without}
 use Rattle.mk_core.specs.declared.events.Step.TheVariants as step
-use Rattle.mk_core.specs.declared.seats.Flight.{Flight}
-use Rattle.mk_core.specs.declared.seats.Holding.{Holding}
-use Rattle.mk_core.specs.declared.seats.Object.{Object}
-use Rattle.mk_core.specs.Bits.{without}
-use Rattle.mk_core.specs.Bounded.{all_below, is_some_and}
-use Rattle.mk_core.specs.Cells.{are_left_unmarked, head_page, is_left_unmarked, is_released_cell, pointed_cell}
-use Rattle.mk_core.specs.Enabled.{holder_may}
-use Rattle.mk_core.specs.Frames.{Steady, TurnIsLeft, Written, written_of}
-use Rattle.mk_core.specs.History.{World}
+use Rattle.mk_core.specs.Cells.{are_left_unmarked}
+use Rattle.mk_core.specs.Frames.{written_of}
 use Rattle.mk_core.specs.MarkerConditions.{may_end_all}
-use Rattle.mk_core.specs.Moments.{is_phase, others_are_held}
-use Rattle.mk_core.specs.Ranges.{has_gates, has_phase}
-use Rattle.mk_core.specs.declared.events.Seat.{Seat}
-use Rattle.mk_core.specs.NewPlaces.{bits_made, header_made, is_next_header, is_run_gone, object_made, pages_made}
-use Rattle.mk_core.specs.NewPlaces.{target}
-use Rattle.mk_core.specs.StopConditions.{blackens, has_closed_page, marks_by_hand, marks_place, may_begin, may_black}
-use Rattle.mk_core.specs.StopConditions.{may_close, may_end, may_mark, may_turn_black, may_unblack, may_undirty}
-use Rattle.mk_core.specs.StopConditions.{none_attends, roots_point_well}
-use Rattle.mk_core.specs.TurnConditions.{are_wiped, carves, drops, empties, frees, gives_back, is_decided}
-use Rattle.mk_core.specs.TurnConditions.{may_answer_full}
-use Rattle.mk_core.specs.TurnConditions.{is_in_gone_run, is_marked_first, is_used_once, may_give, may_head}
-use Rattle.mk_core.specs.TurnConditions.{may_quarantine, may_use, may_wipe, place_now, takes_cell, takes_snapshot}
-use Rattle.mk_core.specs.TurnConditions.{unmaps, held_by_pages}
-use Rattle.mk_core.specs.Words.{Words, header_at, phase_of, quarantine_word, used_at}
+use Rattle.mk_core.specs.NewPlaces.{bits_made}
+use Rattle.mk_core.specs.StopConditions.{blackens, marks_by_hand, may_begin, may_black, may_close, may_mark}
+use Rattle.mk_core.specs.StopConditions.{may_unblack, may_undirty}
+use Rattle.mk_core.specs.TurnConditions.{are_wiped, drops, is_in_gone_run, may_give, may_head, may_quarantine, may_use}
+use Rattle.mk_core.specs.TurnConditions.{may_wipe, takes_snapshot}
 use Rattle.mk_protocol.proofs.Asked.{none_at}
 use Rattle.mk_frames.proofs.Tests.{and_on, if_on, none_from, or_on, some_on, without_on}
 use Rattle.mk_frames.proofs.GatesStill.{pages_same, phase_same}
@@ -52,7 +39,7 @@ module _ (c : Config) (w v : World) (kept : TurnIsLeft w v) (own : v.now.seats.h
   pages = pages_same c w v kept
 
   phase_is : (n : ℕ) → is_phase b n ≡ is_phase a n
-  phase_is n = ap (λ i. i == n) phase
+  phase_is n = rw phase
 
   -- Outside the phases of marking and closing no mark changes.
   quiet : (n : ℕ) → phase_of a ≡ n → n ≢ 1 → n ≢ 2 → (b.marks ≡ a.marks) × (b.blacks ≡ a.blacks)
@@ -63,39 +50,31 @@ module _ (c : Config) (w v : World) (kept : TurnIsLeft w v) (own : v.now.seats.h
 
   place_same : (f : Flight) → place_now c v.now f ≡ place_now c w.now f
   place_same f =
-      ap (λ (h : Holding). place_now c (record v.now { seats = record v.now.seats { holding = h } }) f) own
-      ∙ ap (λ (ps : List Page). place_now c (record w.now { words = record a { pages = ps } }) f) pages
+      rw own (rw pages)
 
   -- `head`
 
   next_on : (first count : ℕ) (wanted : ℕ → ℕ) (p n : ℕ) → is_next_header a first count wanted p n ≡ true
       → is_next_header b first count wanted p n ≡ true
-  next_on first count wanted p n h =
-      ap (λ (ps : List Page). is_next_header (record a { pages = ps }) first count wanted p n) pages ∙ h
+  next_on first count wanted p n h = rw pages h
 
   marked_on : (o : Object) (place : Place) → is_marked_first a o place ≡ true → is_marked_first b o place ≡ true
   marked_on o place h =
-      or_on (not (is_phase a 1)) (without (bits_made o) (slice_index a.marks place.page) == 0)
-      (not (is_phase b 1)) (without (bits_made o) (slice_index b.marks place.page) == 0)
-      (λ e. ap not (phase_is 1) ∙ e) (without_on (bits_made o) (slice_index a.marks place.page)
-      (slice_index b.marks place.page) (kept.marks_grow place.page)) h
+      or_on (not (is_phase a 1)) _ (not (is_phase b 1)) _ (λ e. ap not (phase_is 1) ∙ e) (without_on (bits_made o) _
+      _ (kept.marks_grow place.page)) h
 
   carves_on : (f : Flight) (p n : ℕ) → carves a (object_made c f.op) (place_now c w.now f) p n ≡ true
       → carves b (object_made c f.op) (place_now c v.now f) p n ≡ true
   carves_on f p n h =
       let o : Object = object_made c f.op in
-      ap (λ (x : Option Place). carves b o x p n) (place_same f)
-      ∙ some_on (λ (x : Place). is_next_header a x.page (pages_made o) (header_made o) p n && is_marked_first a o x)
+      rw (place_same f)
+      (some_on (λ (x : Place). is_next_header a x.page (pages_made o) (header_made o) p n && is_marked_first a o x)
       (λ (x : Place). is_next_header b x.page (pages_made o) (header_made o) p n
-      && is_marked_first b o x) (place_now c w.now f)
-      (λ x q. and_on (is_next_header a x.page (pages_made o) (header_made o) p n) (is_marked_first a o x)
-      (is_next_header b x.page (pages_made o) (header_made o) p n) (is_marked_first b o x)
-      (next_on x.page (pages_made o) (header_made o) p n) (marked_on o x) q) h
+      && is_marked_first b o x) (place_now c w.now f) (λ x q. and_on _ _ _ _
+      (next_on x.page (pages_made o) (header_made o) p n) (marked_on o x) q) h)
 
   unmaps_same : (p n : ℕ) → unmaps b v.now.seats.holding.freed p n ≡ unmaps a w.now.seats.holding.freed p n
-  unmaps_same p n =
-      ap (λ (h : Holding). unmaps b h.freed p n) own ∙ ap (λ (ps : List Page). unmaps (record a { pages = ps })
-      w.now.seats.holding.freed p n) pages
+  unmaps_same p n = rw own (rw pages)
 
   empties_same : (p n : ℕ) → empties b p n ≡ empties a p n
   empties_same p n =
@@ -125,13 +104,10 @@ module _ (c : Config) (w v : World) (kept : TurnIsLeft w v) (own : v.now.seats.h
       ap (λ (ms : List ℕ). gives_unmarked (record b { marks = ms }) p n) marks
       ∙ ap (λ (s : Steady). gives_unmarked (record a { pages = s.pages; snapshot = s.snapshot }) p n) kept.steady
 
-  takes_same : (f : Flight) (p n : ℕ)
-      → takes_cell b (object_made c f.op) (place_now c v.now f) p n
+  takes_same : (f : Flight) (p n : ℕ) → takes_cell b (object_made c f.op) (place_now c v.now f) p n
       ≡ takes_cell a (object_made c f.op) (place_now c w.now f) p n
   takes_same f p n =
-      ap (λ (x : Option Place). takes_cell b (object_made c f.op) x p n) (place_same f)
-      ∙ ap (λ (ps : List Page). takes_cell (record a { pages = ps }) (object_made c f.op)
-      (place_now c w.now f) p n) pages
+      rw (place_same f) (rw pages)
 
   used_on : (f : Flight) (p n : ℕ)
       → (is_phase a 4 ≡ true → gives_back a p n ≡ true → are_wiped b p (used_at b p - n) ≡ true)
@@ -139,16 +115,10 @@ module _ (c : Config) (w v : World) (kept : TurnIsLeft w v) (own : v.now.seats.h
   used_on f p n wiped h =
       let o : Object = object_made c f.op in
       let first : Bool = not (is_used_once w.now.seats.holding.placing) in
-      ap (λ i. if i == 4 then gives_back b p n else not (is_used_once v.now.seats.holding.placing) && takes_cell b o
-      (place_now c v.now f) p n) phase
-      ∙ if_on (is_phase a 4) (gives_back a p n) (first && takes_cell a o (place_now c w.now f) p n)
-      (gives_back b p n) (not (is_used_once v.now.seats.holding.placing) && takes_cell b o (place_now c v.now f) p n)
-      (λ four e. and_on (gives_unmarked a p n) (are_wiped a p (used_at a p - n)) (gives_unmarked b p n)
-      (are_wiped b p (used_at b p - n))
-      (λ u. unmarked_same p n (quiet_at_4 four) ∙ u) (λ u. wiped four e) e)
-      (λ off e. and_on first (takes_cell a o (place_now c w.now f) p n)
-      (not (is_used_once v.now.seats.holding.placing)) (takes_cell b o (place_now c v.now f) p n)
-      (λ u. ap (λ (x : Holding). not (is_used_once x.placing)) own ∙ u) (λ u. takes_same f p n ∙ u) e) h
+      rw phase (if_on (is_phase a 4) (gives_back a p n) _ (gives_back b p n) _
+      (λ four e. and_on (gives_unmarked a p n) _ (gives_unmarked b p n)
+      _ (λ u. unmarked_same p n (quiet_at_4 four) ∙ u) (λ u. wiped four e) e) (λ off e. and_on first _ _ _
+      (λ u. rw own u) (λ u. takes_same f p n ∙ u) e) h)
 
   -- `quar`
 
@@ -160,10 +130,8 @@ module _ (c : Config) (w v : World) (kept : TurnIsLeft w v) (own : v.now.seats.h
 
   frees_same : (f : Flight) (p n : ℕ) → frees b (target c.pages b f) p n ≡ frees a (target c.pages a f) p n
   frees_same f p n =
-      ap (λ (s : Steady).
-      frees (record a { pages = s.pages; freed = s.freed; snapshot = s.snapshot })
-      (target c.pages (record a { pages = s.pages; freed = s.freed; snapshot = s.snapshot }) f) p n)
-      kept.steady
+      ap (λ (s : Steady). frees (record a { pages = s.pages; freed = s.freed; snapshot = s.snapshot })
+      (target c.pages (record a { pages = s.pages; freed = s.freed; snapshot = s.snapshot }) f) p n) kept.steady
 
   snapshot_same : (p n : ℕ) → takes_snapshot b p n ≡ takes_snapshot a p n
   snapshot_same p n =
@@ -173,8 +141,7 @@ module _ (c : Config) (w v : World) (kept : TurnIsLeft w v) (own : v.now.seats.h
   quarantine_on : (f : Flight) (p n : ℕ) → may_quarantine c w.now f p n ≡ true → may_quarantine c v.now f p n ≡ true
   quarantine_on f p n h =
       ap (λ i. if i == 4 then drops b p (n % 2 ^ 32) (n / 2 ^ 32) else frees b (target c.pages b f) p n
-      || takes_snapshot b p n) phase
-      ∙ if_on (is_phase a 4) (drops a p (n % 2 ^ 32) (n / 2 ^ 32))
+      || takes_snapshot b p n) phase ∙ if_on (is_phase a 4) (drops a p (n % 2 ^ 32) (n / 2 ^ 32))
       (frees a (target c.pages a f) p n || takes_snapshot a p n)
       (drops b p (n % 2 ^ 32) (n / 2 ^ 32)) (frees b (target c.pages b f) p n || takes_snapshot b p n)
       (λ four e. drops_same p (n % 2 ^ 32) (n / 2 ^ 32) (quiet_at_4 four) ∙ e)
@@ -190,8 +157,7 @@ module _ (c : Config) (w v : World) (kept : TurnIsLeft w v) (own : v.now.seats.h
       ap (λ (x : Option Place). marks_by_hand c.pages b v.now.seats.holding.hand p n || marks_place b o x p n)
       (place_same f)
       ∙ ap (λ (h : Holding). marks_by_hand c.pages b h.hand p n || marks_place b o (place_now c w.now f) p n) own
-      ∙ ap (λ (s : Steady).
-      marks_by_hand c.pages (record a { pages = s.pages }) w.now.seats.holding.hand p n
+      ∙ ap (λ (s : Steady). marks_by_hand c.pages (record a { pages = s.pages }) w.now.seats.holding.hand p n
       || is_some_and (λ (x : Place). (s.phase == 1) && (p == x.page) && (header_at (record a { pages = s.pages })
       p == 0) && (n == bits_made o)) (place_now c w.now f)) kept.steady
 
@@ -204,38 +170,28 @@ module _ (c : Config) (w v : World) (kept : TurnIsLeft w v) (own : v.now.seats.h
 
   gone_run_same : (n : ℕ) → is_in_gone_run b v.now.seats.holding.freed n ≡ is_in_gone_run a w.now.seats.holding.freed n
   gone_run_same n =
-      ap (λ (h : Holding). is_in_gone_run b h.freed n) own
-      ∙ ap (λ (ps : List Page). is_in_gone_run (record a { pages = ps }) w.now.seats.holding.freed n) pages
+      rw own (rw pages)
 
   wipe_on : (n : ℕ) → may_wipe c w.now n ≡ true → may_wipe c v.now n ≡ true
   wipe_on n h =
-      or_on (is_some_and (is_released_cell a) (pointed_cell c.pages a.pages (address_of n)))
-      (is_in_gone_run a w.now.seats.holding.freed n)
-      (is_some_and (is_released_cell b) (pointed_cell c.pages b.pages (address_of n)))
-      (is_in_gone_run b v.now.seats.holding.freed n)
-      (λ e. ap (λ (ps : List Page). is_some_and (is_released_cell b) (pointed_cell c.pages ps (address_of n))) pages
-      ∙ some_on (is_released_cell a) (is_released_cell b) (pointed_cell c.pages a.pages (address_of n)) released_on e)
+      or_on _ _ _ _ (λ e. rw pages (some_on (is_released_cell a) (is_released_cell b) _ released_on e))
       (λ e. gone_run_same n ∙ e) h
 
   full_same : (f : Flight) → may_answer_full c.resident b.pages (object_made c f.op)
       v.now.seats.holding.placing v.now.seats.holding.cycle
       ≡ may_answer_full c.resident a.pages (object_made c f.op) w.now.seats.holding.placing w.now.seats.holding.cycle
   full_same f =
-      ap (λ (ps : List Page). may_answer_full c.resident ps (object_made c f.op) v.now.seats.holding.placing
-      v.now.seats.holding.cycle) pages
-      ∙ ap (λ (h : Holding). may_answer_full c.resident a.pages (object_made c f.op) h.placing h.cycle) own
+      rw pages (rw own)
 
   give_on : (f : Flight) → (is_run_gone a w.now.seats.holding.freed ≡ true
-      → is_run_gone b w.now.seats.holding.freed ≡ true)
-      → may_give w.now f ≡ true → may_give v.now f ≡ true
+      → is_run_gone b w.now.seats.holding.freed ≡ true) → may_give w.now f ≡ true → may_give v.now f ≡ true
   give_on f gone h =
       let run : Bool = is_run_gone a w.now.seats.holding.freed in
       let run' : Bool = is_run_gone b v.now.seats.holding.freed in
       and_on (is_decided f.stage && run && (a.held == held_by_pages a)) (a.fresh == w.now.fresh_words)
       (is_decided f.stage && run' && (b.held == held_by_pages b)) (b.fresh == v.now.fresh_words)
       (λ e. and_on (is_decided f.stage && run) (a.held == held_by_pages a) (is_decided f.stage
-      && run') (b.held == held_by_pages b)
-      (λ d. and_on (is_decided f.stage) run (is_decided f.stage) run' (λ u. u)
+      && run') (b.held == held_by_pages b) (λ d. and_on (is_decided f.stage) run (is_decided f.stage) run' (λ u. u)
       (λ u. ap (λ (x : Holding). is_run_gone b x.freed) own ∙ gone u) d)
       (λ u. ap (λ (s : Steady). s.held == held_by_pages (record a { pages = s.pages })) kept.steady ∙ u) e)
       (λ e. ap (λ (s : Steady). s.fresh == s.fresh_words) kept.steady ∙ e) h
@@ -275,13 +231,10 @@ module _ (c : Config) (w v : World) (kept : TurnIsLeft w v) (own : v.now.seats.h
       ap (λ (t : Bool). t && all_below c.pages (has_closed_page b) && roots_point_well c.pages b)
       (none_on two none ∙ sym none)
       ∙ ap (λ (ms : List ℕ). none_attends w.now.seats.markers && all_below c.pages (has_closed_page
-      (record b { marks = ms })) && roots_point_well c.pages (record b { marks = ms })) q.0
-      ∙ ap (λ (bs : List ℕ).
+      (record b { marks = ms })) && roots_point_well c.pages (record b { marks = ms })) q.0 ∙ ap (λ (bs : List ℕ).
       none_attends w.now.seats.markers && all_below c.pages
       (has_closed_page (record b { marks = a.marks; blacks = bs })) && roots_point_well c.pages
-      (record b { marks = a.marks })) q.1
-      ∙ ap (λ (x : Written).
-      none_attends w.now.seats.markers && all_below c.pages
+      (record b { marks = a.marks })) q.1 ∙ ap (λ (x : Written). none_attends w.now.seats.markers && all_below c.pages
       (has_closed_page (record b { marks = a.marks; blacks = a.blacks; dirty = x.dirty }))
       && roots_point_well c.pages (record b { marks = a.marks; registers = x.registers; globals = x.globals })) written
       ∙ ap (λ (ps : List Page). may_close c (record w.now { words = record a { pages = ps } })) pages ∙ h
@@ -313,12 +266,10 @@ module _ (c : Config) (w v : World) (kept : TurnIsLeft w v) (own : v.now.seats.h
         let q = stopped two none in
         or_right (not (is_phase b 2)) _
         (ap (λ (t : Bool). t && (slice_index b.blacks p == 0) && (slice_index b.blacks (head_page b p) == 0))
-        (none_on two none ∙ sym none)
-        ∙ ap (λ (bs : List ℕ). none_attends w.now.seats.markers && (slice_index bs p == 0)
+        (none_on two none ∙ sym none) ∙ ap (λ (bs : List ℕ). none_attends w.now.seats.markers && (slice_index bs p == 0)
         && (slice_index bs (head_page b p) == 0)) q.1
         ∙ ap (λ (ps : List Page). none_attends w.now.seats.markers && (slice_index a.blacks p == 0)
-        && (slice_index a.blacks (head_page (record a { pages = ps }) p) == 0)) pages
-        ∙ all)
+        && (slice_index a.blacks (head_page (record a { pages = ps }) p) == 0)) pages ∙ all)
   ]
 
   unblack_on : may_unblack w.now ≡ true → may_unblack v.now ≡ true

@@ -1,17 +1,9 @@
 -- Who steps: the turn's holder, or a seat whose step no gate, phase or word of the turn's is asked for.
 use Rattle.std.proofs.Common.{ap, false, refl, sym, true, ℕ, ◌∙◌, ◌≡◌}
-use Rattle.mk_core.specs.declared.config.Config.{Config}
+use Rattle.mk_protocol.proofs.Vocabulary.{Caller, Config, Flight, Holds, Marker, Moment, Seat, Step, flight_of}
+use Rattle.mk_protocol.proofs.Vocabulary.{group_of, has_gates, has_phase, holder_may, is_of_turn}
 use Rattle.mk_core.specs.declared.events.Group.TheVariants as group
-use Rattle.mk_core.specs.declared.events.Seat.{Seat}
-use Rattle.mk_core.specs.declared.events.Seat.TheVariants.{Caller, Host, Marker}
-use Rattle.mk_core.specs.declared.events.Step.{Step}
 use Rattle.mk_core.specs.declared.events.Step.TheVariants as step
-use Rattle.mk_core.specs.declared.seats.Flight.{Flight}
-use Rattle.mk_core.specs.Enabled.{holder_may}
-use Rattle.mk_core.specs.Moments.{Moment, flight_of}
-use Rattle.mk_core.specs.Order.{group_of, is_of_turn}
-use Rattle.mk_core.specs.Ranges.{has_gates, has_phase}
-use Rattle.mk_core.specs.Readings.{Holds}
 use Rattle.std.proofs.lemmas.Bool.{true≢false}
 use Rattle.mk_protocol.proofs.Actors.{Actor, AsHolder, AsMarker, CallTakes, HostTakes, InCallOf, is_holders}
 use Rattle.mk_protocol.proofs.Orderly.{Orderly}
@@ -24,11 +16,9 @@ pub holds_is : (c : Config) (m : Moment) (seat : Seat) → Orderly c (view_of m)
     → Holds c m seat
 holds_is c m (Caller k) o t = (
   t.0,
-  sym (in_turn_told (flight_of m (Caller k)).stage (flight_of m (Caller k)).op (not_astray c m o k t.0))
-      ∙ ap is_standing_under_turn t.1,
+  sym (in_turn_told _ _ (not_astray c m o k t.0)) ∙ ap is_standing_under_turn t.1,
 )
-holds_is c m (Marker k) o t = t
-holds_is c m Host o t = t
+holds_is c m _ o t = t
 
 -- A holder's kind of step is the holder's.
 
@@ -89,6 +79,5 @@ pub data Asks (c : Config) (m : Moment) (s : Seat) (x : Step) : Type 0 where
 pub asks : (c : Config) (m : Moment) (s : Seat) (x : Step) → Actor c m s x → Asks c m s x
 asks c m s x (InCallOf k _ lt g) = OfNone (λ n f phase. call_asks_nothing c n (Caller k) f phase x g)
 asks c m s x (AsMarker k _ lt g) = OfNone (λ n f phase. marker_asks_nothing c n (Marker k) f phase x g)
-asks c m s x (CallTakes k o lt idle is) = OfNone (λ n f phase. record { gates = refl; phase = refl; holder = refl })
-asks c m s x (HostTakes free) = OfNone (λ n f phase. record { gates = refl; phase = refl; holder = refl })
 asks c m s x (AsHolder _ _ t n) = OfHolder t
+asks c m s x _ = OfNone (λ n f phase. record { gates = refl; phase = refl; holder = refl })

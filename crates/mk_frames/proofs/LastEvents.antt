@@ -1,13 +1,8 @@
 -- What is known of the last event of a history, and of what it leaves.
-use Rattle.std.proofs.Common.{List, [], append-nil, ap, subst, sym, ◌++◌, ◌∙◌, ◌∷◌, ◌≡◌}
-use Rattle.mk_never.specs.Admitted.{AreAdmitted}
-use Rattle.mk_never.specs.NeverHeap.{Call, after_calls}
-use Rattle.mk_core.specs.declared.config.Config.{Config}
-use Rattle.mk_core.specs.declared.events.Event.{Event}
-use Rattle.mk_core.specs.Decided.{Decided, asked}
-use Rattle.mk_core.specs.Enabled.{IsEnabled, MeetsAll}
-use Rattle.mk_core.specs.History.{AreEnabledFrom, IsHistory, call_decided, calls_from, left, left_from, never_behind}
-use Rattle.mk_core.specs.History.{world_behind}
+use Rattle.std.proofs.Common.{List, append-nil, ap, subst, sym, ◌++◌, ◌∙◌, ◌∷◌, ◌≡◌, []}
+use Rattle.mk_protocol.proofs.Vocabulary.{AreAdmitted, AreEnabledFrom, Call, Config, Decided, Event, IsEnabled}
+use Rattle.mk_protocol.proofs.Vocabulary.{IsHistory, MeetsAll, after_calls, asked, call_decided, calls_from, left}
+use Rattle.mk_protocol.proofs.Vocabulary.{left_from, never_behind, world_behind}
 use Rattle.mk_core.proofs.Conditions.{enabled_meets}
 use Rattle.mk_core.proofs.HistoryParts.{admitted_in_parts, earlier_part_is_history, enabled_in_parts, left_in_parts}
 use Rattle.mk_core.proofs.HistoryParts.{never_in_parts}
@@ -36,17 +31,15 @@ pub comes_last : (c : Config) (es : List Event) (e : Event) → IsHistory c (es 
 unfolding left_from AreEnabledFrom calls_from
 comes_last c es e h =
     let xs : List Decided = call_decided c (left c es).now e ++ [] in
-    let one : asked xs ≡ asked (call_decided c (left c es).now e) =
-    ap (λ (ys : List Decided). asked ys) (append-nil (call_decided c (left c es).now e)) in
+    let one : asked xs ≡ asked (call_decided c (left c es).now e) = rw (append-nil _) in
     let on = ((enabled_in_parts c es (e ∷ [])).0 h.enabled).1.0 in
     record {
       before = earlier_part_is_history c es (e ∷ []) h;
       on = on;
       meets = enabled_meets c (left c es).now e on;
-      admitted = subst (λ (ys : List Call). AreAdmitted c.globals (never_behind c es) ys) one
-          ((admitted_in_parts c es (e ∷ [])).0 h.admitted).1;
+      admitted = rw one at ((admitted_in_parts c es (e ∷ [])).0 h.admitted).1;
       leaves = left_in_parts c es (e ∷ []);
-      never = never_in_parts c es (e ∷ []) ∙ ap (λ (ys : List Call). after_calls (never_behind c es) ys) one;
+      never = never_in_parts c es (e ∷ []) ∙ rw one;
     }
 
 -- And the other way: a history goes on by an event that is enabled and admitted.
@@ -55,10 +48,9 @@ pub goes_on_by : (c : Config) (es : List Event) (e : Event) → IsHistory c es �
 unfolding left_from AreEnabledFrom calls_from
 goes_on_by c es e h on admitted =
     let one : asked (call_decided c (left c es).now e ++ []) ≡ asked (call_decided c (left c es).now e) =
-    ap (λ (ys : List Decided). asked ys) (append-nil (call_decided c (left c es).now e)) in
+    rw (append-nil _) in
     record {
       within_limits = h.within_limits;
       enabled = (enabled_in_parts c es (e ∷ [])).1 (h.enabled, (on, tt));
-      admitted = (admitted_in_parts c es (e ∷ [])).1
-          (h.admitted, subst (λ (ys : List Call). AreAdmitted c.globals (never_behind c es) ys) (sym one) admitted);
+      admitted = (admitted_in_parts c es (e ∷ [])).1 (h.admitted, rw one admitted);
     }

@@ -1,11 +1,7 @@
 -- The law on longer lists.
-use Rattle.std.proofs.Common.{List, [], ap, refl, ◌++◌, ◌∷◌, ◌≡◌}
-use Rattle.mk_core.specs.declared.config.Config.{Config}
-use Rattle.mk_core.specs.declared.events.Event.{Event}
+use Rattle.std.proofs.Common.{List, ap, refl, ◌++◌, ◌∷◌, ◌≡◌, []}
+use Rattle.mk_protocol.proofs.Vocabulary.{AreOfOthers, Config, Event, IsHistory, IsTidy, TalliesAreTidy, left}
 use Rattle.mk_core.specs.declared.events.Step.TheVariants as step
-use Rattle.mk_core.specs.Counts.{IsTidy, TalliesAreTidy}
-use Rattle.mk_core.specs.Growing.{AreOfOthers}
-use Rattle.mk_core.specs.History.{IsHistory, left}
 use Rattle.mk_core.specs.LongerLists.{LongerListsGoOn}
 use Rattle.mk_protocol.proofs.Actors.{is_holders}
 use Rattle.mk_protocol.proofs.OrderlyLists.{actor_of}
@@ -18,8 +14,7 @@ use Rattle.mk_frames.proofs.TidyStill.{tallies_on, tidy_by_last}
 
 -- A `give` finds the tallies as its seat has found them.
 give_finds : (c : Config) (es more : List Event) (e : Event) → IsHistory c (es ++ e ∷ []) → IsHistory c (es ++ more)
-    → AreOfOthers (e.seat ∷ []) more
-    → IsTidy c (es ++ e ∷ []) → e.step ≡ step.Give → TalliesAreTidy c (es ++ more)
+    → AreOfOthers (e.seat ∷ []) more → IsTidy c (es ++ e ∷ []) → e.step ≡ step.Give → TalliesAreTidy c (es ++ more)
 give_finds c es more e one h others tidy give =
     let last = comes_last c es e one in
     let orderly = (stands c es last.before).known.now.orderly in

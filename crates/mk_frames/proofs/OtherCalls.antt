@@ -1,39 +1,23 @@
 -- The calls that events of others decide: none is a seat's own, so they leave its registers in the heap that never
 -- reuses storage.
-use Rattle.std.proofs.Common.{List, [], ap, subst, sym, ℕ, ◌++◌, ◌∷◌, ◌≢◌}
-use Rattle.std.specs.Prelude.{None, Option, Some}
+use Rattle.std.proofs.Common.{List, ap, subst, sym, ℕ, ◌++◌, ◌∷◌, ◌≢◌, []}
 use Rattle.std.proofs.lemmas.List.{map-append}
-use Rattle.mk_never.specs.declared.operations.Op.{Op}
-use Rattle.mk_never.specs.Laws.{AreNotBy, Continues, KeepsRegisters}
-use Rattle.mk_never.specs.NeverHeap.{Call, NeverState}
+use Rattle.mk_protocol.proofs.Vocabulary.{AreOfOthers, Call, Caller, Config, Continues, Decided, Event, IsHistory}
+use Rattle.mk_protocol.proofs.Vocabulary.{KeepsRegisters, NeverState, Seat, Step, World, answer_decided, asked}
+use Rattle.mk_protocol.proofs.Vocabulary.{call_decided, calls_from, flight_of, left, never_behind, world_behind}
+use Rattle.mk_never.specs.Laws.{AreNotBy}
 use Rattle.mk_never.proofs.Later.{calls_stay}
 use Rattle.mk_never.proofs.Registers.{admitted_keep}
-use Rattle.mk_core.specs.declared.config.Config.{Config}
-use Rattle.mk_core.specs.declared.events.Answer.{Answer}
-use Rattle.mk_core.specs.declared.events.Event.{Event}
-use Rattle.mk_core.specs.declared.events.Seat.{Seat}
-use Rattle.mk_core.specs.declared.events.Seat.TheVariants.{Caller, Host, Marker}
-use Rattle.mk_core.specs.declared.events.Step.{Step}
-use Rattle.mk_core.specs.Decided.{Decided, asked, entry_of}
-use Rattle.mk_core.specs.Effects.{answer_decided}
-use Rattle.mk_core.specs.Growing.{AreOfOthers}
-use Rattle.mk_core.specs.History.{IsHistory, World, call_decided, calls_from, left, never_behind, world_behind}
-use Rattle.mk_core.specs.Moments.{flight_of}
 use Rattle.mk_core.proofs.HistoryParts.{admitted_in_parts, never_in_parts}
 use Rattle.mk_protocol.proofs.Frames.{other_seat}
-
-entry_not_by : (j k : ℕ) (o : Op) (a : Option Answer) → j ≢ k → AreNotBy k (asked (entry_of j o a))
-entry_not_by j k o (Some a) ne = (ne, tt)
-entry_not_by j k o None ne = tt
+use Rattle.mk_images.proofs.FreedRuns.{not_by}
 
 -- one event of another seat
 pub call_not_by : (c : Config) (w : World) (seat : Seat) (x : Step) (k : ℕ) → seat ≢ Caller k
     → AreNotBy k (asked (call_decided c w.now (record { seat = seat; step = x })))
 call_not_by c w (Caller j) x k ne =
-    entry_not_by j k (flight_of w.now (Caller j)).op (answer_decided c w.now (record { seat = Caller j; step = x }))
-    (λ e. ne (ap (λ i. Caller i) e))
-call_not_by c w (Marker j) x k ne = tt
-call_not_by c w Host x k ne = tt
+    not_by j k _ (answer_decided c w.now (record { seat = Caller j; step = x })) (λ e. ne (rw e))
+call_not_by c w _ x k ne = tt
 
 both_not_by : (k : ℕ) (xs ys : List Call) → AreNotBy k xs → AreNotBy k ys → AreNotBy k (xs ++ ys)
 both_not_by k [] ys a b = b
@@ -53,15 +37,12 @@ calls_not_by c w (e ∷ es) k others =
 
 -- many
 pub registers_are_left : (c : Config) (es more : List Event) (k : ℕ) → IsHistory c (es ++ more)
-    → AreOfOthers (Caller k ∷ []) more
-    → KeepsRegisters k (never_behind c es) (never_behind c (es ++ more))
+    → AreOfOthers (Caller k ∷ []) more → KeepsRegisters k (never_behind c es) (never_behind c (es ++ more))
 registers_are_left c es more k h others =
-    subst (λ (m : NeverState). KeepsRegisters k (never_behind c es) m) (sym (never_in_parts c es more))
-    (admitted_keep c.globals (never_behind c es) k (asked (calls_from c (left c es) more))
+    rw (never_in_parts c es more) (admitted_keep c.globals (never_behind c es) k _
     ((admitted_in_parts c es more).0 h.admitted).1 (calls_not_by c (left c es) more k others))
 
 -- What was granted stays, whoever calls.
 pub never_continues : (c : Config) (es more : List Event) → Continues (never_behind c es) (never_behind c (es ++ more))
 never_continues c es more =
-    subst (λ (m : NeverState). Continues (never_behind c es) m) (sym (never_in_parts c es more))
-    (calls_stay (never_behind c es) (asked (calls_from c (left c es) more)))
+    rw (never_in_parts c es more) (calls_stay (never_behind c es) (asked (calls_from c (left c es) more)))

@@ -3,28 +3,12 @@ use Rattle.std.proofs.Common.{Bool, ap, arith, false, inl, inr, length, refl, su
 use Rattle.std.proofs.Common.{◌≡◌}
 use Rattle.std.specs.Prelude.{if◌then◌else◌, nat_lt}
 use Rattle.std.proofs.lemmas.Bool.{and_from, and_parts, cases_Bool, true≢false}
-use Rattle.mk_never.specs.declared.operations.Op.{Op}
-use Rattle.mk_never.specs.declared.operations.Op.TheVariants as op
-use Rattle.mk_never.specs.declared.types.Kind.{Kind}
-use Rattle.mk_never.specs.declared.values.Target.TheVariants.{Unmapped, WordOf}
-use Rattle.mk_never.specs.declared.values.Value.{Value}
-use Rattle.mk_never.specs.declared.values.Value.TheVariants.{Null, Num, Ptr}
-use Rattle.mk_never.specs.Admitted.{AccessIsAdmitted, IsAdmitted, IsNumber, IsPointer, Meets}
-use Rattle.mk_never.specs.Laws.{Continues}
-use Rattle.mk_never.specs.NeverHeap.{NeverState, allocation_at, is_unmapped, register_at, target_of, words_of}
-use Rattle.mk_never.specs.Types.{is_large}
-use Rattle.mk_never.specs.Typed.{IsSound}
-use Rattle.mk_core.specs.declared.config.Config.{Config}
-use Rattle.mk_core.specs.declared.events.Seat.TheVariants.{Caller}
-use Rattle.mk_core.specs.declared.seats.Flight.{Flight}
-use Rattle.mk_core.specs.declared.seats.Stage.{Stage}
+use Rattle.mk_protocol.proofs.Vocabulary.{AccessIsAdmitted, Caller, Config, Continues, Flight, IsAdmitted, IsSound}
+use Rattle.mk_protocol.proofs.Vocabulary.{Meets, NeverState, Op, Ptr, Stage, Unmapped, Value, WordOf, World}
+use Rattle.mk_protocol.proofs.Vocabulary.{allocation_at, bases_of, flight_of, header_at, header_in, i_of, is_large}
+use Rattle.mk_protocol.proofs.Vocabulary.{is_run_gone, is_unmapped, is_unmapped_header, page_met, q_of, register_at}
+use Rattle.mk_protocol.proofs.Vocabulary.{target_of, words_of}
 use Rattle.mk_core.specs.declared.seats.Stage.TheVariants as stage
-use Rattle.mk_core.specs.Calls.{i_of, page_met, q_of}
-use Rattle.mk_core.specs.Cells.{header_in, is_unmapped_header}
-use Rattle.mk_core.specs.History.{World, bases_of}
-use Rattle.mk_core.specs.Moments.{flight_of}
-use Rattle.mk_core.specs.NewPlaces.{is_run_gone}
-use Rattle.mk_core.specs.Words.{header_at}
 use Rattle.mk_protocol.proofs.Orderly.{shows_at}
 use Rattle.mk_protocol.proofs.OrderlyLists.{not_astray}
 use Rattle.mk_protocol.proofs.Stages.{calls_stand, is_call_stage}
@@ -41,29 +25,19 @@ use Rattle.mk_images.proofs.RegMoves.{flight}
 use Rattle.mk_images.proofs.Stands.{Stands, gone_shows, stands_of}
 use Rattle.mk_invariant.specs.Invariant.{Invariant}
 use Rattle.mk_invariant.proofs.Joined.{told_to_images}
+use Rattle.mk_images.proofs.CallMoves.{access_meets, at_probe}
 
 -- the access of an operation with a `probe`
-meets_some : (n : NeverState) (v : Value) (i : ℕ) (P : Kind → Type 0) → Meets n v i P → Meets n v i (λ kind. Unit {0})
-meets_some n Null i P h = tt
-meets_some n (Num m) i P h = tt
-meets_some n (Ptr a t o) i P h = (h.0, tt)
-
 probe_meets : (n : NeverState) (k : ℕ) (o : Op) → is_astray (standing_at stage.Probe o) ≡ false → AccessIsAdmitted n k o
     → Meets n (register_at n k (q_of o)) (i_of o) (λ kind. Unit {0})
-probe_meets n k (op.GetNum q i) a h = meets_some n (register_at n k q) i IsNumber h
-probe_meets n k (op.SetNum q i m) a h = meets_some n (register_at n k q) i IsNumber h
-probe_meets n k (op.GetPtr d q i) a h = meets_some n (register_at n k q) i IsPointer h
-probe_meets n k (op.SetPtr q i p) a h = meets_some n (register_at n k q) i IsPointer h
-probe_meets n k (op.CasPtr q i p r) a h = meets_some n (register_at n k q) i IsPointer h
-probe_meets n k _ a h = cc
+probe_meets n k o a h = access_meets n k o (at_probe o a).access h
 
 -- An allocation that is unmapped stays so.
 unmapped_on : (n m : NeverState) (a : ℕ) → Continues n m → a < length n.allocations
     → is_unmapped (allocation_at n a) ≡ true → is_unmapped (allocation_at m a) ≡ true
 unmapped_on n m a on lt u =
-    let parts = and_parts (allocation_at n a).freed (is_large (words_of n a)) u in
-    and_from (allocation_at m a).freed (is_large (words_of m a)) (on.freed a parts.0)
-    (ap (λ count. nat_lt 32 count) (on.size a lt) ∙ parts.1)
+    let parts = and_parts _ (is_large (words_of n a)) u in
+    and_from _ (is_large (words_of m a)) (on.freed a parts.0) (rw (on.size a lt) parts.1)
 
 target_unmapped : (n : NeverState) (a t o i : ℕ) → target_of n (Ptr a t o) i ≡ Unmapped
     → is_unmapped (allocation_at n a) ≡ true
@@ -75,11 +49,10 @@ target_unmapped n a t o i is = by (is_unmapped (allocation_at n a)) is
 
 clash : (n m : NeverState) (v : Value) (i : ℕ) → Continues n m → IsSound n v → Meets n v i (λ kind. Unit {0})
     → target_of n v i ≡ Unmapped → IsMet m v i → ⊥
-clash n m Null i on sound meets is met = cc
-clash n m (Num x) i on sound meets is met = cc
 clash n m (Ptr a t o) i on sound meets is met =
     true≢false (sym (unmapped_on n m a on sound.0 (target_unmapped n a t o i is))
-    ∙ met (subst (λ count. o + i < count) (sym (on.size a sound.0)) meets.0))
+    ∙ met (rw (on.size a sound.0) meets.0))
+clash n m _ i on sound meets is met = cc
 
 module _ (c : Config) (w : World) (n : NeverState) (known : KnownWorld c w) (all : Invariant c w n) where
   others : ImagePremises c w
@@ -120,9 +93,9 @@ module _ (c : Config) (w : World) (n : NeverState) (known : KnownWorld c w) (all
       → target_of n (register_at n k (q_of o)) (i_of o) ≡ Unmapped
   finds_unmapped k o q p r l lt is in_call meets u =
       let car : CarriesOwn (bases_of w.allocations) n k (flight stage.Probe o q p r l) =
-      subst (λ (f : Flight). CarriesOwn (bases_of w.allocations) n k f) is (all.mirrors.images.carried k) in
+      rw is at (all.mirrors.images.carried k) in
       unmapped_target c.globals all.mirrors.safe.0 (image_scene_of w) n ready (header_at w.now.words)
-      (pages_tell k lt in_call) (register_at n k (q_of o)) q (i_of o) (λ kind. Unit {0})
+      (pages_tell k lt in_call) _ q (i_of o) (λ kind. Unit {0})
       (car.q refl) (car.some_q refl) (own_sound k (q_of o)) (all.mirrors.safe.1.registers (8 * k + q_of o)) meets u
 
   -- and what it finds mapped isn't.
@@ -132,10 +105,9 @@ module _ (c : Config) (w : World) (n : NeverState) (known : KnownWorld c w) (all
       → IsMet n (register_at n k (q_of o)) (i_of o)
   finds_mapped k o q p r l lt is in_call u =
       let car : CarriesOwn (bases_of w.allocations) n k (flight stage.Probe o q p r l) =
-      subst (λ (f : Flight). CarriesOwn (bases_of w.allocations) n k f) is (all.mirrors.images.carried k) in
+      rw is at (all.mirrors.images.carried k) in
       mapped_met c.globals all.mirrors.safe.0 (image_scene_of w) n ready (header_at w.now.words)
-      (pages_tell k lt in_call)
-      (register_at n k (q_of o)) q (i_of o)
+      (pages_tell k lt in_call) _ q (i_of o)
       (car.q refl) (car.some_q refl) (own_sound k (q_of o)) (all.mirrors.safe.1.registers (8 * k + q_of o)) u
 
 pub probe_still : (c : Config) (w v : World) (n m : NeverState) (kw : KnownWorld c w) (kv : KnownWorld c v)
@@ -143,8 +115,7 @@ pub probe_still : (c : Config) (w v : World) (n m : NeverState) (kw : KnownWorld
     → k < c.callers → flight_of v.now (Caller k) ≡ flight_of w.now (Caller k)
     → (flight_of w.now (Caller k)).stage ≡ stage.Probe
     → Continues n m → register_at m k (q_of (flight_of w.now (Caller k)).op)
-    ≡ register_at n k (q_of (flight_of w.now (Caller k)).op)
-    → IsAdmitted c.globals n k (flight_of w.now (Caller k)).op
+    ≡ register_at n k (q_of (flight_of w.now (Caller k)).op) → IsAdmitted c.globals n k (flight_of w.now (Caller k)).op
     → is_unmapped_header (header_in w.now.words (page_met (flight_of w.now (Caller k)))) ≡ true
     → is_unmapped_header (header_in v.now.words (page_met (flight_of w.now (Caller k)))) ≡ true
 probe_still c w v n m kw kv aw av k lt same at on own admitted u =
@@ -153,10 +124,8 @@ probe_still c w v n m kw kv aw av k lt same at on own admitted u =
       | inr mapped ↦
           let met = finds_mapped c v m kv av k f.op f.q f.p f.r f.loaded lt (same ∙ lit)
           (ap standing same ∙ in_call) mapped in
-          absurd (clash n m (register_at n k (q_of f.op)) (i_of f.op) on
-          (aw.mirrors.typed.registers (8 * k + q_of f.op)) meets
-          (finds_unmapped c w n kw aw k f.op f.q f.p f.r f.loaded lt lit in_call meets u)
-          (subst (λ (x : Value). IsMet m x (i_of f.op)) own met))
+          absurd (clash n m _ (i_of f.op) on (aw.mirrors.typed.registers (8 * k + q_of f.op)) meets
+          (finds_unmapped c w n kw aw k f.op f.q f.p f.r f.loaded lt lit in_call meets u) (rw own at met))
     ]
   where
     f : Flight

@@ -1,24 +1,13 @@
 -- What others leave to the turn's holder of the heap's words: those that lie in no mapped allocation, and the run that
 -- it has unmapped and wiped.
-use Rattle.std.proofs.Common.{Bool, List, [], ap, false, inl, inr, refl, subst, sym, true, ℕ, ◌++◌, ◌∙◌, ◌∷◌, ◌≡◌}
+use Rattle.std.proofs.Common.{Bool, List, ap, false, inl, inr, refl, subst, sym, true, ℕ, ◌++◌, ◌∙◌, ◌∷◌, ◌≡◌, []}
 use Rattle.std.proofs.lemmas.Bool.{cases_Bool}
 use Rattle.std.specs.Prelude.{None, Option, Some, slice_index}
 use Rattle.std.proofs.lemmas.List.{get_or-set_other}
-use Rattle.mk_core.specs.declared.config.Config.{Config}
-use Rattle.mk_core.specs.declared.events.Event.{Event}
-use Rattle.mk_core.specs.declared.events.Seat.{Seat}
-use Rattle.mk_core.specs.declared.events.Step.{Step}
+use Rattle.mk_protocol.proofs.Vocabulary.{AreOfOthers, Config, Event, Holding, Holds, IsHistory, PlacedAllocation}
+use Rattle.mk_protocol.proofs.Vocabulary.{RunPages, Seat, Steady, Step, World, flight_of, is_one_of, is_run_gone, left}
+use Rattle.mk_protocol.proofs.Vocabulary.{word_met}
 use Rattle.mk_core.specs.declared.events.Step.TheVariants as step
-use Rattle.mk_core.specs.declared.seats.Holding.{Holding}
-use Rattle.mk_core.specs.declared.seats.RunPages.{RunPages}
-use Rattle.mk_core.specs.Allocations.{PlacedAllocation}
-use Rattle.mk_core.specs.Calls.{word_met}
-use Rattle.mk_core.specs.Frames.{Steady}
-use Rattle.mk_core.specs.Growing.{AreOfOthers, is_one_of}
-use Rattle.mk_core.specs.History.{IsHistory, World, left}
-use Rattle.mk_core.specs.Moments.{flight_of}
-use Rattle.mk_core.specs.NewPlaces.{is_run_gone}
-use Rattle.mk_core.specs.Readings.{Holds}
 use Rattle.mk_protocol.proofs.Actors.{Meets, is_holders}
 use Rattle.mk_protocol.proofs.Frames.{left_after, other_seat}
 use Rattle.mk_protocol.proofs.Known.{holds_turn}
@@ -55,11 +44,9 @@ heap_after c w seat step.Reg no_wipe stored n none = ap (λ (t : Table). slice_i
 heap_after c w seat (step.Tally t v) no_wipe stored n none =
     ap (λ (t : Table). slice_index t.heap n) (tally_table w.now.words t v)
 heap_after c w seat step.Write no_wipe stored n none =
-    get_or-set_other w.now.words.heap (word_met (flight_of w.now seat)) n _ 0
-    (λ e. none (subst (λ i. IsMappedWord c w.allocations i) (sym e) (stored refl)))
+    get_or-set_other w.now.words.heap _ n _ 0 (λ e. none (rw e (stored refl)))
 heap_after c w seat step.Cas no_wipe stored n none =
-    get_or-set_other w.now.words.heap (word_met (flight_of w.now seat)) n _ 0
-    (λ e. none (subst (λ i. IsMappedWord c w.allocations i) (sym e) (stored refl)))
+    get_or-set_other w.now.words.heap _ n _ 0 (λ e. none (rw e (stored refl)))
 heap_after c w seat (step.Wipe i) no_wipe stored n none = cc
 heap_after c w seat _ no_wipe stored n none = refl
 
@@ -93,11 +80,8 @@ finds_joined c s w u v x y holds =
       holds = b.holds;
       holding = b.holding ∙ a.holding;
       allocations = b.allocations ∙ a.allocations;
-      gone = λ e. subst (λ (r : Option RunPages). is_run_gone v.now.words r ≡ true)
-          (ap (λ (h : Holding). h.freed) a.holding)
-          (b.gone (ap (λ (h : Holding). is_run_gone u.now.words h.freed) a.holding ∙ a.gone e));
-      outside = λ n none. b.outside n
-          (λ m. none (subst (λ (xs : List PlacedAllocation). IsMappedWord c xs n) a.allocations m)) ∙ a.outside n none;
+      gone = λ e. rw (ap (λ (h : Holding). h.freed) a.holding) at (b.gone (rw a.holding (a.gone e)));
+      outside = λ n none. b.outside n (λ m. none (rw a.allocations at m)) ∙ a.outside n none;
     }
 
 finds_one : (c : Config) (s : Seat) (es : List Event) (e : Event) → IsHistory c (es ++ e ∷ [])
@@ -118,8 +102,7 @@ finds_one c s es e h other holds =
       | inl e' ↦ absurd (out (acts_as_holder c w.now e.seat e.step (actor_of c w.now e.seat e.step st.known.now.orderly
           last.meets) (wipe_is_holders e.step e')))
     ] in
-    subst (λ (v : World). HolderFinds c s w v) (sym last.leaves)
-    (record {
+    rw last.leaves (record {
       holds = (own.own.holding holds).0;
       holding = (own.own.holding holds).1;
       allocations = ap (λ (y : Steady). y.allocations) turn.steady;
@@ -128,8 +111,7 @@ finds_one c s es e h other holds =
     })
 
 pub holder_finds : (c : Config) (s : Seat) (es more : List Event) → IsHistory c (es ++ more) → AreOfOthers (s ∷ []) more
-    → Holds c (left c es).now s
-    → HolderFinds c s (left c es) (left c (es ++ more))
+    → Holds c (left c es).now s → HolderFinds c s (left c es) (left c (es ++ more))
 holder_finds c s es more h others =
     along_others c (s ∷ []) (Finds c s)
     (λ xs holds. record { holds = holds; holding = refl; allocations = refl; gone = λ e. e; outside = λ n none. refl })

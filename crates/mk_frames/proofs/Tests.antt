@@ -1,13 +1,10 @@
 -- Tests that still hold where their parts do.
-use Rattle.std.proofs.Common.{Bool, List, [], ◌∷◌, ap, arith, false, inl, inr, refl, suc, sym, true, zero, ℕ, ◌<◌, ◌∙◌}
-use Rattle.std.proofs.Common.{◌≡◌}
+use Rattle.std.proofs.Common.{Bool, List, ◌∷◌, ap, arith, false, inl, inr, refl, suc, sym, true, zero, ℕ, ◌<◌, ◌∙◌, ◌≡◌}
+use Rattle.std.proofs.Common.{[]}
 use Rattle.std.specs.Prelude.{None, Option, Some, if◌then◌else◌, not, slice_index_or, ◌&&◌, ◌||◌, ◌==◌}
 use Rattle.std.proofs.lemmas.Bool.{and_from, and_parts, cases_Bool, eq-eqb, eqb-true, true≢false}
 use Rattle.mk_core.specs.declared.seats.Marker.{Marker}
-use Rattle.mk_core.specs.Bits.{has_bit, without}
-use Rattle.mk_core.specs.Bounded.{all_below, is_some_and}
-use Rattle.mk_core.specs.Moments.{outside}
-use Rattle.mk_core.specs.StopConditions.{is_attending, none_attends}
+use Rattle.mk_protocol.proofs.Vocabulary.{all_below, has_bit, is_attending, is_some_and, none_attends, outside, without}
 use Rattle.mk_core.proofs.AllBelow.{all_below-at}
 use Rattle.mk_core.proofs.BitsWithout.{has_bit_without}
 use Rattle.mk_core.proofs.WordBits.{no_bit, zero_from_bits}
@@ -61,5 +58,4 @@ without_on bits m n grow h =
 pub none_from : (xs : List Marker) → ((k : ℕ) → is_attending (slice_index_or xs k outside).presence ≡ false)
     → none_attends xs ≡ true
 none_from [] h = refl
-none_from (x ∷ xs) h =
-    and_from (not (is_attending x.presence)) (none_attends xs) (ap not (h 0)) (none_from xs (λ k. h (suc k)))
+none_from (x ∷ xs) h = and_from _ (none_attends xs) (ap not (h 0)) (none_from xs (λ k. h (suc k)))

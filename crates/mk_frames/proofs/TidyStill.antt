@@ -1,12 +1,10 @@
 -- A `give` that keeps a tidy list tidy does so after what others did since: they leave the tallies, and what these
 -- count.
-use Rattle.std.proofs.Common.{List, [], ap, refl, subst, sym, ◌++◌, ◌∙◌, ◌∷◌, ◌≡◌}
-use Rattle.mk_core.specs.declared.config.Config.{Config}
-use Rattle.mk_core.specs.declared.events.Event.{Event}
+use Rattle.std.proofs.Common.{List, ap, refl, subst, sym, ◌++◌, ◌∙◌, ◌∷◌, ◌≡◌, []}
+use Rattle.mk_protocol.proofs.Vocabulary.{Config, Event, IsTidy, Steady, TalliesAreTidy, TurnIsLeft, in_a_word, left}
 use Rattle.mk_core.specs.declared.events.Step.TheVariants as step
-use Rattle.mk_core.specs.Counts.{IsTidy, TalliesAreTidy, in_a_word, releases}
-use Rattle.mk_core.specs.Frames.{CountsAreLeft, Steady, TurnIsLeft}
-use Rattle.mk_core.specs.History.{left}
+use Rattle.mk_core.specs.Counts.{releases}
+use Rattle.mk_core.specs.Frames.{CountsAreLeft}
 
 -- The event in the middle is the last, or stands before it.
 
@@ -43,6 +41,5 @@ pub tidy_by_last : (c : Config) (xs : List Event) (e : Event) → IsTidy c xs �
 tidy_by_last c xs e tidy last before x behind is give = by (splits_last xs e before x behind is)
   where
     by : SplitsLast xs e before x → TalliesAreTidy c before
-    by (AtLast all it) =
-        subst (λ (ys : List Event). TalliesAreTidy c ys) (sym all) (last (ap (λ (y : Event). y.step) (sym it) ∙ give))
+    by (AtLast all it) = rw all (last (rw (← it) give))
     by (Before zs at) = tidy before x zs at give

@@ -4,24 +4,15 @@ use Rattle.std.proofs.Common.{◌%◌, ◌<◌, ◌∙◌, ◌≡◌, ◌≢◌}
 use Rattle.std.specs.Prelude.{None, Option, Some, if◌then◌else◌, nat_le, nat_lt, not, slice_index, ◌||◌, ◌==◌}
 use Rattle.std.proofs.lemmas.Nat.{div-mul-add}
 use Rattle.std.proofs.lemmas.Bool.{and_from, cases_Bool, cases_eq, or_left, or_right, true≢false}
-use Rattle.mk_never.specs.NeverHeap.{NeverState}
-use Rattle.mk_geom.specs.declared.addresses.Cell.{Cell}
-use Rattle.mk_geom.specs.declared.headers.Header.{Header}
-use Rattle.mk_geom.specs.declared.headers.Header.TheVariants.{Block, Free, LeafBlock, LeafRun, Later, Run}
-use Rattle.mk_geom.specs.declared.pages.Page.{Page}
-use Rattle.mk_geom.specs.Addresses.{address_of, cell_of_block, cell_under, page_at_address, word_at_address}
-use Rattle.mk_geom.specs.Classes.{cells_of, class_words_of}
+use Rattle.mk_protocol.proofs.Vocabulary.{Block, Cell, Config, Free, Header, Later, LeafBlock, LeafRun, NeverState}
+use Rattle.mk_protocol.proofs.Vocabulary.{Page, PlacedAllocation, Run, Words, World, address_of, cell_of_allocation}
+use Rattle.mk_protocol.proofs.Vocabulary.{cell_words, cells_of, cells_under, class_words_of, first_word, gives_back}
+use Rattle.mk_protocol.proofs.Vocabulary.{has_bit, header_at, header_in, heads_run, is_phase, is_released_cell}
+use Rattle.mk_protocol.proofs.Vocabulary.{page_at_address, placed_at, pointed_cell, used_at, words_are_zero}
+use Rattle.mk_protocol.proofs.Vocabulary.{words_under}
+use Rattle.mk_geom.specs.Addresses.{cell_of_block, cell_under, word_at_address}
 use Rattle.mk_geom.proofs.ClassTable.{cell_ends}
-use Rattle.mk_core.specs.declared.config.Config.{Config}
-use Rattle.mk_core.specs.Allocations.{PlacedAllocation, cell_of_allocation, placed_at}
-use Rattle.mk_core.specs.Bits.{has_bit}
-use Rattle.mk_core.specs.Cells.{cell_words, cells_under, first_word, header_in, heads_run, is_released_cell}
-use Rattle.mk_core.specs.Cells.{pointed_cell}
-use Rattle.mk_core.specs.Cells.{words_are_zero, words_under}
-use Rattle.mk_core.specs.History.{World}
-use Rattle.mk_core.specs.Moments.{is_phase}
-use Rattle.mk_core.specs.TurnConditions.{are_wiped, gives_back}
-use Rattle.mk_core.specs.Words.{Words, header_at, used_at}
+use Rattle.mk_core.specs.TurnConditions.{are_wiped}
 use Rattle.mk_core.proofs.BitsWithout.{has_bit_without}
 use Rattle.mk_core.proofs.PageSteps.{gives_back_is, left_bits}
 use Rattle.mk_core.proofs.PointedAllocations.{word_points}
@@ -47,15 +38,13 @@ under_at count w n q y at is =
     let page : page_at_address (address_of n) ≡ q = omega arith in
     let word : word_at_address (address_of n) ≡ n % 64 = omega arith in (
       u.0,
-      ap (λ i. header_in w i) (sym page) ∙ u.1,
-      ap (λ i. cell_under u.0 i (n % 64)) (sym page)
-          ∙ ap (λ i. cell_under u.0 (page_at_address (address_of n)) i) (sym word) ∙ u.2,
+      rw (← page) u.1,
+      rw (← page) (rw (← word) u.2),
     )
 
 -- so a word of a block's cell points into that cell,
 block_word : (class page k i : ℕ) (y : Cell) → i < class_words_of class
-    → cell_of_block class page (k * class_words_of class + i) ≡ Some y
-    → y ≡ record { page = page; index = k }
+    → cell_of_block class page (k * class_words_of class + i) ≡ Some y → y ≡ record { page = page; index = k }
 block_word class page k i y inside is =
     by (nat_lt (k * class_words_of class + i) (cells_of class * class_words_of class)) is
   where
@@ -64,7 +53,7 @@ block_word class page k i y inside is =
         → y ≡ record { page = page; index = k }
     by true is =
         let here : record { page = page; index = (k * class_words_of class + i) / class_words_of class } ≡ y = cc in
-        sym here ∙ ap (λ (j : ℕ). record { page = page; index = j }) (div-mul-add k (class_words_of class) i inside)
+        sym here ∙ ap (λ (j : ℕ). record { page = page; index = j }) (div-mul-add k _ i inside)
     by false is = cc
 
 -- and a word of a run's page into its head.
@@ -100,11 +89,9 @@ module _ (c : Config) (w : World) (runs : RunsAreWhole c w) where
       let one = sizes.0 in
       let words = sizes.1 in
       let zero : k ≡ 0 = omega arith in
-      let at : 64 * p + k * words_under (Some h) + i ≡ 64 * p + i =
-      ap (λ j. 64 * p + j * words_under (Some h) + i) zero ∙ omega arith in
-      let is' : pointed_cell c.pages w.now.words.pages (address_of (64 * p + i)) ≡ Some y =
-      ap (λ n. pointed_cell c.pages w.now.words.pages (address_of n)) (sym at) ∙ is in
-      by (i / 64) refl is' ∙ ap (λ (j : ℕ). record { page = p; index = j }) (sym zero)
+      let at : 64 * p + k * words_under (Some h) + i ≡ 64 * p + i = rw zero (omega arith) in
+      let is' : pointed_cell c.pages w.now.words.pages (address_of (64 * p + i)) ≡ Some y = rw (← at) is in
+      by (i / 64) refl is' ∙ rw (← zero)
     where
       by : (d : ℕ) → i / 64 ≡ d → pointed_cell c.pages w.now.words.pages (address_of (64 * p + i)) ≡ Some y
           → y ≡ record { page = p; index = 0 }
@@ -123,9 +110,7 @@ module _ (c : Config) (w : World) (runs : RunsAreWhole c w) where
                   let same : Some (Later d mapped) ≡ Some u.0 = sym later ∙ u.1 in
                   let its : u.0 ≡ Later d mapped = cc in
                   let page : p + d - d ≡ p = omega arith in
-                  later_run d mapped (p + d) ((64 * p + i) % 64) y
-                  (subst (λ (x : Header). cell_under x (p + d) ((64 * p + i) % 64) ≡ Some y) its u.2)
-                  ∙ ap (λ (q : ℕ). record { page = q; index = 0 }) page
+                  later_run d mapped (p + d) ((64 * p + i) % 64) y (rw its at u.2) ∙ rw page
               | inr (free, unused, here) ↦ absurd (used unused)
             ]
       ]
@@ -136,15 +121,13 @@ module _ (c : Config) (w : World) (runs : RunsAreWhole c w) where
       → pointed_cell c.pages w.now.words.pages (address_of (64 * p + k * class_words_of class + i)) ≡ Some y
       → y ≡ record { page = p; index = k }
   block_word_at h class p k i y shown under lk li is =
-      let ends = cell_ends k (class_words_of class) lk in
+      let ends = cell_ends k _ lk in
       let n : ℕ = 64 * p + k * class_words_of class + i in
       let u = under_at c.pages w.now.words n p y (omega arith) is in
       let same : Some h ≡ Some u.0 = sym shown ∙ u.1 in
       let its : u.0 ≡ h = cc in
       let word : n % 64 ≡ k * class_words_of class + i = omega arith in
-      block_word class p k i y li
-      (ap (λ j. cell_of_block class p j) (sym word) ∙ sym (under p (n % 64))
-      ∙ subst (λ (x : Header). cell_under x p (n % 64) ≡ Some y) its u.2)
+      block_word class p k i y li (rw (← word) (sym (under p (n % 64)) ∙ rw its at u.2))
 
   -- The words of a cell point into it.
   word_cell : (x : Option Header) (p k i : ℕ) (y : Cell) → header_in w.now.words p ≡ x → k < cells_under x
@@ -169,26 +152,21 @@ module _ (c : Config) (w v : World) (n : NeverState) (known : KnownWorld c w) (a
     → slice_index v.now.words.heap i ≡ slice_index w.now.words.heap i) where
   -- no word of a cell that is given back is one of a mapped allocation
   released_word : (p value k i : ℕ) → is_phase w.now.words 4 ≡ true → gives_back w.now.words p value ≡ true
-      → has_bit (used_at w.now.words p - value) k ≡ true
-      → i < cell_words w.now.words (record { page = p; index = k })
+      → has_bit (used_at w.now.words p - value) k ≡ true → i < cell_words w.now.words (record { page = p; index = k })
       → IsMappedWord c w.allocations (first_word w.now.words (record { page = p; index = k }) + i) → ⊥
   released_word p value k i four back bit li m =
       let a : PlacedAllocation = placed_at w.allocations m.number in
       let u = mapped_stays c a m.mapped in
       let l = laid_out c w known all.order.laid m.number u in
-      let at = left_bits w.now.words p (used_at w.now.words p - value) k
-      (gives_back_is w.now.words p value back).left bit in
+      let at = left_bits w.now.words p _ k (gives_back_is w.now.words p value back).left bit in
       let lk = all.order.known p k (all.order.quarantined.within p k at.0) in
       let used : used_at w.now.words p ≢ 0 = λ z. let none : used_at w.now.words p - value ≡ 0 =
-      omega arith in true≢false (sym bit ∙ no_bit (used_at w.now.words p - value) k none) in
-      let cell = word_cell c w all.order.runs (header_in w.now.words p) p k i (cell_of_allocation c a) refl lk li used
+      omega arith in true≢false (sym bit ∙ no_bit _ k none) in
+      let cell = word_cell c w all.order.runs _ p k i _ refl lk li used
       (word_points c w.now.words a known.limits l.stands l.headers
       (first_word w.now.words (record { page = p; index = k }) + i) m.word) in
       let left : is_released_cell w.now.words (record { page = p; index = k }) ≡ true =
-      and_from (is_phase w.now.words 4) _ four
-      (has_bit_without (slice_index w.now.words.snapshot p) (slice_index w.now.words.marks p) k
-      ∙ and_from (has_bit (slice_index w.now.words.snapshot p) k)
-      (not (has_bit (slice_index w.now.words.marks p) k)) at.0 (ap not at.1)) in
+      and_from _ _ four (has_bit_without _ _ k ∙ and_from _ _ at.0 (ap not at.1)) in
       true≢false (sym left ∙ ap (is_released_cell w.now.words) (sym cell)
       ∙ (told_to_images c w n known all).kept m.number u)
 
@@ -197,18 +175,15 @@ module _ (c : Config) (w v : World) (n : NeverState) (known : KnownWorld c w) (a
   wiped_still p value four back =
       let bits : ℕ = used_at w.now.words p - value in
       ap (λ (ps : List Page). are_wiped (record v.now.words { pages = ps }) p
-      (used_at (record v.now.words { pages = ps }) p - value)) pages
-      ∙ all_below_on 32
+      (used_at (record v.now.words { pages = ps }) p - value)) pages ∙ all_below_on 32
       (λ k. not (has_bit bits k) || words_are_zero w.now.words (first_word w.now.words (record { page = p; index = k }))
-      (cell_words w.now.words (record { page = p; index = k })))
-      (λ k. not (has_bit bits k)
+      (cell_words w.now.words (record { page = p; index = k }))) (λ k. not (has_bit bits k)
       || words_are_zero (record v.now.words { pages = w.now.words.pages })
       (first_word w.now.words (record { page = p; index = k }))
       (cell_words w.now.words (record { page = p; index = k })))
       (λ k lt e. by k e) (gives_back_is w.now.words p value back).wiped
     where
-      by : (k : ℕ)
-          → (not (has_bit (used_at w.now.words p - value) k)
+      by : (k : ℕ) → (not (has_bit (used_at w.now.words p - value) k)
           || words_are_zero w.now.words (first_word w.now.words (record { page = p; index = k }))
           (cell_words w.now.words (record { page = p; index = k }))) ≡ true
           → (not (has_bit (used_at w.now.words p - value) k)

@@ -4,26 +4,13 @@ use Rattle.std.proofs.Common.{subst, arith, inl, inr}
 use Rattle.std.specs.Prelude.{None, Option, Some, min, not, slice_index, ◌&&◌, ◌||◌, ◌==◌, if◌then◌else◌}
 use Rattle.std.proofs.lemmas.Bool.{and_parts, cases_lt, cond-true, false_from_ne_true, not-true, true≢false}
 use Rattle.std.proofs.lemmas.List.{get_or_past}
-use Rattle.mk_never.specs.Types.{is_large, kinds_of}
-use Rattle.mk_geom.specs.declared.addresses.Cell.{Cell}
-use Rattle.mk_geom.specs.declared.headers.Header.{Header}
-use Rattle.mk_core.specs.declared.config.Config.{Config}
-use Rattle.mk_core.specs.declared.events.Seat.{Seat}
-use Rattle.mk_core.specs.declared.events.Step.{Step}
+use Rattle.mk_protocol.proofs.Vocabulary.{Cell, Config, Header, Object, PlacedAllocation, Seat, ShowsPart, Step, World}
+use Rattle.mk_protocol.proofs.Vocabulary.{cell_freed, cell_of_allocation, first_word, flight_of, freed_where_it_stands}
+use Rattle.mk_protocol.proofs.Vocabulary.{fresh_words_of, granted, has_bit, header_in, heads_run, in_a_word, is_large}
+use Rattle.mk_protocol.proofs.Vocabulary.{is_phase, is_small_object, kinds_of, never_granted, object_placed, placed_at}
+use Rattle.mk_protocol.proofs.Vocabulary.{stands_in, storage_words, with_released, words_made, words_under}
 use Rattle.mk_core.specs.declared.events.Step.TheVariants as step
-use Rattle.mk_core.specs.declared.seats.Object.{Object}
-use Rattle.mk_core.specs.Allocations.{PlacedAllocation, cell_of_allocation, fresh_words_of, freed_where_it_stands}
-use Rattle.mk_core.specs.Allocations.{granted, never_granted, placed_at, stands_in, storage_words, with_released}
-use Rattle.mk_core.specs.Bits.{has_bit}
-use Rattle.mk_core.specs.Cells.{first_word, header_in, heads_run, words_under}
-use Rattle.mk_core.specs.Counts.{in_a_word}
 use Rattle.mk_core.specs.Effects.{words_freed}
-use Rattle.mk_core.specs.History.{World}
-use Rattle.mk_core.specs.Moments.{flight_of, is_phase}
-use Rattle.mk_core.specs.NewPlaces.{is_small_object}
-use Rattle.mk_core.specs.ObjectHeaders.{ShowsPart, words_made}
-use Rattle.mk_core.specs.StandingAllocations.{object_placed}
-use Rattle.mk_core.specs.TurnConditions.{cell_freed}
 use Rattle.mk_core.proofs.ChangedAllocations.{changed_at, none_freed, released_leaves}
 use Rattle.mk_core.proofs.ObjectHeaders.{part_heads_run, part_words, small_heads_none}
 use Rattle.mk_core.proofs.PlacesNow.{freed_cell}

@@ -1,12 +1,12 @@
 -- The words of fresh allocations, as a sum over all.
-use Rattle.std.proofs.Common.{◌≡◌, ◌≢◌, ℕ, zero, suc, ◌+◌, ◌<◌, Bool, true, false, List, [], ◌∷◌, ◌++◌, map, length}
-use Rattle.std.proofs.Common.{refl, sym, ◌∙◌, ap, arith}
+use Rattle.std.proofs.Common.{◌≡◌, ◌≢◌, ℕ, zero, suc, ◌+◌, ◌<◌, Bool, true, false, List, ◌∷◌, ◌++◌, map, length, refl}
+use Rattle.std.proofs.Common.{[]}
+use Rattle.std.proofs.Common.{sym, ◌∙◌, ap, arith}
 use Rattle.std.specs.Prelude.{◌&&◌, if◌then◌else◌, filter, sum_by}
 use Rattle.std.proofs.lemmas.List.Sums.{sum_by-cons}
 use Rattle.std.proofs.Math.Bool.{and-false}
-use Rattle.mk_core.specs.declared.config.Config.{Config}
-use Rattle.mk_core.specs.Allocations.{PlacedAllocation, fresh_words_of, is_mapped, no_longer_fresh, placed_at}
-use Rattle.mk_core.specs.Allocations.{storage_words}
+use Rattle.mk_protocol.proofs.Vocabulary.{Config, PlacedAllocation, fresh_words_of, is_mapped, no_longer_fresh}
+use Rattle.mk_protocol.proofs.Vocabulary.{placed_at, storage_words}
 
 -- what one allocation counts
 abbrev pub fresh_part : Config → PlacedAllocation → ℕ

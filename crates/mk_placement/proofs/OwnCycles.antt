@@ -1,23 +1,15 @@
 -- The cycle that the turn's holder has begun, and how far it is.
-use Rattle.std.proofs.Common.{◌≡◌, ◌⊎◌, ℕ, ◌%◌, Bool, true, false, List, [], ◌∷◌, ◌++◌, refl, sym, ◌∙◌, ap, arith, inl}
-use Rattle.std.proofs.Common.{inr, subst}
+use Rattle.std.proofs.Common.{◌≡◌, ◌⊎◌, ℕ, ◌%◌, Bool, true, false, List, ◌∷◌, ◌++◌, refl, sym, ◌∙◌, ap, arith, inl, inr}
+use Rattle.std.proofs.Common.{[]}
+use Rattle.std.proofs.Common.{subst}
 use Rattle.std.specs.Prelude.{⊤, Option, ◌==◌, if◌then◌else◌}
 use Rattle.std.proofs.lemmas.Bool.{eqb-true}
 use Rattle.std.specs.List.{list_any}
-use Rattle.mk_never.specs.declared.operations.Op.{Op}
-use Rattle.mk_core.specs.declared.config.Config.{Config}
-use Rattle.mk_core.specs.declared.events.Event.{Event}
-use Rattle.mk_core.specs.declared.events.Seat.{Seat}
-use Rattle.mk_core.specs.declared.events.Step.{Step}
+use Rattle.mk_protocol.proofs.Vocabulary.{At, Config, Cycle, Event, Holding, Marking, Op, OwnCycle, Releasing, Seat}
+use Rattle.mk_protocol.proofs.Vocabulary.{Step, World, is_begin, is_close, is_end, is_release, nothing_done, phase_of}
 use Rattle.mk_core.specs.declared.events.Step.TheVariants as step
-use Rattle.mk_core.specs.declared.seats.Holding.{Holding}
-use Rattle.mk_core.specs.declared.seats.OwnCycle.{OwnCycle}
 use Rattle.mk_core.specs.declared.seats.OwnCycle.TheVariants.{Begun, Ended, NotBegun}
-use Rattle.mk_core.specs.Cycles.{At, Cycle, Marking, Releasing, is_begin, is_close, is_end, is_release}
 use Rattle.mk_core.specs.Effects.{cycle_ended}
-use Rattle.mk_core.specs.History.{World}
-use Rattle.mk_core.specs.Moments.{nothing_done}
-use Rattle.mk_core.specs.Words.{phase_of}
 use Rattle.mk_protocol.proofs.Actors.{Meets}
 use Rattle.mk_protocol.proofs.OthersMoves.{WorldBehind}
 use Rattle.mk_protocol.proofs.SameWords.{tally_keeps}
@@ -133,8 +125,7 @@ module _ (es : List Event) (e : Event) (phase now : ℕ) where
   frees is three four (Releases at k none) = absurd (omega arith)
 
   ends : is_end e.step ≡ true → phase ≡ 4 → UnderWay es phase → Cycle (es ++ e ∷ [])
-  ends is four (Marks at begin none) =
-      elim at [ inl one ↦ absurd (omega arith) | inr two ↦ absurd (omega arith) ]
+  ends is four (Marks at begin none) = elim at [ inl one ↦ absurd (omega arith) | inr two ↦ absurd (omega arith) ]
   ends is four (Stops at k none) = absurd (omega arith)
   ends is four (Releases at k none) =
       record { releasing = longer_releasing (e ∷ []) k; end = next_at_end k.release.at.behind e none is }
@@ -166,8 +157,7 @@ module _ (es : List Event) (e : Event) (phase now : ℕ) where
   cycle_more cycle next (Drops to) has = at next NotBegun to tt
   cycle_more cycle next (Stays off to same) has = at next cycle to (kept cycle (on_way off same) has)
   cycle_more cycle next (Begins is to one) has =
-      at next Begun to
-      (Marks (inl one) (record { before = es; event = e; behind = []; is = refl; of_kind = is }) refl)
+      at next Begun to (Marks (inl one) (record { before = es; event = e; behind = []; is = refl; of_kind = is }) refl)
   cycle_more cycle next (Wants off one to two) has = at next cycle to (kept cycle (wants off one two) has)
   cycle_more cycle next (Closes is two to three) has = at next cycle to (kept cycle (closes is two three) has)
   cycle_more cycle next (Frees is three to four) has = at next cycle to (kept cycle (frees is three four) has)

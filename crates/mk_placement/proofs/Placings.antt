@@ -4,40 +4,26 @@ use Rattle.std.specs.Prelude.{Option, Some, None, ◌&&◌, ◌||◌, ◌==◌, 
 use Rattle.std.proofs.lemmas.Bool.{and_parts, cases_eq, eqb-true, false_from_ne_true, ne_eqb, or_cases, true≢false}
 use Rattle.std.proofs.lemmas.List.{get_or-set_same}
 use Rattle.std.proofs.Math.Bool.{and-false}
-use Rattle.mk_geom.specs.declared.pages.Place.{Place}
-use Rattle.mk_core.specs.declared.config.Config.{Config}
-use Rattle.mk_core.specs.declared.events.Seat.{Seat}
-use Rattle.mk_core.specs.declared.events.Seat.TheVariants.{Caller, Host, Marker}
-use Rattle.mk_core.specs.declared.events.Step.{Step}
+use Rattle.mk_protocol.proofs.Vocabulary.{Caller, Chosen, Config, Flight, Holding, Host, Marker, Moment, Object, Place}
+use Rattle.mk_protocol.proofs.Vocabulary.{Placing, RunPages, Seat, Step, Unplaced, Used, World, at_rest, carves, chosen}
+use Rattle.mk_protocol.proofs.Vocabulary.{flight_of, found, is_phase, is_undecided_new, is_used_once, marks_place}
+use Rattle.mk_protocol.proofs.Vocabulary.{object_made, phase_of, place_by_placing, place_now, place_on_pages, progress}
+use Rattle.mk_protocol.proofs.Vocabulary.{taken, takes_cell, unmaps}
 use Rattle.mk_core.specs.declared.events.Step.TheVariants as step
-use Rattle.mk_core.specs.declared.seats.Flight.{Flight}
-use Rattle.mk_core.specs.declared.seats.Holding.{Holding}
-use Rattle.mk_core.specs.declared.seats.Object.{Object}
-use Rattle.mk_core.specs.declared.seats.Placing.{Placing}
-use Rattle.mk_core.specs.declared.seats.Placing.TheVariants.{Chosen, Unplaced, Used}
-use Rattle.mk_core.specs.declared.seats.RunPages.{RunPages}
 use Rattle.mk_core.specs.declared.seats.Stage.TheVariants as stage
-use Rattle.mk_core.specs.Accesses.{found}
-use Rattle.mk_core.specs.Calls.{at_rest}
-use Rattle.mk_core.specs.Effects.{chosen, progress, taken}
-use Rattle.mk_core.specs.History.{World}
-use Rattle.mk_core.specs.Moments.{Moment, flight_of, is_phase}
-use Rattle.mk_core.specs.NewPlaces.{is_undecided_new, object_made, place_by_placing, place_on_pages}
 use Rattle.mk_core.specs.Placement.{serves}
-use Rattle.mk_core.specs.StopConditions.{marks_place}
-use Rattle.mk_core.specs.TurnConditions.{carves, is_used_once, place_now, takes_cell, unmaps}
-use Rattle.mk_core.specs.Words.{phase_of}
 use Rattle.mk_core.proofs.PlacesNow.{AsChosen, AsUsed, ByFit, IsPlaced, placed_now, undecided_new}
 use Rattle.mk_core.proofs.ServingSteps.{carves_is, marks_is, takes_is}
 use Rattle.mk_protocol.proofs.Actors.{Meets}
 use Rattle.mk_protocol.proofs.Known.{Known}
-use Rattle.mk_protocol.proofs.NewPlace.{held_place}
+use Rattle.mk_protocol.proofs.NewPlace.{held_place, give_no_new}
 use Rattle.mk_protocol.proofs.NextSteps.{at_no_take, at_take}
-use Rattle.mk_protocol.proofs.OthersMoves.{Calls, Marks, OthersMove, Waits, WorldBehind, others_move}
+use Rattle.mk_protocol.proofs.OthersMoves.{WorldBehind, others_move}
 use Rattle.mk_protocol.proofs.Orderly.{same_holder, turn_of}
 use Rattle.mk_protocol.proofs.Views.{HoldsTurn, view_of}
 use Rattle.mk_layout.proofs.Holders.{new_has_turn, none_on_its_way}
-use Rattle.mk_placement.proofs.Undecided.{HasNew, give_no_new, new_holds_turn, new_object}
+use Rattle.mk_placement.proofs.Undecided.{HasNew, new_holds_turn, new_object}
+use Rattle.mk_protocol.proofs.TurnFrame.{holding_out}
 
 -- the tests of a step that serves, where the place of now is this one
 
@@ -51,8 +37,7 @@ abbrev marks_at : Config → Moment → Flight → ℕ → ℕ → Option Place 
 marks_at c m f p n place = marks_place m.words (object_made c f.op) place p n
 
 -- A seat that has no undecided New serves none.
-none_to_serve : (c : Config) (m : Moment) (f : Flight) (x : Step) → is_undecided_new f ≡ false
-    → serves c m f x ≡ false
+none_to_serve : (c : Config) (m : Moment) (f : Flight) (x : Step) → is_undecided_new f ≡ false → serves c m f x ≡ false
 none_to_serve c m f x out = by x
   where
     none : place_now c m f ≡ None
@@ -71,12 +56,6 @@ none_to_serve c m f x out = by x
     by _ = refl
 
 -- A seat that doesn't hold the turn leaves what its holder has done.
-others_keep_holding : (c : Config) (w : World) (seat : Seat) (v : World) → OthersMove c w seat v
-    → v.now.seats.holding ≡ w.now.seats.holding
-others_keep_holding c w seat v Waits = refl
-others_keep_holding c w seat v (Calls f lt g x) = refl
-others_keep_holding c w seat v (Marks y lt x) = refl
-
 -- What an event makes of the place: it serves none and leaves it, or fixes the first fit, or goes on with the place.
 pub data PlacingStep (c : Config) (m : Moment) (o : Object) (served : Bool) (was now : Option Place) : Type 0 where
   Stays : served ≡ false → now ≡ was → PlacingStep c m o served was now
@@ -198,9 +177,8 @@ PlacesAt c w seat x k =
 others_places : (c : Config) (w : World) (seat : Seat) (x : Step) (k : ℕ) → Known c w.now → Meets c w.now seat x
     → HoldsTurn c (view_of w.now) (Caller k) → (seat ≡ Caller k → ⊥) → PlacesAt c w seat x k
 others_places c w seat x k known h holds other =
-    Stays (none_to_serve c w.now (flight_of w.now seat) x none)
-    (ap (λ (y : Holding). held_place y.placing)
-    (others_keep_holding c w seat (WorldBehind c w seat x) (others_move c w seat x known held out h)))
+    Stays (none_to_serve c w.now (flight_of w.now seat) x none) (ap (λ (y : Holding). held_place y.placing)
+    (holding_out c w seat (WorldBehind c w seat x) (others_move c w seat x known held out h)))
   where
     out : HoldsTurn c (view_of w.now) seat → ⊥
     out t = other (same_holder c (view_of w.now) seat (Caller k) known.orderly t holds)
@@ -210,8 +188,7 @@ others_places c w seat x k known h holds other =
 
     none : is_undecided_new (flight_of w.now seat) ≡ false
     none =
-        false_from_ne_true (is_undecided_new (flight_of w.now seat))
-        (λ new. out (new_has_turn c w.now seat h.seat new))
+        false_from_ne_true (is_undecided_new (flight_of w.now seat)) (λ new. out (new_has_turn c w.now seat h.seat new))
 
 pub places_at : (c : Config) (w : World) (seat : Seat) (x : Step) (k : ℕ) → Known c w.now → Meets c w.now seat x
     → k < c.callers → HasNew w k → HasNew (WorldBehind c w seat x) k → PlacesAt c w seat x k

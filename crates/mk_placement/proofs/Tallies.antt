@@ -1,30 +1,19 @@
 -- What the tallies count: before each `give`, and where nobody holds the turn.
-use Rattle.std.proofs.Common.{◌≡◌, ◌≤◌, ◌⊎◌, ℕ, ◌+◌, Bool, true, false, List, [], ◌∷◌, ◌++◌, refl, sym, ◌∙◌, ap}
+use Rattle.std.proofs.Common.{◌≡◌, ◌≤◌, ◌⊎◌, ℕ, ◌+◌, Bool, true, false, List, ◌∷◌, ◌++◌, refl, sym, ◌∙◌, ap, []}
 use Rattle.std.proofs.Common.{append_assoc, subst, arith, inl, inr}
 use Rattle.std.specs.Prelude.{cond, ◌&&◌, ◌==◌}
 use Rattle.std.proofs.lemmas.Bool.{and_parts, eqb-true, false_from_ne_true, ne_eqb, true≢false}
 use Rattle.std.proofs.lemmas.List.Sums.{sum_by_push}
 use Rattle.mk_geom.proofs.HeldWords.{pages_hold_mapped_words}
-use Rattle.mk_core.specs.declared.config.Config.{Config}
-use Rattle.mk_core.specs.declared.events.Event.{Event}
-use Rattle.mk_core.specs.declared.events.Seat.{Seat}
-use Rattle.mk_core.specs.declared.events.Step.{Step}
+use Rattle.mk_protocol.proofs.Vocabulary.{Config, Decided, Event, Flight, IsHistory, IsTidy, Moment, PlacedAllocation}
+use Rattle.mk_protocol.proofs.Vocabulary.{Seat, Stage, Step, TalliesAreTidy, Words, World, answer_decided, call_decided}
+use Rattle.mk_protocol.proofs.Vocabulary.{caller_number, calls, calls_from, ends, first_world, flight_of}
+use Rattle.mk_protocol.proofs.Vocabulary.{fresh_words_of, held_by_pages, in_a_word, is_decided, is_end, is_run_gone}
+use Rattle.mk_protocol.proofs.Vocabulary.{is_undecided_new, left, left_from, phase_of, unreleased_storage, world_behind}
 use Rattle.mk_core.specs.declared.events.Step.TheVariants as step
-use Rattle.mk_core.specs.declared.seats.Flight.{Flight}
-use Rattle.mk_core.specs.declared.seats.Stage.{Stage}
-use Rattle.mk_core.specs.Accesses.{caller_number}
-use Rattle.mk_core.specs.Allocations.{PlacedAllocation, fresh_words_of, held_by_allocations, unreleased_storage}
-use Rattle.mk_core.specs.Counts.{IsTidy, TalliesAreExact, TalliesAreTidy, ends, full_answers, in_a_word, releases}
-use Rattle.mk_core.specs.Cycles.{is_end}
-use Rattle.mk_core.specs.Decided.{Decided}
-use Rattle.mk_core.specs.Effects.{answer_decided}
-use Rattle.mk_core.specs.History.{IsHistory, World, calls, calls_from, call_decided, first_world, left, left_from}
-use Rattle.mk_core.specs.History.{world_behind}
-use Rattle.mk_core.specs.Moments.{Moment, flight_of}
-use Rattle.mk_core.specs.NewPlaces.{is_run_gone, is_undecided_new}
+use Rattle.mk_core.specs.Allocations.{held_by_allocations}
+use Rattle.mk_core.specs.Counts.{TalliesAreExact, full_answers, releases}
 use Rattle.mk_core.specs.Readings.{TalliesTell}
-use Rattle.mk_core.specs.TurnConditions.{is_decided, held_by_pages}
-use Rattle.mk_core.specs.Words.{Words, phase_of}
 use Rattle.mk_core.proofs.Histories.{calls_more, left_more}
 use Rattle.mk_core.proofs.Lengths.{histories_keep_lengths}
 use Rattle.mk_core.proofs.PlacesNow.{undecided_new}

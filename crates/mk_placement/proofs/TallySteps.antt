@@ -1,21 +1,12 @@
 -- What events leave to the tallies, and to the allocations that they count.
 use Rattle.std.proofs.Common.{◌≡◌, ◌≢◌, ℕ, ◌+◌, Bool, true, false, refl, ◌∙◌, ap, arith}
 use Rattle.std.specs.Prelude.{◌==◌, if◌then◌else◌}
-use Rattle.mk_core.specs.declared.config.Config.{Config}
-use Rattle.mk_core.specs.declared.events.Event.{Event}
-use Rattle.mk_core.specs.declared.events.Seat.{Seat}
-use Rattle.mk_core.specs.declared.events.Seat.TheVariants.{Caller, Host, Marker}
-use Rattle.mk_core.specs.declared.events.Step.{Step}
+use Rattle.mk_protocol.proofs.Vocabulary.{Caller, Config, Event, Flight, Host, Marker, Moment, Seat, Step, World}
+use Rattle.mk_protocol.proofs.Vocabulary.{answer_decided, caller_number, flight_of, group_of, holder_number, is_end}
+use Rattle.mk_protocol.proofs.Vocabulary.{is_of_turn, reg_access, register_met, world_behind}
 use Rattle.mk_core.specs.declared.events.Step.TheVariants as step
-use Rattle.mk_core.specs.declared.seats.Flight.{Flight}
-use Rattle.mk_core.specs.Accesses.{caller_number, reg_access, register_met}
-use Rattle.mk_core.specs.Cycles.{is_end}
-use Rattle.mk_core.specs.Effects.{answer_decided}
-use Rattle.mk_core.specs.History.{World, world_behind}
-use Rattle.mk_core.specs.Moments.{Moment, flight_of, holder_number}
-use Rattle.mk_core.specs.Order.{group_of, is_of_turn}
 use Rattle.mk_core.proofs.RegisterAccesses.{LeavesTallies, register_leaves_tallies}
-use Rattle.mk_protocol.proofs.Actors.{Actor, AsHolder, AsMarker, CallTakes, HostTakes, InCallOf, Meets}
+use Rattle.mk_protocol.proofs.Actors.{Actor, AsHolder, AsMarker, InCallOf, Meets}
 use Rattle.mk_protocol.proofs.Known.{Known}
 use Rattle.mk_protocol.proofs.Orderly.{turn_of}
 use Rattle.mk_protocol.proofs.OrderlyLists.{actor_of}
@@ -90,9 +81,8 @@ outside_alike : (c : Config) (m : Moment) (seat : Seat) (x : Step) → (HoldsTur
     → Actor c m seat x → counts_alike x ≡ true
 outside_alike c m seat x out (InCallOf k y lt g) = of_no_turn y (ap is_of_turn g)
 outside_alike c m seat x out (AsMarker k y lt g) = of_no_turn y (ap is_of_turn g)
-outside_alike c m seat x out (CallTakes k o lt idle under) = refl
-outside_alike c m seat x out (HostTakes away) = refl
 outside_alike c m seat x out (AsHolder s y holds n) = absurd (out holds)
+outside_alike c m seat x out _ = refl
 
 give_answers : (c : Config) (m : Moment) (seat : Seat)
     → answers_full (answer_decided c m (record { seat = seat; step = step.Give })) ≡ false

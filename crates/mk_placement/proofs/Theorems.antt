@@ -2,28 +2,14 @@
 use Rattle.std.proofs.Common.{◌≡◌, ℕ, ◌<◌, true, false, List, ◌∷◌, ◌++◌, refl, sym, ◌∙◌, ap, subst, arith}
 use Rattle.std.specs.Prelude.{IsSome, None, Option, Some, is_none}
 use Rattle.std.proofs.lemmas.Bool.{eqb-true, ne_eqb, true≢false}
-use Rattle.mk_geom.specs.declared.pages.Page.{Page}
-use Rattle.mk_geom.specs.declared.pages.Place.{Place}
-use Rattle.mk_core.specs.declared.config.Config.{Config}
-use Rattle.mk_core.specs.declared.events.Event.{Event}
-use Rattle.mk_core.specs.declared.events.Seat.{Seat}
-use Rattle.mk_core.specs.declared.events.Seat.TheVariants.{Caller}
-use Rattle.mk_core.specs.declared.events.Step.{Step}
+use Rattle.mk_protocol.proofs.Vocabulary.{Caller, Config, Event, Holding, IsHistory, Moment, Object, OwnCycle, Page}
+use Rattle.mk_protocol.proofs.Vocabulary.{Place, Placing, Seat, Step, Unplaced, Used, World, flight_of, granted_base}
+use Rattle.mk_protocol.proofs.Vocabulary.{is_phase, is_undecided_new, is_used_once, left, may_answer_full, phase_of}
+use Rattle.mk_protocol.proofs.Vocabulary.{place_on_pages}
 use Rattle.mk_core.specs.declared.events.Step.TheVariants as step
-use Rattle.mk_core.specs.declared.seats.Holding.{Holding}
-use Rattle.mk_core.specs.declared.seats.Object.{Object}
-use Rattle.mk_core.specs.declared.seats.OwnCycle.{OwnCycle}
 use Rattle.mk_core.specs.declared.seats.OwnCycle.TheVariants.{Ended}
-use Rattle.mk_core.specs.declared.seats.Placing.{Placing}
-use Rattle.mk_core.specs.declared.seats.Placing.TheVariants.{Unplaced, Used}
-use Rattle.mk_core.specs.Accesses.{granted_base}
-use Rattle.mk_core.specs.History.{IsHistory, World, left}
-use Rattle.mk_core.specs.Moments.{Moment, flight_of, is_phase}
-use Rattle.mk_core.specs.NewPlaces.{is_undecided_new, place_on_pages}
 use Rattle.mk_core.specs.Placement.{FullsFitNowhere, GrantsStandAtTheirPlaces, FindsNoPlace, StandsAtItsPlace}
 use Rattle.mk_core.specs.Placement.{object_at}
-use Rattle.mk_core.specs.TurnConditions.{may_answer_full, is_used_once}
-use Rattle.mk_core.specs.Words.{phase_of}
 use Rattle.mk_protocol.proofs.Actors.{Meets, fills_new, grants_new}
 use Rattle.mk_protocol.proofs.NewPlace.{held_place, new_holds}
 use Rattle.mk_invariant.specs.Theorems.{OfHistories}

@@ -1,29 +1,16 @@
 -- What is said of a turn while its New is undecided, after every history.
-use Rattle.std.proofs.Common.{◌≡◌, ℕ, ◌<◌, true, false, List, [], ◌∷◌, ◌++◌, refl, sym, ◌∙◌, ap, subst, arith}
+use Rattle.std.proofs.Common.{◌≡◌, ℕ, ◌<◌, true, false, List, ◌∷◌, ◌++◌, refl, sym, ◌∙◌, ap, subst, arith, []}
 use Rattle.std.specs.Prelude.{None, Option, Some, ◌&&◌, ◌==◌}
 use Rattle.std.proofs.lemmas.Bool.{and_parts, eqb-true, false_from_ne_true, true≢false}
 use Rattle.std.proofs.lemmas.List.{get_or-set_same}
-use Rattle.mk_geom.specs.declared.pages.Place.{Place}
-use Rattle.mk_core.specs.declared.config.Config.{Config}
-use Rattle.mk_core.specs.declared.events.Event.{Event}
-use Rattle.mk_core.specs.declared.events.Seat.{Seat}
-use Rattle.mk_core.specs.declared.events.Seat.TheVariants.{Caller, Host, Marker}
-use Rattle.mk_core.specs.declared.events.Step.{Step}
+use Rattle.mk_protocol.proofs.Vocabulary.{Caller, Config, Event, Flight, Holding, IsHistory, Object, Place, Placing}
+use Rattle.mk_protocol.proofs.Vocabulary.{RunPages, Seat, Step, TurnOf, Unplaced, World, at_rest, first_world}
+use Rattle.mk_protocol.proofs.Vocabulary.{flight_of, is_phase, is_undecided_new, left, left_from, object_made, phase_of}
+use Rattle.mk_protocol.proofs.Vocabulary.{place_on_pages, world_behind}
 use Rattle.mk_core.specs.declared.events.Step.TheVariants as step
-use Rattle.mk_core.specs.declared.seats.Flight.{Flight}
-use Rattle.mk_core.specs.declared.seats.Holding.{Holding}
-use Rattle.mk_core.specs.declared.seats.Object.{Object}
-use Rattle.mk_core.specs.declared.seats.Placing.{Placing}
-use Rattle.mk_core.specs.declared.seats.Placing.TheVariants.{Unplaced}
-use Rattle.mk_core.specs.declared.seats.RunPages.{RunPages}
 use Rattle.mk_core.specs.Allocations.{place_among_allocations}
-use Rattle.mk_core.specs.Calls.{at_rest}
-use Rattle.mk_core.specs.Cycles.{TurnOf, is_give}
-use Rattle.mk_core.specs.History.{IsHistory, World, first_world, left, left_from, world_behind}
-use Rattle.mk_core.specs.Moments.{flight_of, is_phase}
-use Rattle.mk_core.specs.NewPlaces.{is_undecided_new, object_made, place_on_pages}
+use Rattle.mk_core.specs.Cycles.{is_give}
 use Rattle.mk_core.specs.Placement.{FirstServed, NoneServesFrom, before_served, event_serves, place_after}
-use Rattle.mk_core.specs.Words.{phase_of}
 use Rattle.mk_core.proofs.Histories.{left_more}
 use Rattle.mk_core.proofs.PlacesNow.{undecided_new}
 use Rattle.mk_protocol.specs.Protocol.{has_place}
@@ -65,8 +52,6 @@ NewsAreTracked c es = (k : ℕ) → k < c.callers → HasNew (left c es) k → T
 -- The event gives no turn back of a caller whose New is undecided after it.
 gives_off : (c : Config) (w : World) (seat : Seat) (x : Step) (k : ℕ) → Known c w.now → k < c.callers
     → HasNew (WorldBehind c w seat x) k → gives_turn (Caller k) (record { seat = seat; step = x }) ≡ false
-gives_off c w (Marker j) x k known lt new = refl
-gives_off c w Host x k known lt new = refl
 gives_off c w (Caller j) x k known lt new =
     false_from_ne_true ((k == j) && is_give x)
     (λ is. let both = and_parts (k == j) (is_give x) is in by j x (eqb-true k j both.0) both.1 new)
@@ -78,6 +63,7 @@ gives_off c w (Caller j) x k known lt new =
         subst (λ i. HasNew (WorldBehind c w (Caller i) step.Give) k) (sym own) new in
         true≢false (sym mine ∙ ap (λ (f : Flight). is_undecided_new f) rests)
     by j _ own is new = cc
+gives_off c w _ x k known lt new = refl
 
 -- Where nothing is placed yet, nothing is on its way,
 pub unplaced_settles : (c : Config) (es : List Event) (k : ℕ) → IsHistory c es → k < c.callers → HasNew (left c es) k

@@ -1,23 +1,12 @@
 -- Where an undecided New comes from: its call was so before the event, or the event is its `take`.
-use Rattle.std.proofs.Common.{◌≡◌, ◌⊎◌, ℕ, ◌+◌, ◌<◌, Bool, true, false, List, length, refl, sym, ◌∙◌, ap, subst, arith}
-use Rattle.std.proofs.Common.{inl, inr}
+use Rattle.std.proofs.Common.{◌≡◌, ◌⊎◌, ℕ, ◌+◌, ◌<◌, Bool, true, List, length, refl, sym, ◌∙◌, ap, subst, arith, inl}
+use Rattle.std.proofs.Common.{inr}
 use Rattle.std.specs.Prelude.{Option, Some, None, if◌then◌else◌, slice_index_or, slice_set}
 use Rattle.std.proofs.lemmas.Bool.{cases_eq, cases_lt, eq-eqb}
 use Rattle.std.proofs.lemmas.List.{get_or-set_other, get_or-set_same, set_past}
-use Rattle.mk_never.specs.declared.operations.Op.{Op}
-use Rattle.mk_core.specs.declared.config.Config.{Config}
-use Rattle.mk_core.specs.declared.events.Seat.{Seat}
-use Rattle.mk_core.specs.declared.events.Seat.TheVariants.{Caller, Host, Marker}
-use Rattle.mk_core.specs.declared.events.Step.{Step}
+use Rattle.mk_protocol.proofs.Vocabulary.{Caller, Config, Flight, Object, Op, Seat, Step, World, at_rest, flight_of}
+use Rattle.mk_protocol.proofs.Vocabulary.{is_undecided_new, nothing_done, object_made}
 use Rattle.mk_core.specs.declared.events.Step.TheVariants as step
-use Rattle.mk_core.specs.declared.seats.Flight.{Flight}
-use Rattle.mk_core.specs.declared.seats.Holding.{Holding}
-use Rattle.mk_core.specs.declared.seats.Object.{Object}
-use Rattle.mk_core.specs.declared.seats.Stage.TheVariants as stage
-use Rattle.mk_core.specs.Calls.{at_rest}
-use Rattle.mk_core.specs.History.{World}
-use Rattle.mk_core.specs.Moments.{flight_of, nothing_done}
-use Rattle.mk_core.specs.NewPlaces.{is_new_at, is_undecided_new, object_made}
 use Rattle.mk_protocol.proofs.Actors.{Meets}
 use Rattle.mk_protocol.proofs.Known.{Known}
 use Rattle.mk_protocol.proofs.Moves.{Move, Enters, GoesOn, Gives, Leaves, Stays, Takes, Works}
@@ -25,11 +14,10 @@ use Rattle.mk_protocol.proofs.NextSteps.{at_no_take}
 use Rattle.mk_protocol.proofs.OrderlyLists.{event_moves}
 use Rattle.mk_protocol.proofs.OthersMoves.{WorldBehind}
 use Rattle.mk_protocol.proofs.SameWords.{tally_keeps}
-use Rattle.mk_protocol.proofs.Services.{Service, Fills, Frees, Goes, Grants, Loads, Places}
 use Rattle.mk_protocol.proofs.Stages.{new_stands}
-use Rattle.mk_protocol.proofs.Standings.{InCall, UnderTurn, standing}
 use Rattle.mk_protocol.proofs.Views.{HoldsTurn, View, flight_in, view_of}
 use Rattle.mk_layout.proofs.Before.{reg_leaves}
+use Rattle.mk_protocol.proofs.NewPlace.{call_no_new, service_new}
 
 -- The caller has an undecided New,
 abbrev pub HasNew : World → ℕ → Type 0
@@ -44,23 +32,6 @@ abbrev pub new_object : Config → World → ℕ → Object
 new_object c w k = object_made c (flight_of w.now (Caller k)).op
 
 -- A call outside the turn, and one that is decided, are no undecided New (as in mk_protocol's NewPlace).
-
-call_no_new : (f : Flight) → standing f ≡ InCall → is_undecided_new f ≡ true → ⊥
-call_no_new f is new = let e : InCall ≡ UnderTurn = sym is ∙ new_stands f.stage f.op new in absurd (apart e)
-  where
-    apart : InCall ≡ UnderTurn → ⊥
-    apart e = cc
-
-pub give_no_new : (o : Op) → is_new_at stage.Give o ≡ true → ⊥
-give_no_new o h = cc
-
-served_new : (f : Flight) (h : Holding) (g : Flight) (i : Holding) → Service f h g i → is_undecided_new g ≡ true → g ≡ f
-served_new f h g i (Goes _ p q) new = refl
-served_new f h g i (Loads _ at stands other) new = let e : true ≡ false = sym new ∙ other in cc
-served_new f h g i (Places _ was p q) new = refl
-served_new f h g i (Fills was p) new = absurd (give_no_new f.op new)
-served_new f h g i (Grants was) new = absurd (give_no_new f.op new)
-served_new f h g i (Frees _ free p) new = absurd (give_no_new f.op new)
 
 -- a caller's call that was set
 
@@ -85,7 +56,7 @@ came c v k n (GoesOn f lt was is) new = inl (own_call v.flights k f (λ x. absur
 came c v k n (Leaves lt was) new = inl (own_call v.flights k at_rest (λ x. cc) new)
 came c v k n (Takes f z may) new = inr (z, refl)
 came c v k n (Gives t none at) new = inl (own_call v.flights k at_rest (λ x. cc) new)
-came c v k n (Works f i t s) new = inl (own_call v.flights k f (served_new (flight_in v k) v.holding f i s) new)
+came c v k n (Works f i t s) new = inl (own_call v.flights k f (service_new (flight_in v k) v.holding f i s) new)
 came c v k n _ new = inl refl
 
 -- a free turn is taken by a `take` alone
@@ -132,11 +103,10 @@ own_came c w k x known h new =
 
 pub new_came : (c : Config) (w : World) (seat : Seat) (x : Step) (k : ℕ) → Known c w.now → Meets c w.now seat x
     → HasNew (WorldBehind c w seat x) k → NewCame c w seat x k
-new_came c w (Marker j) x k known h new = WasNew refl
-new_came c w Host x k known h new = WasNew refl
 new_came c w (Caller j) x k known h new = elim (cases_eq k j) [
   | inr ne ↦ WasNew (get_or-set_other w.now.seats.flights j k _ at_rest ne)
   | inl own ↦
       subst (λ i. Meets c w.now (Caller i) x → HasNew (WorldBehind c w (Caller i) x) k → NewCame c w (Caller i) x k) own
       (own_came c w k x known) h new
 ]
+new_came c w _ x k known h new = WasNew refl
