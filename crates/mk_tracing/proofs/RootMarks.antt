@@ -1,9 +1,12 @@
 -- Roots that point well, one after the other.
-use Rattle.std.proofs.Common.{◌≡◌, ℕ, ◌+◌, ◌*◌, ◌/◌, ◌%◌, ◌<◌, ◌≤◌, true, List, refl, sym, ◌∙◌, ap, subst, inl, inr}
+use Rattle.std.proofs.Common.{◌≡◌, ◌⊎◌, ℕ, ◌+◌, ◌*◌, ◌-◌, ◌/◌, ◌%◌, ◌<◌, ◌≤◌, Bool, true, false, List, refl, sym, ◌∙◌, ap}
+use Rattle.std.proofs.Common.{subst, inl, inr, nat_le, nat_lt, bit_or}
 use Rattle.std.proofs.Common.{arith, slice_index_or}
-use Rattle.std.specs.Prelude.{slice_index}
-use Rattle.std.proofs.lemmas.Bool.{cases_lt}
+use Rattle.std.specs.Prelude.{◌&&◌, slice_index}
+use Rattle.std.proofs.lemmas.Bool.{cases_Bool, cases_lt, leb-true}
+use Rattle.mk_geom.specs.Addresses.{is_heap_address}
 use Rattle.std.proofs.lemmas.List.{get_or_past}
+use Rattle.std.proofs.lemmas.Nat.{le_or_l, le_or_r}
 use Rattle.mk_never.specs.declared.values.Value.{Value}
 use Rattle.mk_never.specs.declared.values.Value.TheVariants.{Null}
 use Rattle.mk_core.specs.declared.config.Config.{Config}
@@ -23,7 +26,7 @@ use Rattle.mk_invariant.proofs.Histories.{histories_keep_the_invariant}
 use Rattle.mk_words.specs.States.{PassState, now_of}
 use Rattle.mk_tracing.specs.Grays.{MarksMore, RootsPointWell}
 use Rattle.mk_tracing.specs.Stops.{is_root}
-use Rattle.mk_tracing.proofs.MoreMarks.{well_more, well_none, zero_none, marked_as}
+use Rattle.mk_tracing.proofs.MoreMarks.{outside_none, well_more, well_none, zero_none, marked_as}
 
 -- Each value below one points well, and so does the next.
 pub values_then : (pages : ℕ) (v x : Words) (value : ℕ → ℕ) (i : ℕ) → MarksMore v x
@@ -42,6 +45,39 @@ root_kept w v x root more = ap (λ (y : Words). named_word y x) more.is ∙ by x
     by (word.Reg j r) h = refl
     by (word.Global g) h = refl
     by _ h = cc
+
+-- A value before the heap points well.
+pub before_well : (pages : ℕ) (w : Words) (u : ℕ) → u < 65536 → points_well pages w u ≡ true
+before_well pages w u before = well_none pages w u (outside_none pages w.pages u (by (cases_Bool (nat_le 65536 u))))
+  where
+    by : (nat_le 65536 u ≡ true) ⊎ (nat_le 65536 u ≡ false) → is_heap_address pages u ≡ false
+    by (inl far) = let le = leb-true 65536 u far in absurd (omega arith)
+    by (inr near) = ap (λ (b : Bool). b && nat_lt u (65536 + 512 * pages)) near
+
+-- Each value below one is at most what all of them come to, bit by bit.
+pub most_then : (value : ℕ → ℕ) (all next i : ℕ) → ((j : ℕ) → j < i → value j ≤ all) → next ≡ value i
+    → (j : ℕ) → j < i + 1 → value j ≤ bit_or all next
+most_then value all next i before is j lt = elim (cases_lt j i) [
+  | inl below ↦ let old = before j below in let more = le_or_l all next in omega arith
+  | inr past ↦
+      let at : j ≡ i = omega arith in
+      subst (λ (k : ℕ). value k ≤ bit_or all next) (sym at)
+      (subst (λ (n : ℕ). n ≤ bit_or all next) is (le_or_r all next))
+]
+
+-- Each global of the groups below one points well, and so do those of the next.
+pub groups_then : (pages : ℕ) (w v x : Words) (group : ℕ) → MarksMore w v → MarksMore v x
+    → ((g : ℕ) → g < 8 * group → points_well pages v (slice_index w.globals g) ≡ true)
+    → ((i : ℕ) → i < 8 → points_well pages x (slice_index v.globals (8 * group + i)) ≡ true)
+    → (g : ℕ) → g < 8 * (group + 1) → points_well pages x (slice_index w.globals g) ≡ true
+groups_then pages w v x group old more before here g lt = elim (cases_lt g (8 * group)) [
+  | inl below ↦ well_more pages v x (slice_index w.globals g) more (before g below)
+  | inr past ↦
+      let at : 8 * group + (g - 8 * group) ≡ g = omega arith in
+      subst (λ (n : ℕ). points_well pages x n ≡ true) (root_kept w v (word.Global g) refl old)
+      (subst (λ (j : ℕ). points_well pages x (slice_index v.globals j) ≡ true) at
+      (here (g - 8 * group) (omega arith)))
+]
 
 -- A register after those of the callers is 0.
 pub register_past : (c : Config) (es : List Event) (i : ℕ) → IsHistory c es → 8 * c.callers ≤ i

@@ -1,5 +1,5 @@
 //! Marks from the roots: the registers and the globals.
-ghost use Rattle.std.specs.Prelude.{◌≡◌, ℕ, ◌<◌, true, slice_index};
+ghost use Rattle.std.specs.Prelude.{◌≡◌, ℕ, ◌+◌, ◌<◌, ◌≤◌, true, slice_index};
 ghost use Rattle.mk_core.specs.Cells.{points_well};
 ghost use Rattle.mk_core.specs.Ranges.{is_word};
 ghost use Rattle.mk_core.specs.Words.{named_word, register_word};
@@ -10,12 +10,16 @@ use crate::noting::mark_and_note;
 use crate::stepping::look_at_root;
 use crate::worklist::Worklist;
 use mk_core::Word;
+use mk_geom::HEAP_START;
 use mk_words::{Stopped, Words};
 
 /// How many registers a caller has.
 const REGISTERS: u64 = 8;
 
-const GLOBALS: u64 = 64;
+/// The 64 globals are groups of this many, which are looked at together.
+const GROUP: u64 = 8;
+
+const GROUPS: u64 = 8;
 
 /// Looks at a root, and marks what its value points into. The table is of this many pages.
 #[inline(always)]
@@ -63,6 +67,42 @@ fn mark_registers(words: &Words, stop: &mut Stopped, work: &mut Worklist)
     }
 }
 
+/// Looks at a group of globals, from this one on. Returns true only where all are before the heap, as null is.
+fn are_before_heap(words: &Words, stop: &mut Stopped, pages: u64, first: u64) -> bool
+    requires one_table { stop.old.pass.table ≡ words.now }
+    requires pages { pages ≡ words.now.config.pages }
+    requires wanted { IsWanted stop.old.pass }
+    requires group { first + 8 ≤ 64 }
+    ensures on { MarksOn stop.old stop.new }
+    ensures words { still_words stop.new.pass ≡ still_words stop.old.pass }
+    ensures before { result ≡ true → (i : ℕ) → i < 8
+        → slice_index (still_words stop.old.pass).globals (first + i) < 65536 }
+{
+    let mut all = 0;
+    for i in 0..GROUP {
+        all |= look_at_root(words, stop, pages, Word::Global(first + i));
+    }
+    all < HEAP_START
+}
+
+/// Marks what a group of globals points into, from this one on. Most are null, so they are looked at together first.
+fn mark_group(words: &Words, stop: &mut Stopped, work: &mut Worklist, pages: u64, first: u64)
+    requires one_table { stop.old.pass.table ≡ words.now }
+    requires pages { pages ≡ words.now.config.pages }
+    requires wanted { IsWanted stop.old.pass }
+    requires group { first + 8 ≤ 64 }
+    ensures on { MarksOn stop.old stop.new }
+    ensures more { MarksMore (still_words stop.old.pass) (still_words stop.new.pass) }
+    ensures well { (i : ℕ) → i < 8 → GlobalIsWell words.now.config stop.old.pass stop.new.pass (first + i) }
+{
+    if are_before_heap(words, stop, pages, first) {
+        return;
+    }
+    for i in 0..GROUP {
+        mark_root(words, stop, work, pages, Word::Global(first + i));
+    }
+}
+
 /// Marks what the globals point into.
 fn mark_globals(words: &Words, stop: &mut Stopped, work: &mut Worklist)
     requires one_table { stop.old.pass.table ≡ words.now }
@@ -72,13 +112,13 @@ fn mark_globals(words: &Words, stop: &mut Stopped, work: &mut Worklist)
     ensures well { (g : ℕ) → g < 64 → GlobalIsWell words.now.config stop.old.pass stop.new.pass g }
 {
     let pages = words.pages();
-    for global in 0..GLOBALS {
-        mark_root(words, stop, work, pages, Word::Global(global));
+    for group in 0..GROUPS {
+        mark_group(words, stop, work, pages, GROUP * group);
     }
 }
 
-/// Marks what the roots point into: the registers of all callers, and the globals. A root is marked before the next is
-/// looked at. What is marked is noted.
+/// Marks what the roots point into: the registers of all callers, and the globals. Of a group of globals that aren't
+/// all before the heap each is looked at once more, and marked before the next. What is marked is noted.
 pub fn mark_roots(words: &Words, stop: &mut Stopped, work: &mut Worklist)
     requires one_table { stop.old.pass.table ≡ words.now }
     requires wanted { IsWanted stop.old.pass }

@@ -1,4 +1,4 @@
-use Rattle.std.proofs.Common.{ℕ, ◌≡◌, false, ap, sym, subst}
+use Rattle.std.proofs.Common.{ℕ, ◌≡◌, false, subst}
 use Rattle.mk_geom.specs.Addresses.{is_heap_address}
 use Rattle.mk_tracing.specs.Stops.{still_words}
 use Rattle.mk_tracing.proofs.MoreMarks.{outside_none, well_none}

@@ -1,15 +1,12 @@
-use Rattle.std.proofs.Common.{◌≡◌, ℕ, true, refl, subst, arith}
-use Rattle.std.specs.Prelude.{slice_index}
-use Rattle.mk_core.specs.declared.events.Word.TheVariants as word
-use Rattle.mk_core.specs.Cells.{points_well}
+use Rattle.std.proofs.Common.{refl, arith}
 use Rattle.mk_tracing.specs.Stops.{still_words}
 use Rattle.mk_tracing.proofs.MoreMarks.{more_same, more_then}
-use Rattle.mk_tracing.proofs.RootMarks.{values_then, root_kept}
+use Rattle.mk_tracing.proofs.RootMarks.{groups_then}
 use Rattle.mk_tracing.proofs.StopSteps.{on_from, on_then}
 use Rattle.mk_tracing.proofs.roots.mark_globals.Goals as goal
 
-pub loop-global-init : goal.loop-global-init
-loop-global-init c =
+pub loop-group-init : goal.loop-group-init
+loop-group-init c =
     let w = still_words c.args.stop.now.pass in
     record {
       on = on_from c.args.stop.now c.requires.wanted;
@@ -17,18 +14,18 @@ loop-global-init c =
       well = λ g lt. absurd (omega arith);
     }
 
-pub loop-global-preserved : goal.loop-global-preserved
-loop-global-preserved c =
+pub loop-group-preserved : goal.loop-group-preserved
+loop-group-preserved c =
     let w = still_words c.args.stop.now.pass in
-    let v = still_words c.loop-global.stop.pass in
-    let x = still_words c.mark_root.new.stop.pass in
-    let pages : ℕ = c.args.words.now.config.pages in
+    let v = still_words c.loop-group.stop.pass in
+    let x = still_words c.mark_group.new.stop.pass in
     record {
-      on = on_then c.args.stop.now c.loop-global.stop c.mark_root.new.stop c.loop-global.invariant.on
-          c.mark_root.ensures.on;
-      more = more_then w v x c.loop-global.invariant.more c.mark_root.ensures.more;
-      well = values_then pages v x (λ g. slice_index w.globals g) c.loop-global.global c.mark_root.ensures.more
-          c.loop-global.invariant.well
-          (subst (λ n. points_well pages x n ≡ true) (root_kept w v
-          (word.Global c.loop-global.global) refl c.loop-global.invariant.more) c.mark_root.ensures.well);
+      on = on_then c.args.stop.now c.loop-group.stop c.mark_group.new.stop c.loop-group.invariant.on
+          c.mark_group.ensures.on;
+      more = more_then w v x c.loop-group.invariant.more c.mark_group.ensures.more;
+      well = groups_then c.args.words.now.config.pages w v x c.loop-group.group c.loop-group.invariant.more
+          c.mark_group.ensures.more c.loop-group.invariant.well c.mark_group.ensures.well;
     }
+
+pub returns-clause-well : goal.returns-clause-well
+returns-clause-well c g lt = c.loop-group.invariant.well g (let end = c.loop-group-test.false in omega arith)

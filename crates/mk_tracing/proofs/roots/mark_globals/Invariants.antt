@@ -1,14 +1,14 @@
-use Rattle.std.proofs.Common.{◌≡◌, ℕ, ◌<◌, true}
+use Rattle.std.proofs.Common.{◌≡◌, ℕ, ◌*◌, ◌<◌, true}
 use Rattle.std.specs.Prelude.{slice_index}
 use Rattle.mk_core.specs.Cells.{points_well}
 use Rattle.mk_tracing.specs.Grays.{MarksMore, MarksOn}
 use Rattle.mk_tracing.specs.Stops.{still_words}
 use Rattle.mk_tracing.proofs.roots.mark_globals.Given as goal
 
-abbrev pub invariant-loop-global : goal.invariant-loop-global
-invariant-loop-global l = record {
+abbrev pub invariant-loop-group : goal.invariant-loop-group
+invariant-loop-group l = record {
   on : MarksOn l.fn.stop l.stop;
   more : MarksMore (still_words l.fn.stop.pass) (still_words l.stop.pass);
-  well : (g : ℕ) → g < l.global → points_well l.words.config.pages (still_words l.stop.pass)
+  well : (g : ℕ) → g < 8 * l.group → points_well l.words.config.pages (still_words l.stop.pass)
       (slice_index (still_words l.fn.stop.pass).globals g) ≡ true;
 }

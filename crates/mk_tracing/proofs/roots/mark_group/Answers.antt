@@ -1,0 +1,42 @@
+use Rattle.std.proofs.Common.{◌≡◌, ℕ, ◌+◌, true, refl, subst, arith}
+use Rattle.std.specs.Prelude.{slice_index}
+use Rattle.mk_core.specs.declared.events.Word.TheVariants as word
+use Rattle.mk_core.specs.Cells.{points_well}
+use Rattle.mk_tracing.specs.Stops.{still_words}
+use Rattle.mk_tracing.proofs.MoreMarks.{more_same, more_then}
+use Rattle.mk_tracing.proofs.RootMarks.{before_well, values_then, root_kept}
+use Rattle.mk_tracing.proofs.StopSteps.{on_then}
+use Rattle.mk_tracing.proofs.roots.mark_group.Goals as goal
+
+pub returns-then-are_before_heap-clause-more : goal.returns-then-are_before_heap-clause-more
+returns-then-are_before_heap-clause-more c =
+    more_same (still_words c.args.stop.now.pass) (still_words c.are_before_heap.new.stop.pass)
+    c.are_before_heap.ensures.words
+
+pub returns-then-are_before_heap-clause-well : goal.returns-then-are_before_heap-clause-well
+returns-then-are_before_heap-clause-well c i lt =
+    before_well c.args.words.now.config.pages (still_words c.are_before_heap.new.stop.pass) _
+    (c.are_before_heap.ensures.before c.if-are_before_heap.true i lt)
+
+pub loop-i-init : goal.loop-i-init
+loop-i-init c = record {
+  on = c.are_before_heap.ensures.on;
+  more = more_same (still_words c.args.stop.now.pass) (still_words c.are_before_heap.new.stop.pass)
+      c.are_before_heap.ensures.words;
+  well = λ j lt. absurd (omega arith);
+}
+
+pub loop-i-preserved : goal.loop-i-preserved
+loop-i-preserved c =
+    let w = still_words c.args.stop.now.pass in
+    let v = still_words c.loop-i.stop.pass in
+    let x = still_words c.mark_root.new.stop.pass in
+    let pages : ℕ = c.args.words.now.config.pages in
+    record {
+      on = on_then c.args.stop.now c.loop-i.stop c.mark_root.new.stop c.loop-i.invariant.on c.mark_root.ensures.on;
+      more = more_then w v x c.loop-i.invariant.more c.mark_root.ensures.more;
+      well = values_then pages v x (λ j. slice_index w.globals (c.args.first + j)) c.loop-i.i c.mark_root.ensures.more
+          c.loop-i.invariant.well
+          (subst (λ n. points_well pages x n ≡ true) (root_kept w v
+          (word.Global (c.args.first + c.loop-i.i)) refl c.loop-i.invariant.more) c.mark_root.ensures.well);
+    }
