@@ -5,14 +5,9 @@ use Rattle.std.specs.Prelude.{slice_index}
 use Rattle.std.specs.List.{list_any}
 use Rattle.std.proofs.lemmas.Bool.{leb-true, ltb-true, or_parts, true≢false}
 use Rattle.std.proofs.lemmas.List.Folds.{list_any-append}
-use Rattle.mk_core.specs.declared.events.Event.{Event}
-use Rattle.mk_core.specs.declared.events.Step.{Step}
+use Rattle.mk_protocol.proofs.Vocabulary.{Event, IsHistory, Step, all_below, left, left_from, may_turn_black}
+use Rattle.mk_protocol.proofs.Vocabulary.{pointed_cell, register_word}
 use Rattle.mk_core.specs.declared.events.Step.TheVariants as step
-use Rattle.mk_core.specs.Bounded.{all_below}
-use Rattle.mk_core.specs.Cells.{pointed_cell}
-use Rattle.mk_core.specs.History.{IsHistory, left, left_from}
-use Rattle.mk_core.specs.StopConditions.{may_turn_black}
-use Rattle.mk_core.specs.Words.{register_word}
 use Rattle.mk_core.proofs.EvaluatedLarge.{large_is_history}
 use Rattle.mk_core.proofs.EventsAt.{events_from}
 use Rattle.mk_core.proofs.HistoryParts.{earlier_part_is_history}

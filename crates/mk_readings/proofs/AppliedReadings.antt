@@ -3,17 +3,14 @@ use Rattle.std.proofs.Common.{◌≡◌, ℕ, zero, suc, ◌<◌, ◌≤◌, tru
 use Rattle.std.specs.Prelude.{slice_index}
 use Rattle.std.proofs.lemmas.Bool.{eqb-false, false≢true, leb-true, ltb-true}
 use Rattle.mk_never.specs.Reach.{by_register, by_word}
-use Rattle.mk_geom.specs.declared.addresses.Cell.{Cell}
+use Rattle.mk_protocol.proofs.Vocabulary.{At, Cell, IsHistory, IsTaken, Releasing, RunPages, World, all_below}
+use Rattle.mk_protocol.proofs.Vocabulary.{before_release, calls_from, cell_of_allocation, header_in, is_begin, is_freed}
+use Rattle.mk_protocol.proofs.Vocabulary.{is_quarantined, left, left_from, may_turn_black, placed_at, pointed_cell}
+use Rattle.mk_protocol.proofs.Vocabulary.{run_headed, stands_in, words_are_zero}
 use Rattle.mk_core.specs.declared.events.Seat.TheVariants as seat
 use Rattle.mk_core.specs.declared.events.Step.TheVariants as step
-use Rattle.mk_core.specs.declared.seats.RunPages.{RunPages}
-use Rattle.mk_core.specs.Allocations.{cell_of_allocation, placed_at, stands_in}
-use Rattle.mk_core.specs.Bounded.{all_below}
-use Rattle.mk_core.specs.Cells.{header_in, is_freed, is_in_snapshot, pointed_cell, run_headed, words_are_zero}
-use Rattle.mk_core.specs.Cycles.{At, Releasing, before_release, is_begin, is_quarantined}
-use Rattle.mk_core.specs.History.{IsHistory, World, calls_from, left, left_from}
-use Rattle.mk_core.specs.Readings.{IsTaken, SnapshotTells}
-use Rattle.mk_core.specs.StopConditions.{may_turn_black}
+use Rattle.mk_core.specs.Cells.{is_in_snapshot}
+use Rattle.mk_core.specs.Readings.{SnapshotTells}
 use Rattle.mk_core.proofs.EvaluatedCycles.{cycle_of_blackened, first_cycle, in_first_snapshot, not_in_first_snapshot}
 use Rattle.mk_core.proofs.EvaluatedFreed.{third_cell, third_is_freed}
 use Rattle.mk_core.proofs.EvaluatedHistories.{blackened_is_history, freed_is_history, marking_is_history}
@@ -140,24 +137,21 @@ pub begin_releases_none : (placed_at (left one_page (take 16 freed_after_begin))
 unfolding by c0 host all_below pointed_cell one_page freed_after_begin left_from
 begin_releases_none =
     no_others_release one_page freed_after_begin freed_is_history (take 15 freed_after_begin)
-    (drop 16 freed_after_begin)
-    (record { seat = c0; step = step.Begin }) refl refl 0 refl
+    (drop 16 freed_after_begin) (record { seat = c0; step = step.Begin }) refl refl 0 refl
 
 -- Each `release` has its cycle.
 pub release_has_its_cycle : (r : Releasing freed_after_begin) × (before_release r ≡ take 32 freed_after_begin)
 unfolding by c0 host freed_after_begin
 release_has_its_cycle =
     releases_are_of_cycles one_page freed_after_begin freed_is_history (take 32 freed_after_begin)
-    (drop 33 freed_after_begin)
-    seat.Host refl
+    (drop 33 freed_after_begin) seat.Host refl
 
 -- Words that are 0: those of the cell that was given back,
 
 abbrev second_cell : Cell
 second_cell = record { page = 0; index = 1 }
 
-stands_there : (number : ℕ)
-    → stands_in back.now.words second_cell (placed_at back.allocations number) ≡ true → ⊥
+stands_there : (number : ℕ) → stands_in back.now.words second_cell (placed_at back.allocations number) ≡ true → ⊥
 unfolding by c0 host all_below pointed_cell one_page freed_after_begin left_from
 stands_there zero h = false≢true h
 stands_there (suc zero) h = false≢true h

@@ -1,34 +1,23 @@
 -- The theorems over all histories, applied to small schedules: what each says there, read off by computation.
-use Rattle.std.proofs.Common.{◌≡◌, ℕ, ◌≤◌, true, false, List, [], ◌∷◌, ◌++◌, replicate, take, drop, None, Some, refl}
-use Rattle.std.proofs.Common.{sym, ◌∙◌, ap, subst, inl, arith, append_assoc}
+use Rattle.std.proofs.Common.{◌≡◌, ℕ, ◌≤◌, true, false, List, ◌∷◌, ◌++◌, replicate, take, drop, None, Some, refl, sym}
+use Rattle.std.proofs.Common.{[]}
+use Rattle.std.proofs.Common.{◌∙◌, ap, subst, inl, arith, append_assoc}
 use Rattle.std.specs.Prelude.{slice_index}
 use Rattle.std.proofs.lemmas.Bool.{eqb-false, false≢true, leb-true, ltb-true}
 use Rattle.mk_never.specs.declared.values.Target.{Target}
-use Rattle.mk_never.specs.declared.values.Target.TheVariants.{WordOf}
-use Rattle.mk_never.specs.declared.values.Value.{Value}
-use Rattle.mk_never.specs.declared.values.Value.TheVariants.{Null}
-use Rattle.mk_never.specs.NeverHeap.{NeverState, register_at, replies_of, word_at}
-use Rattle.mk_geom.specs.Headers.{IsHeaderWord}
-use Rattle.mk_geom.specs.PageUses.{resident_pages}
-use Rattle.mk_geom.specs.PageWords.{uses_of_pages}
-use Rattle.mk_geom.specs.StorageWords.{IsWordOf}
-use Rattle.mk_geom.specs.Storages.{free_page, words_of_storages}
+use Rattle.mk_protocol.proofs.Vocabulary.{DirtyIsOwed, Event, IsGuarded, IsHeaderWord, IsHistory, IsWordOf, NeverState}
+use Rattle.mk_protocol.proofs.Vocabulary.{Null, OwesDirty, PageIsDirty, PointsWell, Value, WordOf, World, all_below}
+use Rattle.mk_protocol.proofs.Vocabulary.{answers_of, asked, bases_of, calls, calls_from, cell_of_allocation, free_page}
+use Rattle.mk_protocol.proofs.Vocabulary.{header_at, is_begin, is_run_gone, left, left_from, may_turn_black}
+use Rattle.mk_protocol.proofs.Vocabulary.{never_behind, placed_at, pointed_cell, points_well, register_at, replies_of}
+use Rattle.mk_protocol.proofs.Vocabulary.{resident_pages, storage_of, unreleased_storage, uses_of_pages, word_at}
+use Rattle.mk_protocol.proofs.Vocabulary.{word_points_well}
+use Rattle.mk_geom.specs.Storages.{words_of_storages}
 use Rattle.mk_core.specs.declared.events.Answer.TheVariants as answer
-use Rattle.mk_core.specs.declared.events.Event.{Event}
 use Rattle.mk_core.specs.declared.events.Seat.TheVariants as seat
-use Rattle.mk_core.specs.Allocations.{cell_of_allocation, place_among_allocations, placed_at, storage_of}
-use Rattle.mk_core.specs.Allocations.{unreleased_storage}
-use Rattle.mk_core.specs.Bounded.{all_below}
-use Rattle.mk_core.specs.Cells.{is_used, pointed_cell, points_well, word_points_well}
-use Rattle.mk_core.specs.ClosedMarks.{DirtyIsOwed, IsGuarded, OwesDirty, PageIsDirty, PointsWell}
-use Rattle.mk_core.specs.Cycles.{is_begin}
-use Rattle.mk_core.specs.Decided.{asked}
-use Rattle.mk_core.specs.History.{IsHistory, World, bases_of, calls, calls_from, left, left_from, never_behind}
+use Rattle.mk_core.specs.Allocations.{place_among_allocations}
+use Rattle.mk_core.specs.Cells.{is_used}
 use Rattle.mk_core.specs.History.{never_first}
-use Rattle.mk_core.specs.Image.{answers_of}
-use Rattle.mk_core.specs.NewPlaces.{is_run_gone}
-use Rattle.mk_core.specs.StopConditions.{may_turn_black}
-use Rattle.mk_core.specs.Words.{header_at}
 use Rattle.mk_core.proofs.EvaluatedGuards.{page_is_clean, written_points_badly}
 use Rattle.mk_core.proofs.EvaluatedHistories.{exchanged_is_history, freed_is_history, full_is_history, swept_is_history}
 use Rattle.mk_core.proofs.EvaluatedLarge.{large_is_history}
@@ -124,8 +113,7 @@ third_is_used = (theorems.allocations_stand one_page full_then_reused full_is_hi
 pub word_of_the_first_alone : IsWordOf (storage_of one_page (placed_at full.allocations 2)) 10 → ⊥
 unfolding by c0 all_below pointed_cell may_turn_black one_page full_then_reused left_from
 word_of_the_first_alone word =
-    eqb-false 0 2 refl
-    (theorems.allocations_are_disjoint one_page full_then_reused full_is_history 0 2 10 refl refl
+    eqb-false 0 2 refl (theorems.allocations_are_disjoint one_page full_then_reused full_is_history 0 2 10 refl refl
     (leb-true 0 10 refl, ltb-true 10 32 refl) word)
 
 full_is_settled : IsSettled full
@@ -141,8 +129,7 @@ page_told_by_storage =
     0 free_page (ltb-true 0 1 refl))
 
 -- and no place among them, told by the words.
-pub no_place_told_by_words : place_among_allocations one_page 32 true full.allocations
-    ≡ None
+pub no_place_told_by_words : place_among_allocations one_page 32 true full.allocations ≡ None
 unfolding by c0 all_below pointed_cell may_turn_black one_page full_then_reused left_from
 no_place_told_by_words =
     sym (theorems.first_fit_finds_the_place one_page full_then_reused full_is_history
@@ -156,8 +143,7 @@ unmapped = left three_pages (take 19 large_freed)
 
 unmapped_is_history : IsHistory three_pages (take 19 large_freed)
 unfolding by c0 large_freed
-unmapped_is_history =
-    earlier_part_is_history three_pages (take 19 large_freed) (drop 19 large_freed) large_is_history
+unmapped_is_history = earlier_part_is_history three_pages (take 19 large_freed) (drop 19 large_freed) large_is_history
 
 pub not_wiped_yet : is_run_gone unmapped.now.words unmapped.now.seats.holding.freed ≡ false
 unfolding by c0 all_below pointed_cell three_pages large_freed left_from
@@ -196,8 +182,7 @@ written_is_guarded =
     theorems.black_cells_are_guarded small written_beside beside_begins (inl refl) 0 0 0
     (ltb-true 0 32 refl) refl refl (ltb-true 0 2 refl)
 
-owed_by_one : IsGuarded small beside.now 0
-    → (k : ℕ) × OwesDirty beside.now k 0
+owed_by_one : IsGuarded small beside.now 0 → (k : ℕ) × OwesDirty beside.now k 0
 owed_by_one (PointsWell well) = absurd (false≢true (sym written_points_badly ∙ well))
 owed_by_one (PageIsDirty dirty) = let clean = page_is_clean in absurd (omega arith)
 owed_by_one (DirtyIsOwed k owes) = (k, owes)

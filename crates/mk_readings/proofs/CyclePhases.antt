@@ -1,21 +1,16 @@
 -- The phases of a cycle: which a step asks for and leaves, and between which steps they stand.
-use Rattle.std.proofs.Common.{◌≡◌, ℕ, ◌≤◌, ◌%◌, true, false, List, [], ◌∷◌, refl, sym, ap, subst, arith}
+use Rattle.std.proofs.Common.{◌≡◌, ℕ, ◌≤◌, ◌%◌, false, List, ◌∷◌, refl, sym, ap, subst, arith, []}
 use Rattle.std.specs.List.{list_any}
 use Rattle.std.proofs.lemmas.Bool.{eqb-true, or_from, or_parts}
-use Rattle.mk_core.specs.declared.config.Config.{Config}
-use Rattle.mk_core.specs.declared.events.Event.{Event}
-use Rattle.mk_core.specs.declared.events.Seat.{Seat}
-use Rattle.mk_core.specs.declared.events.Step.{Step}
+use Rattle.mk_protocol.proofs.Vocabulary.{AreEnabledFrom, Config, Event, Moment, Seat, Step, World, is_begin, is_close}
+use Rattle.mk_protocol.proofs.Vocabulary.{is_release, left_from, phase_of, world_behind}
 use Rattle.mk_core.specs.declared.events.Step.TheVariants as step
-use Rattle.mk_core.specs.Words.{phase_of}
-use Rattle.mk_core.specs.Moments.{Moment}
-use Rattle.mk_core.specs.Cycles.{is_begin, is_close, is_release}
-use Rattle.mk_core.specs.History.{AreEnabledFrom, World, left_from, world_behind}
 use Rattle.mk_core.proofs.Conditions.{enabled_meets}
 use Rattle.mk_protocol.proofs.Actors.{Meets}
 use Rattle.mk_protocol.proofs.SameWords.{Behind}
 use Rattle.mk_guard.proofs.Changes.{Table, reg_table, tally_table}
 use Rattle.mk_guard.proofs.Phases.{over_phase}
+pub use Rattle.mk_protocol.proofs.StepKinds.{begin_is, close_is, release_is}
 
 -- the phase that a step asks for
 
@@ -108,8 +103,7 @@ pub record MarkingGoesOn (c : Config) (w : World) (es : List Event) : Type 0 whe
   pub none_releases : list_any (λ (e : Event). is_release e.step) es ≡ false
 
 pub marking_goes_on : (c : Config) (w : World) (es : List Event) → AreEnabledFrom c w es
-    → IsMarking (phase_of w.now.words)
-    → list_any (λ (e : Event). is_close e.step) es ≡ false → MarkingGoesOn c w es
+    → IsMarking (phase_of w.now.words) → list_any (λ (e : Event). is_close e.step) es ≡ false → MarkingGoesOn c w es
 unfolding left_from
 marking_goes_on c w [] on m none = record { phase = m; none_begins = refl; none_releases = refl }
 marking_goes_on c w (e ∷ es) on m none =
@@ -142,16 +136,3 @@ none_is_released c w (e ∷ es) on m none =
       phase = rest.phase;
       none_begins = or_from (is_begin e.step) (list_any (λ (x : Event). is_begin x.step) es) one.1 rest.none_begins;
     }
-
--- what the kinds are
-pub begin_is : (x : Step) → is_begin x ≡ true → x ≡ step.Begin
-begin_is step.Begin h = refl
-begin_is _ h = cc
-
-pub close_is : (x : Step) → is_close x ≡ true → x ≡ step.Close
-close_is step.Close h = refl
-close_is _ h = cc
-
-pub release_is : (x : Step) → is_release x ≡ true → x ≡ step.Release
-release_is step.Release h = refl
-release_is _ h = cc

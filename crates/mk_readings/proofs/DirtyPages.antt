@@ -1,33 +1,19 @@
 -- On a dirty page, and on one whose dirty mark a call owes, an unreleased allocation stands. Only a `release` could end
 -- that, and at a `release` no page is dirty and no mark is owed.
-use Rattle.std.proofs.Common.{◌≡◌, ◌≢◌, ◌⊎◌, ℕ, true, false, List, [], ◌∷◌, ◌++◌, length, refl, sym}
-use Rattle.std.proofs.Common.{◌∙◌, ap, subst, inl, inr, arith, append-nil}
+use Rattle.std.proofs.Common.{◌≡◌, ◌≢◌, ◌⊎◌, ℕ, true, false, List, ◌∷◌, ◌++◌, length, refl, sym, ◌∙◌, ap, subst, inl}
+use Rattle.std.proofs.Common.{[]}
+use Rattle.std.proofs.Common.{inr, arith, append-nil}
 use Rattle.std.specs.Prelude.{slice_index, slice_index_or, slice_set, ◌==◌, ◌&&◌}
 use Rattle.std.proofs.lemmas.Bool.{cases_eq, cases_lt, and_parts, eqb-true, ltb-true, true≢false}
 use Rattle.std.proofs.lemmas.List.{get_or-set_other, get_or-set_same, get_or_past, set_past}
-use Rattle.mk_never.specs.Admitted.{AreAdmitted}
-use Rattle.mk_never.specs.NeverHeap.{Call}
-use Rattle.mk_core.specs.declared.config.Config.{Config}
-use Rattle.mk_core.specs.declared.events.Event.{Event}
-use Rattle.mk_core.specs.declared.events.Seat.{Seat}
-use Rattle.mk_core.specs.declared.events.Seat.TheVariants.{Caller, Host, Marker}
-use Rattle.mk_core.specs.declared.events.Step.{Step}
+use Rattle.mk_protocol.proofs.Vocabulary.{AreAdmitted, AreEnabledFrom, Call, Caller, Config, Decided, Event, Flight}
+use Rattle.mk_protocol.proofs.Vocabulary.{Host, IsHistory, Marker, Moment, Seat, Stage, Step, World, all_below, asked}
+use Rattle.mk_protocol.proofs.Vocabulary.{at_rest, call_decided, calls_from, first_world, flight_of, found}
+use Rattle.mk_protocol.proofs.Vocabulary.{has_closed_page, is_release, left, left_from, never_behind, none_attends}
+use Rattle.mk_protocol.proofs.Vocabulary.{page_met, phase_of, placed_at, progress, roots_point_well, storage_words}
+use Rattle.mk_protocol.proofs.Vocabulary.{word_met}
 use Rattle.mk_core.specs.declared.events.Step.TheVariants as step
-use Rattle.mk_core.specs.declared.seats.Flight.{Flight}
-use Rattle.mk_core.specs.declared.seats.Stage.{Stage}
 use Rattle.mk_core.specs.declared.seats.Stage.TheVariants as stage
-use Rattle.mk_core.specs.Accesses.{found}
-use Rattle.mk_core.specs.Allocations.{placed_at, storage_words}
-use Rattle.mk_core.specs.Bounded.{all_below}
-use Rattle.mk_core.specs.Calls.{at_rest, page_met, word_met}
-use Rattle.mk_core.specs.Cycles.{is_release}
-use Rattle.mk_core.specs.Effects.{progress}
-use Rattle.mk_core.specs.Decided.{Decided, asked}
-use Rattle.mk_core.specs.History.{AreEnabledFrom, IsHistory, World, call_decided, calls_from, first_world, left}
-use Rattle.mk_core.specs.History.{left_from, never_behind}
-use Rattle.mk_core.specs.Moments.{Moment, flight_of}
-use Rattle.mk_core.specs.StopConditions.{has_closed_page, none_attends, roots_point_well}
-use Rattle.mk_core.specs.Words.{phase_of}
 use Rattle.mk_core.proofs.AllBelow.{all_below-at}
 use Rattle.mk_core.proofs.Histories.{left_more}
 use Rattle.mk_core.proofs.HistoryParts.{admitted_in_parts, earlier_part_is_history, enabled_in_parts}
@@ -142,8 +128,6 @@ mark_since : (c : Config) (m : Moment) (seat : Seat) (x : Step) → Known c m �
     → (flight_of (Behind c m seat x) (Caller k)).stage ≡ stage.Dirty
     → (flight_of (Behind c m seat x) (Caller k) ≡ flight_of m (Caller k))
     ⊎ ((stores x ≡ true) × (page_met (flight_of m seat) ≡ page_met (flight_of (Behind c m seat x) (Caller k))))
-mark_since c m (Marker j) x known h k at = inl refl
-mark_since c m Host x known h k at = inl refl
 mark_since c m (Caller j) x known h k at = elim (cases_eq k j) [
   | inr ne ↦ inl (get_or-set_other m.seats.flights j k flight at_rest ne)
   | inl e ↦
@@ -159,6 +143,7 @@ mark_since c m (Caller j) x known h k at = elim (cases_eq k j) [
   where
     flight : Flight
     flight = (progress c m (flight_of m (Caller j)) (found c m (record { seat = Caller j; step = x })) x).flight
+mark_since c m _ x known h k at = inl refl
 
 -- Where the marks are closed after a step, no page was dirty before it.
 was_clean : (c : Config) (w : World) (seat : Seat) (x : Step) → KnownWorld c w → Meets c w.now seat x
@@ -237,8 +222,7 @@ module _ (c : Config) (w : World) (seat : Seat) (x : Step) (known : KnownWorld c
               (d.owed k (ap (λ (f : Flight). f.stage) (sym same) ∙ at))
           | inr new ↦
               let m = stored new.0 in
-              subst (λ q. HasAllocation c w q) new.1
-              (record {
+              subst (λ q. HasAllocation c w q) new.1 (record {
                 number = m.number;
                 unreleased = mapped_stays c (placed_at w.allocations m.number) m.mapped;
                 word = word_met (flight_of w.now seat);

@@ -4,22 +4,13 @@ use Rattle.std.proofs.Common.{◌∙◌, ap, subst, inl, inr, arith, le_refl}
 use Rattle.std.specs.Prelude.{not, ◌==◌, slice_index, Option, Some, None}
 use Rattle.std.proofs.lemmas.Bool.{and_from, cases_eq, cases_order, eq-eqb}
 use Rattle.std.proofs.lemmas.Nat.{mul-le}
-use Rattle.mk_never.specs.NeverHeap.{NeverState}
-use Rattle.mk_geom.specs.declared.addresses.Cell.{Cell}
-use Rattle.mk_geom.specs.declared.headers.Header.{Header}
-use Rattle.mk_geom.specs.declared.headers.Header.TheVariants.{Block, Free, Later, LeafBlock, LeafRun, Run}
-use Rattle.mk_geom.specs.Classes.{cells_of, class_words_of}
+use Rattle.mk_protocol.proofs.Vocabulary.{BeginsAtCell, Block, Cell, Config, Free, Header, IsSized, IsTaken, Later}
+use Rattle.mk_protocol.proofs.Vocabulary.{LeafBlock, LeafRun, NeverState, Object, OfBlock, OfLater, OfLeafBlock}
+use Rattle.mk_protocol.proofs.Vocabulary.{OfLeafRun, OfRun, PlacedAllocation, Run, ShowsPart, Words, World, cell_words}
+use Rattle.mk_protocol.proofs.Vocabulary.{cells_of, cells_under, class_made, class_words_of, first_word, header_at}
+use Rattle.mk_protocol.proofs.Vocabulary.{header_in, heads_run, is_small_object, object_placed, pages_made, phase_of}
+use Rattle.mk_protocol.proofs.Vocabulary.{placed_at, words_are_zero, words_made, words_under}
 use Rattle.mk_geom.proofs.ClassTable.{cell_ends}
-use Rattle.mk_core.specs.declared.config.Config.{Config}
-use Rattle.mk_core.specs.declared.seats.Object.{Object}
-use Rattle.mk_core.specs.Allocations.{PlacedAllocation, placed_at}
-use Rattle.mk_core.specs.Cells.{cell_words, cells_under, first_word, header_in, heads_run, words_are_zero, words_under}
-use Rattle.mk_core.specs.History.{World}
-use Rattle.mk_core.specs.NewPlaces.{class_made, is_small_object, pages_made}
-use Rattle.mk_core.specs.ObjectHeaders.{IsSized, OfBlock, OfLater, OfLeafBlock, OfLeafRun, OfRun, ShowsPart, words_made}
-use Rattle.mk_core.specs.Readings.{IsTaken}
-use Rattle.mk_core.specs.StandingAllocations.{BeginsAtCell, object_placed}
-use Rattle.mk_core.specs.Words.{Words, header_at, phase_of}
 use Rattle.mk_core.proofs.AllBelow.{all_below_more_is, all_below_zero_is}
 use Rattle.mk_core.proofs.ObjectHeaders.{header_shows, later_cells, part_not_free, part_words, shown_later}
 use Rattle.mk_core.proofs.Sizes.{small_cells, small_words}
@@ -69,8 +60,7 @@ base_on_page o base b = let first = b.first in omega arith
 
 -- The allocation that has a word of a cell begins where the cell does: on the word's own page,
 begins_there : (w : Words) (o : Object) (base n p k : ℕ) → OnPage w o base n → n / 64 ≡ p
-    → k < cells_under (header_in w p)
-    → 64 * p + k * words_under (header_in w p) ≤ n
+    → k < cells_under (header_in w p) → 64 * p + k * words_under (header_in w p) ≤ n
     → n < 64 * p + k * words_under (header_in w p) + words_under (header_in w p)
     → base ≡ 64 * p + k * words_under (header_in w p)
 begins_there w o base n p k x at known low high = elim (cases_eq x.distance 0) [
@@ -114,8 +104,7 @@ run_begins_there w o base n p d x at some (inl later) =
 
 -- A small object's words end with its page's cells.
 small_within : (o : Object) (base n : ℕ) (b : BeginsAtCell o base) → is_small_object o ≡ true → n / 64 ≡ base / 64
-    → n < base + words_made o
-    → n % 64 < cells_of (class_made o) * class_words_of (class_made o)
+    → n < base + words_made o → n % 64 < cells_of (class_made o) * class_words_of (class_made o)
 small_within o base n b small at to =
     let known : b.index < cells_of (class_made o) = subst (λ k. b.index < k) (small_cells o small) b.known in
     let words = small_words o small in
@@ -127,8 +116,7 @@ small_within o base n b small at to =
 
 -- What shows a page of an object has the object's words there within its cells.
 within_cells : (o : Object) (distance base n : ℕ) (x : Option Header) → ShowsPart o distance x
-    → (b : BeginsAtCell o base) → n / 64 ≡ base / 64 + distance
-    → n < base + words_made o → n % 64 < words_in_cells x
+    → (b : BeginsAtCell o base) → n / 64 ≡ base / 64 + distance → n < base + words_made o → n % 64 < words_in_cells x
 within_cells o distance base n x (OfBlock first small leaf) b at to = small_within o base n b small (omega arith) to
 within_cells o distance base n x (OfLeafBlock first small leaf) b at to = small_within o base n b small (omega arith) to
 within_cells o distance base n x (OfRun mapped first large leaf) b at to = omega arith
@@ -136,8 +124,7 @@ within_cells o distance base n x (OfLeafRun first large leaf) b at to = omega ar
 within_cells o distance base n x (OfLater mapped far large) b at to = omega arith
 
 module _ (c : Config) (w : World) (n : NeverState) (known : KnownWorld c w) (all : Invariant c w n) where
-  on_page : (x : ℕ) (one : IsOfOne c w x)
-      → OnPage w.now.words (object_placed c (placed_at w.allocations one.number))
+  on_page : (x : ℕ) (one : IsOfOne c w x) → OnPage w.now.words (object_placed c (placed_at w.allocations one.number))
       (placed_at w.allocations one.number).base x
   on_page x one =
       let a : PlacedAllocation = placed_at w.allocations one.number in

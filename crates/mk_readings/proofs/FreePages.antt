@@ -2,17 +2,9 @@
 use Rattle.std.proofs.Common.{◌≡◌, ◌≢◌, ℕ, ◌+◌, ◌-◌, ◌/◌, true, refl, ◌∙◌, ap, inl, inr, arith}
 use Rattle.std.specs.Prelude.{slice_index}
 use Rattle.std.proofs.lemmas.Bool.{cases_eq}
-use Rattle.mk_never.specs.NeverHeap.{NeverState}
-use Rattle.mk_geom.specs.Headers.{header_of}
-use Rattle.mk_core.specs.declared.config.Config.{Config}
-use Rattle.mk_core.specs.Allocations.{PlacedAllocation, placed_at, storage_words}
-use Rattle.mk_core.specs.Bits.{has_bit}
-use Rattle.mk_core.specs.Cells.{cells_under, header_in}
-use Rattle.mk_core.specs.History.{World, left, never_behind}
-use Rattle.mk_core.specs.Moments.{is_phase}
-use Rattle.mk_core.specs.ObjectHeaders.{words_made}
-use Rattle.mk_core.specs.StandingAllocations.{object_placed}
-use Rattle.mk_core.specs.Words.{header_at}
+use Rattle.mk_protocol.proofs.Vocabulary.{Config, NeverState, PlacedAllocation, World, cells_under, has_bit, header_at}
+use Rattle.mk_protocol.proofs.Vocabulary.{header_in, header_of, is_phase, left, never_behind, object_placed, placed_at}
+use Rattle.mk_protocol.proofs.Vocabulary.{storage_words, words_made}
 use Rattle.mk_layout.specs.Terrain.{claim_of, object_now, layout_scene_of}
 use Rattle.mk_protocol.specs.Ground.{ground_of}
 use Rattle.mk_layout.proofs.Readings.{claimed_some, free_unused, zero_where_none}
@@ -44,8 +36,7 @@ module _ (c : Config) (w : World) (n : NeverState) (known : KnownWorld c w) (all
   no_cells : (p : ℕ) → header_at w.now.words p ≡ 0 → cells_under (header_in w.now.words p) ≡ 0
   no_cells p z = ap (λ h. cells_under (header_of h)) z
 
-  none_freed : (p : ℕ) → header_at w.now.words p ≡ 0 → (k : ℕ) → has_bit (slice_index w.now.words.freed p) k ≡ true
-      → ⊥
+  none_freed : (p : ℕ) → header_at w.now.words p ≡ 0 → (k : ℕ) → has_bit (slice_index w.now.words.freed p) k ≡ true → ⊥
   none_freed p z k bit =
       let none = no_cells p z in
       let known_there = all.order.known p k bit in
@@ -56,8 +47,7 @@ module _ (c : Config) (w : World) (n : NeverState) (known : KnownWorld c w) (all
       record {
         used =
             free_unused (layout_scene_of c (object_now c w.now) (is_phase w.now.words 4) w.now.words.marks
-            (ground_of w)) p
-            all.order.laid.scene z;
+            (ground_of w)) p all.order.laid.scene z;
         freed = zero_where_none (slice_index w.now.words.freed p) (none_freed p z);
         snapshot = zero_where_none (slice_index w.now.words.snapshot p)
             (λ k bit. none_freed p z k (all.order.quarantined.within p k bit));

@@ -3,17 +3,10 @@ use Rattle.std.proofs.Common.{◌≡◌, ◌≢◌, ℕ, ◌+◌, ◌-◌, ◌*�
 use Rattle.std.proofs.Common.{arith}
 use Rattle.std.specs.Prelude.{◌==◌, nat_le, nat_lt, slice_index, Option, Some}
 use Rattle.std.proofs.lemmas.Bool.{and_parts, cases_eq, eqb-true, leb-true, ltb-true}
-use Rattle.mk_never.specs.NeverHeap.{NeverState}
-use Rattle.mk_geom.specs.StorageWords.{IsWordOf}
-use Rattle.mk_core.specs.declared.config.Config.{Config}
-use Rattle.mk_core.specs.declared.seats.Object.{Object}
-use Rattle.mk_core.specs.declared.seats.RunPages.{RunPages}
-use Rattle.mk_core.specs.Allocations.{PlacedAllocation, placed_at, storage_of, storage_words}
-use Rattle.mk_core.specs.Cells.{is_in_run, words_are_zero}
-use Rattle.mk_core.specs.History.{World, left, never_behind}
-use Rattle.mk_core.specs.NewPlaces.{is_run_gone, is_run_unmapped, pages_made}
-use Rattle.mk_core.specs.StandingAllocations.{object_placed}
-use Rattle.mk_core.specs.Words.{Words, phase_of}
+use Rattle.mk_protocol.proofs.Vocabulary.{Config, IsWordOf, NeverState, Object, PlacedAllocation, RunPages, Words}
+use Rattle.mk_protocol.proofs.Vocabulary.{World, is_run_gone, is_run_unmapped, left, never_behind, object_placed}
+use Rattle.mk_protocol.proofs.Vocabulary.{pages_made, phase_of, placed_at, storage_of, storage_words, words_are_zero}
+use Rattle.mk_core.specs.Cells.{is_in_run}
 use Rattle.mk_core.proofs.AllBelow.{all_below-at}
 use Rattle.mk_core.proofs.Sizes.{large_words}
 use Rattle.mk_core.proofs.StandingAllocations.{run_begins}
@@ -38,8 +31,7 @@ pub record IsOfOne (c : Config) (w : World) (x : ℕ) : Type 0 where
 
 -- The words of a run are those of the large object whose pages it has.
 run_word : (base words pages x : ℕ) → base % 64 ≡ 0 → words ≡ 64 * pages → base / 64 ≤ x / 64
-    → x / 64 - base / 64 < pages
-    → (base ≤ x) × (x < base + words)
+    → x / 64 - base / 64 < pages → (base ≤ x) × (x < base + words)
 run_word base words pages x aligned is from to = (omega arith, omega arith)
 
 in_run : (run : RunPages) (x : ℕ) → is_in_run run x ≡ true → (run.page ≤ x / 64) × (x / 64 - run.page < run.count)
@@ -56,8 +48,7 @@ gone_word w run x word gone =
     let from = at.0 in
     let to = at.1 in
     let there : 64 * run.page + (x - 64 * run.page) ≡ x = omega arith in
-    ap (λ i. slice_index w.heap i) (sym there)
-    ∙ eqb-true (slice_index w.heap (64 * run.page + (x - 64 * run.page))) 0
+    ap (λ i. slice_index w.heap i) (sym there) ∙ eqb-true (slice_index w.heap (64 * run.page + (x - 64 * run.page))) 0
     (all_below-at (64 * run.count) (x - 64 * run.page) (λ i. slice_index w.heap (64 * run.page + i) == 0) parts.1
     (omega arith))
 

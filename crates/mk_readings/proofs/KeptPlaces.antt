@@ -1,18 +1,11 @@
 -- An unreleased allocation keeps its place, and stays unreleased, up to a `release`.
-use Rattle.std.proofs.Common.{◌≡◌, ℕ, false, List, [], ◌∷◌, map, refl, ◌∙◌, ap}
+use Rattle.std.proofs.Common.{◌≡◌, ℕ, false, List, ◌∷◌, map, refl, ◌∙◌, ap, []}
 use Rattle.std.specs.List.{list_any}
 use Rattle.std.proofs.lemmas.Bool.{or_parts}
-use Rattle.mk_core.specs.declared.config.Config.{Config}
-use Rattle.mk_core.specs.declared.events.Event.{Event}
-use Rattle.mk_core.specs.declared.events.Seat.{Seat}
-use Rattle.mk_core.specs.declared.events.Step.{Step}
+use Rattle.mk_protocol.proofs.Vocabulary.{Config, Event, PlacedAllocation, Seat, Step, World, cell_freed}
+use Rattle.mk_protocol.proofs.Vocabulary.{cell_of_allocation, flight_of, freed_where_it_stands, granted, is_release}
+use Rattle.mk_protocol.proofs.Vocabulary.{left_from, no_longer_fresh, placed_at, world_behind}
 use Rattle.mk_core.specs.declared.events.Step.TheVariants as step
-use Rattle.mk_core.specs.Allocations.{PlacedAllocation, cell_of_allocation, freed_where_it_stands, granted}
-use Rattle.mk_core.specs.Allocations.{no_longer_fresh, placed_at}
-use Rattle.mk_core.specs.Cycles.{is_release}
-use Rattle.mk_core.specs.Moments.{flight_of}
-use Rattle.mk_core.specs.TurnConditions.{cell_freed}
-use Rattle.mk_core.specs.History.{World, left_from, world_behind}
 use Rattle.mk_core.proofs.ChangedAllocations.{LeavesPlaces, changed_at, freed_leaves, freed_released, fresh_leaves}
 use Rattle.mk_protocol.proofs.OthersMoves.{WorldBehind}
 use Rattle.mk_layout.proofs.Claims.{same_cell}
@@ -43,8 +36,7 @@ pub put_step : (c : Config) (w : World) (seat : Seat) (x : Step) (i : ℕ) → i
     → StaysPut (placed_at w.allocations i) (placed_at (WorldBehind c w seat x).allocations i)
 put_step c w seat (step.Quar p n) i out u =
     changed_puts (freed_where_it_stands w.now.words (cell_freed c.pages w.now.words (flight_of w.now seat) p n))
-    w.allocations i
-    (freed_leaves w.now.words (cell_freed c.pages w.now.words (flight_of w.now seat) p n))
+    w.allocations i (freed_leaves w.now.words (cell_freed c.pages w.now.words (flight_of w.now seat) p n))
     (freed_released w.now.words (cell_freed c.pages w.now.words (flight_of w.now seat) p n) (placed_at w.allocations i)
     ∙ u)
 put_step c w seat step.Begin i out u = changed_puts no_longer_fresh w.allocations i fresh_leaves u
@@ -59,8 +51,7 @@ put_step c w seat step.Release i out u = cc
 put_step c w seat _ i out u = record { base = refl; ty = refl; unreleased = u }
 
 pub stays_put : (c : Config) (w : World) (es : List Event) (i : ℕ)
-    → list_any (λ (e : Event). is_release e.step) es ≡ false
-    → (placed_at w.allocations i).released ≡ false
+    → list_any (λ (e : Event). is_release e.step) es ≡ false → (placed_at w.allocations i).released ≡ false
     → StaysPut (placed_at w.allocations i) (placed_at (left_from c w es).allocations i)
 unfolding left_from
 stays_put c w [] i none u = record { base = refl; ty = refl; unreleased = u }

@@ -2,26 +2,15 @@
 use Rattle.std.proofs.Common.{◌≡◌, ◌⊎◌, ℕ, Bool, true, false, refl, sym, ◌∙◌, ap, inl, inr}
 use Rattle.std.specs.Prelude.{Option, Some, None, ◌==◌, if◌then◌else◌}
 use Rattle.std.proofs.lemmas.Bool.{true≢false}
-use Rattle.mk_never.specs.declared.operations.Op.{Op}
+use Rattle.mk_protocol.proofs.Vocabulary.{Answer, Cell, Config, Flight, Moment, Op, Stage, Step, begun, cell_freed}
+use Rattle.mk_protocol.proofs.Vocabulary.{comes_next, decided, header_of, is_unmapped_header, onward, page_met}
+use Rattle.mk_protocol.proofs.Vocabulary.{progress, progress_freed, progress_p, progress_q, progress_read, progress_reg}
+use Rattle.mk_protocol.proofs.Vocabulary.{refused, sees_double, stage_behind, stage_refused, steps_of, still, target}
 use Rattle.mk_never.specs.declared.operations.Op.TheVariants as op
-use Rattle.mk_geom.specs.declared.addresses.Cell.{Cell}
-use Rattle.mk_geom.specs.Headers.{header_of}
-use Rattle.mk_core.specs.declared.config.Config.{Config}
-use Rattle.mk_core.specs.declared.events.Answer.{Answer}
 use Rattle.mk_core.specs.declared.events.Answer.TheVariants as answer
-use Rattle.mk_core.specs.declared.events.Step.{Step}
 use Rattle.mk_core.specs.declared.events.Step.TheVariants as step
-use Rattle.mk_core.specs.declared.seats.Flight.{Flight}
-use Rattle.mk_core.specs.declared.seats.Stage.{Stage}
 use Rattle.mk_core.specs.declared.seats.Stage.TheVariants as stage
-use Rattle.mk_core.specs.Calls.{begun, first_of, onward, page_met, progress_reg, progress_q, progress_p, refused}
-use Rattle.mk_core.specs.Calls.{progress_read, stage_behind, stage_refused, steps_of, still}
-use Rattle.mk_core.specs.Cells.{is_unmapped_header}
-use Rattle.mk_core.specs.Effects.{decided, progress, progress_freed, sees_double}
-use Rattle.mk_core.specs.Moments.{Moment}
-use Rattle.mk_core.specs.NewPlaces.{target}
-use Rattle.mk_core.specs.Order.{comes_next}
-use Rattle.mk_core.specs.TurnConditions.{cell_freed}
+use Rattle.mk_core.specs.Calls.{first_of}
 use Rattle.mk_protocol.proofs.NextSteps.{at_its_stage, at_reg}
 use Rattle.mk_protocol.proofs.Stages.{is_reg_stage}
 use Rattle.mk_zeros.specs.ZeroLaws.{stores}
@@ -72,11 +61,8 @@ p_not_dirty : (f : Flight) (o : Op) (n : ℕ) → is_storing f.stage ≡ false
 p_not_dirty f (op.IsNull p) n off h = onward_not_dirty (record f { p = n }) off h
 p_not_dirty f (op.Free p) n off h = by (n == 0) h
   where
-    by : (b : Bool)
-        → (if b
-        then record { flight = record f { stage = stage.Give; p = n }; answer = Some answer.Done }
-        else onward (record f { p = n }) None).flight.stage
-        ≡ stage.Dirty → ⊥
+    by : (b : Bool) → (if b then record { flight = record f { stage = stage.Give; p = n }; answer = Some answer.Done }
+        else onward (record f { p = n }) None).flight.stage ≡ stage.Dirty → ⊥
     by true h = cc
     by false h = onward_not_dirty (record f { p = n }) off h
 p_not_dirty f _ n off h = onward_not_dirty (record f { p = n }) off h
@@ -123,8 +109,7 @@ owes_since c m f n step.Leave next h = cc
 owes_since c m f n step.Give next h = cc
 owes_since c m f n step.Grant next h = cc
 owes_since c m f n step.Full next h = cc
-owes_since c m f n step.Reg next h =
-    inl (reg_stays f f.stage n (reg_is_no_store f.stage (at_reg f.stage f.op next)) h)
+owes_since c m f n step.Reg next h = inl (reg_stays f f.stage n (reg_is_no_store f.stage (at_reg f.stage f.op next)) h)
 owes_since c m f n step.Probe next h =
     absurd (refused_or_onward (is_unmapped_header (header_of n)) f answer.Fault
     (ap is_storing (at_its_stage f.stage f.op step.Probe refl next)) h)

@@ -1,49 +1,18 @@
 -- Each `release` of a history is that of a cycle.
-use Rattle.std.proofs.Common.{◌≡◌, ℕ, Bool, true, false, List, [], ◌∷◌, ◌++◌, refl, sym, ◌∙◌, ap, subst, arith}
-use Rattle.std.proofs.Common.{append_assoc, append-nil}
-use Rattle.std.specs.Prelude.{◌||◌}
+use Rattle.std.proofs.Common.{◌≡◌, ℕ, true, false, List, ◌∷◌, ◌++◌, refl, sym, ◌∙◌, ap, subst, arith, append_assoc, []}
+use Rattle.std.proofs.Common.{append-nil}
 use Rattle.std.specs.List.{list_any}
-use Rattle.std.proofs.lemmas.Bool.{or_from}
-use Rattle.std.proofs.lemmas.List.Folds.{list_any-append}
-use Rattle.mk_core.specs.declared.config.Config.{Config}
-use Rattle.mk_core.specs.declared.events.Event.{Event}
-use Rattle.mk_core.specs.declared.events.Seat.{Seat}
-use Rattle.mk_core.specs.declared.events.Step.{Step}
+use Rattle.mk_protocol.proofs.Vocabulary.{AreEnabledFrom, At, Config, Event, IsHistory, Marking, Releasing, Seat, Step}
+use Rattle.mk_protocol.proofs.Vocabulary.{World, before_release, first_world, is_begin, is_close, is_release, left}
+use Rattle.mk_protocol.proofs.Vocabulary.{left_from, phase_of, world_behind}
 use Rattle.mk_core.specs.declared.events.Step.TheVariants as step
-use Rattle.mk_core.specs.Cycles.{At, Marking, Next, Releasing, before_release, is_begin, is_close, is_release}
-use Rattle.mk_core.specs.History.{AreEnabledFrom, IsHistory, World, first_world, left, left_from, world_behind}
-use Rattle.mk_core.specs.Words.{phase_of}
 use Rattle.mk_core.proofs.Histories.{left_more}
 use Rattle.mk_core.proofs.HistoryParts.{earlier_part_is_history, enabled_in_parts}
 use Rattle.mk_invariant.specs.Theorems.{OfHistories}
 use Rattle.mk_readings.specs.Releases.{ReleasesAreOfCycles}
 use Rattle.mk_readings.proofs.CyclePhases.{AsksPhase, IsMarking, moves_phase, phase_behind}
 use Rattle.mk_readings.proofs.Releases.{up_to_release}
-
--- what a list has, a longer one has
-
-abbrev at_longer : {kind : Step → Bool} {es : List Event} → At kind es → (more : List Event) → At kind (es ++ more)
-at_longer {kind} {es} at more =
-    record {
-      before = at.before;
-      event = at.event;
-      behind = at.behind ++ more;
-      is = ap (λ (xs : List Event). xs ++ more) at.is ∙ append_assoc at.before (at.event ∷ at.behind) more;
-      of_kind = at.of_kind;
-    }
-
-abbrev next_longer : {kind : Step → Bool} {es : List Event} → Next kind es → (more : List Event)
-    → Next kind (es ++ more)
-next_longer {kind} {es} next more = record { at = at_longer next.at more; none_before = next.none_before }
-
-abbrev marking_longer : {es : List Event} → Marking es → (more : List Event) → Marking (es ++ more)
-marking_longer {es} k more = record { begin = at_longer k.begin more; close = next_longer k.close more }
-
-none_longer : (test : Event → Bool) (es : List Event) (e : Event) → list_any test es ≡ false → test e ≡ false
-    → list_any test (es ++ e ∷ []) ≡ false
-none_longer test es e none out =
-    list_any-append test es (e ∷ [])
-    ∙ or_from (list_any test es) (test e || false) none (or_from (test e) false out refl)
+use Rattle.mk_protocol.proofs.LongerLists.{at_end, longer_at, longer_marking, none_more}
 
 -- While marking, a cycle is begun and not closed; where marks are closed, it isn't released.
 
@@ -62,19 +31,16 @@ pub record CycleSoFar (p : ℕ) (es : List Event) : Type 0 where
 begun_longer : (es : List Event) (e : Event) → is_close e.step ≡ false → HasBegun es → HasBegun (es ++ e ∷ [])
 begun_longer es e out b =
     record {
-      begin = at_longer b.begin (e ∷ []);
-      open_yet = none_longer (λ (x : Event). is_close x.step) b.begin.behind e b.open_yet out;
+      begin = longer_at (e ∷ []) b.begin;
+      open_yet = none_more (λ (x : Event). is_close x.step) b.begin.behind e b.open_yet out;
     }
 
 closed_longer : (es : List Event) (e : Event) → is_release e.step ≡ false → HasClosed es → HasClosed (es ++ e ∷ [])
 closed_longer es e out b =
     record {
-      marking = marking_longer b.marking (e ∷ []);
-      unreleased = none_longer (λ (x : Event). is_release x.step) b.marking.close.at.behind e b.unreleased out;
+      marking = longer_marking (e ∷ []) b.marking;
+      unreleased = none_more (λ (x : Event). is_release x.step) b.marking.close.at.behind e b.unreleased out;
     }
-
-abbrev at_end : {kind : Step → Bool} (es : List Event) (e : Event) → kind e.step ≡ true → At kind (es ++ e ∷ [])
-at_end es e is = record { before = es; event = e; behind = []; is = refl; of_kind = is }
 
 begun_here : (es : List Event) (e : Event) → is_begin e.step ≡ true → HasBegun (es ++ e ∷ [])
 begun_here es e is = record { begin = at_end es e is; open_yet = refl }
@@ -83,7 +49,7 @@ closed_here : (es : List Event) (e : Event) → is_close e.step ≡ true → Has
 closed_here es e is b =
     record {
       marking = record {
-        begin = at_longer b.begin (e ∷ []);
+        begin = longer_at (e ∷ []) b.begin;
         close = record { at = at_end b.begin.behind e is; none_before = b.open_yet };
       };
       unreleased = refl;
@@ -153,7 +119,7 @@ pub releases_are_of_cycles : OfHistories ReleasesAreOfCycles
 releases_are_of_cycles c es h front rest seat is =
     subst (λ (xs : List Event). (r : Releasing xs) × (before_release r ≡ front)) (sym is) (
       record {
-        marking = marking_longer k.marking (e ∷ rest);
+        marking = longer_marking (e ∷ rest) k.marking;
         release = record {
           at = record { before = k.marking.close.at.behind; event = e; behind = rest; is = refl; of_kind = refl };
           none_before = k.unreleased;

@@ -1,27 +1,19 @@
 -- What a cycle's `release` releases.
-use Rattle.std.proofs.Common.{◌≡◌, ℕ, Bool, true, false, List, [], ◌∷◌, ◌++◌, map, refl, sym, ◌∙◌, ap, subst, arith}
+use Rattle.std.proofs.Common.{◌≡◌, ℕ, Bool, true, false, List, ◌∷◌, ◌++◌, map, refl, sym, ◌∙◌, ap, subst, arith, []}
 use Rattle.std.proofs.Common.{append_assoc}
 use Rattle.std.specs.Prelude.{◌||◌, ◌&&◌, ◌↔◌, not, slice_index}
 use Rattle.std.specs.List.{list_any}
 use Rattle.std.proofs.lemmas.Bool.{and_from, and_parts, not-true}
 use Rattle.std.proofs.lemmas.List.Folds.{list_any-append}
-use Rattle.mk_never.specs.NeverHeap.{NeverState, after_calls}
+use Rattle.mk_protocol.proofs.Vocabulary.{AreEnabledFrom, At, Caller, Cell, Config, Decided, Event, Host, IsHistory}
+use Rattle.mk_protocol.proofs.Vocabulary.{Marker, Moment, NeverState, PlacedAllocation, Releasing, Seat, Step, World}
+use Rattle.mk_protocol.proofs.Vocabulary.{after_calls, asked, before_release, call_decided, calls_from}
+use Rattle.mk_protocol.proofs.Vocabulary.{cell_of_allocation, flight_of, is_begin, is_close, is_marked, is_quarantined}
+use Rattle.mk_protocol.proofs.Vocabulary.{is_release, left, left_from, never_behind, phase_of, placed_at, with_released}
+use Rattle.mk_protocol.proofs.Vocabulary.{world_behind}
 use Rattle.mk_never.specs.Reach.{IsReachable}
-use Rattle.mk_geom.specs.declared.addresses.Cell.{Cell}
-use Rattle.mk_core.specs.declared.config.Config.{Config}
-use Rattle.mk_core.specs.declared.events.Event.{Event}
-use Rattle.mk_core.specs.declared.events.Seat.{Seat}
-use Rattle.mk_core.specs.declared.events.Seat.TheVariants.{Caller, Host, Marker}
-use Rattle.mk_core.specs.declared.events.Step.{Step}
 use Rattle.mk_core.specs.declared.events.Step.TheVariants as step
-use Rattle.mk_core.specs.Allocations.{PlacedAllocation, allocations_by, cell_of_allocation, placed_at, with_released}
-use Rattle.mk_core.specs.Cells.{is_marked}
-use Rattle.mk_core.specs.Cycles.{At, Releasing, before_release, is_begin, is_close, is_quarantined, is_release}
-use Rattle.mk_core.specs.Decided.{Decided, asked}
-use Rattle.mk_core.specs.History.{AreEnabledFrom, IsHistory, World, call_decided, calls_from, left, left_from}
-use Rattle.mk_core.specs.History.{never_behind, world_behind}
-use Rattle.mk_core.specs.Moments.{Moment, flight_of}
-use Rattle.mk_core.specs.Words.{phase_of}
+use Rattle.mk_core.specs.Allocations.{allocations_by}
 use Rattle.mk_core.proofs.BitsWithout.{has_bit_without}
 use Rattle.mk_core.proofs.ChangedAllocations.{changed_at, released_leaves}
 use Rattle.mk_core.proofs.Histories.{enabled_parts}
@@ -51,8 +43,7 @@ with_rest {X} xs ys zs rest b x =
 
 -- No other cycle begins between a `begin` and its `release`.
 none_begins : (c : Config) (w : World) (b x : Event) (ys zs : List Event) → AreEnabledFrom c w (b ∷ (ys ++ x ∷ zs))
-    → is_begin b.step ≡ true
-    → list_any (λ (e : Event). is_close e.step) ys ≡ false → is_close x.step ≡ true
+    → is_begin b.step ≡ true → list_any (λ (e : Event). is_close e.step) ys ≡ false → is_close x.step ≡ true
     → list_any (λ (e : Event). is_release e.step) zs ≡ false
     → list_any (λ (e : Event). is_begin e.step) (ys ++ x ∷ zs) ≡ false
 none_begins c w b x ys zs on begins no_close closes no_release =
@@ -110,8 +101,7 @@ module _ (c : Config) (es : List Event) (h : IsHistory c es) (r : Releasing es) 
 
   es_is : es ≡ front ++ last.event ∷ last.behind
   es_is =
-      begin.is
-      ∙ ap (λ (xs : List Event). begin.before ++ begin.event ∷ xs)
+      begin.is ∙ ap (λ (xs : List Event). begin.before ++ begin.event ∷ xs)
       (close.is ∙ ap (λ (xs : List Event). close.before ++ close.event ∷ xs) last.is)
       ∙ sym (with_rest begin.before close.before last.before (last.event ∷ last.behind) begin.event close.event)
 
@@ -184,8 +174,7 @@ module _ (c : Config) (es : List Event) (h : IsHistory c es) (r : Releasing es) 
       ∙ ap (λ (x : PlacedAllocation). x.released) at
       ∙ released_where_left c w.now.words a h.within_limits s.stands s.headers
       ∙ has_bit_without (slice_index w.now.words.snapshot cell.page) (slice_index w.now.words.marks cell.page)
-      cell.index
-      ∙ ap (λ b. b && not (marked i)) (snapshot_is i u)
+      cell.index ∙ ap (λ b. b && not (marked i)) (snapshot_is i u)
 
   pub exact : (i : ℕ) → (allocation_before c r i).released ≡ false
       → ((allocation_behind c r i).released ≡ true) ↔ ((in_snapshot i ≡ true) × (marked i ≡ false))

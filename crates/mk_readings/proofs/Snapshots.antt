@@ -1,18 +1,13 @@
 -- From a `begin` up to its `release` the snapshot bits are those of the allocations that were in quarantine then.
-use Rattle.std.proofs.Common.{◌≡◌, ◌≢◌, ℕ, Bool, true, false, List, [], ◌∷◌, ◌++◌, refl, sym, ◌∙◌, ap, subst, arith}
+use Rattle.std.proofs.Common.{◌≡◌, ◌≢◌, ℕ, Bool, true, false, List, ◌∷◌, ◌++◌, refl, sym, ◌∙◌, ap, subst, arith, []}
 use Rattle.std.specs.Prelude.{◌||◌, nat_le, not}
 use Rattle.std.specs.List.{list_any}
 use Rattle.std.proofs.lemmas.Bool.{and_from, and_parts, le-leb, not-true, or_parts}
-use Rattle.mk_geom.specs.declared.addresses.Cell.{Cell}
-use Rattle.mk_core.specs.declared.config.Config.{Config}
-use Rattle.mk_core.specs.declared.events.Event.{Event}
-use Rattle.mk_core.specs.declared.events.Step.{Step}
-use Rattle.mk_core.specs.Allocations.{PlacedAllocation, cell_of_allocation, placed_at}
+use Rattle.mk_protocol.proofs.Vocabulary.{AreEnabledFrom, At, Cell, Config, Event, IsHistory, PlacedAllocation, Step}
+use Rattle.mk_protocol.proofs.Vocabulary.{World, cell_of_allocation, is_begin, is_quarantined, is_release, left}
+use Rattle.mk_protocol.proofs.Vocabulary.{left_from, never_behind, phase_of, placed_at, world_behind}
 use Rattle.mk_core.specs.Cells.{is_in_snapshot}
-use Rattle.mk_core.specs.Cycles.{At, is_begin, is_quarantined, is_release}
-use Rattle.mk_core.specs.History.{AreEnabledFrom, IsHistory, World, left, left_from, never_behind, world_behind}
 use Rattle.mk_core.specs.Readings.{SnapshotTells, SnapshotsTell}
-use Rattle.mk_core.specs.Words.{phase_of}
 use Rattle.mk_core.proofs.HistoryParts.{enabled_in_parts, left_in_parts}
 use Rattle.mk_images.proofs.KnownWorlds.{known_world}
 use Rattle.mk_layout.specs.Quarantine.{IsFreedCell, has_bit_of, is_cycling}

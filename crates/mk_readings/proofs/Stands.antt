@@ -2,18 +2,10 @@
 use Rattle.std.proofs.Common.{◌≡◌, ◌≢◌, ◌⊎◌, ℕ, ◌<◌, ◌≤◌, Bool, true, false, refl, sym, ◌∙◌, ap, inl, inr, arith}
 use Rattle.std.specs.Prelude.{Option, Some, ◌-◌, ◌==◌, not}
 use Rattle.std.proofs.lemmas.Bool.{and_parts, ne_eqb, not-true, true≢false}
-use Rattle.mk_never.specs.NeverHeap.{NeverState}
-use Rattle.mk_geom.specs.declared.addresses.Cell.{Cell}
-use Rattle.mk_geom.specs.declared.headers.Header.{Header}
-use Rattle.mk_geom.specs.declared.headers.Header.TheVariants.{LeafRun, Run}
-use Rattle.mk_core.specs.declared.config.Config.{Config}
-use Rattle.mk_core.specs.declared.seats.RunPages.{RunPages}
-use Rattle.mk_core.specs.Allocations.{PlacedAllocation, cell_of_allocation, placed_at, stands_in}
-use Rattle.mk_core.specs.Cells.{first_word, header_in, is_freed, run_headed}
-use Rattle.mk_core.specs.History.{World, left, never_behind}
-use Rattle.mk_core.specs.Moments.{is_phase}
-use Rattle.mk_core.specs.Readings.{IsTaken, WordsTellWhatStands}
-use Rattle.mk_core.specs.Words.{phase_of}
+use Rattle.mk_protocol.proofs.Vocabulary.{Cell, Config, Header, IsTaken, LeafRun, NeverState, PlacedAllocation, Run}
+use Rattle.mk_protocol.proofs.Vocabulary.{RunPages, World, cell_of_allocation, first_word, header_in, is_freed}
+use Rattle.mk_protocol.proofs.Vocabulary.{is_phase, left, never_behind, phase_of, placed_at, run_headed, stands_in}
+use Rattle.mk_core.specs.Readings.{WordsTellWhatStands}
 use Rattle.mk_core.proofs.CellsOfAllocations.{stands_in_its_cell}
 use Rattle.mk_core.proofs.PointedAllocations.{taken_cell_is}
 use Rattle.mk_core.proofs.StandingAllocations.{typed_size}

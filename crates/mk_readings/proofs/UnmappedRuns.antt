@@ -1,30 +1,18 @@
 -- The pages of a freed large allocation aren't resident, until they get other headers.
-use Rattle.std.proofs.Common.{◌≡◌, ℕ, ◌+◌, ◌-◌, ◌*◌, ◌/◌, ◌<◌, Bool, true, false, List, [], ◌∷◌, length, refl}
-use Rattle.std.proofs.Common.{sym, ◌∙◌, ap, subst, inl, inr, arith}
+use Rattle.std.proofs.Common.{◌≡◌, ℕ, ◌+◌, ◌-◌, ◌*◌, ◌/◌, ◌<◌, Bool, true, false, List, ◌∷◌, length, refl, sym, ◌∙◌, ap}
+use Rattle.std.proofs.Common.{[]}
+use Rattle.std.proofs.Common.{subst, inl, inr, arith}
 use Rattle.std.specs.Prelude.{◌&&◌, ◌==◌, not, Option, Some, None}
 use Rattle.std.specs.List.{list_any}
 use Rattle.std.proofs.lemmas.Bool.{and_from, and_parts, cases_Bool, cases_eq, cases_lt, eq-eqb, eqb-true}
 use Rattle.std.proofs.lemmas.Bool.{false_from_ne_true, ne_eqb, not-true, or_parts, true≢false}
 use Rattle.std.proofs.lemmas.List.{set_past}
-use Rattle.mk_never.specs.NeverHeap.{NeverState}
-use Rattle.mk_geom.specs.declared.pages.Page.{Page}
-use Rattle.mk_geom.specs.Headers.{header_of}
-use Rattle.mk_geom.specs.PageUses.{is_resident_page}
-use Rattle.mk_geom.specs.PageWords.{use_under}
-use Rattle.mk_core.specs.declared.config.Config.{Config}
-use Rattle.mk_core.specs.declared.events.Event.{Event}
-use Rattle.mk_core.specs.declared.events.Seat.{Seat}
-use Rattle.mk_core.specs.declared.events.Step.{Step}
+use Rattle.mk_protocol.proofs.Vocabulary.{Config, Event, IsHistory, Moment, NeverState, Object, Page, PlacedAllocation}
+use Rattle.mk_protocol.proofs.Vocabulary.{RunPages, Seat, Step, World, first_world, header_at, header_of, is_phase}
+use Rattle.mk_protocol.proofs.Vocabulary.{is_resident_page, is_small_object, is_unmapped_header, left, left_from}
+use Rattle.mk_protocol.proofs.Vocabulary.{never_behind, object_placed, pages_made, placed_at, storage_words}
+use Rattle.mk_protocol.proofs.Vocabulary.{unmapped_header, use_under, world_behind}
 use Rattle.mk_core.specs.declared.events.Step.TheVariants as step
-use Rattle.mk_core.specs.declared.seats.Object.{Object}
-use Rattle.mk_core.specs.declared.seats.RunPages.{RunPages}
-use Rattle.mk_core.specs.Allocations.{PlacedAllocation, placed_at, storage_words}
-use Rattle.mk_core.specs.Cells.{is_unmapped_header}
-use Rattle.mk_core.specs.History.{IsHistory, World, first_world, left, left_from, never_behind, world_behind}
-use Rattle.mk_core.specs.Moments.{Moment, is_phase}
-use Rattle.mk_core.specs.NewPlaces.{is_small_object, pages_made, unmapped_header}
-use Rattle.mk_core.specs.StandingAllocations.{object_placed}
-use Rattle.mk_core.specs.Words.{header_at}
 use Rattle.mk_core.proofs.Histories.{left_append}
 use Rattle.mk_core.proofs.HistoryParts.{earlier_part_is_history}
 use Rattle.mk_core.proofs.ObjectHeaders.{unmapped_is_unmapped}
@@ -76,8 +64,7 @@ stays_out c m seat (step.Head q n) p none out =
             (ap (λ v. is_resident_page (use_under (header_of v) (used_on m.words.pages q))) (zero_there e)) resident
         | inr past ↦
             ap (λ (ps : List Page). is_resident ps p)
-            (sym (set_past m.words.pages q (record { header = n; used = used_on m.words.pages q }) past))
-            ∙ resident
+            (sym (set_past m.words.pages q (record { header = n; used = used_on m.words.pages q }) past)) ∙ resident
       ]
     ]
 stays_out c m seat _ p none out = out

@@ -1,22 +1,13 @@
 -- Registers of no caller, and globals that nobody has stored to.
-use Rattle.std.proofs.Common.{◌≡◌, ℕ, ◌+◌, ◌*◌, ◌/◌, ◌%◌, Bool, true, false, List, [], ◌∷◌, ◌++◌, refl, sym}
-use Rattle.std.proofs.Common.{◌∙◌, ap, arith, append_assoc}
+use Rattle.std.proofs.Common.{◌≡◌, ℕ, ◌+◌, ◌*◌, ◌/◌, ◌%◌, Bool, true, false, List, ◌∷◌, ◌++◌, refl, sym, ◌∙◌, ap, arith}
+use Rattle.std.proofs.Common.{[]}
+use Rattle.std.proofs.Common.{append_assoc}
 use Rattle.std.specs.Prelude.{slice_index}
 use Rattle.std.proofs.lemmas.List.{get_or-set_other, get_or_past}
-use Rattle.mk_never.specs.NeverHeap.{NeverState}
-use Rattle.mk_never.specs.declared.values.Value.{Value}
-use Rattle.mk_never.specs.declared.values.Value.TheVariants.{Null}
-use Rattle.mk_core.specs.declared.config.Config.{Config}
-use Rattle.mk_core.specs.declared.events.Event.{Event}
-use Rattle.mk_core.specs.declared.events.Seat.{Seat}
+use Rattle.mk_protocol.proofs.Vocabulary.{Config, Event, Flight, Moment, NeverState, Null, Seat, Step, Value, World}
+use Rattle.mk_protocol.proofs.Vocabulary.{at_rest, bases_of, first_world, flight_of, g_of, image_of, left, left_from}
 use Rattle.mk_core.specs.declared.events.Seat.TheVariants as seat
-use Rattle.mk_core.specs.declared.events.Step.{Step}
 use Rattle.mk_core.specs.declared.events.Step.TheVariants as step
-use Rattle.mk_core.specs.declared.seats.Flight.{Flight}
-use Rattle.mk_core.specs.Calls.{at_rest, g_of}
-use Rattle.mk_core.specs.History.{World, bases_of, first_world, left, left_from}
-use Rattle.mk_core.specs.Image.{image_of}
-use Rattle.mk_core.specs.Moments.{Moment, flight_of}
 use Rattle.mk_core.proofs.Histories.{left_more}
 use Rattle.mk_protocol.proofs.OrderlyLists.{at_first}
 use Rattle.mk_protocol.proofs.SameWords.{Behind}
@@ -64,8 +55,7 @@ one_more : (c : Config) (es : List Event) (seat : Seat) (x : Step) (g : ℕ)
     → slice_index (Behind c (left c es).now seat x).words.globals g ≡ 0
 one_more c es seat step.Setg g never zero =
     let f = flight_of (left c es).now seat in
-    get_or-set_other (left c es).now.words.globals (g_of f.op) g f.p 0
-    (λ e. never es [] seat refl (sym e)) ∙ zero
+    get_or-set_other (left c es).now.words.globals (g_of f.op) g f.p 0 (λ e. never es [] seat refl (sym e)) ∙ zero
 one_more c es seat x g never zero =
     ap (λ (gs : List ℕ). slice_index gs g) (globals_stay c (left c es).now seat x refl) ∙ zero
 
