@@ -5,6 +5,7 @@ pub mod AskedCalls
 pub mod AdmittedSchedules
 mod EntriesRead
 pub mod FormsInTurn
+mod ListedForms
 mod Parts
 pub mod Pieces
 mod ScheduleLine

@@ -1,5 +1,6 @@
 pub mod Entries
 pub mod Forms
+pub mod Numbered
 pub mod Players
 pub mod Reading
 pub mod Replays

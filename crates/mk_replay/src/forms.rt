@@ -2,6 +2,7 @@
 ghost use Rattle.std.specs.Prelude.{◌≡◌, ◌∷◌, [], map, ok_or};
 ghost use Rattle.mk_script.specs.Words.{texts_of};
 ghost use Rattle.mk_replay.specs.Forms as spec;
+ghost use Rattle.mk_replay.specs.Numbered.{form_of_number, form_of_numbers, word_of_number};
 
 use crate::schedule::Form;
 use mk_core::{Seat, Tally, Word};
@@ -35,6 +36,46 @@ const PLAIN_FORMS: [(&[u8], Form); 25] = [
     (b"over", Form::Over),
 ];
 
+/// A form of one number.
+#[derive(Clone, Copy)]
+enum FormOfNumber {
+    Hold,
+    Open,
+    Clear,
+    Wipe,
+    Undirty,
+    Unblack,
+}
+
+const FORMS_OF_NUMBER: [(&[u8], FormOfNumber); 6] = [
+    (b"hold", FormOfNumber::Hold),
+    (b"open", FormOfNumber::Open),
+    (b"clear", FormOfNumber::Clear),
+    (b"wipe", FormOfNumber::Wipe),
+    (b"undirty", FormOfNumber::Undirty),
+    (b"unblack", FormOfNumber::Unblack),
+];
+
+/// A form of two numbers.
+#[derive(Clone, Copy)]
+enum FormOfNumbers {
+    Head,
+    Used,
+    Quar,
+    Mark,
+    Black,
+    Claim,
+}
+
+const FORMS_OF_NUMBERS: [(&[u8], FormOfNumbers); 6] = [
+    (b"head", FormOfNumbers::Head),
+    (b"used", FormOfNumbers::Used),
+    (b"quar", FormOfNumbers::Quar),
+    (b"mark", FormOfNumbers::Mark),
+    (b"black", FormOfNumbers::Black),
+    (b"claim", FormOfNumbers::Claim),
+];
+
 const TALLIES: [(&[u8], Tally); 5] = [
     (b"held", Tally::Held),
     (b"fresh", Tally::Fresh),
@@ -50,6 +91,32 @@ const PLAIN_WORDS: [(&[u8], Word); 6] = [
     (b"cycles", Word::Cycles),
     (b"released", Word::Released),
     (b"full", Word::Full),
+];
+
+/// A word of the table with a number after its name.
+#[derive(Clone, Copy)]
+enum WordOfNumber {
+    Gate,
+    Global,
+    Head,
+    Used,
+    Quar,
+    Mark,
+    Black,
+    Dirty,
+    Heap,
+}
+
+const WORDS_OF_NUMBER: [(&[u8], WordOfNumber); 9] = [
+    (b"gate", WordOfNumber::Gate),
+    (b"global", WordOfNumber::Global),
+    (b"head", WordOfNumber::Head),
+    (b"used", WordOfNumber::Used),
+    (b"quar", WordOfNumber::Quar),
+    (b"mark", WordOfNumber::Mark),
+    (b"black", WordOfNumber::Black),
+    (b"dirty", WordOfNumber::Dirty),
+    (b"heap", WordOfNumber::Heap),
 ];
 
 /// The form of an event, by its words.
@@ -100,20 +167,24 @@ fn listed<T: Copy>(table: &[(&[u8], T)], word: &[u8]) -> Result<T, TextKind>
 fn one_operand(name: &[u8], operand: &[u8]) -> Result<Form, TextKind>
     ensures { result ≡ spec.one_operand name.now operand.now }
 {
-    if name == b"hold".as_slice() {
-        Ok(Form::Hold(number(operand)?))
-    } else if name == b"open".as_slice() {
-        Ok(Form::Open(number(operand)?))
-    } else if name == b"clear".as_slice() {
-        Ok(Form::Clear(number(operand)?))
-    } else if name == b"wipe".as_slice() {
-        Ok(Form::Wipe(number(operand)?))
-    } else if name == b"undirty".as_slice() {
-        Ok(Form::Undirty(number(operand)?))
-    } else if name == b"unblack".as_slice() {
-        Ok(Form::Unblack(number(operand)?))
-    } else {
-        look(name, &[operand])
+    match listed(&FORMS_OF_NUMBER, name) {
+        Ok(form) => Ok(form.of(number(operand)?)),
+        Err(_) => look(name, &[operand]),
+    }
+}
+
+impl FormOfNumber {
+    fn of(self, number: u64) -> Form
+        ensures { result ≡ form_of_number self number }
+    {
+        match self {
+            FormOfNumber::Hold => Form::Hold(number),
+            FormOfNumber::Open => Form::Open(number),
+            FormOfNumber::Clear => Form::Clear(number),
+            FormOfNumber::Wipe => Form::Wipe(number),
+            FormOfNumber::Undirty => Form::Undirty(number),
+            FormOfNumber::Unblack => Form::Unblack(number),
+        }
     }
 }
 
@@ -122,39 +193,48 @@ fn two_operands(name: &[u8], first: &[u8], second: &[u8]) -> Result<Form, TextKi
     ensures { result ≡ spec.two_operands name.now first.now second.now }
 {
     if name == b"tally".as_slice() {
-        tally_form(first, second)
-    } else if name == b"head".as_slice() {
-        Ok(Form::Head {
-            page: number(first)?,
-            value: number(second)?,
-        })
-    } else if name == b"used".as_slice() {
-        Ok(Form::Used {
-            page: number(first)?,
-            value: number(second)?,
-        })
-    } else if name == b"quar".as_slice() {
-        Ok(Form::Quar {
-            page: number(first)?,
-            value: number(second)?,
-        })
-    } else if name == b"mark".as_slice() {
-        Ok(Form::Mark {
-            page: number(first)?,
-            value: number(second)?,
-        })
-    } else if name == b"black".as_slice() {
-        Ok(Form::Black {
-            page: number(first)?,
-            value: number(second)?,
-        })
-    } else if name == b"claim".as_slice() {
-        Ok(Form::Claim {
-            page: number(first)?,
-            cell: number(second)?,
-        })
-    } else {
-        look(name, &[first, second])
+        return tally_form(first, second);
+    }
+    match listed(&FORMS_OF_NUMBERS, name) {
+        Ok(form) => {
+            let first = number(first)?;
+            let second = number(second)?;
+            Ok(form.of(first, second))
+        }
+        Err(_) => look(name, &[first, second]),
+    }
+}
+
+impl FormOfNumbers {
+    fn of(self, first: u64, second: u64) -> Form
+        ensures { result ≡ form_of_numbers self first second }
+    {
+        match self {
+            FormOfNumbers::Head => Form::Head {
+                page: first,
+                value: second,
+            },
+            FormOfNumbers::Used => Form::Used {
+                page: first,
+                value: second,
+            },
+            FormOfNumbers::Quar => Form::Quar {
+                page: first,
+                value: second,
+            },
+            FormOfNumbers::Mark => Form::Mark {
+                page: first,
+                value: second,
+            },
+            FormOfNumbers::Black => Form::Black {
+                page: first,
+                value: second,
+            },
+            FormOfNumbers::Claim => Form::Claim {
+                page: first,
+                cell: second,
+            },
+        }
     }
 }
 
@@ -206,25 +286,24 @@ fn register_word(name: &[u8], caller: &[u8], register: &[u8]) -> Result<Word, Te
 fn word_of_number(name: &[u8], operand: &[u8]) -> Result<Word, TextKind>
     ensures { result ≡ spec.with_number (spec.value_among spec.words_of_number name.now) operand.now }
 {
-    if name == b"gate".as_slice() {
-        Ok(Word::Gate(number(operand)?))
-    } else if name == b"global".as_slice() {
-        Ok(Word::Global(number(operand)?))
-    } else if name == b"head".as_slice() {
-        Ok(Word::Head(number(operand)?))
-    } else if name == b"used".as_slice() {
-        Ok(Word::Used(number(operand)?))
-    } else if name == b"quar".as_slice() {
-        Ok(Word::Quar(number(operand)?))
-    } else if name == b"mark".as_slice() {
-        Ok(Word::Mark(number(operand)?))
-    } else if name == b"black".as_slice() {
-        Ok(Word::Black(number(operand)?))
-    } else if name == b"dirty".as_slice() {
-        Ok(Word::Dirty(number(operand)?))
-    } else if name == b"heap".as_slice() {
-        Ok(Word::Heap(number(operand)?))
-    } else {
-        Err(TextKind::Word)
+    let word = listed(&WORDS_OF_NUMBER, name)?;
+    Ok(word.of(number(operand)?))
+}
+
+impl WordOfNumber {
+    fn of(self, number: u64) -> Word
+        ensures { result ≡ word_of_number self number }
+    {
+        match self {
+            WordOfNumber::Gate => Word::Gate(number),
+            WordOfNumber::Global => Word::Global(number),
+            WordOfNumber::Head => Word::Head(number),
+            WordOfNumber::Used => Word::Used(number),
+            WordOfNumber::Quar => Word::Quar(number),
+            WordOfNumber::Mark => Word::Mark(number),
+            WordOfNumber::Black => Word::Black(number),
+            WordOfNumber::Dirty => Word::Dirty(number),
+            WordOfNumber::Heap => Word::Heap(number),
+        }
     }
 }

@@ -1,5 +1,5 @@
 //! The canonical text of a program.
-ghost use Rattle.std.specs.Prelude.{◌≡◌, ◌++◌, [], ◌∷◌, IfOk, map};
+ghost use Rattle.std.specs.Prelude.{◌≡◌, ◌++◌, [], ◌∷◌, IfOk, map, slice_index_or};
 ghost use Rattle.std.specs.Fmt.{decimal};
 ghost use lib.Chars.{codes};
 ghost use Rattle.mk_script.specs.Canonical.{at_text, numbers_before, fields_behind, words_of_item, line_text};
@@ -142,37 +142,74 @@ impl Printer {
     fn words(self, item: &Item) -> Result<Printer, NoMemory>
         ensures { IfOk result (λ printer. printer ≡ self ++ joined_words (words_of_item item.now)) }
     {
+        let keyword = first_word(item);
         match item {
             Item::TypeLine { name, words } => self
-                .line_words(b"type", &[Operand::Name(name)])?
+                .line_words(keyword, &[Operand::Name(name)])?
                 .fields(words.as_slice()),
+            Item::Else | Item::End => self.line_words(keyword, &[]),
+            Item::Repeat { rounds } => self.line_words(keyword, &[Operand::Number(*rounds)]),
+            Item::Script { name: only }
+            | Item::Num { name: only }
+            | Item::Free { pointer: only }
+            | Item::Clear { pointer: only }
+            | Item::Show { pointer: only }
+            | Item::Print { number: only }
+            | Item::If { number: only } => self.line_words(keyword, &[Operand::Name(only)]),
             Item::Heap { pages, resident } => self.line_words(
-                b"heap",
+                keyword,
                 &[Operand::Number(*pages), Operand::Number(*resident)],
             ),
-            Item::Global { name, ty } => self.line_words(
-                b"global",
-                &[Operand::Name(name), Operand::Name(ty)],
-            ),
-            Item::Script { name } => self.line_words(b"script", &[Operand::Name(name)]),
             Item::Ptr { name, at } => self.line_words(
-                b"ptr",
+                keyword,
                 &[Operand::Name(name), Operand::At(at)],
             ),
-            Item::Num { name } => self.line_words(b"num", &[Operand::Name(name)]),
-            Item::New { pointer, ty } => self.line_words(
-                b"new",
-                &[Operand::Name(pointer), Operand::Name(ty)],
+            Item::Const { number, value } => self.line_words(
+                keyword,
+                &[Operand::Name(number), Operand::Number(*value)],
             ),
-            Item::Free { pointer } => self.line_words(b"free", &[Operand::Name(pointer)]),
+            Item::Global {
+                name: first,
+                ty: second,
+            }
+            | Item::New {
+                pointer: first,
+                ty: second,
+            }
+            | Item::Move {
+                copied: first,
+                pointer: second,
+            }
+            | Item::Loadg {
+                loaded: first,
+                global: second,
+            }
+            | Item::Storeg {
+                stored: first,
+                global: second,
+            }
+            | Item::Isnull {
+                number: first,
+                pointer: second,
+            } => self.line_words(keyword, &[Operand::Name(first), Operand::Name(second)]),
             Item::Getn {
-                number,
+                number: first,
+                pointer,
+                index,
+            }
+            | Item::Getp {
+                loaded: first,
+                pointer,
+                index,
+            }
+            | Item::Lea {
+                moved: first,
                 pointer,
                 index,
             } => self.line_words(
-                b"getn",
+                keyword,
                 &[
-                    Operand::Name(number),
+                    Operand::Name(first),
                     Operand::Name(pointer),
                     Operand::Number(*index),
                 ],
@@ -180,37 +217,40 @@ impl Printer {
             Item::Setn {
                 pointer,
                 index,
+                number: last,
+            }
+            | Item::Setp {
+                pointer,
+                index,
+                stored: last,
+            } => self.line_words(
+                keyword,
+                &[
+                    Operand::Name(pointer),
+                    Operand::Number(*index),
+                    Operand::Name(last),
+                ],
+            ),
+            Item::Same {
                 number,
+                first,
+                second,
+            }
+            | Item::Add {
+                number,
+                left: first,
+                right: second,
+            }
+            | Item::Sub {
+                number,
+                left: first,
+                right: second,
             } => self.line_words(
-                b"setn",
+                keyword,
                 &[
-                    Operand::Name(pointer),
-                    Operand::Number(*index),
                     Operand::Name(number),
-                ],
-            ),
-            Item::Getp {
-                loaded,
-                pointer,
-                index,
-            } => self.line_words(
-                b"getp",
-                &[
-                    Operand::Name(loaded),
-                    Operand::Name(pointer),
-                    Operand::Number(*index),
-                ],
-            ),
-            Item::Setp {
-                pointer,
-                index,
-                stored,
-            } => self.line_words(
-                b"setp",
-                &[
-                    Operand::Name(pointer),
-                    Operand::Number(*index),
-                    Operand::Name(stored),
+                    Operand::Name(first),
+                    Operand::Name(second),
                 ],
             ),
             Item::Casp {
@@ -220,7 +260,7 @@ impl Printer {
                 expected,
                 stored,
             } => self.line_words(
-                b"casp",
+                keyword,
                 &[
                     Operand::Name(number),
                     Operand::Name(pointer),
@@ -229,81 +269,6 @@ impl Printer {
                     Operand::Name(stored),
                 ],
             ),
-            Item::Lea {
-                moved,
-                pointer,
-                index,
-            } => self.line_words(
-                b"lea",
-                &[
-                    Operand::Name(moved),
-                    Operand::Name(pointer),
-                    Operand::Number(*index),
-                ],
-            ),
-            Item::Move { copied, pointer } => self.line_words(
-                b"move",
-                &[Operand::Name(copied), Operand::Name(pointer)],
-            ),
-            Item::Clear { pointer } => self.line_words(b"clear", &[Operand::Name(pointer)]),
-            Item::Loadg { loaded, global } => self.line_words(
-                b"loadg",
-                &[Operand::Name(loaded), Operand::Name(global)],
-            ),
-            Item::Storeg { stored, global } => self.line_words(
-                b"storeg",
-                &[Operand::Name(stored), Operand::Name(global)],
-            ),
-            Item::Same {
-                number,
-                first,
-                second,
-            } => self.line_words(
-                b"same",
-                &[
-                    Operand::Name(number),
-                    Operand::Name(first),
-                    Operand::Name(second),
-                ],
-            ),
-            Item::Isnull { number, pointer } => self.line_words(
-                b"isnull",
-                &[Operand::Name(number), Operand::Name(pointer)],
-            ),
-            Item::Show { pointer } => self.line_words(b"show", &[Operand::Name(pointer)]),
-            Item::Const { number, value } => self.line_words(
-                b"const",
-                &[Operand::Name(number), Operand::Number(*value)],
-            ),
-            Item::Add {
-                number,
-                left,
-                right,
-            } => self.line_words(
-                b"add",
-                &[
-                    Operand::Name(number),
-                    Operand::Name(left),
-                    Operand::Name(right),
-                ],
-            ),
-            Item::Sub {
-                number,
-                left,
-                right,
-            } => self.line_words(
-                b"sub",
-                &[
-                    Operand::Name(number),
-                    Operand::Name(left),
-                    Operand::Name(right),
-                ],
-            ),
-            Item::Print { number } => self.line_words(b"print", &[Operand::Name(number)]),
-            Item::Repeat { rounds } => self.line_words(b"repeat", &[Operand::Number(*rounds)]),
-            Item::If { number } => self.line_words(b"if", &[Operand::Name(number)]),
-            Item::Else => self.line_words(b"else", &[]),
-            Item::End => self.line_words(b"end", &[]),
         }
     }
 
@@ -320,6 +285,43 @@ impl Printer {
     {
         let Printer { text, .. } = self;
         text
+    }
+}
+
+/// The first word of a line.
+fn first_word(item: &Item) -> &'static [u8]
+    ensures { result.now ≡ slice_index_or (words_of_item item.now) 0 [] }
+{
+    match item {
+        Item::Heap { .. } => b"heap",
+        Item::TypeLine { .. } => b"type",
+        Item::Global { .. } => b"global",
+        Item::Script { .. } => b"script",
+        Item::Ptr { .. } => b"ptr",
+        Item::Num { .. } => b"num",
+        Item::New { .. } => b"new",
+        Item::Free { .. } => b"free",
+        Item::Getn { .. } => b"getn",
+        Item::Setn { .. } => b"setn",
+        Item::Getp { .. } => b"getp",
+        Item::Setp { .. } => b"setp",
+        Item::Casp { .. } => b"casp",
+        Item::Lea { .. } => b"lea",
+        Item::Move { .. } => b"move",
+        Item::Clear { .. } => b"clear",
+        Item::Loadg { .. } => b"loadg",
+        Item::Storeg { .. } => b"storeg",
+        Item::Same { .. } => b"same",
+        Item::Isnull { .. } => b"isnull",
+        Item::Show { .. } => b"show",
+        Item::Const { .. } => b"const",
+        Item::Add { .. } => b"add",
+        Item::Sub { .. } => b"sub",
+        Item::Print { .. } => b"print",
+        Item::Repeat { .. } => b"repeat",
+        Item::If { .. } => b"if",
+        Item::Else => b"else",
+        Item::End => b"end",
     }
 }
 

@@ -1,0 +1,58 @@
+-- A form that is listed by its name, with words after it that aren't numbers.
+use Rattle.std.proofs.Common.{◌≡◌, ℕ, List, [], ◌∷◌, Bool, true, false, refl, ap, ◌∙◌, Option, Some, None, Ok, Err}
+use Rattle.std.proofs.Common.{map, ok_or}
+use Rattle.std.specs.Prelude.{if◌then◌else◌}
+use Rattle.std.specs.Option.{option_map}
+use Rattle.std.specs.Result.{IsErrAnd}
+use Rattle.std.specs.declared.result.Result.{Result}
+use Rattle.std.specs.Str.{bytes_eq}
+use lib.Chars.{codes}
+use Rattle.mk_script.specs.declared.faults.TextKind.{TextKind}
+use Rattle.mk_script.specs.declared.faults.TextKind.TheVariants as kind
+use Rattle.mk_script.specs.Names.{number_of_word}
+use Rattle.mk_replay.specs.declared.forms.FormOfNumbers.{FormOfNumbers}
+use Rattle.mk_replay.specs.declared.forms.FormOfNumbers.TheVariants.{Head, Used, Quar, Mark, Black, Claim}
+use Rattle.mk_replay.specs.declared.schedule.Form.{Form}
+use Rattle.mk_replay.specs.Forms.{value_among, both, number, forms_of_numbers, two_operands}
+use Rattle.mk_replay.specs.Numbered.{form_of_numbers}
+
+by_test : {A B : Type 0} (b : Bool) (f : A → B) (x : A) (rest : Option A) (others : Option B)
+    → others ≡ option_map f rest
+    → (if b then Some (f x) else others) ≡ option_map f (if b then Some x else rest)
+by_test true f x rest others same = refl
+by_test false f x rest others same = same
+
+value_among_map : {A B : Type 0} (f : A → B) (xs : List (List ℕ × A)) (w : List ℕ)
+    → value_among (map (λ (x : List ℕ × A). (x.0, f x.1)) xs) w ≡ option_map f (value_among xs w)
+value_among_map f [] w = refl
+value_among_map f (x ∷ xs) w = by_test (bytes_eq w x.0) f x.1 (value_among xs w) _ (value_among_map f xs w)
+
+abbrev pub listed : List (List ℕ × FormOfNumbers)
+listed =
+    (codes "head", Head) ∷ (codes "used", Used) ∷ (codes "quar", Quar) ∷ (codes "mark", Mark) ∷ (codes "black", Black)
+    ∷ (codes "claim", Claim) ∷ []
+
+was_some : {A : Type 0} (o : Option A) (x : A) → ok_or o kind.Word ≡ Ok x → o ≡ Some x
+was_some None x is = cc
+was_some (Some y) x is = cc
+
+unnumbered : (f : ℕ → ℕ → Form) (v w : Option ℕ) (e : TextKind) → ok_or v kind.Number ≡ Err e
+    → both f (ok_or v kind.Number) (ok_or w kind.Number) ≡ Err e
+unnumbered f None None e is = cc
+unnumbered f None (Some n) e is = cc
+unnumbered f (Some m) w e is = cc
+
+-- the first of two words that should be numbers is none
+pub first_is_no_number : (name v w : List ℕ) (form : FormOfNumbers) (e : TextKind)
+    → bytes_eq name (codes "tally") ≡ false → ok_or (value_among listed name) kind.Word ≡ Ok form
+    → number v ≡ Err e → two_operands name v w ≡ Err e
+first_is_no_number name v w form e other is fault =
+    let named : value_among forms_of_numbers name ≡ Some (form_of_numbers form) =
+    value_among_map form_of_numbers listed name
+    ∙ ap (option_map form_of_numbers) (was_some (value_among listed name) form is) in
+    rw (other, named) (unnumbered (form_of_numbers form) (number_of_word v) (number_of_word w) e fault)
+
+pub refused : {A : Type 0} (result : Result A TextKind) (e : TextKind) → IsErrAnd result (λ handed. handed ≡ e)
+    → result ≡ Err e
+refused (Ok x) e is = absurd is
+refused (Err handed) e is = ap Err is

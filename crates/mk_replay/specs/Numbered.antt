@@ -1,0 +1,39 @@
+-- Forms, and words of the table, with their numbers. Private functions alone cite these words.
+use Rattle.std.specs.Prelude.{ℕ}
+use Rattle.mk_core.specs.declared.events.Word.{Word}
+use Rattle.mk_core.specs.declared.events.Word.TheVariants as word
+use Rattle.mk_replay.specs.declared.forms.FormOfNumber.{FormOfNumber}
+use Rattle.mk_replay.specs.declared.forms.FormOfNumber.TheVariants.{Hold, Open, Clear, Wipe, Undirty, Unblack}
+use Rattle.mk_replay.specs.declared.forms.FormOfNumbers.{FormOfNumbers}
+use Rattle.mk_replay.specs.declared.forms.FormOfNumbers.TheVariants as two
+use Rattle.mk_replay.specs.declared.forms.WordOfNumber.{WordOfNumber}
+use Rattle.mk_replay.specs.declared.forms.WordOfNumber.TheVariants as numbered
+use Rattle.mk_replay.specs.declared.schedule.Form.{Form}
+use Rattle.mk_replay.specs.declared.schedule.Form.TheVariants as form
+
+abbrev pub form_of_number : FormOfNumber → ℕ → Form
+form_of_number Hold = λ n. form.Hold n
+form_of_number Open = λ n. form.Open n
+form_of_number Clear = λ n. form.Clear n
+form_of_number Wipe = λ n. form.Wipe n
+form_of_number Undirty = λ n. form.Undirty n
+form_of_number Unblack = λ n. form.Unblack n
+
+abbrev pub form_of_numbers : FormOfNumbers → ℕ → ℕ → Form
+form_of_numbers two.Head = λ page value. form.Head page value
+form_of_numbers two.Used = λ page value. form.Used page value
+form_of_numbers two.Quar = λ page value. form.Quar page value
+form_of_numbers two.Mark = λ page value. form.Mark page value
+form_of_numbers two.Black = λ page value. form.Black page value
+form_of_numbers two.Claim = λ page cell. form.Claim page cell
+
+abbrev pub word_of_number : WordOfNumber → ℕ → Word
+word_of_number numbered.Gate = λ n. word.Gate n
+word_of_number numbered.Global = λ n. word.Global n
+word_of_number numbered.Head = λ n. word.Head n
+word_of_number numbered.Used = λ n. word.Used n
+word_of_number numbered.Quar = λ n. word.Quar n
+word_of_number numbered.Mark = λ n. word.Mark n
+word_of_number numbered.Black = λ n. word.Black n
+word_of_number numbered.Dirty = λ n. word.Dirty n
+word_of_number numbered.Heap = λ n. word.Heap n
