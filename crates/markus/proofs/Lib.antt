@@ -1,2 +1,0 @@
-pub mod PrintedTexts
-pub mod Summaries

@@ -1,6 +1,0 @@
-pub mod DeclaredNames
-pub mod KeptText
-pub mod Outputs
-pub mod Statuses
-pub mod Summary
-pub mod SummedTexts

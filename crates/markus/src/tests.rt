@@ -10,9 +10,9 @@ mod paces;
 mod texts;
 mod walks;
 
-use crate::statuses::Status;
 use crate::top::markus;
 use mk_io::{MemSink, MemSource};
+use mk_outputs::Status;
 use mk_run::{NoPace, Pace};
 use std::alloc::{AllocError, Global};
 use std::sync::Wait;

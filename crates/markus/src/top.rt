@@ -3,13 +3,12 @@ ghost use Rattle.std.specs.Prelude.{◌≡◌, ◌≢◌, ◌⊎◌, map, string
 ghost use Rattle.mk_io.specs.Bytes.{Appends, AppendsPart};
 ghost use Rattle.mk_io.specs.Faults.{Rose};
 ghost use Rattle.mk_commands.specs.Commands.{command_of};
-ghost use Rattle.markus.specs.Outputs.{HasAnswered, IsStatusOn};
-ghost use Rattle.markus.specs.Statuses.{IsBeforeWriting, IsRefusal};
+ghost use Rattle.mk_outputs.specs.Outputs.{HasAnswered, IsStatusOn};
+ghost use Rattle.mk_outputs.specs.Statuses.{IsBeforeWriting, IsRefusal};
 
-use crate::outputs::output_of;
-use crate::statuses::Status;
 use mk_commands::command_in;
 use mk_io::{Failed, Sink, Source, write_all};
+use mk_outputs::{Status, output_of};
 use mk_run::Pace;
 use std::alloc::Global;
 use std::sync::Wait;

@@ -3,7 +3,7 @@
 
 use super::texts::behind;
 use super::{ample, run_at};
-use crate::statuses::Status;
+use mk_outputs::Status;
 use mk_run::Pace;
 use std::alloc::Global;
 use std::sync::Wait;

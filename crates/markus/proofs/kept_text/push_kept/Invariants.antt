@@ -1,8 +1,0 @@
-use Rattle.std.proofs.Common.{◌≡◌, ◌++◌, drop}
-use Rattle.markus.specs.KeptText.{kept_text}
-use Rattle.markus.proofs.kept_text.push_kept.Given as goal
-
--- the lines so far, and those of the entries that are left
-abbrev pub invariant-loop-entry : goal.invariant-loop-entry
-invariant-loop-entry l = l.text.items ++ kept_text l.items (drop l.entry-index l.kept)
-    ≡ l.initial.text.items ++ kept_text l.items l.kept

@@ -1,9 +1,0 @@
-use Rattle.std.proofs.Common.{◌≡◌, ◌++◌, drop}
-use Rattle.std.specs.List.{flat_map}
-use Rattle.markus.proofs.kept_text.push_pieces.Given as goal
-
--- what stands so far, and the pieces that are left
-abbrev pub invariant-loop-piece : goal.invariant-loop-piece
-invariant-loop-piece l =
-    l.text.items ++ flat_map (λ piece. piece.now) (drop l.piece-index l.pieces)
-    ≡ l.initial.text.items ++ flat_map (λ piece. piece.now) l.pieces

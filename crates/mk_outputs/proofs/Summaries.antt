@@ -1,0 +1,155 @@
+-- The summary of a run of a generated program is that of its history.
+use Rattle.std.proofs.Common.{◌≡◌, ℕ, zero, suc, ◌+◌, ◌<◌, ◌≤◌, List, [], ◌∷◌, ◌++◌, length, get_or, drop, append_assoc}
+use Rattle.std.proofs.Common.{append-nil, refl, ap, sym, ◌∙◌, arith, true, false}
+use Rattle.std.specs.Prelude.{slice_index_or, slice_get, Some, sum_by}
+use Rattle.std.specs.List.{flat_map, range_with_len}
+use Rattle.std.specs.Fmt.{decimal}
+use lib.Chars.{codes}
+use Rattle.std.proofs.lemmas.Fmt.{decimal_digit}
+use Rattle.std.proofs.lemmas.List.{drop_all}
+use Rattle.std.proofs.lemmas.List.Sums.{sum_by-cons}
+use Rattle.std.proofs.lemmas.Option.{slice_get_within}
+use Rattle.mk_core.specs.declared.config.Config.{Config}
+use Rattle.mk_core.specs.declared.events.Event.{Event}
+use Rattle.mk_script.specs.declared.items.Item.{Item}
+use Rattle.mk_script.specs.Scopes.{script_names}
+use Rattle.mk_check.specs.declared.text.Text.{Text}
+use Rattle.mk_check.specs.Declarations.{config_of}
+use Rattle.mk_check.specs.Laws.{IsScript}
+use Rattle.mk_script.proofs.Spacing.{drop_next}
+use Rattle.mk_gen.specs.Generated.{all_names, generated_program}
+use Rattle.mk_gen.proofs.GeneratedLaws.{generated_declares_nodes, generated_makes_turns}
+use Rattle.mk_heap.specs.Reports as report
+use Rattle.mk_run.specs.declared.outcomes.Outcome.{Outcome}
+use Rattle.mk_engines.specs.Roots.{CyclesMarkRootsFirst}
+use Rattle.mk_run.specs.Running.{answers_in, IsRunOf}
+use Rattle.mk_run.specs.Headline.{StandsInOneHistory, cycles_go_on}
+use Rattle.mk_run.specs.Unswept.{IsUnswept}
+use Rattle.mk_run.proofs.Headline.{runs_to_its_end, runs_stand_in_one_history}
+use Rattle.mk_outputs.specs.Summary.{script_line, total_line, calls_made, line_of_script, summary}
+use Rattle.mk_outputs.specs.SummedTexts.{line_of_text, lines_from, all_ops, summary_of_texts, AreFew}
+
+-- Lines and sums, place by place.
+
+lines_are : (g : ℕ → List ℕ) (k : ℕ) (texts : List Text)
+    → ((i : ℕ) (text : Text) → slice_get texts i ≡ Some text → line_of_text (k + i) text ≡ g (k + i))
+    → lines_from k texts ≡ flat_map g (range_with_len k (length texts))
+lines_are g k [] each = refl
+lines_are g k (text ∷ texts) each =
+    let here : k ≡ k + 0 = omega arith in
+    let first : line_of_text k text ≡ g k = ap (λ (j : ℕ). line_of_text j text) here ∙ each 0 text refl
+    ∙ ap g (sym here) in
+    let rest = lines_are g (k + 1) texts (λ i next is.
+    let there : (k + 1) + i ≡ k + suc i = omega arith in
+    ap (λ (j : ℕ). line_of_text j next) there ∙ each (suc i) next is ∙ ap g (sym there)) in
+    ap (λ (line : List ℕ). line ++ lines_from (k + 1) texts) first ∙ ap (λ (more : List ℕ). g k ++ more) rest
+
+sums_are : (g : ℕ → ℕ) (k : ℕ) (texts : List Text)
+    → ((i : ℕ) (text : Text) → slice_get texts i ≡ Some text → text.ops ≡ g (k + i))
+    → all_ops texts ≡ sum_by g (range_with_len k (length texts))
+sums_are g k [] each = refl
+sums_are g k (text ∷ texts) each =
+    let first : text.ops ≡ g k = each 0 text refl ∙ ap g (omega arith) in
+    let rest = sums_are g (k + 1) texts (λ i next is. each (suc i) next is ∙ ap g (omega arith)) in
+    let left = sum_by-cons (λ (t : Text). t.ops) text texts in
+    let right = sum_by-cons g k (range_with_len (k + 1) (length texts)) in
+    omega arith
+
+-- One text more.
+
+pub lines_more : (texts : List Text) (i : ℕ) (text : Text) (front line : List ℕ) → i < length texts
+    → text ≡ get_or texts i text
+    → line ≡ front ++ line_of_text i text
+    → front ++ lines_from i (drop i texts) ≡ line ++ lines_from (i + 1) (drop (i + 1) texts)
+lines_more texts i text front line inside is made =
+    ap (λ (left : List Text). front ++ lines_from i left) (drop_next texts i text inside is)
+    ∙ (sym (append_assoc front (line_of_text i text) (lines_from (i + 1) (drop (i + 1) texts)))
+    ∙ ap (λ (l : List ℕ). l ++ lines_from (i + 1) (drop (i + 1) texts)) (sym made))
+
+pub ops_more : (texts : List Text) (i : ℕ) (text : Text) → i < length texts → text ≡ get_or texts i text
+    → all_ops (drop i texts) ≡ text.ops + all_ops (drop (i + 1) texts)
+ops_more texts i text inside is =
+    ap all_ops (drop_next texts i text inside is) ∙ sum_by-cons (λ (t : Text). t.ops) text (drop (i + 1) texts)
+
+-- After the last text.
+
+pub lines_done : (texts : List Text) (i : ℕ) (front : List ℕ) → length texts ≤ i
+    → front ++ lines_from i (drop i texts) ≡ front
+lines_done texts i front past = ap (λ (left : List Text). front ++ lines_from i left) (drop_all i texts past)
+    ∙ append-nil front
+
+pub ops_done : (texts : List Text) (i : ℕ) → length texts ≤ i → all_ops (drop i texts) ≡ 0
+ops_done texts i past = ap all_ops (drop_all i texts past)
+
+name_is : (k : ℕ) → k < 4 → codes "s" ++ decimal k ≡ slice_index_or all_names k []
+name_is zero h = rw (decimal_digit 0 (omega arith)) refl
+name_is (suc zero) h = rw (decimal_digit 1 (omega arith)) refl
+name_is (suc (suc zero)) h = rw (decimal_digit 2 (omega arith)) refl
+name_is (suc (suc (suc zero))) h = rw (decimal_digit 3 (omega arith)) refl
+name_is (suc (suc (suc (suc k)))) h = absurd (omega arith)
+
+module _ (start count markers : ℕ) (outcome : Outcome)
+    (runs : IsRunOf (cycles_go_on markers) false (generated_program start count) markers outcome) where
+  abbrev program : List Item
+  program = generated_program start count
+
+  abbrev c : Config
+  c = config_of (generated_program start count) markers
+
+  abbrev es : List Event
+  es = report.history_of outcome.report
+
+  names : script_names program ≡ all_names
+  names = (generated_declares_nodes start count).scripts
+
+  pub four : length outcome.texts.items ≡ 4
+  four = runs.count ∙ ap (λ (xs : List (List ℕ)). length xs) names
+
+  is_script : (k : ℕ) (text : Text) → slice_get outcome.texts.items k ≡ Some text → IsScript program k
+  is_script k text is =
+      let inside = slice_get_within outcome.texts.items k text is in
+      let count = runs.count in
+      omega arith
+
+  pub are_few : count ≤ 3000000 → AreFew outcome.texts.items
+  are_few most k text is =
+      let script = is_script k text is in
+      let ends = runs_to_its_end (cycles_go_on markers) false program markers outcome k runs script in
+      let left = ends.none_left in
+      let made = (generated_makes_turns start count k script).calls (answers_in c k es) ends.ended in
+      let ops = (runs.texts k text is).ops in
+      omega arith
+
+  line_is : (k : ℕ) (text : Text) → slice_get outcome.texts.items k ≡ Some text
+      → line_of_text k text ≡ line_of_script program c es k
+  line_is k text is =
+      let t = runs.texts k text is in
+      let script = is_script k text is in
+      let inside = slice_get_within outcome.texts.items k text is in
+      let e = four in
+      let name : codes "s" ++ decimal k ≡ slice_index_or (script_names program) k [] =
+      name_is k (omega arith) ∙ ap (λ (xs : List (List ℕ)). slice_index_or xs k []) (sym names) in
+      ap (λ (n : List ℕ). script_line n text.ops text.refused) name
+      ∙ ap (λ (n : ℕ). script_line (slice_index_or (script_names program) k []) n text.refused) t.ops
+      ∙ ap (λ (n : ℕ). script_line (slice_index_or (script_names program) k []) (calls_made c es k) n) t.refused
+
+  summary_is : summary_of_texts outcome.texts.items ≡ summary program c es
+  summary_is =
+      let texts = outcome.texts.items in
+      let lines = lines_are (line_of_script program c es) 0 texts (λ k text is.
+      let same : 0 + k ≡ k = omega arith in
+      ap (λ (j : ℕ). line_of_text j text) same ∙ line_is k text is ∙ ap (line_of_script program c es) (sym same)) in
+      let sums = sums_are (calls_made c es) 0 texts (λ k text is.
+      (runs.texts k text is).ops ∙ ap (calls_made c es) (omega arith)) in
+      let counted = runs.count in
+      ap (λ (front : List ℕ). front ++ total_line (all_ops texts)) lines
+      ∙ ap (λ (n : ℕ). flat_map (line_of_script program c es) (range_with_len 0 (length texts)) ++ total_line n) sums
+      ∙ ap (λ (n : ℕ). flat_map (line_of_script program c es) (range_with_len 0 n)
+      ++ total_line (sum_by (calls_made c es) (range_with_len 0 n))) counted
+
+  pub run_is_summed : (cycles_go_on markers ≡ true → CyclesMarkRootsFirst c es) → IsUnswept c es
+      → (bytes : List ℕ) → bytes ≡ summary_of_texts outcome.texts.items
+      → StandsInOneHistory program markers false false (summary program) bytes
+  run_is_summed begun unswept bytes is =
+      runs_stand_in_one_history program markers false false outcome (summary program) bytes runs begun (λ none. unswept)
+      (is ∙ summary_is)

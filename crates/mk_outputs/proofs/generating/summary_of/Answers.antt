@@ -1,0 +1,60 @@
+use Rattle.std.proofs.Common.{◌≡◌, ℕ, ◌++◌, List, length, refl, ap, ◌∙◌, sym, arith}
+use Rattle.std.specs.Prelude.{string_bytes}
+use Rattle.std.proofs.lemmas.Option.{slice_get_read}
+use Rattle.mk_outputs.specs.Summary.{total_line}
+use Rattle.mk_outputs.specs.SummedTexts.{line_of_text, lines_from, all_ops}
+use Rattle.mk_outputs.proofs.Summaries.{lines_more, ops_more, lines_done, ops_done}
+use Rattle.mk_outputs.proofs.generating.summary_of.Goals as goal
+
+pub loop-text-preserved : goal.loop-text-preserved
+loop-text-preserved c =
+    let l = c.loop-text in
+    let texts = c.args.texts.now in
+    let text = c.text-item.result in
+    let inside = c.loop-text-test.true in
+    let few = c.requires.calls l.text-index text
+    (slice_get_read texts (length texts) l.text-index text refl inside c.text-item.is) in
+    let number = l.invariant.number in
+    let small = l.invariant.small in
+    let total = l.invariant.total in
+    let more = ops_more texts l.text-index text inside c.text-item.is in
+    let line = c.in_ok-push_line.ensures ∙ ap (λ (n : ℕ). string_bytes l.lines ++ line_of_text n text) number in
+    record {
+      number = omega arith;
+      small = omega arith;
+      lines = l.invariant.lines
+          ∙ lines_more texts l.text-index text (string_bytes l.lines) _ inside c.text-item.is line;
+      total = omega arith;
+    }
+
+pub overflow_add-total : goal.overflow_add-total
+overflow_add-total c =
+    let l = c.loop-text in
+    let texts = c.args.texts.now in
+    let text = c.text-item.result in
+    let inside = c.loop-text-test.true in
+    let few = c.requires.calls l.text-index text
+    (slice_get_read texts (length texts) l.text-index text refl inside c.text-item.is) in
+    let small = l.invariant.small in
+    let scripts = c.requires.scripts in
+    omega arith
+
+pub overflow_add-number : goal.overflow_add-number
+overflow_add-number c =
+    let number = c.loop-text.invariant.number in
+    let inside = c.loop-text-test.true in
+    let scripts = c.requires.scripts in
+    omega arith
+
+pub returns : goal.returns
+returns c =
+    let l = c.loop-text in
+    let texts = c.args.texts.now in
+    let past = c.loop-text-test.false in
+    let lines = l.invariant.lines ∙ lines_done texts l.text-index (string_bytes l.lines) past in
+    let none = ops_done texts l.text-index past in
+    let counted = l.invariant.total in
+    let total : l.total ≡ all_ops texts = omega arith in
+    c.in_ok-push_total.ensures
+    ∙ (ap (λ (front : List ℕ). front ++ total_line l.total) (sym lines)
+    ∙ ap (λ (n : ℕ). lines_from 0 texts ++ total_line n) total)

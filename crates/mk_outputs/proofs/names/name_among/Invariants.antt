@@ -1,0 +1,10 @@
+use Rattle.std.proofs.Common.{◌≡◌, [], drop}
+use Rattle.std.specs.Prelude.{slice_index_or}
+use Rattle.mk_outputs.specs.DeclaredNames.{names_of}
+use Rattle.mk_outputs.proofs.names.name_among.Given as goal
+
+-- the name among the lines that are left
+abbrev pub invariant-loop-item : goal.invariant-loop-item
+invariant-loop-item l =
+    slice_index_or (names_of l.sort (drop l.item-index l.items)) l.left []
+    ≡ slice_index_or (names_of l.sort l.items) l.number []

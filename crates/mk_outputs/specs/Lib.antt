@@ -1,0 +1,6 @@
+pub mod DeclaredNames
+pub mod KeptText
+pub mod Outputs
+pub mod Statuses
+pub mod Summary
+pub mod SummedTexts

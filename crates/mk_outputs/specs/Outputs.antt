@@ -1,0 +1,212 @@
+-- What a command writes, and the status that it ends with where nothing fails.
+use Rattle.std.specs.Prelude.{◌≡◌, ℕ, Bool, true, false, List, [], ◌++◌, Option, Some, None, IfSome, Ok as Accepted}
+use Rattle.std.specs.Prelude.{Err as Refused, ◌⊎◌}
+use Rattle.std.specs.declared.result.Result.{Result}
+use lib.Chars.{codes}
+use Rattle.mk_io.specs.declared.reading.ReadStop.{ReadStop}
+use Rattle.mk_io.specs.declared.reading.ReadStop.TheVariants as reading
+use Rattle.mk_script.specs.declared.faults.Which.TheVariants.{Bytes}
+use Rattle.mk_script.specs.declared.items.Item.{Item}
+use Rattle.mk_script.specs.declared.faults.TextStop.{TextStop}
+use Rattle.mk_script.specs.declared.faults.TextStop.TheVariants as stop
+use Rattle.mk_script.specs.Grammar.{program_of}
+use Rattle.mk_script.specs.Canonical.{canonical_text}
+use Rattle.mk_check.specs.declared.typing_faults.TypeStop.{TypeStop}
+use Rattle.mk_check.specs.declared.typing_faults.TypeStop.TheVariants as typing
+use Rattle.mk_check.specs.Typing.{TypingFault, first_typing_fault}
+use Rattle.mk_check.specs.Declarations.{config_of}
+use Rattle.mk_check.specs.Output.{output as output_behind}
+use Rattle.mk_core.specs.declared.events.Event.{Event}
+use Rattle.mk_core.specs.History.{AreEnabled}
+use Rattle.mk_theorems.specs.Promises.{KeepsAllPromises}
+use Rattle.mk_run.specs.Headline.{StandsInOneHistory}
+use Rattle.mk_run.specs.LastCycle.{EndsWithCycle}
+use Rattle.mk_why.specs.declared.kept.Kept.{Kept}
+use Rattle.mk_why.specs.Chains.{AreKept}
+use Rattle.mk_replay.specs.declared.schedule.Entry.{Entry}
+use Rattle.mk_replay.specs.declared.replaying.ReplayStop.{ReplayStop}
+use Rattle.mk_replay.specs.declared.replaying.ReplayStop.TheVariants as replay
+use Rattle.mk_replay.specs.Schedules.{replay_of}
+use Rattle.mk_replay.specs.Replays.{history_of, refusal_of}
+use Rattle.mk_gen.specs.Generated.{generated_program}
+use Rattle.mk_trace.specs.declared.faults.TraceStop.{TraceStop}
+use Rattle.mk_trace.specs.declared.faults.TraceStop.TheVariants as trace
+use Rattle.mk_trace.specs.declared.peaks.Peaks.{Peaks}
+use Rattle.mk_trace.specs.Traces.{Contents, trace_of}
+use Rattle.mk_trace.specs.Playing.{IsPlayed, ArePeaks}
+use Rattle.mk_trace.specs.Printed.{peaks_text}
+use Rattle.mk_commands.specs.declared.commands.Command.{Command}
+use Rattle.mk_commands.specs.declared.commands.Command.TheVariants as asked
+use Rattle.mk_commands.specs.declared.commands.TextCommand.{TextCommand}
+use Rattle.mk_commands.specs.declared.commands.TextCommand.TheVariants.{Run, Check, Print, Replay, Trace}
+use Rattle.mk_commands.specs.declared.commands.Request.{Request}
+use Rattle.mk_outputs.specs.declared.statuses.Status.{Status}
+use Rattle.mk_outputs.specs.declared.statuses.Status.TheVariants.{Ok, NoMemory, ReadFault, Text, IllTyped, Limit}
+use Rattle.mk_outputs.specs.declared.statuses.Status.TheVariants.{NotEnabled}
+use Rattle.mk_commands.specs.Commands.{command_of}
+use Rattle.mk_outputs.specs.KeptText.{kept_text}
+use Rattle.mk_outputs.specs.Summary.{summary}
+
+-- where a program is well typed, this status; else that of its least ill-typed line
+abbrev pub typed_or : Option TypingFault → Status → Status
+typed_or None status = status
+typed_or (Some fault) status = IllTyped fault.line fault.kind
+
+-- To be printed a program needn't be well typed.
+abbrev pub status_of_program : TextCommand → List Item → Status
+status_of_program (Run options) program = typed_or (first_typing_fault program) Ok
+status_of_program Check program = typed_or (first_typing_fault program) Ok
+status_of_program Print program = Ok
+status_of_program Replay program = typed_or (first_typing_fault program) Ok
+status_of_program Trace program = Ok
+
+-- what reading all of an input is refused for
+abbrev pub status_of_read_stop : ReadStop → Status
+status_of_read_stop reading.ReadFault = ReadFault
+status_of_read_stop reading.TooLong = Limit 0 Bytes 1048577
+status_of_read_stop reading.NoMemory = NoMemory
+
+abbrev pub status_of_text_stop : TextStop → Status
+status_of_text_stop (stop.Text line kind) = Text line kind
+status_of_text_stop (stop.Limit line which found) = Limit line which found
+status_of_text_stop stop.NoMemory = NoMemory
+
+abbrev pub status_of_text : TextCommand → Result (List Item) TextStop → Status
+status_of_text command (Accepted program) = status_of_program command program
+status_of_text command (Refused stop) = status_of_text_stop stop
+
+abbrev pub status_of_type_stop : TypeStop → Status
+status_of_type_stop (typing.IllTyped line kind) = IllTyped line kind
+status_of_type_stop typing.NoMemory = NoMemory
+
+-- the first event that isn't enabled, or none
+abbrev pub status_of_refusal : Option ReplayStop → Status
+status_of_refusal None = Ok
+status_of_refusal (Some (replay.NotEnabled line event condition)) = NotEnabled line event condition
+status_of_refusal (Some replay.NoMemory) = NoMemory
+
+abbrev pub status_of_schedule : List Item → List Entry → Status
+status_of_schedule program schedule =
+    typed_or (first_typing_fault program) (status_of_refusal (refusal_of program schedule))
+
+abbrev pub status_of_replay : Result (List Item × List Entry) TextStop → Status
+status_of_replay (Accepted parts) = status_of_schedule parts.0 parts.1
+status_of_replay (Refused stop) = status_of_text_stop stop
+
+abbrev pub status_of_trace_stop : TraceStop → Status
+status_of_trace_stop (trace.Text line kind) = Text line kind
+status_of_trace_stop (trace.IllTyped line kind) = IllTyped line kind
+status_of_trace_stop (trace.Limit line which found) = Limit line which found
+status_of_trace_stop trace.NoMemory = NoMemory
+
+-- Each trace without a fault is played to its end.
+abbrev pub status_of_trace : Result Contents TraceStop → Status
+status_of_trace (Accepted contents) = Ok
+status_of_trace (Refused stop) = status_of_trace_stop stop
+
+-- the status of a command on an input, where nothing fails
+abbrev pub status_on : TextCommand → List ℕ → Status
+status_on Replay input = status_of_replay (replay_of input)
+status_on Trace input = status_of_trace (trace_of input)
+status_on command input = status_of_text command (program_of input)
+
+-- What a run prints that says why objects are kept. The program's replies stand in one history of its heap, and what
+-- its scripts print of it is written, whole, and after that the lines of the entries. In this history a cycle is begun
+-- and ended after the last step of every script, in one turn of the host. The entries are those of its `close`, the
+-- last one of all: each object that was freed before this cycle and is marked, with a shortest chain from a register or
+-- a global to it.
+pub record TellsWhatIsKept (program : List Item) (markers : ℕ) (sweep : Bool) (output : List ℕ) : Type 0 where
+  pub entries : List Kept
+  pub stands :
+      StandsInOneHistory program markers sweep true (λ c es. output_behind program c es ++ kept_text program entries)
+      output
+  pub ends_with_cycle : EndsWithCycle (λ c w. AreKept c w entries) (config_of program markers) stands.history
+
+-- What a run prints, asked why objects are kept or not: without that, its program's replies stand in one history of its
+-- heap, and what its scripts print of it is written.
+abbrev pub IsOutputOfRun : Bool → List Item → ℕ → Bool → List ℕ → Type 0
+IsOutputOfRun true program markers sweep output = TellsWhatIsKept program markers sweep output
+IsOutputOfRun false program markers sweep output =
+    StandsInOneHistory program markers sweep false (output_behind program) output
+
+abbrev pub IsOutputOf : TextCommand → List Item → List ℕ → Type 0
+IsOutputOf (Run options) program output =
+    IsOutputOfRun options.why program options.markers options.sweep output
+IsOutputOf Check program output = output ≡ codes "ok\n"
+IsOutputOf Print program output = output ≡ canonical_text program
+IsOutputOf Replay program output = ⊥
+IsOutputOf Trace program output = ⊥
+
+-- what a command on a program writes on one that it accepts
+pub record IsOutputOnProgram (command : TextCommand) (input output : List ℕ) : Type 0 where
+  pub program : List Item
+  pub is_text : program_of input ≡ Accepted program
+  pub accepted : status_of_program command program ≡ Ok
+  pub output_is : IsOutputOf command program output
+
+-- what `replay` writes on a schedule whose history is enabled, and keeps all promises: the texts of the scripts so far
+pub record IsOutputOnSchedule (input output : List ℕ) : Type 0 where
+  pub program : List Item
+  pub schedule : List Entry
+  pub is_text : replay_of input ≡ Accepted (program, schedule)
+  pub accepted : status_of_schedule program schedule ≡ Ok
+  pub enabled : AreEnabled (config_of program 8) (history_of program schedule)
+  pub promises : KeepsAllPromises (config_of program 8) (history_of program schedule)
+  pub output_is : output ≡ output_behind program (config_of program 8) (history_of program schedule)
+
+-- What is written of a trace that was played: the lines of the peaks of the history that its playing made.
+pub record TellsOfPlay (contents : Contents) (output : List ℕ) : Type 0 where
+  pub history : List Event
+  pub played : IsPlayed contents history
+  pub peaks : Peaks
+  pub are_peaks : ArePeaks contents history peaks
+  pub output_is : output ≡ peaks_text peaks
+
+-- what `trace` writes on a text that is a trace without fault
+pub record IsOutputOnTrace (input output : List ℕ) : Type 0 where
+  pub contents : Contents
+  pub is_text : trace_of input ≡ Accepted contents
+  pub told : TellsOfPlay contents output
+
+-- what a command writes on an input that it accepts
+abbrev pub IsOutput : TextCommand → List ℕ → List ℕ → Type 0
+IsOutput Replay input output = IsOutputOnSchedule input output
+IsOutput Trace input output = IsOutputOnTrace input output
+IsOutput command input output = IsOutputOnProgram command input output
+
+-- An input was read from the source to its end, and this is what the command writes on it. Where the source doesn't
+-- tell its bytes, there is such an input.
+pub record IsOutputOnSource (command : TextCommand) (old new : Option (List ℕ)) (output : List ℕ) : Type 0 where
+  pub input : List ℕ
+  pub read : IfSome old (λ left. (input ≡ left) × (new ≡ Some []))
+  pub is_output : IsOutput command input output
+
+-- What `gen` writes: the generated program's replies stand in one history of its heap, and it is summed up. Nothing is
+-- read.
+pub record IsOutputOfRequest (request : Request) (old new : Option (List ℕ)) (output : List ℕ) : Type 0 where
+  pub unread : new ≡ old
+  pub output_is :
+      let program = generated_program request.start request.count in
+      StandsInOneHistory program request.markers false false (summary program) output
+
+abbrev pub Answers : Command → Option (List ℕ) → Option (List ℕ) → List ℕ → Type 0
+Answers (asked.OnText on_text) old new output = IsOutputOnSource on_text old new output
+Answers (asked.Gen request) old new output = IsOutputOfRequest request old new output
+
+-- W holds of what the words' command writes, where the source had one list of bytes left, and then the other.
+pub record HasAnswered (words : List (List ℕ)) (old new : Option (List ℕ)) (W : List ℕ → Type 0) : Type 0 where
+  pub command : Command
+  pub output : List ℕ
+  pub named : command_of words ≡ Some command
+  pub answers : Answers command old new output
+  pub written : W output
+
+-- The command's status on what is left of the source, or no memory.
+abbrev pub IsStatusOf : Command → Option (List ℕ) → Status → Type 0
+IsStatusOf (asked.OnText on_text) (Some input) status = (status ≡ NoMemory) ⊎ (status ≡ status_on on_text input)
+IsStatusOf (asked.OnText on_text) None status = Unit {0}
+IsStatusOf (asked.Gen request) left status = (status ≡ NoMemory) ⊎ (status ≡ Ok)
+
+abbrev pub IsStatusOn : Option Command → Option (List ℕ) → Status → Type 0
+IsStatusOn (Some command) left status = IsStatusOf command left status
+IsStatusOn None left status = Unit {0}

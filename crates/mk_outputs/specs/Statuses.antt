@@ -1,0 +1,112 @@
+-- How the program ends.
+use Rattle.std.specs.Prelude.{ℕ, List, [], ◌++◌}
+use Rattle.std.specs.Fmt.{decimal}
+use lib.Chars.{codes}
+use Rattle.mk_script.specs.declared.faults.TextKind.{TextKind}
+use Rattle.mk_script.specs.declared.faults.TextKind.TheVariants as text
+use Rattle.mk_script.specs.declared.faults.Which.{Which}
+use Rattle.mk_script.specs.declared.faults.Which.TheVariants.{Bytes, Pages, Resident, Scripts, Globals, Types, Words}
+use Rattle.mk_script.specs.declared.faults.Which.TheVariants.{Pointers, Numbers, Depth}
+use Rattle.mk_check.specs.declared.typing_faults.TypeKind.{TypeKind}
+use Rattle.mk_check.specs.declared.typing_faults.TypeKind.TheVariants as typing
+use Rattle.mk_outputs.specs.declared.statuses.Status.{Status}
+use Rattle.mk_outputs.specs.declared.statuses.Status.TheVariants.{Ok, NoMemory, Usage, ReadFault, WriteFault, Text}
+use Rattle.mk_outputs.specs.declared.statuses.Status.TheVariants.{IllTyped, Limit, NotEnabled}
+
+abbrev pub status_number : Status → ℕ
+status_number Ok = 0
+status_number NoMemory = 1
+status_number Usage = 2
+status_number ReadFault = 3
+status_number WriteFault = 4
+status_number (Text line kind) = 5
+status_number (IllTyped line fault) = 6
+status_number (Limit line which found) = 7
+status_number (NotEnabled line event condition) = 8
+
+abbrev pub text_words : TextKind → List ℕ
+text_words text.Header = codes "header"
+text_words text.Word = codes "word"
+text_words text.Number = codes "number"
+text_words text.Name = codes "name"
+text_words text.Twice = codes "twice"
+text_words text.End = codes "end"
+
+abbrev pub typing_words : TypeKind → List ℕ
+typing_words typing.NoType = codes "no type"
+typing_words typing.NoRegister = codes "no register"
+typing_words typing.NoGlobal = codes "no global"
+typing_words typing.Offset = codes "offset"
+typing_words typing.Kind = codes "kind"
+typing_words typing.InteriorFree = codes "interior free"
+typing_words (typing.TooLong count) = codes "too long " ++ decimal count
+
+abbrev pub which_word : Which → List ℕ
+which_word Bytes = codes "bytes"
+which_word Pages = codes "pages"
+which_word Resident = codes "resident"
+which_word Scripts = codes "scripts"
+which_word Globals = codes "globals"
+which_word Types = codes "types"
+which_word Words = codes "words"
+which_word Pointers = codes "pointers"
+which_word Numbers = codes "numbers"
+which_word Depth = codes "depth"
+
+abbrev pub limit_words : Which → ℕ → List ℕ
+limit_words which found = codes "limit " ++ (which_word which ++ (codes " " ++ decimal found))
+
+abbrev pub not_enabled_words : ℕ → ℕ → List ℕ
+not_enabled_words event condition =
+    codes "event " ++ (decimal event ++ (codes " not enabled, condition " ++ decimal condition))
+
+abbrev pub at_line : ℕ → List ℕ → List ℕ
+at_line line words = codes "line " ++ (decimal line ++ (codes ": " ++ (words ++ codes "\n")))
+
+-- the line for standard error
+abbrev pub status_line : Status → List ℕ
+status_line Ok = []
+status_line NoMemory = codes "no memory\n"
+status_line Usage = codes "usage: markus run, check, print, replay, gen or trace\n"
+status_line ReadFault = codes "read failed\n"
+status_line WriteFault = codes "write failed\n"
+status_line (Text line kind) = at_line line (text_words kind)
+status_line (IllTyped line fault) = at_line line (typing_words fault)
+status_line (Limit line which found) = at_line line (limit_words which found)
+status_line (NotEnabled line event condition) = at_line line (not_enabled_words event condition)
+
+-- the statuses that come before the first write
+abbrev pub IsBeforeWriting : Status → Type 0
+IsBeforeWriting Ok = ⊥
+IsBeforeWriting NoMemory = Unit {0}
+IsBeforeWriting Usage = Unit {0}
+IsBeforeWriting ReadFault = Unit {0}
+IsBeforeWriting WriteFault = ⊥
+IsBeforeWriting (Text line kind) = Unit {0}
+IsBeforeWriting (IllTyped line fault) = Unit {0}
+IsBeforeWriting (Limit line which found) = Unit {0}
+IsBeforeWriting (NotEnabled line event condition) = Unit {0}
+
+-- the statuses that a text may have, but for Ok
+abbrev pub IsOfText : Status → Type 0
+IsOfText Ok = ⊥
+IsOfText NoMemory = Unit {0}
+IsOfText Usage = ⊥
+IsOfText ReadFault = ⊥
+IsOfText WriteFault = ⊥
+IsOfText (Text line kind) = Unit {0}
+IsOfText (IllTyped line fault) = Unit {0}
+IsOfText (Limit line which found) = Unit {0}
+IsOfText (NotEnabled line event condition) = Unit {0}
+
+-- the statuses that say what is wrong with a text
+abbrev pub IsRefusal : Status → Type 0
+IsRefusal Ok = ⊥
+IsRefusal NoMemory = ⊥
+IsRefusal Usage = ⊥
+IsRefusal ReadFault = ⊥
+IsRefusal WriteFault = ⊥
+IsRefusal (Text line kind) = Unit {0}
+IsRefusal (IllTyped line fault) = Unit {0}
+IsRefusal (Limit line which found) = Unit {0}
+IsRefusal (NotEnabled line event condition) = Unit {0}

@@ -1,0 +1,107 @@
+//! The lines that report what the last cycle kept, and why.
+ghost use Rattle.std.specs.Prelude.{◌≡◌, ◌++◌, [], ◌∷◌, List, OnOk};
+ghost use Rattle.std.specs.List.{flat_map};
+ghost use Rattle.std.specs.Fmt.{decimal};
+ghost use lib.Chars.{codes};
+ghost use Rattle.mk_script.specs.Canonical.{line_text};
+ghost use Rattle.mk_outputs.specs.KeptText.{root_words, links_text, entry_text, kept_text};
+
+use crate::names::{global_name, register_name, script_name};
+use mk_never::NoMemory;
+use mk_script::{Item, Program};
+use mk_why::{Kept, Root};
+use std::alloc::Global;
+
+/// Appends the lines of what was kept, in its order.
+pub fn push_kept(
+    alloc: Global,
+    text: &mut Vec<u8>,
+    program: &Program,
+    kept: &[Kept],
+) -> Result<(), NoMemory>
+    ensures { OnOk result (text.new.items ≡ text.old.items ++ kept_text program.now kept.now) }
+{
+    let items = program.items();
+    for entry in kept {
+        push_entry(alloc, text, items, entry)?;
+    }
+    Ok(())
+}
+
+/// Appends the lines of an entry.
+fn push_entry(
+    alloc: Global,
+    text: &mut Vec<u8>,
+    items: &[Item],
+    entry: &Kept,
+) -> Result<(), NoMemory>
+    ensures { OnOk result (text.new.items ≡ text.old.items ++ entry_text items.now entry.now) }
+{
+    push_head(alloc, text, entry.address, entry.words)?;
+    push_root(text, items, entry.root)?;
+    push_links(alloc, text, &entry.links)
+}
+
+fn push_head(alloc: Global, text: &mut Vec<u8>, address: u64, words: u64) -> Result<(), NoMemory>
+    ensures { OnOk result (text.new.items
+        ≡ text.old.items ++ line_text (codes "kept" ∷ decimal address ∷ decimal words ∷ [])) }
+{
+    let line = format!(in alloc; "kept {address} {words}\n")?;
+    push(text, line.as_bytes())
+}
+
+/// Appends the line of the root from which an entry is reached.
+fn push_root(text: &mut Vec<u8>, items: &[Item], root: Option<Root>) -> Result<(), NoMemory>
+    ensures { OnOk result (text.new.items ≡ text.old.items ++ line_text (root_words items.now root)) }
+{
+    match root {
+        None => push(text, b"floating\n"),
+        Some(Root::Global(global)) => push_pieces(
+            text,
+            &[b"global ", global_name(items, global), b"\n"],
+        ),
+        Some(Root::Register { caller, register }) => push_pieces(
+            text,
+            &[
+                b"register ",
+                script_name(items, caller),
+                b" ",
+                register_name(items, caller, register),
+                b"\n",
+            ],
+        ),
+    }
+}
+
+/// Appends pieces, one after the other.
+fn push_pieces(text: &mut Vec<u8>, pieces: &[&[u8]]) -> Result<(), NoMemory>
+    ensures { OnOk result (text.new.items ≡ text.old.items ++ flat_map (λ piece. piece.now) pieces.now) }
+{
+    for piece in pieces {
+        push(text, piece)?;
+    }
+    Ok(())
+}
+
+/// Appends the lines of the words through which an entry is reached.
+fn push_links(alloc: Global, text: &mut Vec<u8>, links: &[u64]) -> Result<(), NoMemory>
+    ensures { OnOk result (text.new.items ≡ text.old.items ++ links_text links.now) }
+{
+    for link in links {
+        push_link(alloc, text, *link)?;
+    }
+    Ok(())
+}
+
+fn push_link(alloc: Global, text: &mut Vec<u8>, link: u64) -> Result<(), NoMemory>
+    ensures { OnOk result (text.new.items ≡ text.old.items ++ line_text (codes "word" ∷ decimal link ∷ [])) }
+{
+    let line = format!(in alloc; "word {link}\n")?;
+    push(text, line.as_bytes())
+}
+
+fn push(text: &mut Vec<u8>, piece: &[u8]) -> Result<(), NoMemory>
+    ensures { OnOk result (text.new.items ≡ text.old.items ++ piece.now) }
+{
+    Ok(text.extend_from_slice(piece)?)
+}
