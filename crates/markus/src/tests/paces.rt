@@ -82,10 +82,7 @@ impl Hold {
     }
 
     fn hold_back(&self, moment: Moment, script: u64, instruction: u64) {
-        if moment == self.at
-            && script == self.held.script
-            && instruction == self.held.instruction
-        {
+        if moment == self.at && script == self.held.script && instruction == self.held.instruction {
             self.was_held.store(true, Ordering::SeqCst);
             if !is_awaited(&self.came) {
                 self.in_vain.store(true, Ordering::SeqCst);
@@ -240,12 +237,22 @@ fn a_pace_is_told_in_time(rt: HostRuntime) -> Result<(), Fail> {
     let store = at_instruction(0, 1);
     let answered = Both {
         one: Hold::new(at_instruction(1, 1), Moment::Answered, store),
-        other: Hold::at(Moment::Answered, store, Moment::Before, at_instruction(1, 2)),
+        other: Hold::at(
+            Moment::Answered,
+            store,
+            Moment::Before,
+            at_instruction(1, 2),
+        ),
     };
     assert!(rt; writes(&rt, rt.alloc(), &["run"], LOAD_WHILE_ANSWERED, &answered)?);
     assert!(rt; answered.have_held());
     let about_to_run = Both {
-        one: Hold::at(Moment::Answered, at_instruction(1, 0), Moment::Before, store),
+        one: Hold::at(
+            Moment::Answered,
+            at_instruction(1, 0),
+            Moment::Before,
+            store,
+        ),
         other: Hold::new(store, Moment::Answered, at_instruction(1, 1)),
     };
     assert!(rt; writes(&rt, rt.alloc(), &["run"], LOAD_WHILE_TO_COME, &about_to_run)?);
