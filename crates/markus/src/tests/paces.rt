@@ -29,10 +29,11 @@ struct Place {
     instruction: u64,
 }
 
-/// Holds an instruction back until the moment came, of the other instruction. Whether it came, whether the instruction
-/// was held, and whether it was in vain.
+/// Holds a script back at a moment of an instruction until another moment came, of the other instruction. Whether it
+/// came, whether the script was held, and whether it was in vain.
 #[derive(Drop)]
 struct Hold {
+    at: Moment,
     held: Place,
     until: Moment,
     other: Place,
@@ -53,8 +54,14 @@ fn is_awaited(came: &AtomicBool) -> bool {
 }
 
 impl Hold {
+    /// Holds an instruction back before it runs.
     fn new(held: Place, until: Moment, other: Place) -> Hold {
+        Hold::at(Moment::Before, held, until, other)
+    }
+
+    fn at(at: Moment, held: Place, until: Moment, other: Place) -> Hold {
         Hold {
+            at,
             held,
             until,
             other,
@@ -74,8 +81,8 @@ impl Hold {
         }
     }
 
-    fn hold_back(&self, script: u64, instruction: u64) {
-        if script == self.held.script && instruction == self.held.instruction {
+    fn hold_back(&self, moment: Moment, script: u64, instruction: u64) {
+        if moment == self.at && script == self.held.script && instruction == self.held.instruction {
             self.was_held.store(true, Ordering::SeqCst);
             if !is_awaited(&self.came) {
                 self.in_vain.store(true, Ordering::SeqCst);
@@ -83,7 +90,7 @@ impl Hold {
         }
     }
 
-    /// Whether the instruction was held back, and the moment came.
+    /// Whether the script was held back, and the moment came.
     fn has_held(&self) -> bool {
         self.was_held.load(Ordering::SeqCst) && !self.in_vain.load(Ordering::SeqCst)
     }
@@ -92,11 +99,12 @@ impl Hold {
 impl Pace for Hold {
     fn before(&self, script: u64, instruction: u64) {
         self.note(Moment::Before, script, instruction);
-        self.hold_back(script, instruction);
+        self.hold_back(Moment::Before, script, instruction);
     }
 
     fn answered(&self, script: u64, instruction: u64) {
         self.note(Moment::Answered, script, instruction);
+        self.hold_back(Moment::Answered, script, instruction);
     }
 
     /// Whatever the instruction is.
@@ -112,17 +120,26 @@ struct Both {
     other: Hold,
 }
 
+impl Both {
+    fn note_and_hold(&self, moment: Moment, script: u64, instruction: u64) {
+        self.one.note(moment, script, instruction);
+        self.other.note(moment, script, instruction);
+        self.one.hold_back(moment, script, instruction);
+        self.other.hold_back(moment, script, instruction);
+    }
+
+    fn have_held(&self) -> bool {
+        self.one.has_held() && self.other.has_held()
+    }
+}
+
 impl Pace for Both {
     fn before(&self, script: u64, instruction: u64) {
-        self.one.note(Moment::Before, script, instruction);
-        self.other.note(Moment::Before, script, instruction);
-        self.one.hold_back(script, instruction);
-        self.other.hold_back(script, instruction);
+        self.note_and_hold(Moment::Before, script, instruction);
     }
 
     fn answered(&self, script: u64, instruction: u64) {
-        self.one.answered(script, instruction);
-        self.other.answered(script, instruction);
+        self.note_and_hold(Moment::Answered, script, instruction);
     }
 
     fn marked(&self, marker: u64) {
@@ -149,6 +166,15 @@ const LOAD_BEHIND: &str = "heap 1 1/type A n/global g A/script a/ptr p A/new p A
 
 const LOAD_BEFORE: &str = "heap 1 1/type A n/global g A/script a/ptr p A/new p A/storeg p g/\
     script b/ptr q A/loadg q g/show q/ -> script a/script b/null/";
+
+/// A load of a global while the script of a store to it is held at the answer, and before the store.
+const LOAD_WHILE_ANSWERED: &str =
+    "heap 1 1/type A n/global g A/script a/ptr p A/new p A/storeg p g/script b/ptr q A/ptr r A/\
+    new r A/loadg q g/new r A/show q/ -> script a/script b/ptr/";
+
+const LOAD_WHILE_TO_COME: &str =
+    "heap 1 1/type A n/global g A/script a/ptr p A/new p A/storeg p g/script b/ptr q A/ptr r A/\
+    new r A/loadg q g/new r A/show q/ -> script a/script b/null/";
 
 /// A free that is due.
 const DUE: &str = "heap 1 1/type A n*32/script s/ptr p A/new p A/free p/show p/ -> script s/ptr/";
@@ -190,7 +216,7 @@ fn scripts_run_beside_each_other(rt: HostRuntime) -> Result<(), Fail> {
         other: Hold::new(at_instruction(2, 1), Moment::Before, at_instruction(1, 1)),
     };
     assert!(rt; writes(&rt, rt.alloc(), &["run"], THREE, &both)?);
-    assert!(rt; both.one.has_held() && both.other.has_held());
+    assert!(rt; both.have_held());
     Ok(())
 }
 
@@ -201,6 +227,36 @@ fn loads_are_answered_in_their_order(rt: HostRuntime) -> Result<(), Fail> {
     assert!(rt; writes_held(&rt, rt.alloc(), &["run"], LOAD_BEHIND, &load_later)?);
     let store_later = Hold::new(at_instruction(0, 1), Moment::Answered, at_instruction(1, 0));
     assert!(rt; writes_held(&rt, rt.alloc(), &["run"], LOAD_BEFORE, &store_later)?);
+    Ok(())
+}
+
+/// A store that is told as answered was made, and one that is about to run wasn't. The script of the load has an
+/// instruction before it and one after it.
+#[test]
+fn a_pace_is_told_in_time(rt: HostRuntime) -> Result<(), Fail> {
+    let store = at_instruction(0, 1);
+    let answered = Both {
+        one: Hold::new(at_instruction(1, 1), Moment::Answered, store),
+        other: Hold::at(
+            Moment::Answered,
+            store,
+            Moment::Before,
+            at_instruction(1, 2),
+        ),
+    };
+    assert!(rt; writes(&rt, rt.alloc(), &["run"], LOAD_WHILE_ANSWERED, &answered)?);
+    assert!(rt; answered.have_held());
+    let about_to_run = Both {
+        one: Hold::at(
+            Moment::Answered,
+            at_instruction(1, 0),
+            Moment::Before,
+            store,
+        ),
+        other: Hold::new(store, Moment::Answered, at_instruction(1, 1)),
+    };
+    assert!(rt; writes(&rt, rt.alloc(), &["run"], LOAD_WHILE_TO_COME, &about_to_run)?);
+    assert!(rt; about_to_run.have_held());
     Ok(())
 }
 
@@ -308,8 +364,10 @@ impl Pace for Cycles {
 
     fn answered(&self, _script: u64, _instruction: u64) {}
 
-    fn marked(&self, _marker: u64) {
-        self.marked.fetch_add(1, Ordering::SeqCst);
+    fn marked(&self, marker: u64) {
+        if marker == 0 {
+            self.marked.fetch_add(1, Ordering::SeqCst);
+        }
     }
 }
 
