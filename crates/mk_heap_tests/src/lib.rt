@@ -22,4 +22,6 @@ mod rows;
 #[cfg(test)]
 mod runs;
 #[cfg(test)]
+mod stacks;
+#[cfg(test)]
 mod turns;

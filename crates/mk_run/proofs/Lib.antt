@@ -3,7 +3,7 @@ mod FedScripts
 mod HostTurns
 mod JoinedScripts
 mod LaterLists
-mod MarkersBeside
+pub mod MarkersBeside
 mod NotedCalls
 mod ScriptCalls
 mod WholeRuns

@@ -33,15 +33,15 @@ unseen : (c : Config) (j : ℕ) → j < 8 → is_out (marker_at (left c []).now 
 unfolding left_from
 unseen c j few = ap (λ m. is_out m.presence) (get_or-replicate 8 j outside outside few)
 
-pub first_marker : (w : WordsState) (j : ℕ) (h : HostState) (m p : PassState) → HasMade w 0 h → h.markers ≡ j → j < 8
-    → m ≡ pass_for h (Marker h.markers) → p ≡ m → IsMarkersPass w j p
-first_marker w j h m p made count few is same =
+pub first_marker : (w : WordsState) (j : ℕ) (h : HostState) (m p : PassState) → h.pass.table ≡ w → h.pass.seen ≡ []
+    → h.markers ≡ j → j < 8 → m ≡ pass_for h (Marker h.markers) → p ≡ m → IsMarkersPass w j p
+first_marker w j h m p table unseen_yet count few is same =
     let seat : m.seat ≡ Marker j = ap (λ (r : PassState). r.seat) is ∙ ap (λ (i : ℕ). Marker i) count in
-    let seen : m.seen ≡ [] = ap (λ (r : PassState). r.seen) is ∙ made.seen in
+    let seen : m.seen ≡ [] = ap (λ (r : PassState). r.seen) is ∙ unseen_yet in
     let c : Config = m.table.config in
     subst (λ (r : PassState). IsMarkersPass w j r) (sym same) (record {
       exists = few;
-      table = ap (λ (r : PassState). r.table) is ∙ made.table;
+      table = ap (λ (r : PassState). r.table) is ∙ table;
       seat = seat;
       alone = ap (λ (r : PassState). r.seats) is ∙ ap (λ (i : ℕ). Marker i ∷ []) count;
       out =

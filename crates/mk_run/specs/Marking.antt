@@ -1,4 +1,4 @@
--- Markers on threads of their own, beside the scripts. Private functions alone cite these words.
+-- Markers on threads of their own, beside the scripts.
 use Rattle.std.specs.Prelude.{◌≡◌, ℕ, ◌<◌, ◌≤◌, Bool, List, [], ◌∷◌, IfOk}
 use Rattle.mk_core.specs.declared.events.Seat.TheVariants.{Marker, Host}
 use Rattle.mk_words.specs.Seats.{Has}
@@ -18,7 +18,7 @@ pub record IsMarkersPass (w : WordsState) (j : ℕ) (p : PassState) : Type 0 whe
   pub out : IsOut p
 
 -- All scripts ran and are joined, the host said that all is over, where asked after a last cycle, and the markers from
--- j on are joined.
+-- j on are joined. Private functions alone cite this.
 pub record IsOver (on with_cycle : Bool) (program : List Item) (w : WordsState) (j : ℕ) (joined : Joined)
     : Type 0 where
   pub is_host : HasJoined on program w 0 joined.host

@@ -13,6 +13,7 @@ mod scripts;
 mod why;
 
 pub use answers::answer_to;
+pub use marking::mark_until_over;
 pub use outcomes::Outcome;
 pub use paces::{NoPace, Pace};
 pub use running::{run_all, run_with_cycle};

@@ -52,7 +52,13 @@ fn mark_until_wanted<P: Pace, R: Wait>(
 }
 
 /// The work of a marker's thread: it marks for each cycle that goes on beside the callers, until all is over.
-fn mark_until_over<P: Pace, R: Wait>(rt: &R, heap: &Heap, pass: Pass, number: u64, pace: &P) -> Pass
+pub fn mark_until_over<P: Pace, R: Wait>(
+    rt: &R,
+    heap: &Heap,
+    pass: Pass,
+    number: u64,
+    pace: &P,
+) -> Pass
     requires { IsMarkersPass heap.now number pass }
     ensures { IsMarkersPass heap.now number result }
 {

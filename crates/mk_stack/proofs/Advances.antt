@@ -27,6 +27,7 @@ use Rattle.mk_caller.proofs.After.{calls_leave_other_registers}
 use Rattle.mk_alloc.specs.TurnCalls.{CalledInTurn}
 use Rattle.mk_stack.specs.declared.jobs.Job.{Job}
 use Rattle.mk_stack.specs.declared.jobs.Job.TheVariants.{Push, Pop}
+use Rattle.mk_stack.specs.declared.jobs.Done.{Done}
 use Rattle.mk_stack.specs.declared.jobs.Done.TheVariants.{Pushed, Full, Popped, Empty}
 use Rattle.mk_stack.specs.declared.points.Point.{Point}
 use Rattle.mk_stack.specs.declared.points.Point.TheVariants.{Founding, Placing, Founded, Starting, Checking, Making}
@@ -35,7 +36,7 @@ use Rattle.mk_stack.specs.declared.points.Point.TheVariants.{Following, Taking, 
 use Rattle.mk_stack.specs.Jobs.{Asks, done_without, node_kinds, top_kinds}
 use Rattle.mk_stack.specs.Jobs.{found, find_no_room, place, start, lack, go_push, go_pop, make, fail, fill, look, link}
 use Rattle.mk_stack.specs.Jobs.{publish, push_again, peek, miss, meet, follow, unlink, pop_again, free, free_again}
-use Rattle.mk_stack.specs.Jobs.{read}
+use Rattle.mk_stack.specs.Jobs.{read, clear}
 use Rattle.mk_stack.specs.Passes.{HasStackTypes}
 use Rattle.mk_stack.specs.Advancing.{Advances, Holds, IsPointerTo, MayPointTo}
 use Rattle.mk_stack.proofs.Heaps.{set_register, other_register}
@@ -395,3 +396,9 @@ module _ (p q : PassState) (types : HasStackTypes p.table.config) (history : IsH
       let h = from_called p q (op.GetNum 2 0) (answer.Num x) refl history called in
       advance p q (op.GetNum 2 0) (answer.Num x) Reading (Ended (Popped x)) (reply.Num x) h
       (num_reply h.bases x _ h.image) read tt
+
+  pub clear_advances : (d : Done) (r : ℕ) → r < 8 → Called p (op.Clear r) answer.Done q
+      → Advances p (Ended d) q (Ended d)
+  clear_advances d r lt called =
+      let h = from_called p q (op.Clear r) answer.Done refl history called in
+      advance p q (op.Clear r) answer.Done (Ended d) (Ended d) reply.Done h refl (clear lt) tt

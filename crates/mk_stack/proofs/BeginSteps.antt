@@ -1,4 +1,4 @@
--- How a stack is founded, and a job begins.
+-- How a stack is founded, and how a job begins; and what a caller does when it has ended.
 use Rattle.std.proofs.Common.{◌≡◌, ℕ, ◌<◌, false, List, length}
 use Rattle.std.proofs.Common.{get_or, refl, sym, ◌∙◌, ap, subst, arith, Some, None, Option, inl, inr}
 use Rattle.std.specs.Prelude.{◌⊎◌}
@@ -166,3 +166,12 @@ module _ (callers : ℕ) (n : NeverState) (top : Option ℕ) (role : ℕ → Rol
       (has_top Pop u local said)
       (idle callers n top role nodes W inv c exists n (Checking Pop) Peeking (λ p. p) (λ f. f) held) refl nothing
       (λ b. refl)
+
+  -- A caller whose job has ended sets a register to null.
+  pub clear_steps : (d : Done) (r : ℕ) → r < 8 → (u : Option Done) (rest : List Replied)
+      → Local n top role c (Ended d) u → Held (Ended d)
+      → Goal (Ended d) u (op.Clear r) (Ended d) rest (after_op n c (op.Clear r))
+  clear_steps d r lt u rest local held =
+      by_register callers n top role nodes W inv c r Null lt (Ended d) u (op.Clear r) (Ended d) rest u None local
+      (idle callers n top role nodes W inv c exists (with_register n c r Null) (Ended d) (Ended d) (λ p. p) (λ f. f)
+      held) refl nothing (λ b. refl)

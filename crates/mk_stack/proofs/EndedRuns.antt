@@ -2,19 +2,17 @@
 use Rattle.std.proofs.Common.{◌≡◌, ℕ, ◌+◌, ◌<◌, ◌≤◌, true, false, List, [], ◌∷◌, ◌++◌, length, refl, sym}
 use Rattle.std.proofs.Common.{◌∙◌, ap, subst, arith, ⊎_elim}
 use Rattle.std.specs.Prelude.{Result, Ok, Err, IfOk}
-use Rattle.std.proofs.lemmas.List.{get_or-replicate}
 use Rattle.mk_never.specs.declared.never_heap.NoMemory.{NoMemory}
 use Rattle.mk_core.specs.declared.config.Config.{Config}
 use Rattle.mk_core.specs.declared.events.Event.{Event}
 use Rattle.mk_core.specs.declared.events.Seat.{Seat}
 use Rattle.mk_core.specs.declared.events.Seat.TheVariants.{Caller, Marker, Host}
 use Rattle.mk_core.specs.Growing.{AreOfOthers, Grows, is_same_seat}
-use Rattle.mk_core.specs.History.{IsHistory, left, left_from}
+use Rattle.mk_core.specs.History.{IsHistory}
 use Rattle.mk_core.specs.declared.seats.Presence.{Presence}
 use Rattle.mk_core.specs.declared.seats.Presence.TheVariants.{Attending, Out, Visiting}
 use Rattle.mk_core.specs.MarkerConditions.{is_out}
 use Rattle.mk_core.specs.StopConditions.{is_attending}
-use Rattle.mk_core.specs.Moments.{marker_at, outside}
 use Rattle.mk_core.proofs.HistoryParts.{earlier_part_is_history}
 use Rattle.mk_words.specs.Seats.{Has}
 use Rattle.mk_words.specs.Markers.{marker_in}
@@ -26,12 +24,13 @@ use Rattle.mk_marker.specs.Markers.{attends}
 use Rattle.mk_heap.specs.Ending.{CallersAreJoined, SaysOver}
 use Rattle.mk_heap.proofs.MovedHosts.{MovesOn}
 use Rattle.mk_run.proofs.LastTurns.{over_moves}
+use Rattle.mk_run.proofs.MarkersBeside.{first_marker}
 use Rattle.mk_stack.specs.declared.job_lists.Dones.{Dones}
 use Rattle.mk_stack.specs.declared.job_lists.Jobs.{Jobs}
 use Rattle.mk_stack.specs.declared.joining.Joined.{Joined}
 use Rattle.mk_stack.specs.declared.points.Point.TheVariants.{Founding, Founded}
 use Rattle.mk_stack.specs.declared.working.Ended.{Ended}
-use Rattle.mk_stack.specs.Joining.{HasHandedOut, HaveEnded, HaveFoundedAndWorked, IsMarkersPass, IsReader, ReadsStack}
+use Rattle.mk_stack.specs.Joining.{HasHandedOut, HaveEnded, HaveFoundedAndWorked, IsReader, ReadsStack}
 use Rattle.mk_stack.specs.JobLists.{HaveDone}
 use Rattle.mk_stack.specs.Passes.{Goes, HasStackTypes, replied_to}
 use Rattle.mk_stack.specs.Jobs.{Leads, Replied}
@@ -140,29 +139,7 @@ callers_are_joined w markers lists joined g did reads k lt =
     let then = did.worked.count in
     callers_home joined.host g reads k (did.worked.seats k (omega arith) (omega (arith, lt, now, then)))
 
--- A marker that has done nothing is out.
-
-unseen : (c : Config) (j : ℕ) → j < 8 → is_out (marker_at (left c []).now (Marker j)).presence ≡ true
-unfolding left_from
-unseen c j few = ap (λ m. is_out m.presence) (get_or-replicate 8 j outside outside few)
-
-pub first_marker : (w : WordsState) (j : ℕ) (h : HostState) (m p : PassState) → HasHandedOut w j 0 h → j < 8
-    → m ≡ pass_for h (Marker h.markers) → p ≡ m → IsMarkersPass w j p
-first_marker w j h m p made few is same =
-    let count = made.same_markers in
-    let seat : m.seat ≡ Marker j = ap (λ (r : PassState). r.seat) is ∙ ap (λ (i : ℕ). Marker i) count in
-    let seen : m.seen ≡ [] = ap (λ (r : PassState). r.seen) is ∙ made.seen in
-    let c : Config = m.table.config in
-    subst (λ (r : PassState). IsMarkersPass w j r) (sym same) (record {
-      exists = few;
-      table = ap (λ (r : PassState). r.table) is ∙ made.table;
-      seat = seat;
-      alone = ap (λ (r : PassState). r.seats) is ∙ ap (λ (i : ℕ). Marker i ∷ []) count;
-      out =
-          subst (λ (s : Seat). is_out (marker_at (left c m.seen).now s).presence ≡ true) (sym seat)
-          (subst (λ (es : List Event). is_out (marker_at (left c es).now (Marker j)).presence ≡ true) (sym seen)
-          (unseen c j few));
-    })
+-- A marker that has done nothing doesn't attend.
 
 not_attending : (x : Presence) → is_out x ≡ true → is_attending x ≡ false
 not_attending Out e = refl
@@ -172,7 +149,8 @@ not_attending Visiting e = absurd (cc)
 pub is_not_attending : (w : WordsState) (j : ℕ) (h : HostState) (m : PassState) → HasHandedOut w j 0 h → j < 8
     → m ≡ pass_for h (Marker h.markers) → attends m ≡ false
 is_not_attending w j h m made few is =
-    let marker = first_marker w j h m m made few is refl in not_attending (marker_in m).presence marker.out
+    let marker = first_marker w j h m m made.table made.seen made.same_markers few is refl in
+    not_attending (marker_in m).presence marker.out
 
 pub marker_made : (w : WordsState) (j : ℕ) (h : HostState) → HasHandedOut w j 0 h
     → HasHandedOut w (j + 1) 0 (with_marker_made h)

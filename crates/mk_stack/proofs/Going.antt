@@ -9,35 +9,42 @@ use Rattle.mk_stack.specs.declared.points.Point.{Point}
 use Rattle.mk_stack.specs.declared.points.Point.TheVariants.{Founding, Placing, Founded, Starting, Checking, Making}
 use Rattle.mk_stack.specs.declared.points.Point.TheVariants.{Filling, Looking, Linking, Publishing, Peeking, Testing}
 use Rattle.mk_stack.specs.declared.points.Point.TheVariants.{Following, Taking, Freeing, Reading, Ended}
-use Rattle.mk_stack.specs.Jobs.{Replied, Asks, Leads}
+use Rattle.mk_stack.specs.Jobs.{Replied, Leads}
 use Rattle.mk_stack.specs.Passes.{Goes, replied_to}
 use Rattle.mk_stack.specs.Advancing.{Advances, Holds, IsPointerTo, MayPointTo, Stays}
 
-pub goes_nowhere : (p : PassState) (s : Point) → Goes p s p s
-goes_nowhere p s = record { is = refl; all = []; leads = refl; did = sym (append-nil (replied_to p)) }
-
-leads_more : (s : Point) (xs : List Replied) (t : Point) (y : Replied) (u : Point) → Leads s xs t
-    → Asks t y.op y.reply u
-    → Leads s (xs ++ y ∷ []) u
-leads_more s [] t y u leads asks =
-    (u, subst (λ (p : Point). Asks p y.op y.reply u) (sym leads) asks, refl)
-leads_more s (x ∷ xs) t y u leads asks = (leads.0, leads.1, leads_more leads.0 xs t y u leads.2 asks)
+pub leads_through : (s : Point) (xs : List Replied) (t : Point) (ys : List Replied) (u : Point) → Leads s xs t
+    → Leads t ys u → Leads s (xs ++ ys) u
+leads_through s [] t ys u leads on = subst (λ (p : Point). Leads p ys u) (sym leads) on
+leads_through s (x ∷ xs) t ys u leads on = (leads.0, leads.1, leads_through leads.0 xs t ys u leads.2 on)
 
 pub seen_then : (p q r : PassState) → q ≡ record p { seen = q.seen } → r ≡ record q { seen = r.seen }
     → r ≡ record p { seen = r.seen }
 seen_then p q r is next = next ∙ ap (λ (s : PassState). record s { seen = r.seen }) is
 
-pub goes_more : (p q r : PassState) (s t u : Point) → Goes p s q t → Advances q t r u → Goes p s r u
-goes_more p q r s t u goes on =
+pub goes_through : (p q r : PassState) (s t u : Point) → Goes p s q t → Goes q t r u → Goes p s r u
+goes_through p q r s t u goes on =
     record {
       is = seen_then p q r goes.is on.is;
-      all = goes.all ++ record { op = on.op; reply = on.reply } ∷ [];
-      leads = leads_more s goes.all t (record { op = on.op; reply = on.reply }) u goes.leads on.asks;
+      all = goes.all ++ on.all;
+      leads = leads_through s goes.all t on.all u goes.leads on.leads;
       did =
           on.did
-          ∙ ap (λ (l : List Replied). l ++ record { op = on.op; reply = on.reply } ∷ []) goes.did
-          ∙ append_assoc (replied_to p) goes.all (record { op = on.op; reply = on.reply } ∷ []);
+          ∙ ap (λ (l : List Replied). l ++ on.all) goes.did
+          ∙ append_assoc (replied_to p) goes.all on.all;
     }
+
+pub goes_once : (p q : PassState) (s t : Point) → Advances p s q t → Goes p s q t
+goes_once p q s t on =
+    record {
+      is = on.is;
+      all = record { op = on.op; reply = on.reply } ∷ [];
+      leads = (t, on.asks, refl);
+      did = on.did;
+    }
+
+pub goes_more : (p q r : PassState) (s t u : Point) → Goes p s q t → Advances q t r u → Goes p s r u
+goes_more p q r s t u goes on = goes_through p q r s t u goes (goes_once q r t u on)
 
 pub goes_held : (p q r : PassState) (s t : Point) → Goes p s q t → Stays q r → Goes p s r t
 goes_held p q r s t goes on =

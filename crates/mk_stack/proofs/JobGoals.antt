@@ -13,7 +13,7 @@ use Rattle.mk_stack.specs.declared.points.Point.TheVariants.{Founding, Placing, 
 use Rattle.mk_stack.specs.declared.points.Point.TheVariants.{Ended}
 use Rattle.mk_stack.specs.Jobs.{found, find_no_room, place, start, lack, go_push, go_pop, make, fail, fill, look, link}
 use Rattle.mk_stack.specs.Jobs.{publish, push_again, peek, miss, meet, follow, unlink, pop_again, free, free_again}
-use Rattle.mk_stack.specs.Jobs.{read}
+use Rattle.mk_stack.specs.Jobs.{read, clear}
 use Rattle.mk_stack.specs.Advancing.{IsFit, IsGoal}
 use Rattle.mk_stack.proofs.Roles.{Role}
 use Rattle.mk_stack.proofs.Invariant.{Local, IsPushing, IsFreeing}
@@ -53,6 +53,7 @@ job_goes_on s o r next pop_again h = tt
 job_goes_on s o r next free h = tt
 job_goes_on s o r next free_again h = tt
 job_goes_on s o r next (read {n = x}) h = tt
+job_goes_on s o r next (clear {d = y} {r = x} lt) h = tt
 
 -- A job doesn't found a stack.
 pub no_founding : (s : Point) (xs : List Replied) → IsOfJob s → Leads s xs Founded → ⊥
@@ -92,6 +93,7 @@ same_job s o r next pop_again m top role k u local none = refl
 same_job s o r next free m top role k u local none = refl
 same_job s o r next free_again m top role k u local none = refl
 same_job s o r next (read {n = x}) m top role k u local none = absurd (ended _ u local none)
+same_job s o r next (clear {d = y} {r = x} lt) m top role k u local none = refl
 
 -- A job ends as it may.
 
@@ -127,6 +129,7 @@ job_stays s o r next pop_again j is = is
 job_stays s o r next free j is = is
 job_stays s o r next free_again j is = is
 job_stays s o r next (read {n = x}) j is = subst (λ (k : Job). IsFit k (Popped x)) is tt
+job_stays s o r next (clear {d = y} {r = x} lt) j is = is
 
 leads_at_job : (s : Point) (xs : List Replied) (t : Point) (j : Job) → IsAtJob j s → Leads s xs t → IsAtJob j t
 leads_at_job s [] t j is leads = subst (λ (p : Point). IsAtJob j p) leads is

@@ -97,6 +97,9 @@ module _ (globals : List ℕ) (n : NeverState) (k : ℕ) (state : IsStackState g
         store = tt;
       }
 
+  pub may_clear : (r : ℕ) → r < 8 → IsAdmitted globals n k (op.Clear r)
+  may_clear r lt = record { of_a_caller = state.caller; in_range = lt; access = tt; store = tt }
+
   pub may_look : (r : ℕ) → r < 8 → IsAdmitted globals n k (op.IsNull r)
   may_look r lt = record { of_a_caller = state.caller; in_range = lt; access = tt; store = tt }
 

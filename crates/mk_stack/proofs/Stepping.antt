@@ -13,7 +13,7 @@ use Rattle.mk_stack.specs.declared.points.Point.{Point}
 use Rattle.mk_stack.specs.declared.points.Point.TheVariants.{Founding, Founded}
 use Rattle.mk_stack.specs.Jobs.{found, find_no_room, place, start, lack, go_push, go_pop, make, fail, fill, look, link}
 use Rattle.mk_stack.specs.Jobs.{publish, push_again, peek, miss, meet, follow, unlink, pop_again, free, free_again}
-use Rattle.mk_stack.specs.Jobs.{read}
+use Rattle.mk_stack.specs.Jobs.{read, clear}
 use Rattle.mk_stack.proofs.Roles.{Role}
 use Rattle.mk_stack.proofs.Invariant.{Local, IsHeld, Work, Inv}
 use Rattle.mk_stack.proofs.Assembly.{Stepped, nothing}
@@ -21,6 +21,7 @@ use Rattle.mk_stack.proofs.Registered.{by_nothing}
 use Rattle.mk_stack.proofs.StepParts.{done_is_not_double}
 use Rattle.mk_stack.proofs.StepParts.{idle}
 use Rattle.mk_stack.proofs.BeginSteps.{found_steps, place_steps, start_steps, lack_steps, go_push_steps, go_pop_steps}
+use Rattle.mk_stack.proofs.BeginSteps.{clear_steps}
 use Rattle.mk_stack.proofs.PushSteps.{make_steps, fail_steps, fill_steps, look_steps, link_steps, publish_steps}
 use Rattle.mk_stack.proofs.PushSteps.{push_again_steps}
 use Rattle.mk_stack.proofs.PopSteps.{peek_steps, miss_steps, meet_steps, follow_steps, unlink_steps}
@@ -83,6 +84,8 @@ module _ (callers : ℕ) (n : NeverState) (top : Option ℕ) (role : ℕ → Rol
       free_steps callers n top role nodes W inv c exists u rest local held
   steps s o r next (read {n =
       x}) u rest local held said = read_steps callers n top role nodes W inv c exists x u rest local held said
+  steps s o r next (clear {d = y} {r = x} lt) u rest local held said =
+      clear_steps callers n top role nodes W inv c exists y x lt u rest local held
 
   -- No Free is answered Double.
   pub single : (s : Point) (o : Op) (r : Reply) (next : Point) → Asks s o r next → (u : Option Done)
@@ -111,3 +114,4 @@ module _ (callers : ℕ) (n : NeverState) (top : Option ℕ) (role : ℕ → Rol
   single s o r next free_again u local said double =
       done_is_not_double (sym (free_replies callers n top role nodes W inv c exists u local) ∙ double)
   single s o r next (read {n = x}) u local said double = cc
+  single s o r next (clear {d = y} {r = x} lt) u local said double = cc

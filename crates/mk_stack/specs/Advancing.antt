@@ -18,7 +18,7 @@ use Rattle.mk_stack.specs.declared.points.Point.TheVariants.{Founding, Placing, 
 use Rattle.mk_stack.specs.declared.points.Point.TheVariants.{Filling, Looking, Linking, Publishing, Peeking, Testing}
 use Rattle.mk_stack.specs.declared.points.Point.TheVariants.{Following, Taking, Freeing, Reading, Ended}
 use Rattle.mk_stack.specs.Jobs.{Asks}
-use Rattle.mk_stack.specs.Passes.{replied_to}
+use Rattle.mk_stack.specs.Passes.{Goes, replied_to}
 
 pub record IsPointerTo (ty : ℕ) (v : Value) : Type 0 where
   pub number : ℕ
@@ -61,6 +61,10 @@ pub record Stays (p q : PassState) : Type 0 where
   pub is : q ≡ record p { seen = q.seen }
   pub did : replied_to q ≡ replied_to p
   pub registers : KeepsRegisters (number_of p) (never_of p) (never_of q)
+
+-- The caller has ended a job, whatever became of it, and is still there.
+abbrev pub StaysEnded : PassState → PassState → Type 0
+StaysEnded p q = (d : Done) → Goes p (Ended d) q (Ended d)
 
 -- What may become of a job
 abbrev pub IsFit : Job → Done → Type 0

@@ -1,5 +1,5 @@
 -- A job on the stack, as operations of the heap that never reuses storage: which one comes next, by the replies so far.
-use Rattle.std.specs.Prelude.{◌≡◌, ℕ, true, false, List, [], ◌∷◌, ◌++◌}
+use Rattle.std.specs.Prelude.{◌≡◌, ℕ, ◌<◌, true, false, List, [], ◌∷◌, ◌++◌}
 use Rattle.mk_never.specs.declared.types.Kind.{Kind}
 use Rattle.mk_never.specs.declared.types.Kind.TheVariants.{Num as Number, To}
 use Rattle.mk_never.specs.declared.values.Value.{Value}
@@ -29,7 +29,8 @@ abbrev pub done_without : Job → Done
 done_without (Push n) = Full
 done_without Pop = Empty
 
--- Register 0 has the top, 1 the node that is pushed, 2 the uppermost node, and 3 the one below it.
+-- Register 0 has the top, 1 the node that is pushed, 2 the uppermost node, and 3 the one below it. When a job has ended,
+-- its caller may set registers to null.
 -- At a point the operation is asked, is replied so, and leads to the next point.
 pub data Asks : Point → Op → Reply → Point → Type 0 where
   found : Asks Founding (op.New 0 1 false) reply.Done Placing
@@ -55,6 +56,7 @@ pub data Asks : Point → Op → Reply → Point → Type 0 where
   free : Asks Freeing (op.Free 2) reply.Done Reading
   free_again : Asks Freeing (op.Free 2) reply.Double Reading
   read : {n : ℕ} → Asks Reading (op.GetNum 2 0) (reply.Num n) (Ended (Popped n))
+  clear : {d : Done} {r : ℕ} → r < 8 → Asks (Ended d) (op.Clear r) reply.Done (Ended d)
 
 -- an operation, and what it was replied
 pub record Replied : Type 0 where

@@ -7,7 +7,6 @@ use Rattle.mk_core.specs.Growing.{Grows}
 use Rattle.mk_words.specs.Seats.{Has, has_over, without_seat}
 use Rattle.mk_words.specs.States.{WordsState, PassState}
 use Rattle.mk_caller.specs.States.{IsIdleCaller}
-use Rattle.mk_marker.specs.Markers.{IsOut}
 use Rattle.mk_heap.specs.Hosts.{HostState, with_caller_out, with_joined}
 use Rattle.mk_stack.specs.declared.job_lists.Jobs.{Jobs}
 use Rattle.mk_stack.specs.declared.jobs.Job.{Job}
@@ -86,11 +85,3 @@ pub record HaveEnded (w : WordsState) (j : ℕ) (lists : List Jobs) (ended : End
   pub markers : (i : ℕ) → j ≤ i → i < ended.host.markers → Has ended.host.pass.seats (Marker i)
   pub run : IfOk ended.dones (λ dones. IfOk ended.left (λ left.
       IsStackRun w.config ended.host.pass.seen lists dones.items left.items))
-
--- The pass of a marker that is out.
-pub record IsMarkersPass (w : WordsState) (j : ℕ) (p : PassState) : Type 0 where
-  pub exists : j < 8
-  pub table : p.table ≡ w
-  pub seat : p.seat ≡ Marker j
-  pub alone : p.seats ≡ Marker j ∷ []
-  pub out : IsOut p

@@ -1,9 +1,9 @@
 //! One operation of a job at a time, as the points of a job have it.
-ghost use Rattle.std.specs.Prelude.{◌≡◌, ◌<◌, ◌∷◌, [], length, IfOk, OnErr, true};
+ghost use Rattle.std.specs.Prelude.{◌≡◌, ◌<◌, ◌∷◌, [], length, IfOk, OnOk, OnErr, true};
 ghost use Rattle.mk_caller.specs.States.{number_of};
 ghost use Rattle.mk_caller.specs.declared.refusals.Refusal.TheVariants as refusal;
 ghost use Rattle.mk_stack.specs.declared.points.Point.TheVariants as point;
-ghost use Rattle.mk_stack.specs.Advancing.{Advances, Holds, IsGoal, Stays};
+ghost use Rattle.mk_stack.specs.Advancing.{Advances, Holds, IsGoal, Stays, StaysEnded};
 ghost use Rattle.mk_stack.specs.Jobs.{done_without};
 ghost use Rattle.mk_stack.specs.Passes.{HasStackTypes};
 
@@ -19,11 +19,11 @@ use std::thread::Threads;
 /// The pointer registers of a caller, by what a job keeps in them.
 const TOP: u8 = 0;
 
-const NODE: u8 = 1;
+pub(crate) const NODE: u8 = 1;
 
 pub(crate) const UPPERMOST: u8 = 2;
 
-const BELOW: u8 = 3;
+pub(crate) const BELOW: u8 = 3;
 
 /// The global that points to the top.
 const STACK: u8 = 0;
@@ -291,6 +291,25 @@ fn read(caller: &mut Caller) -> Result<Point, Held>
     match read {
         Ok(n) => Ok(Point::Ended(Done::Popped(n))),
         Err(cause) => Err(held(cause)),
+    }
+}
+
+/// Sets a register to null, when the job has ended.
+pub(crate) fn clear(caller: &mut Caller, register: u8) -> Result<(), Held>
+    requires home { caller.old.home ≡ true }
+    requires exists { number_of caller.old.pass < caller.old.pass.table.config.callers }
+    requires types { HasStackTypes caller.old.pass.table.config }
+    requires register { register < 8 }
+    ensures home { caller.new.home ≡ true }
+    ensures ended { OnOk result (StaysEnded caller.old.pass caller.new.pass) }
+    ensures held { OnErr result (Stays caller.old.pass caller.new.pass) }
+{
+    caller.is_idle();
+    let cleared = caller.clear(register);
+    caller.is_idle();
+    match cleared {
+        Ok(()) => Ok(()),
+        Err(Held) => Err(Held),
     }
 }
 

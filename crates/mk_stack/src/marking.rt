@@ -1,71 +1,22 @@
 //! Markers on threads of their own, beside the callers.
-ghost use Rattle.std.specs.Prelude.{◌≡◌, ◌+◌, ◌≤◌, ◌∷◌, [], length, All, List, true, false, ℕ};
+ghost use Rattle.std.specs.Prelude.{◌≡◌, ◌+◌, ◌≤◌, ◌∷◌, [], length, All, List, ℕ};
 ghost use Rattle.std.specs.Thread.{IsSync};
 ghost use denote.Param.Send.{IsSend};
-ghost use Rattle.mk_marker.specs.Markers.{attends, IsMarkers, IsOut};
-ghost use Rattle.mk_stack.specs.Joining.{HasHandedOut, HaveEnded, IsMarkersPass};
+ghost use Rattle.mk_marker.specs.Markers.{IsMarkers, IsOut};
+ghost use Rattle.mk_run.specs.Marking.{IsMarkersPass};
+ghost use Rattle.mk_stack.specs.Joining.{HasHandedOut, HaveEnded};
 ghost use Rattle.mk_stack.specs.Passes.{HasStackTypes};
 
 use crate::job_lists::Jobs;
 use crate::working::{Ended, work};
-use mk_core::Phase;
 use mk_cycle::{Bench, Engine};
 use mk_heap::{Heap, Host};
-use mk_marker::{Marker, NotMarking, Work};
-use mk_run::Pace;
-use mk_waiting::Patience;
-use mk_words::{Pass, Words};
+use mk_run::{Pace, mark_until_over};
+use mk_words::Pass;
 use std::alloc::Global;
 use std::sync::Wait;
 use std::thread;
 use std::thread::Threads;
-
-/// Marks for the cycle that is on, until its close is wanted.
-fn mark_until_wanted<P: Pace, R: Wait>(
-    rt: &R,
-    words: &Words,
-    marker: &mut Marker,
-    number: u64,
-    pace: &P,
-)
-    requires attends { attends marker.old ≡ true }
-    ensures out { attends marker.new ≡ false }
-    ensures pass { marker.new ≡ record marker.old { seen = marker.new.seen } }
-{
-    let mut patience = Patience::new();
-    'cells: for _ in rt.forever() {
-        match marker.work() {
-            Work::Worked => {
-                pace.marked(number);
-                patience.reset();
-            }
-            Work::Idle => patience.pause_for_phase(rt, words, Phase::Marking.number()),
-            Work::Wanted => break,
-        }
-    }
-    marker.quit();
-}
-
-/// The work of a marker's thread: it marks for each cycle that goes on beside the callers, until all is over.
-fn mark_until_over<P: Pace, R: Wait>(rt: &R, heap: &Heap, pass: Pass, number: u64, pace: &P) -> Pass
-    requires { IsMarkersPass heap.now number pass }
-    ensures { IsMarkersPass heap.now number result }
-{
-    let words = heap.words();
-    let mut marker = Marker::new(words, pass);
-    let mut patience = Patience::new();
-    'cycles: for _ in rt.forever() {
-        match marker.attend() {
-            Ok(()) => {
-                mark_until_wanted(rt, words, &mut marker, number, pace);
-                patience.reset();
-            }
-            Err(NotMarking { phase: Phase::Over }) => return marker.finish(),
-            Err(NotMarking { phase }) => patience.pause_for_phase(rt, words, phase.number()),
-        }
-    }
-    unreachable!()
-}
 
 /// Joins a marker.
 fn join_marker(heap: &Heap, pass: Pass, ended: Ended) -> Ended

@@ -1,10 +1,10 @@
 //! Numbers on a stack that callers share.
 ghost use Rattle.std.specs.Prelude.{◌≡◌, ◌<◌, ◌∷◌, [], length, OnOk, OnErr, true, false};
 ghost use Rattle.mk_caller.specs.States.{number_of};
-ghost use Rattle.mk_stack.specs.Advancing.{Holds, IsFit, IsGoal};
+ghost use Rattle.mk_stack.specs.Advancing.{Holds, IsFit, IsGoal, StaysEnded};
 ghost use Rattle.mk_stack.specs.Passes.{DoesJob, Goes, HasStackTypes, popped};
 
-use crate::advancing::advance;
+use crate::advancing::{BELOW, NODE, UPPERMOST, advance, clear};
 use crate::jobs::{Done, Job};
 use crate::points::Point;
 use crossbeam_utils::Backoff;
@@ -81,7 +81,38 @@ pub fn found_stack<E: Engine, R: Threads + Wait + Sync>(
     let _founded = go(rt, caller, bench, Point::Founding);
 }
 
-/// Does a job, and tells what became of it.
+/// Sets a register to null, when the job has ended. As long as a register points to a freed node, the heap keeps that
+/// node, and all that it is linked to.
+fn forget<R: Wait>(rt: &R, caller: &mut Caller, register: u8)
+    requires home { caller.old.home ≡ true }
+    requires exists { number_of caller.old.pass < caller.old.pass.table.config.callers }
+    requires types { HasStackTypes caller.old.pass.table.config }
+    requires register { register < 8 }
+    ensures home { caller.new.home ≡ true }
+    ensures pass { caller.new.pass ≡ record caller.old.pass { seen = caller.new.pass.seen } }
+    ensures ended { StaysEnded caller.old.pass caller.new.pass }
+{
+    let backoff = Backoff::new();
+    'tries: for _ in rt.forever() {
+        match clear(caller, register) {
+            Ok(()) => return,
+            Err(Held) => backoff.snooze(),
+        }
+    }
+    unreachable!()
+}
+
+/// The register that has a job's other node: of a push the new one, and of a pop the one below.
+fn other_node(job: Job) -> u8
+    ensures register { result < 8 }
+{
+    match job {
+        Job::Push(_) => NODE,
+        Job::Pop => BELOW,
+    }
+}
+
+/// Does a job, and tells what became of it. Of its nodes the caller then keeps none.
 pub fn do_job<E: Engine, R: Threads + Wait + Sync>(
     rt: &R,
     caller: &mut Caller,
@@ -100,10 +131,12 @@ pub fn do_job<E: Engine, R: Threads + Wait + Sync>(
     ensures does { DoesJob caller.old.pass job result caller.new.pass }
     ensures fit { IsFit job result }
 {
-    match go(rt, caller, bench, Point::Starting(job)) {
-        Point::Ended(done) => done,
-        _ => unreachable!(),
-    }
+    let Point::Ended(done) = go(rt, caller, bench, Point::Starting(job)) else {
+        unreachable!()
+    };
+    forget(rt, caller, UPPERMOST);
+    forget(rt, caller, other_node(job));
+    done
 }
 
 /// Puts a number on the stack.

@@ -1,7 +1,9 @@
 use Rattle.std.proofs.Common.{◌+◌, ◌-◌, ◌<◌, sym, subst, arith, rules}
 use Rattle.mk_heap.specs.Hosts.{HostState}
-use Rattle.mk_stack.specs.Joining.{HasHandedOut, IsMarkersPass}
-use Rattle.mk_stack.proofs.EndedRuns.{first_marker, is_not_attending, marker_made}
+use Rattle.mk_run.specs.Marking.{IsMarkersPass}
+use Rattle.mk_run.proofs.MarkersBeside.{first_marker}
+use Rattle.mk_stack.specs.Joining.{HasHandedOut}
+use Rattle.mk_stack.proofs.EndedRuns.{is_not_attending, marker_made}
 use Rattle.mk_stack.proofs.marking.+fn-work_beside-join+arg3+work_beside.Goals as goal
 
 pub finish-pass-requires : goal.finish-pass-requires
@@ -20,8 +22,8 @@ join-pass-requires-after_bounds g t c κs within =
     let more : number < c.args.markers = search rules in
     let few : number < 8 = omega (arith, c.requires.few_markers) in
     let pass : IsMarkersPass w number c.finish-pass.result =
-    first_marker w number c.args.host c.marker.result c.finish-pass.result c.requires.host few c.marker.ensures.marker
-    c.finish-pass.ensures.pass in
+    first_marker w number c.args.host c.marker.result c.finish-pass.result c.requires.host.table c.requires.host.seen
+    c.requires.host.same_markers few c.marker.ensures.marker c.finish-pass.ensures.pass in
     let made : HasHandedOut w (number + 1) 0 c.marker.new.self =
     subst (λ (h : HostState). HasHandedOut w (number + 1) 0 h) (sym c.marker.ensures.host)
     (marker_made w number c.args.host c.requires.host) in

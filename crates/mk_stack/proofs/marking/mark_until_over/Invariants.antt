@@ -1,9 +1,0 @@
-use Rattle.std.proofs.Common.{◌≡◌, false}
-use Rattle.mk_marker.specs.Markers.{attends}
-use Rattle.mk_stack.proofs.marking.mark_until_over.Given as goal
-
-abbrev pub invariant-cycles : goal.invariant-cycles
-invariant-cycles g l = record {
-  out : attends l.marker ≡ false;
-  pass : l.marker ≡ record l.fn.pass { seen = l.marker.seen };
-}
