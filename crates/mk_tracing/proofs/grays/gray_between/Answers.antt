@@ -33,7 +33,8 @@ returns-then-page-to-clause-none c p low high =
 
 pub returns-in-Some-found-clause-on : goal.returns-in-Some-found-clause-on
 returns-in-Some-found-clause-on c =
-    on_then c.args.stop.now c.loop-page.stop c.gray_on-found.new.stop c.loop-page.invariant.on c.gray_on-found.ensures.on
+    on_then c.args.stop.now c.loop-page.stop c.gray_on-found.new.stop c.loop-page.invariant.on
+    c.gray_on-found.ensures.on
 
 pub loop-page-preserved : goal.loop-page-preserved
 loop-page-preserved c =

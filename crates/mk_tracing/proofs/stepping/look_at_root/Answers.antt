@@ -15,11 +15,11 @@ look_among-requires-clause-enabled c =
 pub returns-clause-on : goal.returns-clause-on
 returns-clause-on c =
     on_root c.args.stop.now c.look_among.new.self c.requires.wanted
-    (c.is_in_order.ensures.turn.holds, c.is_in_order.ensures.gates) c.is_in_order.ensures.own c.look_among.ensures.op c.args.x
-    c.look_among.ensures.acts c.requires.root
+    (c.is_in_order.ensures.turn.holds, c.is_in_order.ensures.gates) c.is_in_order.ensures.own c.look_among.ensures.op
+    c.args.x c.look_among.ensures.acts c.requires.root
 
 pub returns-clause-hand : goal.returns-clause-hand
 returns-clause-hand c =
     root_hand c.args.stop.now.pass c.look_among.new.self.pass c.requires.wanted
-    (c.is_in_order.ensures.turn.holds, c.is_in_order.ensures.gates) c.args.x c.look_among.ensures.acts c.look_among.result
-    c.look_among.ensures.finds c.requires.root
+    (c.is_in_order.ensures.turn.holds, c.is_in_order.ensures.gates) c.args.x c.look_among.ensures.acts
+    c.look_among.result c.look_among.ensures.finds c.requires.root

@@ -9,8 +9,8 @@ invariant_of-result c =
     record {
       turn = takes p c.args.op 0 h.pass h.ensures.taken c.is_in_order.ensures.own c.is_in_order-in-Ok.ensures.history refl;
       knows = fresh_knows h.pass c.args.op
-          (takes_fresh p c.args.op 0 h.pass h.ensures.taken c.is_in_order.ensures.own c.is_in_order-in-Ok.ensures.history
-          refl);
+          (takes_fresh p c.args.op 0 h.pass h.ensures.taken c.is_in_order.ensures.own
+          c.is_in_order-in-Ok.ensures.history refl);
       shows = h.ensures.map;
     }
 
