@@ -15,6 +15,7 @@ pub mod Numbered
 pub mod NumberedParts
 pub mod OtherLines
 pub mod Stands
+pub mod Spots
 pub mod StepLaws
 pub mod WorkLaws
 pub mod AsksFirst

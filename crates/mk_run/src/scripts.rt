@@ -46,6 +46,7 @@ impl Script {
     }
 
     /// Counts an answer.
+    #[inline(always)]
     fn count(&mut self, answer: Answer)
         requires { HasRoom self.old }
         ensures feed { self.new.feed ≡ self.old.feed }
@@ -59,6 +60,7 @@ impl Script {
     }
 
     /// Answers the operation that waits.
+    #[inline(always)]
     fn answer(&mut self, alloc: Global, answer: Answer) -> Result<(), NoMemory>
         requires waiting { IsWaiting self.old.feed }
         requires room { HasRoom self.old }
@@ -81,6 +83,16 @@ impl Script {
             refused: self.refused,
         })
     }
+}
+
+/// Waits, and never returns: for a script of more operations than are counted.
+#[cold]
+#[inline(never)]
+fn wait_forever<R: Wait>(rt: &R)
+    ensures { false ≡ true }
+{
+    for _ in rt.forever() {}
+    unreachable!()
 }
 
 /// Runs a script to its end, or up to where no memory is left, between two calls. A call that finds its gate held is
@@ -114,7 +126,7 @@ pub fn run_script<E: Engine, P: Pace, R: Threads + Wait + Sync>(
     // The program is well typed, so its scripts ask for nothing that isn't admitted.
     let _well_typed = program.program();
     let mut script = Script::start(alloc, program, k)?;
-    'instructions: for _ in rt.forever() {
+    'instructions: while script.ops < u64::MAX {
         caller.is_idle();
         let Some(op) = script.feed.op() else {
             return script.text(alloc);
@@ -125,5 +137,6 @@ pub fn run_script<E: Engine, P: Pace, R: Threads + Wait + Sync>(
         pace.answered(k, instruction);
         script.answer(alloc, answer)?;
     }
+    wait_forever(rt);
     unreachable!()
 }
