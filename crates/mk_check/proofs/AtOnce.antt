@@ -67,7 +67,7 @@ stops_at_once nodes p t line instruction next a tree w e silent stopped =
           (silent_kept line instruction a (kept_in p) silent));
     }
 
-asks_so : (numbers : List ℕ) (n : Node) → asks_at n ≡ true → is_some (op_of_node numbers n) ≡ true
+pub asks_so : (numbers : List ℕ) (n : Node) → asks_at n ≡ true → is_some (op_of_node numbers n) ≡ true
 asks_so numbers node.Done h = cc
 asks_so numbers (node.Line line instruction next) h = asked_so numbers instruction ∙ h
 asks_so numbers (node.Rounds rounds body next) h = cc

@@ -20,6 +20,7 @@ pub mod StepLaws
 pub mod WorkLaws
 pub mod AsksFirst
 pub mod AtOnce
+pub mod NextRounds
 pub mod DeclaredPlaces
 pub mod TypedLines
 pub mod DeclaredRegisters

@@ -255,6 +255,7 @@ impl Running {
     }
 
     /// The innermost open block goes on with these rounds left, after its node.
+    #[inline(always)]
     fn go_round(&mut self, rounds: u64, body: usize, next: usize)
         requires { 0 < length self.old.frames }
         ensures { self.new ≡ record self.old {
@@ -276,6 +277,7 @@ impl Running {
     }
 
     /// The innermost open block.
+    #[inline(always)]
     fn innermost(&self) -> Option<Frame>
         ensures { result ≡ innermost self.now.frames }
     {

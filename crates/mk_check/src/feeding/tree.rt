@@ -118,7 +118,8 @@ impl Tree {
     }
 
     /// Whether the node is a line that asks for an operation, which doesn't depend on the number registers.
-    fn asks(&self, at: usize) -> bool
+    #[inline(always)]
+    pub fn asks(&self, at: usize) -> bool
         requires { at < length self.now }
         ensures { result ≡ asks_at (node_at self.now at) }
     {

@@ -1,4 +1,4 @@
-use Rattle.std.proofs.Common.{◌≡◌, [], ap, sym, ◌∙◌}
+use Rattle.std.proofs.Common.{[], ap, ◌∙◌}
 use Rattle.mk_check.specs.Spots.{asks_at}
 use Rattle.mk_check.proofs.AsksFirst.{asked_so}
 use Rattle.mk_check.proofs.feeding.tree.Tree.asks.Goals as goal

@@ -1,4 +1,4 @@
-use Rattle.std.proofs.Common.{◌≡◌, List, ◌<◌, length, sym, subst, ap, ◌∙◌}
+use Rattle.std.proofs.Common.{List, length, sym, subst, ap, ◌∙◌}
 use Rattle.mk_check.specs.declared.feeding.tree.Node.{Node}
 use Rattle.mk_check.specs.declared.feeding.tree.Spot.{Spot}
 use Rattle.mk_check.specs.Spots.{IsMarkedTree, goes_at_once}
