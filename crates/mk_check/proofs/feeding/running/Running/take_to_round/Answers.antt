@@ -1,9 +1,8 @@
-use Rattle.std.proofs.Common.{◌≡◌, ◌<◌, ◌-◌, length, sym, ap, ◌∙◌, arith, refl}
+use Rattle.std.proofs.Common.{◌≡◌, ◌-◌, length, sym, ap, ◌∙◌, arith, refl}
 use Rattle.std.specs.Prelude.{Some, slice_set}
 use Rattle.mk_check.specs.declared.feeding.tree.Frame.TheVariants as frame
-use Rattle.mk_check.specs.declared.feeding.tree.Node.TheVariants as node
 use Rattle.mk_check.specs.Steps.{after_answer}
-use Rattle.mk_check.specs.Trees.{Place, innermost, kept_in, node_at, with_kept}
+use Rattle.mk_check.specs.Trees.{Place, innermost, kept_in, with_kept}
 use Rattle.mk_check.proofs.NextRounds.{innermost_within, round_begins}
 use Rattle.mk_check.proofs.feeding.running.Running.take_to_round.Goals as goal
 use Rattle.mk_check.proofs.feeding.running.Running.take_to_round.Goals.{In-Some-Rounds}
