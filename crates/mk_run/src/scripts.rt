@@ -85,16 +85,6 @@ impl Script {
     }
 }
 
-/// Waits, and never returns: for a script of more operations than are counted.
-#[cold]
-#[inline(never)]
-fn wait_forever<R: Wait>(rt: &R)
-    ensures { false ≡ true }
-{
-    for _ in rt.forever() {}
-    unreachable!()
-}
-
 /// Runs a script to its end, or up to where no memory is left, between two calls. A call that finds its gate held is
 /// tried again.
 pub fn run_script<E: Engine, P: Pace, R: Threads + Wait + Sync>(
@@ -137,6 +127,7 @@ pub fn run_script<E: Engine, P: Pace, R: Threads + Wait + Sync>(
         pace.answered(k, instruction);
         script.answer(alloc, answer)?;
     }
-    wait_forever(rt);
+    // More operations than can be counted aren't run.
+    'ever: for _ in rt.forever() {}
     unreachable!()
 }

@@ -1,14 +1,12 @@
 //! A script that runs.
-ghost use Rattle.std.specs.Prelude.{◌≡◌, ◌+◌, ◌-◌, ◌*◌, ◌<◌, ◌++◌, [], ◌∷◌, true, false, length, slice_index};
+ghost use Rattle.std.specs.Prelude.{◌≡◌, ◌+◌, ◌-◌, ◌<◌, ◌++◌, [], ◌∷◌, true, false, length, slice_index};
 ghost use Rattle.std.specs.Prelude.{slice_set, take};
 ghost use Rattle.std.specs.Prelude.{IsTrue, IfOk, OnOk, OnErr, is_some, replicate, codes};
-ghost use Rattle.std.specs.Fmt.{decimal};
-ghost use Rattle.mk_check.specs.Feed.{refusal_line, refusal_text, newline, answered_number, show_text};
+ghost use Rattle.mk_check.specs.Feed.{newline, answered_number};
 ghost use Rattle.mk_check.specs.Steps as steps;
-ghost use Rattle.mk_check.specs.Steps.{asks_first};
-ghost use Rattle.mk_check.specs.Trees.{kept_in, with_kept, left_in, stopped_in, IsWithin, place_in_rounds};
-ghost use Rattle.mk_check.specs.Trees.{innermost, place_behind_block, place_in_branch, resumed_node, steps_at};
-ghost use Rattle.mk_check.specs.Trees.{trees, LeavesBlock, MovesOn, MovesToOp, HasStopped};
+ghost use Rattle.mk_check.specs.Trees.{kept_in, with_kept, IsWithin, place_in_rounds};
+ghost use Rattle.mk_check.specs.Trees.{innermost, place_in_branch};
+ghost use Rattle.mk_check.specs.Trees.{LeavesBlock, MovesOn, HasStopped};
 ghost use Rattle.mk_check.specs.declared.feeding.tree.Frame.TheVariants as frame;
 
 mod printing;
