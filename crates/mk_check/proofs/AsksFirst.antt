@@ -78,7 +78,7 @@ none_open [] e = refl
 none_open (f ∷ frames) e =
     let some = slice_get-get_or (f ∷ frames) (length (f ∷ frames) - 1) f (omega arith) in cc
 
-split_last : (frames : List Frame) (f : Frame) → innermost frames ≡ Some f
+pub split_last : (frames : List Frame) (f : Frame) → innermost frames ≡ Some f
     → frames ≡ take (length frames - 1) frames ++ f ∷ []
 split_last frames f e =
     let last = length frames - 1 in

@@ -1,6 +1,6 @@
 -- An answer at which nothing is printed, where the next line asks: the script stops there.
-use Rattle.std.proofs.Common.{◌≡◌, ℕ, ◌<◌, true, List, ◌++◌, length, refl, ap, sym, ◌∙◌}
-use Rattle.std.specs.Prelude.{[], ◌∷◌, not, is_some}
+use Rattle.std.proofs.Common.{◌≡◌, ℕ, ◌<◌, Bool, true, false, List, ◌++◌, length, refl, ap, sym, ◌∙◌, arith}
+use Rattle.std.specs.Prelude.{[], ◌∷◌, not, ◌&&◌, is_some}
 use Rattle.std.proofs.lemmas.Bool.{and_parts}
 use Rattle.std.proofs.lemmas.List.{append-nil}
 use Rattle.mk_core.specs.declared.events.Answer.{Answer}
@@ -10,11 +10,14 @@ use Rattle.mk_check.specs.declared.feeding.tree.Node.{Node}
 use Rattle.mk_check.specs.declared.feeding.tree.Node.TheVariants as node
 use Rattle.mk_check.specs.Feed.{is_refusal, refusal_line, refusal_text}
 use Rattle.mk_check.specs.Feeding.{FeedState, IsFeed, IsWaiting, TakesAnswer, op_of_node, work_left}
+use Rattle.mk_check.specs.Spots.{asks_at, goes_at_once}
 use Rattle.mk_check.specs.Steps.{Kept, Steps, after_answer, is_show, is_silent, op_asked, stop_of, stop_on_answer}
 use Rattle.mk_check.specs.Steps.{with_text}
 use Rattle.mk_check.specs.Trees.{HasStopped, IsTree, IsWithin, Place, StopsAt, kept_in, left_in, node_at}
 use Rattle.mk_check.specs.Trees.{stopped_in, with_kept}
-use Rattle.mk_check.proofs.Moves.{asks_at, unfolded_line}
+use Rattle.mk_check.proofs.AsksFirst.{asked_so, next_below}
+use Rattle.mk_check.proofs.Moves as moves
+use Rattle.mk_check.proofs.Moves.{unfolded_line}
 use Rattle.mk_check.proofs.Stands.{answer_stands, waits_for_answer}
 use Rattle.mk_check.proofs.WorkLaws.{answer_nearer}
 
@@ -37,7 +40,7 @@ silent_kept line instruction a k h =
 pub stopped_here : (nodes : List Node) (p : Place) (n : Node) → IsTree nodes → IsWithin (length nodes) p
     → node_at nodes p.at ≡ n → is_some (op_of_node p.numbers n) ≡ true → HasStopped nodes p p
 stopped_here nodes p node.Done tree w e h = cc
-stopped_here nodes p (node.Line line instruction next) tree w e h = asks_at nodes p line instruction next tree w e h
+stopped_here nodes p (node.Line line instruction next) tree w e h = moves.asks_at nodes p line instruction next tree w e h
 stopped_here nodes p (node.Rounds rounds body next) tree w e h = cc
 stopped_here nodes p (node.Choice number first second next) tree w e h = cc
 
@@ -63,6 +66,32 @@ stops_at_once nodes p t line instruction next a tree w e silent stopped =
           ∙ ap (λ (k : Kept). stop_of rest (after_answer instruction a k))
           (silent_kept line instruction a (kept_in p) silent));
     }
+
+pub asks_so : (numbers : List ℕ) (n : Node) → asks_at n ≡ true → is_some (op_of_node numbers n) ≡ true
+asks_so numbers node.Done h = cc
+asks_so numbers (node.Line line instruction next) h = asked_so numbers instruction ∙ h
+asks_so numbers (node.Rounds rounds body next) h = cc
+asks_so numbers (node.Choice number first second next) h = cc
+
+neither : (a b : Bool) → a ≡ false → not b ≡ true → (not a && not b) ≡ true
+neither false b e f = f
+neither true b e f = cc
+
+-- A node that is marked so: the script stops at the next one.
+pub stops_at_next : (nodes : List Node) (p : Place) (line : ℕ) (instruction : Instruction) (next : ℕ) (a : Answer)
+    → IsTree nodes → IsWithin (length nodes) p → node_at nodes p.at ≡ node.Line line instruction next
+    → is_refusal a ≡ false → goes_at_once nodes (node_at nodes p.at) ≡ true
+    → StopsBehind nodes p a (with_kept (record p { at = next }) (after_answer instruction a (kept_in p)))
+stops_at_next nodes p line instruction next a tree w e told marked =
+    let parts =
+    and_parts (not (is_show instruction)) (asks_at (node_at nodes next)) (sym (ap (goes_at_once nodes) e) ∙ marked) in
+    let below = next_below nodes p.at line instruction next tree w.at e in
+    let there : Place = with_kept (record p { at = next }) (after_answer instruction a (kept_in p)) in
+    stops_at_once nodes p there line instruction next a tree w e
+    (neither (is_refusal a) (is_show instruction) told parts.0)
+    (stopped_here nodes there (node_at nodes next) tree
+    (record { at = (let h = w.at in omega arith); frames = w.frames }) refl
+    (asks_so there.numbers (node_at nodes next) parts.1))
 
 -- A script that waits, answered so.
 module _ (s : FeedState) (t : Place) (a : Answer) (line : ℕ) (instruction : Instruction) (next : ℕ)

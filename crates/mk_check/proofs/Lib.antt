@@ -15,10 +15,12 @@ pub mod Numbered
 pub mod NumberedParts
 pub mod OtherLines
 pub mod Stands
+pub mod Spots
 pub mod StepLaws
 pub mod WorkLaws
 pub mod AsksFirst
 pub mod AtOnce
+pub mod NextRounds
 pub mod DeclaredPlaces
 pub mod TypedLines
 pub mod DeclaredRegisters

@@ -10,6 +10,7 @@ mod scripts;
 mod tree;
 
 use crate::Checked;
+use crate::text::is_refusal;
 use building::tree_of;
 use mk_core::Answer;
 use mk_never::{NoMemory, Op};
@@ -98,10 +99,34 @@ impl Feed {
         ensures nearer { OnOk result (work_left self.new < work_left self.old) }
         ensures err { OnErr result (self.new ≡ self.old) }
     {
-        if self.answer_quietly(answer) {
+        if self.answer_at_once(answer) || self.answer_quietly(answer) {
             return Ok(());
         }
         self.answer_ahead(alloc, answer)
+    }
+
+    /// The same where the next line asks for an operation and nothing is printed. Returns whether that is so.
+    #[inline(always)]
+    fn answer_at_once(&mut self, answer: Answer) -> bool
+        requires { IsWaiting self.old }
+        ensures taken { IsTrue result → TakesAnswer self.old answer self.new }
+        ensures nearer { IsTrue result → work_left self.new < work_left self.old }
+        ensures refused { result ≡ false → self.new ≡ self.old }
+    {
+        let at = self.running.at();
+        if is_refusal(answer) || !self.tree.goes_at_once(at) {
+            return false;
+        }
+        let Node::Line {
+            instruction,
+            next,
+            ..
+        } = self.tree.node(at)
+        else {
+            unreachable!()
+        };
+        self.running.take_at(next, instruction, answer);
+        true
     }
 
     /// The same where the next operation comes before anything is printed, with at most one block left and none begun.

@@ -115,25 +115,8 @@ fn call_until_open<R: Wait>(rt: &R, caller: &mut Caller, op: Op) -> Answer
     unreachable!()
 }
 
-/// The same, tried once where the gate is open, as it mostly is.
-#[inline(always)]
-fn call_at_once<R: Wait>(rt: &R, caller: &mut Caller, op: Op) -> Answer
-    requires home { caller.old.home ≡ true }
-    requires exists { number_of caller.old.pass < caller.old.pass.table.config.callers }
-    requires entered { is_under_turn op ≡ false }
-    requires admitted { StaysAdmitted caller.old.pass op }
-    ensures home { caller.new.home ≡ true }
-    ensures answers { (on : Bool) → Answers on caller.old.pass op result caller.new.pass }
-    ensures reached { SweepsNothing caller.old.pass caller.new.pass }
-{
-    caller.is_idle();
-    match call(caller, op) {
-        Ok(told) => told,
-        Err(_) => call_until_open(rt, caller, op),
-    }
-}
-
 /// Carries out an operation, and returns its answer. Which pointer was loaded isn't reported.
+#[inline(always)]
 pub fn answer_to<E: Engine, R: Threads + Wait + Sync>(
     rt: &R,
     caller: &mut Caller,
@@ -163,6 +146,9 @@ pub fn answer_to<E: Engine, R: Threads + Wait + Sync>(
             Ok(_) => Answer::Done,
             Err(_) => Answer::Double,
         },
-        _ => call_at_once(rt, caller, op),
+        _ => match call(caller, op) {
+            Ok(told) => told,
+            Err(_) => call_until_open(rt, caller, op),
+        },
     }
 }

@@ -46,6 +46,7 @@ impl Script {
     }
 
     /// Counts an answer.
+    #[inline(always)]
     fn count(&mut self, answer: Answer)
         requires { HasRoom self.old }
         ensures feed { self.new.feed ≡ self.old.feed }
@@ -59,6 +60,7 @@ impl Script {
     }
 
     /// Answers the operation that waits.
+    #[inline(always)]
     fn answer(&mut self, alloc: Global, answer: Answer) -> Result<(), NoMemory>
         requires waiting { IsWaiting self.old.feed }
         requires room { HasRoom self.old }
@@ -114,7 +116,7 @@ pub fn run_script<E: Engine, P: Pace, R: Threads + Wait + Sync>(
     // The program is well typed, so its scripts ask for nothing that isn't admitted.
     let _well_typed = program.program();
     let mut script = Script::start(alloc, program, k)?;
-    'instructions: for _ in rt.forever() {
+    'instructions: while script.ops < u64::MAX {
         caller.is_idle();
         let Some(op) = script.feed.op() else {
             return script.text(alloc);
@@ -125,5 +127,7 @@ pub fn run_script<E: Engine, P: Pace, R: Threads + Wait + Sync>(
         pace.answered(k, instruction);
         script.answer(alloc, answer)?;
     }
+    // More operations than can be counted aren't run.
+    'ever: for _ in rt.forever() {}
     unreachable!()
 }

@@ -99,7 +99,7 @@ pub enum Instruction {
 impl Instruction {
     ghost use Rattle.std.specs.Prelude.{◌≡◌, ℕ, List, is_some};
     ghost use Rattle.mk_core.specs.declared.events.Answer.{Answer};
-    ghost use Rattle.mk_check.specs.Steps.{is_print, is_silent, op_asked};
+    ghost use Rattle.mk_check.specs.Steps.{is_print, is_show, is_silent, op_asked};
 
     /// Whether it asks for an operation.
     #[inline(always)]
@@ -123,12 +123,19 @@ impl Instruction {
         matches!(self, Instruction::Print { .. })
     }
 
+    /// Whether it prints when it takes its answer, whatever that is.
+    pub fn shows(&self) -> bool
+        ensures { result ≡ is_show self.now }
+    {
+        matches!(self, Instruction::Show { .. })
+    }
+
     /// Whether it prints nothing when it takes this answer.
     #[inline(always)]
     pub fn is_silent(&self, answer: Answer) -> bool
         ensures { result ≡ is_silent self.now answer }
     {
-        !is_refusal(answer) && !matches!(self, Instruction::Show { .. })
+        !is_refusal(answer) && !self.shows()
     }
 }
 

@@ -1,15 +1,16 @@
 //! A script that runs.
-ghost use Rattle.std.specs.Prelude.{◌≡◌, ◌+◌, ◌-◌, ◌*◌, ◌<◌, ◌++◌, [], ◌∷◌, true, false, length, slice_index};
+ghost use Rattle.std.specs.Prelude.{◌≡◌, ◌+◌, ◌-◌, ◌<◌, ◌++◌, [], ◌∷◌, true, false, length, slice_index};
 ghost use Rattle.std.specs.Prelude.{slice_set, take};
 ghost use Rattle.std.specs.Prelude.{IsTrue, IfOk, OnOk, OnErr, is_some, replicate, codes};
-ghost use Rattle.std.specs.Fmt.{decimal};
-ghost use Rattle.mk_check.specs.Feed.{refusal_line, refusal_text, newline, answered_number, show_text};
+ghost use Rattle.mk_check.specs.Feed.{newline, answered_number};
 ghost use Rattle.mk_check.specs.Steps as steps;
-ghost use Rattle.mk_check.specs.Steps.{asks_first};
-ghost use Rattle.mk_check.specs.Trees.{kept_in, with_kept, left_in, stopped_in, IsWithin, place_in_rounds};
-ghost use Rattle.mk_check.specs.Trees.{innermost, place_behind_block, place_in_branch, resumed_node, steps_at};
-ghost use Rattle.mk_check.specs.Trees.{trees, LeavesBlock, MovesOn, MovesToOp, HasStopped};
+ghost use Rattle.mk_check.specs.Trees.{kept_in, with_kept, IsWithin, place_in_rounds};
+ghost use Rattle.mk_check.specs.Trees.{innermost, place_in_branch};
+ghost use Rattle.mk_check.specs.Trees.{LeavesBlock, MovesOn, HasStopped};
 ghost use Rattle.mk_check.specs.declared.feeding.tree.Frame.TheVariants as frame;
+
+mod printing;
+mod quiet;
 
 use crate::feeding::instructions::Instruction;
 use crate::feeding::tree::{Frame, Node, Tree};
@@ -117,43 +118,6 @@ impl Running {
         ensures { result.now ≡ self.now.text }
     {
         self.text.as_slice()
-    }
-
-    /// Appends a piece of text.
-    fn print(&mut self, piece: &[u8]) -> Result<(), NoMemory>
-        ensures ok { OnOk result (self.new ≡ record self.old { text = self.old.text ++ piece.now }) }
-        ensures err { OnErr result (self.new ≡ self.old) }
-    {
-        Ok(self.text.extend_from_slice(piece)?)
-    }
-
-    /// Appends a number in decimal.
-    fn print_number(&mut self, alloc: Global, number: u64) -> Result<(), NoMemory>
-        ensures { OnOk result (self.new ≡ record self.old { text = self.old.text ++ decimal number }) }
-    {
-        let digits = number.to_string(alloc)?;
-        self.print(digits.as_bytes())
-    }
-
-    /// Appends the line that an answer prints which refuses the instruction of a line.
-    pub fn print_refusal(
-        &mut self,
-        alloc: Global,
-        line: u64,
-        answer: Answer,
-    ) -> Result<(), NoMemory>
-        ensures { OnOk result
-            (self.new ≡ record self.old { text = self.old.text ++ refusal_line line (refusal_text answer) }) }
-    {
-        let refusal: &[u8] = match answer {
-            Answer::Done | Answer::Num(_) | Answer::Word(_) => return Ok(()),
-            Answer::Full => b": full\n",
-            Answer::Fault => b": fault\n",
-            Answer::Null => b": null\n",
-            Answer::Double => b": double\n",
-        };
-        self.print_number(alloc, line)?;
-        self.print(refusal)
     }
 
     #[inline(always)]
@@ -289,6 +253,7 @@ impl Running {
     }
 
     /// The innermost open block goes on with these rounds left, after its node.
+    #[inline(always)]
     fn go_round(&mut self, rounds: u64, body: usize, next: usize)
         requires { 0 < length self.old.frames }
         ensures { self.new ≡ record self.old {
@@ -310,6 +275,7 @@ impl Running {
     }
 
     /// The innermost open block.
+    #[inline(always)]
     fn innermost(&self) -> Option<Frame>
         ensures { result ≡ innermost self.now.frames }
     {
@@ -404,135 +370,5 @@ impl Running {
             _ => {}
         }
         Ok(())
-    }
-
-    /// The instruction takes an answer at which it prints nothing, and the script is at another node. No memory is
-    /// taken.
-    #[inline(always)]
-    pub fn take_at(&mut self, at: usize, instruction: Instruction, answer: Answer)
-        requires { steps.is_silent instruction answer ≡ true }
-        ensures { self.new ≡ with_kept (record self.old { at = at })
-            (steps.after_answer instruction answer (kept_in self.old)) }
-    {
-        match instruction {
-            Instruction::GetNum { number, .. }
-            | Instruction::CasPtr { number, .. }
-            | Instruction::Same { number, .. }
-            | Instruction::IsNull { number, .. } => {
-                self.set(number, answered_number(answer));
-            }
-            _ => {}
-        }
-        self.at = at;
-    }
-
-    /// The node where a script at this one goes on: at the end of a block, where it goes on after that.
-    fn resumed_node(&self, tree: &Tree, at: usize) -> usize
-        requires { at < length tree.now }
-        ensures { result ≡ resumed_node tree.now (record self.now { at = at }) }
-    {
-        match tree.node(at) {
-            Node::Done => match self.innermost() {
-                Some(frame) => frame.node_after(),
-                None => at,
-            },
-            _ => at,
-        }
-    }
-
-    /// Leaves the block that ends here, if one does.
-    fn resume(&mut self, tree: &Tree)
-        requires within { IsWithin (length tree.now) self.old }
-        requires first { asks_first (steps_at (trees tree.now) (resumed_node tree.now self.old)) ≡ true }
-        ensures { MovesToOp tree.now self.old self.new }
-    {
-        match tree.node(self.at) {
-            Node::Done => {
-                self.leave();
-            }
-            _ => {}
-        }
-    }
-
-    /// Runs a line, unless it asks for an operation.
-    fn step_to_op(&mut self, tree: &Tree) -> bool
-        requires within { IsWithin (length tree.now) self.old }
-        requires first { asks_first (steps_at (trees tree.now) self.old.at) ≡ true }
-        ensures goes_on { IsTrue result → MovesOn tree.now self.old self.new }
-        ensures first { IsTrue result → asks_first (steps_at (trees tree.now) self.new.at) ≡ true }
-        ensures stops { result ≡ false → HasStopped tree.now self.old self.new }
-    {
-        let Node::Line {
-            instruction,
-            next,
-            ..
-        } = tree.node(self.at)
-        else {
-            unreachable!()
-        };
-        if instruction.asks() {
-            return false;
-        }
-        self.at = next;
-        self.calculate(instruction);
-        true
-    }
-
-    /// Runs to the operation that comes first.
-    fn run_to_op(&mut self, tree: &Tree)
-        requires within { IsWithin (length tree.now) self.old }
-        requires first { asks_first (steps_at (trees tree.now) self.old.at) ≡ true }
-        ensures { HasStopped tree.now self.old self.new }
-    {
-        while self.step_to_op(tree) {}
-    }
-
-    /// Whether the script comes from this node to an operation before anything is printed, with at most one block left
-    /// and none begun.
-    fn comes_to_op(&self, tree: &Tree, at: usize) -> bool
-        requires { IsWithin (length tree.now) (record self.now { at = at }) }
-        ensures { result ≡ asks_first (steps_at (trees tree.now)
-            (resumed_node tree.now (record self.now { at = at }))) }
-    {
-        tree.asks_first(self.resumed_node(tree, at))
-    }
-
-    /// Runs on to that operation. No memory is taken.
-    fn run_on_to_op(&mut self, tree: &Tree)
-        requires within { IsWithin (length tree.now) self.old }
-        requires first { asks_first (steps_at (trees tree.now) (resumed_node tree.now self.old)) ≡ true }
-        ensures { HasStopped tree.now self.old self.new }
-    {
-        self.resume(tree);
-        self.run_to_op(tree);
-    }
-
-    /// Takes an answer at which nothing is printed and runs on from the node after it to the next operation, if that
-    /// comes before anything is printed, with at most one block left and none begun. Returns whether it does. No
-    /// memory is taken.
-    #[inline(always)]
-    pub fn take_quietly(
-        &mut self,
-        tree: &Tree,
-        next: usize,
-        instruction: Instruction,
-        answer: Answer,
-    ) -> bool
-        requires within { IsWithin (length tree.now) (record self.old { at = next }) }
-        requires silent { steps.is_silent instruction answer ≡ true }
-        ensures taken { IsTrue result → HasStopped tree.now (with_kept (record self.old { at = next })
-            (steps.after_answer instruction answer (kept_in self.old))) self.new }
-        ensures refused { result ≡ false → self.new ≡ self.old }
-    {
-        if tree.asks(next) {
-            self.take_at(next, instruction, answer);
-            return true;
-        }
-        if !self.comes_to_op(tree, next) {
-            return false;
-        }
-        self.take_at(next, instruction, answer);
-        self.run_on_to_op(tree);
-        true
     }
 }

@@ -55,27 +55,33 @@ impl Frame {
     }
 }
 
+/// A node, and whether a script that is answered at it comes to the next operation at once.
+#[derive(Clone, Copy)]
+pub struct Spot {
+    node: Node,
+    goes_at_once: bool,
+}
+
 /// The nodes, each of which names those before it alone.
 #[derive(Drop)]
 pub struct Tree {
-    nodes: Vec<Node>,
+    spots: Vec<Spot>,
 }
 
 impl Model for Tree {
     ghost use Rattle.std.specs.Prelude.{List};
     ghost use Rattle.mk_check.specs.declared.feeding.tree.Node.{Node};
-    ghost use Rattle.mk_check.specs.Trees.{IsTree};
+    ghost use Rattle.mk_check.specs.Spots.{nodes_of, IsMarkedTree};
 
     ghost Value = { List Node };
 
-    ghost view = { λ t. t.nodes.items };
+    ghost view = { λ t. nodes_of t.spots.items };
 
-    ghost invariant = { λ t. IsTree t.nodes.items };
+    ghost invariant = { λ t. IsMarkedTree t.spots.items };
 }
 
 impl Tree {
-    ghost use Rattle.std.specs.Prelude.{ℕ, List, is_some};
-    ghost use Rattle.mk_check.specs.Feeding.{op_of_node};
+    ghost use Rattle.mk_check.specs.Spots.{asks_at, goes_at_once};
     ghost use Rattle.mk_check.specs.Steps.{asks_first};
     ghost use Rattle.mk_check.specs.Trees.{IsTree, IsBelow, node_at, steps_at, trees};
 
@@ -83,7 +89,7 @@ impl Tree {
         ensures { result ≡ [] }
     {
         Tree {
-            nodes: Vec::new(alloc),
+            spots: Vec::new(alloc),
         }
     }
 
@@ -91,14 +97,15 @@ impl Tree {
     pub fn count(&self) -> usize
         ensures { result ≡ length self.now }
     {
-        self.nodes.len()
+        self.spots.len()
     }
 
     pub fn push(&mut self, node: Node) -> Result<(), NoMemory>
         requires { IsBelow (length self.old) node }
         ensures { OnOk result (self.new ≡ self.old ++ node ∷ []) }
     {
-        Ok(self.nodes.push(node)?)
+        let goes_at_once = self.would_go_at_once(node);
+        Ok(self.spots.push(Spot { node, goes_at_once })?)
     }
 
     #[inline(always)]
@@ -107,20 +114,44 @@ impl Tree {
         ensures value { result ≡ node_at self.now at }
         ensures tree { IsTree self.now }
     {
-        self.nodes[at]
+        self.spots[at].node
     }
 
     /// Whether the node is a line that asks for an operation, which doesn't depend on the number registers.
     #[inline(always)]
     pub fn asks(&self, at: usize) -> bool
         requires { at < length self.now }
-        ensures asks { (numbers : List ℕ) → result ≡ is_some (op_of_node numbers (node_at self.now at)) }
-        ensures tree { IsTree self.now }
+        ensures { result ≡ asks_at (node_at self.now at) }
     {
-        match &self.nodes[at] {
+        match self.node(at) {
             Node::Line { instruction, .. } => instruction.asks(),
             _ => false,
         }
+    }
+
+    /// Whether a script that is answered at a node which stands after these comes to the next operation at once.
+    fn would_go_at_once(&self, node: Node) -> bool
+        requires { IsBelow (length self.now) node }
+        ensures { result ≡ goes_at_once self.now node }
+    {
+        match node {
+            Node::Line {
+                instruction,
+                next,
+                ..
+            } => !instruction.shows() && self.asks(next),
+            _ => false,
+        }
+    }
+
+    /// Whether a script that is answered at this node comes to the next operation at once: the line that follows asks
+    /// for one, and nothing is shown.
+    #[inline(always)]
+    pub fn goes_at_once(&self, at: usize) -> bool
+        requires { at < length self.now }
+        ensures { result ≡ goes_at_once self.now (node_at self.now at) }
+    {
+        self.spots[at].goes_at_once
     }
 
     /// Whether a script at this node comes to an operation before it prints, and before a block begins or ends.

@@ -1,8 +1,13 @@
-use Rattle.std.proofs.Common.{◌≡◌, false, refl, rules}
+use Rattle.std.proofs.Common.{◌≡◌, ◌<◌, true, false, refl, rules, sym, subst}
 use Rattle.mk_core.specs.declared.events.Answer.TheVariants as answer
 use Rattle.mk_core.specs.Calls.{is_under_turn}
 use Rattle.mk_run.proofs.BegunScripts.{beside_begun}
-use Rattle.mk_run.proofs.ScriptCalls.{answered_new, answered_free, type_exists}
+use Rattle.mk_run.proofs.ScriptCalls.{answered_by_call, answered_free, answered_new, makes_none, none_then_answers}
+use Rattle.mk_run.proofs.ScriptCalls.{stays_admitted_after, type_exists}
+use Rattle.mk_turns.proofs.Sweeping.{sweeps_then}
+use Rattle.mk_alloc.proofs.UnsweptTurns.{calls_sweep_nothing, sweep_nothing_where_held}
+use Rattle.mk_words.specs.States.{PassState}
+use Rattle.mk_caller.specs.States.{number_of}
 use Rattle.mk_run.proofs.answers.answer_to.Goals as goal
 
 pub new_object-requires-clause-ty : goal.new_object-requires-clause-ty
@@ -31,8 +36,53 @@ returns-in-Err-free_object-clause-answers g c =
     answered_free g.E.Engine.on c.args.caller.now.pass c.args.op c.in-Free.p answer.Double
     c.free_object.new.caller.pass c.is_idle.ensures.own c.in-Free.is c.in-Err-free_object.ensures.double.called
 
-pub returns-in_default-clause-begun : goal.returns-in_default-clause-begun
-returns-in_default-clause-begun g c =
+pub call_until_open-requires : goal.call_until_open-requires
+call_until_open-requires g c =
+    let p = c.args.caller.now.pass in
+    let none = makes_none true p c.args.op c.call.new.caller.pass c.is_idle.ensures.own c.in-Err-call.ensures.held in
     let entered : is_under_turn c.args.op ≡ false = search rules in
-    beside_begun g.E.Engine.begins c.args.caller.now.pass c.call_at_once.new.caller.pass
-    ((c.call_at_once.ensures.answers g.E.Engine.on).beside entered)
+    record {
+      home = c.call.ensures.home;
+      exists = subst (λ (q : PassState). number_of q < q.table.config.callers) (sym none.is) c.requires.exists;
+      entered = entered;
+      admitted = stays_admitted_after true p c.args.op c.call.new.caller.pass c.requires.admitted none;
+    }
+
+pub returns-in-Ok-call : goal.returns-in-Ok-call
+returns-in-Ok-call g c =
+    let p = c.args.caller.now.pass in
+    let q = c.call.new.caller.pass in
+    let called = c.in-Ok-call.ensures.called in
+    let entered : is_under_turn c.args.op ≡ false = search rules in
+    let answers =
+    answered_by_call g.E.Engine.on p c.args.op c.in-Ok-call.told q c.is_idle.ensures.own entered called in
+    record {
+      home = c.call.ensures.home;
+      made_for = refl;
+      book = refl;
+      answers = answers;
+      reached = λ off. calls_sweep_nothing p c.args.op called.answer q called.called;
+      begun = beside_begun g.E.Engine.begins p q (answers.beside entered);
+    }
+
+pub returns-in-Err-call : goal.returns-in-Err-call
+returns-in-Err-call g c =
+    let p = c.args.caller.now.pass in
+    let q = c.call.new.caller.pass in
+    let r = c.call_until_open.new.caller.pass in
+    let held = c.in-Err-call.ensures.held in
+    let none = makes_none g.E.Engine.on p c.args.op q c.is_idle.ensures.own held in
+    let entered : is_under_turn c.args.op ≡ false = search rules in
+    let answers =
+    none_then_answers g.E.Engine.on p q c.args.op c.call_until_open.result r none entered
+    (c.call_until_open.ensures.answers g.E.Engine.on) in
+    record {
+      home = c.call_until_open.ensures.home;
+      made_for = refl;
+      book = refl;
+      answers = answers;
+      reached = λ off.
+          sweeps_then p q r none.is (sweep_nothing_where_held p c.args.op q c.is_idle.ensures.own held)
+          c.call_until_open.ensures.reached;
+      begun = beside_begun g.E.Engine.begins p r (answers.beside entered);
+    }

@@ -1,4 +1,4 @@
-use Rattle.std.proofs.Common.{◌≡◌, ◌+◌, ◌<◌, ◌∙◌, List, [], ◌∷◌, refl, sym, subst, arith, rules}
+use Rattle.std.proofs.Common.{◌≡◌, ◌+◌, ◌∙◌, List, [], ◌∷◌, refl, sym, subst}
 use Rattle.mk_core.specs.declared.events.Answer.{Answer}
 use Rattle.mk_check.specs.Laws.{IsChecked}
 use Rattle.mk_run.specs.Running.{answers_in}
@@ -20,8 +20,8 @@ answer_to-answer-requires-clause-admitted g c κs within =
     let known = c.program-well_typed.ensures in
     let checked : IsChecked program = record { well_typed = known.well_typed; of_some_text = known.of_some_text } in
     asked_stays_admitted g.E.Engine.on program k p q c.instructions.script run
-    (seat_is p q k run.is c.is_idle.ensures.idle c.requires.number) c.in-Some-op.op
-    (sym (c.in-Some-op.ensures.next program k (answers_in p.table.config k q.seen) run.fed.feed))
+    (seat_is p q k run.is c.is_idle.ensures.idle c.requires.number) c.in-Some.op
+    (sym (c.in-Some.ensures.next program k (answers_in p.table.config k q.seen) run.fed.feed))
     checked c.requires.script c.requires.config
 
 pub answer_to-answer-requires-clause-exists : goal.answer_to-answer-requires-clause-exists
@@ -47,8 +47,8 @@ instructions-preserved g c =
     one_more_op program k answers c.answer_to-answer.result c.instructions.script c.answer.new.self run.fed
     c.in_ok-answer.ensures in
     let on = runs_on g.E.Engine.on program k p q c.instructions.script run
-    (seat_is p q k run.is c.is_idle.ensures.idle c.requires.number) c.in-Some-op.op
-    (sym (c.in-Some-op.ensures.next program k answers run.fed.feed))
+    (seat_is p q k run.is c.is_idle.ensures.idle c.requires.number) c.in-Some.op
+    (sym (c.in-Some.ensures.next program k answers run.fed.feed))
     c.answer_to-answer.result c.answer_to-answer.new.caller.pass c.answer.new.self c.answer_to-answer.ensures.answers
     c.in_ok-answer.ensures in
     record {
@@ -56,9 +56,6 @@ instructions-preserved g c =
       running = on;
       made_for = c.answer_to-answer.ensures.made_for ∙ c.instructions.invariant.made_for;
       book = c.answer_to-answer.ensures.book ∙ c.instructions.invariant.book;
-      counted =
-          (let less : c.next.new.self.left < c.instructions.iterator'.left = (c.in-Some.ensures.goes.on tt).2 in omega
-          arith);
       refused =
           refused_within program k (answers_in p.table.config k c.answer_to-answer.new.caller.pass.seen)
           c.answer.new.self on.fed;
@@ -78,8 +75,8 @@ returns-in_err-answer-clause-follows g c =
     let k = c.args.k in
     let run = c.instructions.invariant.running in
     follows_now g.E.Engine.on program k p q c.instructions.script run
-    (seat_is p q k run.is c.is_idle.ensures.idle c.requires.number) c.in-Some-op.op
-    (sym (c.in-Some-op.ensures.next program k (answers_in p.table.config k q.seen) run.fed.feed))
+    (seat_is p q k run.is c.is_idle.ensures.idle c.requires.number) c.in-Some.op
+    (sym (c.in-Some.ensures.next program k (answers_in p.table.config k q.seen) run.fed.feed))
     c.answer_to-answer.result c.answer_to-answer.new.caller.pass c.answer_to-answer.ensures.answers
 
 pub returns-in_err-answer-clause-reached : goal.returns-in_err-answer-clause-reached
@@ -117,7 +114,6 @@ instructions-init g c =
       };
       made_for = refl;
       book = refl;
-      counted = search rules;
       refused = refused_within program k [] script fed;
       reached = λ none. nothing_sweeps p;
       begun = nothing_begun g.E.Engine.begins p;

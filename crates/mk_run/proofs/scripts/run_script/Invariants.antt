@@ -1,4 +1,4 @@
-use Rattle.std.proofs.Common.{◌≡◌, ◌+◌, ◌≤◌, true, false, length}
+use Rattle.std.proofs.Common.{◌≡◌, ◌-◌, ◌≤◌, true, false, length}
 use Rattle.mk_turns.specs.Sweeping.{SweepsNothing}
 use Rattle.mk_cycle.specs.Begun.{EachIsBegun}
 use Rattle.mk_run.specs.Scripts.{IsRunning}
@@ -10,8 +10,10 @@ invariant-instructions g l = record {
   running : IsRunning g.E.Engine.on l.fn.program l.fn.k l.fn.caller.pass l.caller.pass l.script;
   made_for : g.E.Engine.made_for l.bench.engine ≡ g.E.Engine.made_for l.fn.bench.engine;
   book : length l.bench.book ≡ length l.fn.bench.book;
-  counted : l.script.ops + l.iterator'.left ≤ 18446744073709551615;
   refused : l.script.refused ≤ l.script.ops;
   reached : g.E.Engine.sweeps ≡ false → SweepsNothing l.fn.caller.pass l.caller.pass;
   begun : EachIsBegun g.E.Engine.begins l.fn.caller.pass l.caller.pass;
 }
+
+abbrev pub decreases-instructions : goal.decreases-instructions
+decreases-instructions g l = 18446744073709551615 - l.script.ops

@@ -1,0 +1,72 @@
+-- A tree with marks that gets one more node.
+use Rattle.std.proofs.Common.{◌≡◌, ℕ, ◌<◌, false, List, [], ◌∷◌, ◌++◌, length, refl, ap, sym, ◌∙◌}
+use Rattle.std.proofs.Common.{subst, arith, inl, inr}
+use Rattle.std.specs.Prelude.{not, ◌&&◌}
+use Rattle.std.proofs.lemmas.Bool.{cases_lt}
+use Rattle.std.proofs.lemmas.List.{get_or-map, get_or_append_left, get_or_at, length_push, length-map, map-append}
+use Rattle.mk_check.specs.declared.feeding.tree.Node.{Node}
+use Rattle.mk_check.specs.declared.feeding.tree.Node.TheVariants as node
+use Rattle.mk_check.specs.declared.feeding.tree.Spot.{Spot}
+use Rattle.mk_check.specs.Spots.{IsMarkedTree, asks_at, goes_at_once, nodes_of, spot_at}
+use Rattle.mk_check.specs.Steps.{is_show}
+use Rattle.mk_check.specs.Trees.{IsBelow, IsTree, node_at}
+use Rattle.mk_check.proofs.Moves.{IsBelow-more, IsTree_push}
+
+pub length-nodes_of : (spots : List Spot) → length (nodes_of spots) ≡ length spots
+length-nodes_of spots = length-map spots (λ (s : Spot). s.node)
+
+pub node_of_spot : (spots : List Spot) (at : ℕ) → at < length spots
+    → node_at (nodes_of spots) at ≡ (spot_at spots at).node
+node_of_spot spots at h =
+    get_or-map (λ (s : Spot). s.node) spots at (record { node = node.Done; goes_at_once = false }) node.Done h
+
+nodes_of_push : (spots : List Spot) (s : Spot) → nodes_of (spots ++ s ∷ []) ≡ nodes_of spots ++ s.node ∷ []
+nodes_of_push spots s = map-append (λ (s : Spot). s.node) spots (s ∷ [])
+
+same_mark : (nodes more : List Node) (n : Node) → IsBelow (length nodes) n
+    → goes_at_once (nodes ++ more) n ≡ goes_at_once nodes n
+same_mark nodes more node.Done below = refl
+same_mark nodes more (node.Line line instruction next) below =
+    ap (λ (m : Node). not (is_show instruction) && asks_at m) (get_or_append_left nodes more node.Done next below)
+same_mark nodes more (node.Rounds rounds body next) below = refl
+same_mark nodes more (node.Choice number first second next) below = refl
+
+same_mark_pushed : (spots : List Spot) (s : Spot) (n : Node) → IsBelow (length spots) n
+    → goes_at_once (nodes_of spots) n ≡ goes_at_once (nodes_of (spots ++ s ∷ [])) n
+same_mark_pushed spots s n below =
+    let within = subst (λ (c : ℕ). IsBelow c n) (sym (length-nodes_of spots)) below in
+    sym (ap (λ (nodes : List Node). goes_at_once nodes n) (nodes_of_push spots s)
+    ∙ same_mark (nodes_of spots) (s.node ∷ []) n within)
+
+-- the node of a spot names nodes before it
+spot_below : (spots : List Spot) (at : ℕ) → IsMarkedTree spots → at < length spots
+    → IsBelow (length spots) (spot_at spots at).node
+spot_below spots at m h =
+    subst (λ (n : Node). IsBelow (length spots) n) (node_of_spot spots at h)
+    (IsBelow-more at (length spots) (node_at (nodes_of spots) at) (omega arith)
+    (m.tree at (omega (arith, length-nodes_of spots))))
+
+pub IsMarkedTree_push : (spots : List Spot) (s : Spot) → IsMarkedTree spots → IsBelow (length (nodes_of spots)) s.node
+    → s.goes_at_once ≡ goes_at_once (nodes_of spots) s.node → IsMarkedTree (spots ++ s ∷ [])
+IsMarkedTree_push spots s m below mark = record {
+  tree = subst (λ (nodes : List Node). IsTree nodes) (sym (nodes_of_push spots s))
+      (IsTree_push (nodes_of spots) s.node m.tree below);
+  marks = λ at h. elim (cases_lt at (length spots)) [
+    | inl lt ↦
+        let here : spot_at (spots ++ s ∷ []) at ≡ spot_at spots at =
+        get_or_append_left spots (s ∷ []) (record { node = node.Done; goes_at_once = false }) at lt in
+        ap (λ (x : Spot). x.goes_at_once) here
+        ∙ (m.marks at lt
+        ∙ (same_mark_pushed spots s (spot_at spots at).node (spot_below spots at m lt)
+        ∙ ap (λ (x : Spot). goes_at_once (nodes_of (spots ++ s ∷ [])) x.node) (sym here)))
+    | inr ge ↦
+        let e : length spots ≡ at = omega (arith, length_push spots s) in
+        let here : spot_at (spots ++ s ∷ []) at ≡ s =
+        get_or_at spots s [] (record { node = node.Done; goes_at_once = false }) at e in
+        let within = subst (λ (c : ℕ). IsBelow c s.node) (length-nodes_of spots) below in
+        ap (λ (x : Spot). x.goes_at_once) here
+        ∙ (mark
+        ∙ (same_mark_pushed spots s s.node within
+        ∙ ap (λ (x : Spot). goes_at_once (nodes_of (spots ++ s ∷ [])) x.node) (sym here)))
+  ];
+}
