@@ -29,7 +29,7 @@ use Rattle.mk_readings.proofs.CyclePhases.{AsksPhase, moves_phase, phase_behind}
 use Rattle.mk_alloc.specs.TurnCycles.{CallIsExact, EndsExactly, RunsOneCycle, has_step}
 use Rattle.mk_alloc.proofs.ListParts.{Lacks, lacks_at, lacks_second}
 use Rattle.mk_quarantine.specs.Bounds.{FreshIsQuarterOfHeld, HostBeginsLast, fresh_after}
-use Rattle.mk_quarantine.proofs.BegunTurns.{begin_gives_none, beginner_holds, begun_in_turn}
+use Rattle.mk_quarantine.proofs.HeldTurns.{begin_gives_none, beginner_holds, begun_in_turn}
 use Rattle.mk_quarantine.proofs.CountedWords.{IsQuarter}
 use Rattle.mk_quarantine.proofs.EndedFrees.{CallersAreExact, caller_of}
 use Rattle.mk_quarantine.proofs.HeldQuarters.{FreesIn, IsLate, quarter_or_late, since_begin}
