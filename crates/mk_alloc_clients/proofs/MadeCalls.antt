@@ -1,9 +1,9 @@
 -- The New of a number, from its turn's parts.
+use Rattle.mk_never.specs.declared.types.Kind.TheVariants.{Num as Number}
 use Rattle.std.proofs.Common.{◌≡◌, ℕ, ◌<◌, Bool, false, [], ◌∷◌, refl, sym, subst}
 use Rattle.std.specs.Prelude.{Some}
 use Rattle.mk_never.specs.declared.operations.Op.{Op}
 use Rattle.mk_never.specs.declared.operations.Op.TheVariants as op
-use Rattle.mk_never.specs.declared.types.Kind.TheVariants.{Num as Number}
 use Rattle.mk_never.specs.Types.{kinds_of}
 use Rattle.mk_core.specs.declared.events.Answer.TheVariants as answer
 use Rattle.mk_core.specs.declared.events.Step.TheVariants as step

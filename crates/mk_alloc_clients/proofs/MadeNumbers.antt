@@ -1,38 +1,33 @@
 -- A turn that puts a number on the only page: what its looks say, and that its call is that of a New.
-use Rattle.std.proofs.Common.{◌≡◌, ℕ, ◌<◌, ◌≤◌, true, false, List, [], ◌∷◌, length}
+use Rattle.mk_never.specs.declared.types.Kind.TheVariants.{Num as Number}
+use Rattle.std.proofs.Common.{◌≡◌, ℕ, ◌<◌, ◌≤◌, true, List, [], ◌∷◌, length}
 use Rattle.std.proofs.Common.{append-nil, refl, sym, ◌∙◌, ap, inl, inr, arith}
-use Rattle.std.specs.Prelude.{nat_lt, Option, Some, slice_index_or}
+use Rattle.std.specs.Prelude.{nat_lt, Option, slice_index_or}
 use Rattle.std.proofs.lemmas.Bool.{cases_Bool, lt-ltb, ltb-true, ltb-false}
 use Rattle.std.proofs.lemmas.List.{get_or_past}
 use Rattle.mk_never.specs.declared.operations.Op.{Op}
-use Rattle.mk_never.specs.declared.operations.Op.TheVariants as op
 use Rattle.mk_never.specs.declared.types.Kind.{Kind}
-use Rattle.mk_never.specs.declared.types.Kind.TheVariants.{Num as Number}
 use Rattle.mk_never.specs.Types.{kinds_of}
 use Rattle.mk_geom.specs.declared.pages.Page.{Page}
 use Rattle.mk_geom.specs.Storages.{free_page}
-use Rattle.mk_core.specs.declared.config.Config.{Config}
 use Rattle.mk_core.specs.declared.events.Event.{Event}
 use Rattle.mk_core.specs.declared.events.Step.TheVariants as step
 use Rattle.mk_core.specs.declared.events.Word.{Word}
-use Rattle.mk_core.specs.declared.seats.Flight.{Flight}
 use Rattle.mk_core.specs.Config.{IsWithinLimits}
 use Rattle.mk_core.specs.Frames.{Steady}
 use Rattle.mk_core.specs.History.{IsHistory}
-use Rattle.mk_core.specs.NewPlaces.{object_made, object_of}
 use Rattle.mk_core.specs.Words.{page_of, phase_of}
 use Rattle.mk_words.specs.Seats.{Has}
 use Rattle.mk_words.specs.States.{PassState, WordsState, call_of, now_of}
 use Rattle.mk_words.specs.Steps.{Finds}
-use Rattle.mk_words.specs.TurnSteps.{Acts, IsFresh, IsTurn}
+use Rattle.mk_words.specs.TurnSteps.{Acts, IsTurn}
 use Rattle.mk_waiting.specs.Taking.{TakesTurn}
 use Rattle.mk_objects.specs.Looking.{is_steady_word}
-use Rattle.mk_objects.specs.Placing.{IsUnplaced, OnlyLooks, object_for}
+use Rattle.mk_objects.specs.Placing.{IsUnplaced, OnlyLooks}
 use Rattle.mk_objects.proofs.JoinedLooks.{looks_left, looks_pages}
 use Rattle.mk_objects.proofs.Looks.{acting_now, look_reaches}
 use Rattle.mk_objects.proofs.MayAct.{IsActing, new_is_acting}
 use Rattle.mk_objects.proofs.Unchanged.{steady_is_plain}
-use Rattle.mk_alloc_clients.specs.Making.{one_number}
 
 pub acting : (p : PassState) (o : Option Op) → IsTurn p o → IsUnplaced p → IsActing p.table.config (now_of p) p.seat
 acting p o turn u = acting_now p o turn (new_is_acting (call_of p) u.new)
@@ -69,14 +64,6 @@ type_exists types ty is = elim (cases_Bool (nat_lt ty (length types))) [
       let none : [] ≡ Number ∷ [] = sym (get_or_past types ty [] past) ∙ is in
       absurd (cc)
 ]
-
--- and its object has one word.
-pub object_taken : (p q : PassState) (d ty : ℕ) → q.table.config ≡ p.table.config → IsFresh q (Some (op.New d ty false))
-    → kinds_of p.table.config.types ty ≡ Number ∷ [] → object_for q ≡ one_number
-object_taken p q d ty same fresh kinds =
-    ap (λ (f : Flight). object_made q.table.config f.op) fresh.call
-    ∙ ap (λ (c : Config). object_made c (op.New d ty false)) same
-    ∙ ap (λ (ks : List Kind). object_of ks) kinds
 
 -- A turn that is taken at once is taken.
 pub taken_at_once : (p q : PassState) (o : Option Op) → Finds p (step.Take o) 0 q → TakesTurn p o q

@@ -1,14 +1,13 @@
 -- The place of a number on a heap of one page, by what its only page shows.
-use Rattle.std.proofs.Common.{◌≡◌, ◌≢◌, ℕ, ◌<◌, ◌^◌, Bool, true, false, not, List, [], ◌∷◌, length, w64, refl, sym}
-use Rattle.std.proofs.Common.{◌∙◌, ap, arith}
+use Rattle.std.proofs.Common.{◌≡◌, ◌≢◌, ℕ, ◌<◌, ◌^◌, Bool, true, false, not, List, [], ◌∷◌, length, w64, refl, sym, ◌∙◌}
+use Rattle.std.proofs.Common.{ap, arith}
 use Rattle.std.specs.Bool.{then_some}
 use Rattle.std.specs.Int.{trailing_ones}
 use Rattle.std.specs.Prelude.{Option, Some, None, nat_lt, option_map, slice_index_or, if◌then◌else◌}
 use Rattle.mk_geom.specs.declared.pages.Page.{Page}
 use Rattle.mk_geom.specs.declared.pages.Place.{Place}
 use Rattle.mk_geom.specs.Headers.{header_of, word_of}
-use Rattle.mk_geom.specs.PageUses.{carved, cells_taken, first_where, or_else}
-use Rattle.mk_geom.specs.PageUses.{resident_pages, small_place}
+use Rattle.mk_geom.specs.PageUses.{carved, cells_taken, first_where, or_else, resident_pages, small_place}
 use Rattle.mk_geom.specs.PageWords.{use_of_page, use_under}
 use Rattle.mk_geom.specs.Storages.{block_header, free_page}
 use Rattle.mk_books.proofs.UsedBitLemmas.{first_where-bits_of}

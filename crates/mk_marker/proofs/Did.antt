@@ -1,10 +1,9 @@
 -- What is done in parts.
-use Rattle.std.proofs.Common.{◌≡◌, Bool, true, List, [], ◌++◌, refl, sym, ◌∙◌, ap, subst, append_assoc, append-nil}
-use Rattle.mk_core.specs.declared.events.Step.{Step}
+use Rattle.std.proofs.Common.{◌≡◌, List, [], ◌++◌, refl, sym, ◌∙◌, ap, subst, append_assoc, append-nil}
 use Rattle.mk_core.specs.declared.events.Event.{Event}
 use Rattle.mk_core.specs.Growing.{Finding, own_from}
 use Rattle.mk_words.specs.States.{WordsState, PassState}
-use Rattle.mk_turns.specs.Doing.{AreOwnOrOfOthers, Does, are_of, done_in}
+use Rattle.mk_turns.specs.Doing.{AreOwnOrOfOthers, done_in}
 use Rattle.mk_turns.proofs.Doing.{done_in_parts, own_or_others_in_parts}
 use Rattle.mk_marker.specs.Doing.{Did}
 use Rattle.mk_marker.specs.Steps.{IsOf}
@@ -50,19 +49,3 @@ did_nothing p = record {
   own_or_others = tt;
   done = refl;
 }
-
--- but for what it has seen the pass is the same
-pub pass_kept : (p : PassState) (xs : List Finding) (q : PassState) → Did p xs q → q ≡ record p { seen = q.seen }
-pass_kept p xs q d = d.is ∙ ap (λ (es : List Event). record p { seen = es }) (sym (ap (λ (x : PassState). x.seen) d.is))
-
--- where all steps are of these kinds, that is what was done
-pub did_only : (kinds : Step → Bool) (p : PassState) (xs : List Finding) (q : PassState) → Did p xs q
-    → are_of kinds xs ≡ true → Does kinds p q
-did_only kinds p xs q d of =
-    record {
-      more = d.more;
-      is = d.is;
-      own_or_others = d.own_or_others;
-      of_kinds = ap
-          (λ (ys : List Finding). are_of kinds ys) d.done ∙ of;
-    }

@@ -1,4 +1,5 @@
 -- One step of a marker: what it leaves.
+use Rattle.mk_core.specs.declared.seats.Marker.{Marker as MarkerState}
 use Rattle.std.proofs.Common.{◌≡◌, ℕ, ◌+◌, ◌-◌, ◌*◌, ◌%◌, ◌<◌, ◌≤◌, Bool, true, List, [], ◌∷◌, ◌++◌}
 use Rattle.std.proofs.Common.{refl, sym, ◌∙◌, ap, subst, append_assoc, arith}
 use Rattle.std.specs.Prelude.{slice_index, if◌then◌else◌, Some, None, ◌&&◌, nat_lt, slice_set, bit_or}
@@ -11,7 +12,6 @@ use Rattle.mk_core.specs.declared.events.Step.{Step}
 use Rattle.mk_core.specs.declared.events.Step.TheVariants as step
 use Rattle.mk_core.specs.declared.events.Word.{Word}
 use Rattle.mk_core.specs.declared.events.Event.{Event}
-use Rattle.mk_core.specs.declared.seats.Marker.{Marker as MarkerState}
 use Rattle.mk_core.specs.declared.seats.Presence.TheVariants.{Attending}
 use Rattle.mk_core.specs.Accesses.{found, scan_page, scan_bit}
 use Rattle.mk_core.specs.Cells.{words_under, cells_under}

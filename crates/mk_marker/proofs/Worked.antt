@@ -1,10 +1,10 @@
 -- What a call did, from its parts.
+use Rattle.mk_core.specs.declared.seats.Marker.{Marker as MarkerState}
 use Rattle.std.proofs.Common.{◌≡◌, ◌≢◌, ℕ, ◌%◌, [], ◌∷◌, ◌++◌, sym, ◌∙◌, ap, subst, arith}
 use Rattle.mk_core.specs.declared.events.Seat.{Seat}
 use Rattle.mk_core.specs.declared.events.Word.TheVariants as word
 use Rattle.mk_core.specs.declared.events.Step.TheVariants as step
 use Rattle.mk_core.specs.declared.phases.Phase.{Phase}
-use Rattle.mk_core.specs.declared.seats.Marker.{Marker as MarkerState}
 use Rattle.mk_core.specs.MarkerConditions.{is_out}
 use Rattle.mk_core.specs.Phases.{phase_number}
 use Rattle.mk_words.specs.States.{PassState}

@@ -49,11 +49,7 @@ pub filtered_in_parts : (f : PlacedAllocation → ℕ) (p q r : PlacedAllocation
     → ((a : PlacedAllocation) → (if p a then f a else 0) ≤ (if q a then f a else 0) + (if r a then f a else 0))
     → (xs : List PlacedAllocation) → sum_by f (filter p xs) ≤ sum_by f (filter q xs) + sum_by f (filter r xs)
 filtered_in_parts f p q r each xs =
-    let sums = in_parts xs in
-    let all = sum_filtered f p xs in
-    let one = sum_filtered f q xs in
-    let two = sum_filtered f r xs in
-    omega arith
+    omega (arith, in_parts xs, sum_filtered f p xs, sum_filtered f q xs, sum_filtered f r xs)
   where
     in_parts : (xs : List PlacedAllocation)
         → sum_by (λ (a : PlacedAllocation). if p a then f a else 0) xs
@@ -77,20 +73,12 @@ released_part : (n : ℕ) (released more mapped : Bool)
     → (if not (released || more) && mapped then n else 0)
     + (if (not released && mapped) && (released || more) then n else 0)
     ≡ (if not released && mapped then n else 0)
-released_part n true more mapped = omega arith
-released_part n false true true = omega arith
-released_part n false true false = omega arith
-released_part n false false true = omega arith
-released_part n false false false = omega arith
+released_part n released more mapped = grind arith
 
 stays_stale : (n : ℕ) (released more mapped fresh : Bool)
     → (if (not (released || more) && mapped) && fresh then n else 0)
     ≤ (if (not released && mapped) && fresh then n else 0)
-stays_stale n true more mapped fresh = omega arith
-stays_stale n false true true fresh = omega arith
-stays_stale n false true false fresh = omega arith
-stays_stale n false false true fresh = omega arith
-stays_stale n false false false fresh = omega arith
+stays_stale n released more mapped fresh = grind arith
 
 module _ (c : Config) (w : World) where
   abbrev released : PlacedAllocation → PlacedAllocation
@@ -107,29 +95,23 @@ module _ (c : Config) (w : World) where
   sums_released [] = refl
   sums_released (a ∷ xs) =
       let one = released_part (storage_words c a) a.released (more_of a) (mapped_of a) in
-      let rest = sums_released xs in
       let behind = sum_by-cons (held_part c) (released a) (map released xs) in
       let given = sum_by-cons (given_part c w) a xs in
-      let before = sum_by-cons (held_part c) a xs in
-      omega arith
+      omega (arith, one, behind, given, sum_by-cons (held_part c) a xs, sums_released xs)
 
   held_released : held_by_allocations c (map released w.allocations) + words_given_back c w
       ≡ held_by_allocations c w.allocations
   held_released =
-      let sums = sums_released w.allocations in
       let behind = held_sum c (map released w.allocations) in
-      let before = held_sum c w.allocations in
       let given = sum_filtered (storage_words c) (is_given_back c w) w.allocations in
-      omega arith
+      omega (arith, sums_released w.allocations, behind, held_sum c w.allocations, given)
 
   sums_stale : (xs : List PlacedAllocation) → sum_by (fresh_part c) (map released xs) ≤ sum_by (fresh_part c) xs
   sums_stale [] = omega arith
   sums_stale (a ∷ xs) =
       let one = stays_stale (storage_words c a) a.released (more_of a) (mapped_of a) a.fresh in
-      let rest = sums_stale xs in
       let behind = sum_by-cons (fresh_part c) (released a) (map released xs) in
-      let before = sum_by-cons (fresh_part c) a xs in
-      omega arith
+      omega (arith, one, behind, sum_by-cons (fresh_part c) a xs, sums_stale xs)
 
   fresh_released : fresh_words_of c (map released w.allocations) ≤ fresh_words_of c w.allocations
   fresh_released =
@@ -142,10 +124,7 @@ module _ (c : Config) (w : World) where
 held_pushed : (c : Config) (xs : List PlacedAllocation) (a : PlacedAllocation)
     → held_by_allocations c xs ≤ held_by_allocations c (xs ++ a ∷ [])
 held_pushed c xs a =
-    let before = held_sum c xs in
-    let behind = held_sum c (xs ++ a ∷ []) in
-    let parts = sum_by-append (held_part c) xs (a ∷ []) in
-    omega arith
+    omega (arith, held_sum c xs, held_sum c (xs ++ a ∷ []), sum_by-append (held_part c) xs (a ∷ []))
 
 -- A quarter, where n words were given back.
 abbrev pub IsQuarter : Config → World → ℕ → Type 0
@@ -163,18 +142,14 @@ pub quarter_stays : (c : Config) (w : World) (seat : Seat) (x : Step) (n : ℕ)
     → IsQuarter c (WorldBehind c w seat x) (given_back_behind c w x n)
 quarter_stays c w seat step.Grant n none quarter =
     let a : PlacedAllocation = granted c w.now (flight_of w.now seat) in
-    let held = held_pushed c w.allocations a in
-    let fresh = fresh_pushed c w.allocations a refl in
-    omega arith
+    omega (arith, held_pushed c w.allocations a, fresh_pushed c w.allocations a refl)
 quarter_stays c w seat (step.Quar p v) n none quarter =
     subst
     (λ (xs : List PlacedAllocation). 4 * fresh_words_of c xs ≤ held_by_allocations c xs + n)
     (sym (frees_none c w (cell_freed c.pages w.now.words (flight_of w.now seat) p v) none)) quarter
 quarter_stays c w seat step.Begin n none quarter = let fresh = none_fresh c w.allocations in omega arith
 quarter_stays c w seat step.Release n none quarter =
-    let held = held_released c w in
-    let fresh = fresh_released c w in
-    omega arith
+    omega (arith, held_released c w, fresh_released c w)
 quarter_stays c w seat _ n none quarter = quarter
 
 -- After a `begin` nothing is fresh,

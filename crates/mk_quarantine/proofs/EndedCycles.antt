@@ -29,7 +29,7 @@ use Rattle.mk_readings.proofs.CyclePhases.{AsksPhase, moves_phase, phase_behind}
 use Rattle.mk_alloc.specs.TurnCycles.{CallIsExact, EndsExactly, RunsOneCycle, has_step}
 use Rattle.mk_alloc.proofs.ListParts.{Lacks, lacks_at, lacks_second}
 use Rattle.mk_quarantine.specs.Bounds.{FreshIsQuarterOfHeld, HostBeginsLast, fresh_after}
-use Rattle.mk_quarantine.proofs.BegunTurns.{begin_gives_none, beginner_holds, begun_in_turn}
+use Rattle.mk_quarantine.proofs.HeldTurns.{begin_gives_none, beginner_holds, begun_in_turn}
 use Rattle.mk_quarantine.proofs.CountedWords.{IsQuarter}
 use Rattle.mk_quarantine.proofs.EndedFrees.{CallersAreExact, caller_of}
 use Rattle.mk_quarantine.proofs.HeldQuarters.{FreesIn, IsLate, quarter_or_late, since_begin}
@@ -44,12 +44,9 @@ Rests p = (p ≡ 0) ⊎ (p ≡ 5)
 rest_step : (x : Step) (p : ℕ) → AsksPhase x p → Rests p → is_begin x ≡ false
     → Rests (phase_behind x p) × (is_release x ≡ false)
 rest_step step.Begin p asks rests none = cc
-rest_step step.Want p asks (inl z) none = absurd (omega arith)
-rest_step step.Want p asks (inr z) none = absurd (omega arith)
-rest_step step.Close p asks (inl z) none = absurd (omega arith)
-rest_step step.Close p asks (inr z) none = absurd (omega arith)
-rest_step step.Release p asks (inl z) none = absurd (omega arith)
-rest_step step.Release p asks (inr z) none = absurd (omega arith)
+rest_step step.Want p asks rests none = absurd (grind arith)
+rest_step step.Close p asks rests none = absurd (grind arith)
+rest_step step.Release p asks rests none = absurd (grind arith)
 rest_step step.End p asks rests none = (inl refl, refl)
 rest_step step.Over p asks rests none = (inr refl, refl)
 rest_step _ p asks rests none = (rests, refl)

@@ -1,6 +1,6 @@
 -- A Free that has freed its object, and whose turn was given back: what that turn did.
-use Rattle.std.proofs.Common.{◌≡◌, ℕ, ◌+◌, ◌<◌, Bool, true, false, List, [], ◌∷◌, ◌++◌, refl, sym, ◌∙◌, ap}
-use Rattle.std.proofs.Common.{subst, arith, append_assoc}
+use Rattle.std.proofs.Common.{◌≡◌, ℕ, ◌+◌, ◌<◌, Bool, true, false, List, [], ◌∷◌, ◌++◌, refl, sym, ◌∙◌, ap, subst}
+use Rattle.std.proofs.Common.{arith, append_assoc}
 use Rattle.std.specs.Prelude.{◌&&◌, Option, Some}
 use Rattle.std.specs.List.{list_any}
 use Rattle.std.proofs.lemmas.Bool.{ltb-true, or_from}
@@ -32,8 +32,7 @@ use Rattle.mk_invariant.proofs.Induction.{before_it}
 use Rattle.mk_placement.proofs.Longer.{taken}
 use Rattle.mk_alloc.specs.TurnCycles.{CallIsExact, EndsExactly, FreeIsExact, TurnsOfAreExact}
 use Rattle.mk_alloc.proofs.OwnGives.{GivesNone, gives_append, own_give}
-use Rattle.mk_quarantine.proofs.HeldTurns.{first_giver, lacks_own, next_of, turn_stays_held}
-use Rattle.mk_quarantine.proofs.OneTurn.{IsSameTurn, one_turn}
+use Rattle.mk_quarantine.proofs.HeldTurns.{first_giver, lacks_own, next_of, turn_stays_held, IsSameTurn, one_turn}
 use Rattle.mk_quarantine.proofs.OpenFrees.{FreesNoneFrom, OpenFree, freer_has_free, open_frees_have_turns}
 use Rattle.mk_quarantine.proofs.OpenFrees.{undecided_is_open}
 

@@ -27,7 +27,7 @@ use Rattle.mk_alloc.proofs.ListParts.{Lacks, lacks_append, lacks_at, lacks_first
 use Rattle.mk_alloc.proofs.OwnGives.{own_give}
 use Rattle.mk_protocol.proofs.Actors.{Meets}
 use Rattle.mk_quarantine.specs.Bounds.{fresh_after}
-use Rattle.mk_quarantine.proofs.BegunTurns.{BeginsInTurn, begun_in_turn}
+use Rattle.mk_quarantine.proofs.HeldTurns.{BeginsInTurn, begun_in_turn}
 use Rattle.mk_quarantine.proofs.CountedWords.{IsQuarter, given_at, none_fresh_begun, none_fresh_stays, quarter_stays}
 use Rattle.mk_quarantine.proofs.EndedFrees.{CallersAreExact, EndedFree, ended_free}
 use Rattle.mk_quarantine.proofs.Quarters.{IsPending, begin_is_of_cycle, cycles_later, freed_or_due, none_pending}

@@ -1,23 +1,29 @@
--- The turn word while nobody gives the turn back, and that a turn of a seat is one.
+-- Turns that are held: the turn word meanwhile, that a turn of a seat is one, and who begins a cycle in one.
 use Rattle.std.proofs.Common.{◌≡◌, ◌≢◌, ⊎_elim, ℕ, ◌+◌, ◌<◌, Bool, true, false, List, [], ◌∷◌, ◌++◌, refl, sym, ◌∙◌, ap}
-use Rattle.std.proofs.Common.{subst, arith, append_assoc}
-use Rattle.std.specs.Prelude.{◌&&◌, if◌then◌else◌}
+use Rattle.std.proofs.Common.{subst, arith, append_assoc, append-nil}
+use Rattle.std.specs.Prelude.{◌&&◌, if◌then◌else◌, Option}
 use Rattle.std.specs.List.{list_any}
-use Rattle.std.proofs.lemmas.Bool.{and_from, cases_Bool, eq-eqb, ne_eqb, or_from, or_parts, true≢false}
+use Rattle.std.proofs.lemmas.Bool.{and_from, cases_Bool, eq-eqb, ne_eqb, or_from, or_parts, true≢false, ltb-true}
 use Rattle.std.proofs.Math.Bool.{and-false}
+use Rattle.std.proofs.lemmas.List.{append_cancel_left}
+use Rattle.std.proofs.lemmas.List.Folds.{list_any-append}
+use Rattle.mk_never.specs.declared.operations.Op.{Op}
 use Rattle.mk_core.specs.declared.config.Config.{Config}
 use Rattle.mk_core.specs.declared.events.Event.{Event}
 use Rattle.mk_core.specs.declared.events.Seat.{Seat}
 use Rattle.mk_core.specs.declared.events.Seat.TheVariants.{Caller, Host, Marker}
 use Rattle.mk_core.specs.declared.events.Step.{Step}
 use Rattle.mk_core.specs.declared.events.Step.TheVariants as step
-use Rattle.mk_core.specs.Cycles.{Next, is_give}
+use Rattle.mk_core.specs.Cycles.{Next, is_give, TurnOf, At, is_begin}
 use Rattle.mk_core.specs.Growing.{is_same_seat}
-use Rattle.mk_core.specs.History.{AreEnabledFrom, IsHistory, World, left, left_from, world_behind}
-use Rattle.mk_core.specs.Moments.{holder_number}
+use Rattle.mk_core.specs.History.{AreEnabledFrom, IsHistory, World, left, left_from, world_behind, first_world}
+use Rattle.mk_core.specs.Moments.{holder_number, Moment}
 use Rattle.mk_core.proofs.Conditions.{enabled_meets}
 use Rattle.mk_core.proofs.HistoryParts.{earlier_part_is_history, enabled_in_parts, left_in_parts}
-use Rattle.mk_protocol.proofs.Actors.{Meets}
+use Rattle.mk_core.proofs.Histories.{left_more}
+use Rattle.mk_core.specs.declared.events.Group.TheVariants as group
+use Rattle.mk_core.specs.Order.{group_of}
+use Rattle.mk_protocol.proofs.Actors.{Meets, Actor, AsHolder, AsMarker, CallTakes, HostTakes, InCallOf}
 use Rattle.mk_protocol.proofs.Known.{Known, known_behind, known_left}
 use Rattle.mk_protocol.proofs.Orderly.{turn_of}
 use Rattle.mk_protocol.proofs.OthersMoves.{WorldBehind}
@@ -27,8 +33,13 @@ use Rattle.mk_layout.proofs.Before.{reg_leaves}
 use Rattle.mk_layout.proofs.Holders.{giver_has_turn}
 use Rattle.mk_invariant.proofs.Induction.{before_it}
 use Rattle.mk_alloc.specs.TurnCycles.{has_step}
-use Rattle.mk_alloc.proofs.ListParts.{Lacks}
+use Rattle.mk_alloc.proofs.ListParts.{Lacks, InFirst, InSecond, stands, lacks_first}
 use Rattle.mk_alloc.proofs.OwnGives.{GivesNone, own_give}
+use Rattle.mk_placement.proofs.Longer.{taken}
+use Rattle.mk_protocol.proofs.OrderlyLists.{actor_of}
+use Rattle.mk_readings.proofs.CyclePhases.{begin_is}
+
+-- The turn word while nobody gives the turn back, and that a turn of a seat is one.
 
 -- the first event of a kind, if there is one
 pub next_of : (kind : Step → Bool) (es : List Event) → (Lacks kind es → ⊥) → Next kind es
@@ -152,3 +163,153 @@ first_giver c es more k h lt turn g =
           (known_left c (es ++ g.at.before) here.0.within_limits here.0.enabled) lt held
           (subst (λ (x : Step). Meets c (left c (es ++ g.at.before)).now g.at.event.seat x) gives here.1),
     )
+
+-- After a list a caller is in one turn: where it took it, for what, and what came then.
+
+module _ (c : Config) (k : ℕ) (es : List Event) (h : IsHistory c es) (t : TurnOf c (Caller k) es) where
+  pub taker_exists : k < c.callers
+  taker_exists = ltb-true k c.callers (before_it c es t.before (taken t) t.behind h t.is).1.seat
+
+  turn_taken : (left c (t.before ++ taken t ∷ [])).now.words.turn ≡ 1 + k
+  turn_taken =
+      ap (λ (w : World). w.now.words.turn) (left_more c (first_world c) t.before (taken t))
+      ∙ ap (λ (b : Bool). if b then 1 + k else (left c t.before).now.words.turn)
+      (eq-eqb (left c t.before).now.words.turn 0 t.took)
+
+  -- up to any event of the turn
+  pub turn_held_in : (part rest : List Event) → t.behind ≡ part ++ rest
+      → (left c (t.before ++ taken t ∷ part)).now.words.turn ≡ 1 + k
+  turn_held_in part rest is =
+      let whole : es ≡ (t.before ++ taken t ∷ part) ++ rest =
+      t.is ∙ ap (λ (l : List Event). t.before ++ taken t ∷ l) is
+      ∙ sym (append_assoc t.before (taken t ∷ part) rest) in
+      let first : IsHistory c (t.before ++ taken t ∷ part) =
+      earlier_part_is_history c (t.before ++ taken t ∷ part) rest
+      (subst (λ (l : List Event). IsHistory c l) whole h) in
+      let split : (t.before ++ taken t ∷ []) ++ part ≡ t.before ++ taken t ∷ part =
+      append_assoc t.before (taken t ∷ []) part in
+      let none : GivesNone (Caller k) part =
+      (or_parts (list_any (own_give (Caller k)) part) (list_any (own_give (Caller k)) rest)
+      (sym (list_any-append (own_give (Caller k)) part rest)
+      ∙ ap (λ (l : List Event). list_any (own_give (Caller k)) l) (sym is) ∙ t.goes_on)).0 in
+      ap (λ (l : List Event). (left c l).now.words.turn) (sym split)
+      ∙ turn_stays_held c (t.before ++ taken t ∷ []) part k
+      (subst (λ (l : List Event). IsHistory c l) (sym split) first)
+      taker_exists turn_taken none
+
+pub record IsSameTurn (c : Config) (k : ℕ) (es : List Event) (t u : TurnOf c (Caller k) es) : Type 0 where
+  pub before : u.before ≡ t.before
+  pub op : u.op ≡ t.op
+  pub behind : u.behind ≡ t.behind
+
+-- A turn isn't taken within another.
+apart : (c : Config) (k : ℕ) (es : List Event) (t u : TurnOf c (Caller k) es) → IsHistory c es → (part : List Event)
+    → t.before ≡ u.before ++ taken u ∷ part → ⊥
+apart c k es t u h part is =
+    let whole : u.before ++ taken u ∷ u.behind ≡ u.before ++ taken u ∷ (part ++ taken t ∷ t.behind) =
+    sym u.is ∙ t.is ∙ ap (λ (l : List Event). l ++ taken t ∷ t.behind) is
+    ∙ append_assoc u.before (taken u ∷ part) (taken t ∷ t.behind) in
+    let same : taken u ∷ u.behind ≡ taken u ∷ (part ++ taken t ∷ t.behind) =
+    append_cancel_left u.before (taken u ∷ u.behind) (taken u ∷ (part ++ taken t ∷ t.behind)) whole in
+    let parts : u.behind ≡ part ++ taken t ∷ t.behind = cc in
+    let held = turn_held_in c k es h u part (taken t ∷ t.behind) parts in
+    let free : (left c (u.before ++ taken u ∷ part)).now.words.turn ≡ 0 =
+    ap (λ (l : List Event). (left c l).now.words.turn) (sym is) ∙ t.took in
+    omega arith
+
+op_of_take : (x y : Option Op) → step.Take x ≡ step.Take y → x ≡ y
+op_of_take x y h = cc
+
+pub one_turn : (c : Config) (k : ℕ) (es : List Event) (t u : TurnOf c (Caller k) es) → IsHistory c es
+    → IsSameTurn c k es t u
+one_turn c k es t u h =
+    ⊎_elim
+    (λ (f : InFirst t.before u.before (taken u)). absurd (apart c k es t u h f.behind f.is))
+    (λ (s : InSecond t.before (taken t ∷ t.behind) u.before (taken u) u.behind). by s.rest s.first s.is)
+    (stands t.before (taken t ∷ t.behind) u.before (taken u) u.behind (sym t.is ∙ u.is))
+  where
+    by : (rest : List Event) → u.before ≡ t.before ++ rest → taken t ∷ t.behind ≡ rest ++ taken u ∷ u.behind
+        → IsSameTurn c k es t u
+    by [] first is =
+        let take : taken t ≡ taken u = cc in
+        let tail : t.behind ≡ u.behind = cc in
+        record {
+          before = first ∙ append-nil t.before;
+          op = sym (op_of_take t.op u.op (ap (λ (e : Event). e.step) take));
+          behind = sym tail;
+        }
+    by (y ∷ ys) first is =
+        let take : taken t ≡ y = cc in
+        absurd (apart c k es u t h ys (first ∙ ap (λ (e : Event). t.before ++ e ∷ ys) (sym take)))
+
+-- Who begins a cycle holds the turn, so a turn that was taken before goes on over the `begin`.
+
+beginner_of : (c : Config) (m : Moment) (seat : Seat) (x : Step) → Actor c m seat x → x ≡ step.Begin
+    → HoldsTurn c (view_of m) seat
+beginner_of c m seat x (InCallOf k y lt g) is =
+    let e : group.Turn ≡ group.Callers = ap group_of (sym is) ∙ g in cc
+beginner_of c m seat x (AsMarker k y lt g) is =
+    let e : group.Turn ≡ group.Markers = ap group_of (sym is) ∙ g in cc
+beginner_of c m seat x (CallTakes k o lt idle under) is = cc
+beginner_of c m seat x (HostTakes away) is = cc
+beginner_of c m seat x (AsHolder s y holds n) is = holds
+
+-- It holds the turn.
+pub beginner_holds : (c : Config) (es : List Event) (b : At is_begin es) → IsHistory c es
+    → HoldsTurn c (view_of (left c b.before).now) b.event.seat
+beginner_holds c es b h =
+    let here = before_it c es b.before b.event b.behind h b.is in
+    let known = known_left c b.before here.0.within_limits here.0.enabled in
+    beginner_of c (left c b.before).now b.event.seat b.event.step
+    (actor_of c (left c b.before).now b.event.seat b.event.step known.orderly here.1)
+    (begin_is b.event.step b.of_kind)
+
+pub begun_under_turn : (c : Config) (es : List Event) (b : At is_begin es) → IsHistory c es
+    → (left c b.before).now.words.turn ≢ 0
+begun_under_turn c es b h none =
+    let here = before_it c es b.before b.event b.behind h b.is in
+    let known = known_left c b.before here.0.within_limits here.0.enabled in
+    let held = turn_of c (view_of (left c b.before).now) b.event.seat known.orderly (beginner_holds c es b h) in
+    omega arith
+
+pub begin_gives_none : (x : Step) → is_begin x ≡ true → is_give x ≡ false
+begin_gives_none step.Begin is = refl
+begin_gives_none _ is = cc
+
+-- The `begin` stands in a turn that goes on after it, where nobody gave a turn back since.
+pub record BeginsInTurn {c : Config} {k : ℕ} {es : List Event} (t : TurnOf c (Caller k) es) (b : Event)
+    (behind : List Event) : Type 0 where
+  pub before : List Event
+  pub is : t.behind ≡ before ++ b ∷ behind
+
+pub begun_in_turn : (c : Config) (k : ℕ) (es : List Event) (b : At is_begin es) → IsHistory c es
+    → Lacks is_give b.behind → (t : TurnOf c (Caller k) es) → BeginsInTurn t b.event b.behind
+begun_in_turn c k es b h none t =
+    ⊎_elim
+    (λ (f : InFirst t.before b.before b.event). absurd (earlier f.behind f.is))
+    (λ (s : InSecond t.before (taken t ∷ t.behind) b.before b.event b.behind). by s.rest s.is)
+    (stands t.before (taken t ∷ t.behind) b.before b.event b.behind (sym t.is ∙ b.is))
+  where
+    earlier : (part : List Event) → t.before ≡ b.before ++ b.event ∷ part → ⊥
+    earlier part is =
+        let whole : b.before ++ b.event ∷ b.behind ≡ b.before ++ b.event ∷ (part ++ taken t ∷ t.behind) =
+        sym b.is ∙ t.is ∙ ap (λ (l : List Event). l ++ taken t ∷ t.behind) is
+        ∙ append_assoc b.before (b.event ∷ part) (taken t ∷ t.behind) in
+        let same : b.event ∷ b.behind ≡ b.event ∷ (part ++ taken t ∷ t.behind) =
+        append_cancel_left b.before (b.event ∷ b.behind) (b.event ∷ (part ++ taken t ∷ t.behind)) whole in
+        let parts : b.behind ≡ part ++ taken t ∷ t.behind = cc in
+        let off : Lacks is_give part =
+        lacks_first is_give part (taken t ∷ t.behind)
+        (ap (λ (l : List Event). has_step is_give l) (sym parts) ∙ none) in
+        let held = begun_under_turn c es b h in
+        let kept = turn_stays_taken c b.before (b.event ∷ part) held
+        (or_from (is_give b.event.step) (has_step is_give part) (begin_gives_none b.event.step b.of_kind) off) in
+        held (sym kept ∙ ap (λ (l : List Event). (left c l).now.words.turn) (sym is) ∙ t.took)
+
+    by : (rest : List Event) → taken t ∷ t.behind ≡ rest ++ b.event ∷ b.behind → BeginsInTurn t b.event b.behind
+    by [] is =
+        let take : taken t ≡ b.event = cc in
+        absurd (true≢false (sym (ap (λ (e : Event). is_begin e.step) take ∙ b.of_kind)))
+    by (y ∷ ys) is =
+        let tail : t.behind ≡ ys ++ b.event ∷ b.behind = cc in
+        record { before = ys; is = tail }

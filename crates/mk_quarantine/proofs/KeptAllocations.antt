@@ -1,9 +1,8 @@
 -- What is in quarantine where no cycle is on: what was freed since the last `begin`, or what the last cycle kept.
-use Rattle.std.proofs.Common.{◌≡◌, ◌⊎◌, ℕ, Bool, true, false, List, [], ◌∷◌, ◌++◌, length}
-use Rattle.std.proofs.Common.{refl, sym, ◌∙◌, ap, subst, arith, inl, inr}
+use Rattle.std.proofs.Common.{◌≡◌, ◌⊎◌, ℕ, Bool, true, false, List, [], ◌∷◌, ◌++◌, length, refl, sym, ◌∙◌, ap, subst}
+use Rattle.std.proofs.Common.{arith, inl, inr}
 use Rattle.std.specs.Prelude.{◌||◌, ◌&&◌, not, Option, if◌then◌else◌}
-use Rattle.std.proofs.lemmas.Bool.{and_parts, cases_Bool, cases_eq, cases_lt, not-true}
-use Rattle.std.proofs.lemmas.Bool.{true≢false}
+use Rattle.std.proofs.lemmas.Bool.{and_parts, cases_Bool, cases_eq, cases_lt, not-true, true≢false}
 use Rattle.std.proofs.lemmas.List.{get_or_past, length-append}
 use Rattle.mk_geom.specs.declared.addresses.Cell.{Cell}
 use Rattle.mk_core.specs.declared.config.Config.{Config}
@@ -62,33 +61,33 @@ module _ (seat : Seat) (p : ℕ) (es : List Event) where
       Marks (inr refl) (lacks_append is_close es (record { seat = seat; step = step.Want } ∷ []) none refl)
   wants asks (Stops at k none) = absurd (omega arith)
   wants asks (Releases at k r none) = absurd (omega arith)
-  wants asks (Ended at k r x none) = elim at [ inl z ↦ absurd (omega arith) | inr z ↦ absurd (omega arith) ]
+  wants asks (Ended at k r x none) = absurd (grind arith)
 
   closes : p ≡ 2 → CycleSoFar p es → CycleSoFar 3 (es ++ record { seat = seat; step = step.Close } ∷ [])
   closes asks (Marks at none) = Stops refl (next_at_end es (record { seat = seat; step = step.Close }) none refl) refl
   closes asks (Stops at k none) = absurd (omega arith)
   closes asks (Releases at k r none) = absurd (omega arith)
-  closes asks (Ended at k r x none) = elim at [ inl z ↦ absurd (omega arith) | inr z ↦ absurd (omega arith) ]
+  closes asks (Ended at k r x none) = absurd (grind arith)
 
   releases : p ≡ 3 → CycleSoFar p es → CycleSoFar 4 (es ++ record { seat = seat; step = step.Release } ∷ [])
-  releases asks (Marks at none) = elim at [ inl z ↦ absurd (omega arith) | inr z ↦ absurd (omega arith) ]
+  releases asks (Marks at none) = absurd (grind arith)
   releases asks (Stops at k none) =
       Releases refl (longer_next (record { seat = seat; step = step.Release } ∷ []) k)
       (next_at_end k.at.behind (record { seat = seat; step = step.Release }) none refl) refl
   releases asks (Releases at k r none) = absurd (omega arith)
-  releases asks (Ended at k r x none) = elim at [ inl z ↦ absurd (omega arith) | inr z ↦ absurd (omega arith) ]
+  releases asks (Ended at k r x none) = absurd (grind arith)
 
   ends : p ≡ 4 → CycleSoFar p es → CycleSoFar 0 (es ++ record { seat = seat; step = step.End } ∷ [])
-  ends asks (Marks at none) = elim at [ inl z ↦ absurd (omega arith) | inr z ↦ absurd (omega arith) ]
+  ends asks (Marks at none) = absurd (grind arith)
   ends asks (Stops at k none) = absurd (omega arith)
   ends asks (Releases at k r none) =
       Ended (inl refl) (longer_next (record { seat = seat; step = step.End } ∷ []) k)
       (longer_next (record { seat = seat; step = step.End } ∷ []) r)
       (next_at_end r.at.behind (record { seat = seat; step = step.End }) none refl) refl
-  ends asks (Ended at k r x none) = elim at [ inl z ↦ absurd (omega arith) | inr z ↦ absurd (omega arith) ]
+  ends asks (Ended at k r x none) = absurd (grind arith)
 
   overs : p ≡ 0 → CycleSoFar p es → CycleSoFar 5 (es ++ record { seat = seat; step = step.Over } ∷ [])
-  overs asks (Marks at none) = elim at [ inl z ↦ absurd (omega arith) | inr z ↦ absurd (omega arith) ]
+  overs asks (Marks at none) = absurd (grind arith)
   overs asks (Stops at k none) = absurd (omega arith)
   overs asks (Releases at k r none) = absurd (omega arith)
   overs asks (Ended at k r x none) =
@@ -143,9 +142,7 @@ stale_freed w cell a h = by (is_some_and (λ (x : Cell). stands_in w x a) cell) 
 
 stale_released : (freed released more : Bool) → (freed && not (released || more)) ≡ true
     → (freed && not released) ≡ true
-stale_released true false more h = refl
-stale_released true true more h = cc
-stale_released false released more h = cc
+stale_released freed released more h = grind arith
 
 stale_was : (c : Config) (w : World) (seat : Seat) (x : Step) (i : ℕ) → is_begin x ≡ false
     → IsStale (placed_at (WorldBehind c w seat x).allocations i) → IsStale (placed_at w.allocations i)
@@ -251,14 +248,9 @@ quarantine_is_fresh_or_kept c es h idle i quarantined = elim
           snapshot = snapshot;
           unreleased = not-true a.released (and_parts a.freed (not a.released) quarantined).1;
         }
-    ended b (inl z) snapshot (Marks at none) =
-        elim at [ inl y ↦ absurd (omega arith) | inr y ↦ absurd (omega arith) ]
-    ended b (inr z) snapshot (Marks at none) =
-        elim at [ inl y ↦ absurd (omega arith) | inr y ↦ absurd (omega arith) ]
-    ended b (inl z) snapshot (Stops at k none) = absurd (omega arith)
-    ended b (inr z) snapshot (Stops at k none) = absurd (omega arith)
-    ended b (inl z) snapshot (Releases at k r none) = absurd (omega arith)
-    ended b (inr z) snapshot (Releases at k r none) = absurd (omega arith)
+    ended b idle snapshot (Marks at none) = absurd (grind arith)
+    ended b idle snapshot (Stops at k none) = absurd (grind arith)
+    ended b idle snapshot (Releases at k r none) = absurd (grind arith)
 
     by : (phase_of (left c es).now.words ≡ 0) ⊎ (phase_of (left c es).now.words ≡ 5) → IsStale a
         → SinceLastBegin c es → IsKeptByLastCycle c es i

@@ -1,4 +1,3 @@
-pub mod BegunTurns
 pub mod BoundSchedules
 pub mod Bounds
 pub mod CountedWords
@@ -9,7 +8,6 @@ pub mod HeldQuarters
 pub mod HeldTurns
 pub mod KeptAllocations
 pub mod LittleHeld
-pub mod OneTurn
 pub mod OpenFrees
 pub mod Quarters
 pub mod TouchedAllocations

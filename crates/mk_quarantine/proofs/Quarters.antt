@@ -7,8 +7,7 @@ use Rattle.mk_core.specs.declared.config.Config.{Config}
 use Rattle.mk_core.specs.declared.events.Event.{Event}
 use Rattle.mk_core.specs.declared.events.Step.{Step}
 use Rattle.mk_core.specs.declared.events.Step.TheVariants as step
-use Rattle.mk_core.specs.Allocations.{PlacedAllocation, fresh_words_of, held_by_allocations, is_mapped}
-use Rattle.mk_core.specs.Allocations.{storage_words}
+use Rattle.mk_core.specs.Allocations.{PlacedAllocation, fresh_words_of, held_by_allocations, is_mapped, storage_words}
 use Rattle.mk_core.specs.Counts.{IsDue, decides_freed}
 use Rattle.mk_core.specs.Cycles.{is_begin}
 use Rattle.mk_core.specs.History.{IsHistory, World, first_world, left, left_from, world_behind}
@@ -24,8 +23,7 @@ use Rattle.mk_alloc.proofs.ListParts.{InFirst, InSecond, Lacks, lacks_append, la
 use Rattle.mk_quarantine.specs.Bounds.{FreshIsQuarterWithGivenBack, QuarantineIsQuarterAndKept}
 use Rattle.mk_quarantine.specs.GivenBack.{given_back, given_back_behind}
 use Rattle.mk_quarantine.specs.KeptAllocations.{kept_mapped, quarantined_mapped}
-use Rattle.mk_quarantine.proofs.CountedWords.{IsQuarter, given_more, none_fresh_begun, quarter_stays}
-use Rattle.mk_quarantine.proofs.CountedWords.{filtered_in_parts}
+use Rattle.mk_quarantine.proofs.CountedWords.{IsQuarter, given_more, none_fresh_begun, quarter_stays, filtered_in_parts}
 use Rattle.mk_quarantine.proofs.EndedFrees.{CallersAreExact, EndedFree, ended_free}
 use Rattle.mk_quarantine.proofs.OpenFrees.{FreesNoneFrom, frees_none_at}
 
@@ -197,10 +195,7 @@ fresh_is_quarter on c es h exact free =
 fresh_or_kept : (n : ℕ) (mapped freed fresh : Bool)
     → (if mapped && freed then n else 0)
     ≤ (if mapped && fresh then n else 0) + (if mapped && freed && not fresh then n else 0)
-fresh_or_kept n false freed fresh = omega arith
-fresh_or_kept n true false fresh = omega arith
-fresh_or_kept n true true true = omega arith
-fresh_or_kept n true true false = omega arith
+fresh_or_kept n mapped freed fresh = grind arith
 
 pub quarantined_is_fresh_or_kept : (c : Config) (xs : List PlacedAllocation)
     → quarantined_mapped c xs ≤ fresh_words_of c xs + kept_mapped c xs
@@ -212,6 +207,4 @@ quarantined_is_fresh_or_kept c xs =
 pub quarantine_is_quarter_and_kept : (on : Bool) (c : Config) (es : List Event) → IsHistory c es
     → CallersAreExact on c es → (left c es).now.words.turn ≡ 0 → QuarantineIsQuarterAndKept c es
 quarantine_is_quarter_and_kept on c es h exact free =
-    let quarter = fresh_is_quarter on c es h exact free in
-    let parts = quarantined_is_fresh_or_kept c (left c es).allocations in
-    omega arith
+    omega (arith, fresh_is_quarter on c es h exact free, quarantined_is_fresh_or_kept c (left c es).allocations)

@@ -51,8 +51,7 @@ abbrev IsReleased : World → ℕ → Type 0
 IsReleased w i = (placed_at w.allocations i).released ≡ true
 
 still_true : (a b : Bool) → a ≡ true → (a || b) ≡ true
-still_true true b is = refl
-still_true false b is = cc
+still_true a b is = grind arith
 
 released_behind : (c : Config) (w : World) (seat : Seat) (x : Step) (i : ℕ) → IsThere w i → IsReleased w i
     → IsReleased (WorldBehind c w seat x) i
@@ -92,10 +91,7 @@ quarantined_is_there w i h = elim (cases_lt i (length w.allocations)) [
 -- What comes up to a `release` begins with what came before the cycle.
 from_begin : {X : Type 0} (a p q s : List X) (x : X)
     → (((a ++ x ∷ []) ++ p) ++ q) ++ s ≡ a ++ (((x ∷ p) ++ q) ++ s)
-from_begin {X} a p q s x =
-    ap (λ (l : List X). (l ++ q) ++ s) (append_assoc a (x ∷ []) p) ∙ ap (λ (l : List X). l ++ s)
-    (append_assoc a (x ∷ p) q)
-    ∙ append_assoc a ((x ∷ p) ++ q) s
+from_begin a p q s x = simp append_assoc
 
 module _ (c : Config) {es : List Event} (r : Releasing es) (i : ℕ)
     (snapshot : is_quarantined (placed_at (left c (before_begin r.marking)).allocations i) ≡ true) where

@@ -13,9 +13,10 @@ use Rattle.mk_never.specs.declared.values.Value.{Value}
 use Rattle.mk_never.specs.declared.values.Value.TheVariants.{Null, Num, Ptr}
 use Rattle.mk_never.specs.declared.operations.Op.{Op}
 use Rattle.mk_never.specs.declared.operations.Op.TheVariants.{New, Free, SetNum, SetPtr, Clear, GetGlobal, SetGlobal}
-use Rattle.mk_never.specs.NeverHeap.{NeverState, register_at, global_at, allocation_at, words_of, target_of, after_free}
-use Rattle.mk_never.specs.NeverHeap.{after_op, after_calls}
+use Rattle.mk_never.specs.NeverHeap.{NeverState, register_at, global_at, allocation_at, words_of, target_of}
+use Rattle.mk_never.specs.NeverHeap.{after_free, after_op, after_calls}
 use Rattle.mk_never.specs.Types.{kinds_of}
+use Rattle.mk_never.specs.Admitted.{AccessIsAdmitted, OperandsAreInRange, StoreIsAdmitted}
 use Rattle.mk_never.specs.Admitted.{IsCaller, Meets, IsNumber, IsPointer, IsOfKind, IsBase, IsAdmitted, AreAdmitted}
 use Rattle.mk_never.specs.Typed.{IsSound, IsTypedAllocation, IsTyped}
 use Rattle.mk_never.proofs.Edits.{left_at_by}
@@ -88,6 +89,20 @@ module _ (slots : List ℕ) where
         typed = op_keeps listed n 0 s.typed o h.in_range h.access h.store;
       }
 
+  -- The operations are admitted, and leave all registers null.
+  pub record AreFine (n : NeverState) (ops : List Op) : Type 0 where
+    pub admitted : AreAdmitted listed n (calls_of_caller ops)
+    pub clear : ClearFrom (after_calls n (calls_of_caller ops)) 0
+
+  none_left : {n : NeverState} → ClearFrom n 0 → AreFine n []
+  none_left clear = record { admitted = tt; clear = clear }
+
+  then_all : {n : NeverState} {o : Op} {ops : List Op} → Stands n → IsAdmitted listed n 0 o
+      → (Stands (after_op n 0 o) → AreFine (after_op n 0 o) ops) → AreFine n (o ∷ ops)
+  then_all {n} {o} s first rest =
+      let later = rest (stands_on n o s first) in
+      record { admitted = (first, later.admitted); clear = later.clear }
+
   module _ (slot : ℕ) (within : slot < length slots) (few : length slots ≤ 64) where
     -- the register is null or points to an object of the slot
     abbrev Points : NeverState → ℕ → Type 0
@@ -137,89 +152,71 @@ module _ (slots : List ℕ) where
 
     -- each operation is admitted
 
+    admitted_by : (n : NeverState) (o : Op) → Stands n → OperandsAreInRange n o → AccessIsAdmitted n 0 o
+        → StoreIsAdmitted listed n 0 o → IsAdmitted listed n 0 o
+    admitted_by n o s range access store =
+        record { of_a_caller = is_caller n s; in_range = range; access = access; store = store }
+
     new_admitted : (n : NeverState) (full : Bool) → Stands n → IsAdmitted listed n 0 (New 0 slot full)
     new_admitted n full s =
         let count = ap (λ (ts : List (List Kind)). length ts) s.types ∙ length-types_from 0 slots in
-        record {
-          of_a_caller = is_caller n s;
-          in_range = (omega arith, omega (arith, count, within));
-          access = tt;
-          store = tt;
-        }
+        admitted_by n (New 0 slot full) s (omega arith, omega (arith, count, within)) tt tt
 
     clear_admitted : (n : NeverState) (d : ℕ) → d < 8 → Stands n → IsAdmitted listed n 0 (Clear d)
-    clear_admitted n d below s = record { of_a_caller = is_caller n s; in_range = below; access = tt; store = tt }
+    clear_admitted n d below s = admitted_by n (Clear d) s below tt tt
 
     get_admitted : (n : NeverState) (d : ℕ) → d < 8 → Stands n → IsAdmitted listed n 0 (GetGlobal d slot)
     get_admitted n d below s =
         let count = s.globals in
-        record {
-          of_a_caller = is_caller n s;
-          in_range = (below, omega (arith, count, within, few));
-          access = tt;
-          store = tt;
-        }
+        admitted_by n (GetGlobal d slot) s (below, omega (arith, count, within, few)) tt tt
 
     set_admitted : (n : NeverState) → Stands n → Points n 0 → IsAdmitted listed n 0 (SetGlobal slot 0)
     set_admitted n s points =
         let count = s.globals in
-        record {
-          of_a_caller = is_caller n s;
-          in_range = (omega (arith, count, within, few), omega arith);
-          access = tt;
-          store = subst (λ (o : Option ℕ). IfSome o (λ ty. IsOfKind (register_at n 0 0) (To ty 0)))
-              (sym listed_at) points;
-        }
+        admitted_by n (SetGlobal slot 0) s (omega (arith, count, within, few), omega arith) tt
+        (subst (λ (o : Option ℕ). IfSome o (λ ty. IsOfKind (register_at n 0 0) (To ty 0))) (sym listed_at) points)
 
     free_admitted : (n : NeverState) → Stands n → Points n 0 → IsAdmitted listed n 0 (Free 0)
     free_admitted n s points =
-        record {
-          of_a_caller = is_caller n s;
-          in_range = omega arith;
-          access = tt;
-          store = base_of_kind (register_at n 0 0) points;
-        }
+        admitted_by n (Free 0) s (omega arith) tt (base_of_kind (register_at n 0 0) points)
+
+    at_register : (n : NeverState) → Stands n → Points n 0 → (i : ℕ) → i < get_or slots slot 0 → (P : Kind → Type 0)
+        → P (get_or (slot_type slot (get_or slots slot 0)) i NumKind) → Meets n (register_at n 0 0) i P
+    at_register n s points i inside P p =
+        meets n s (register_at n 0 0) (s.typed.registers (8 * 0 + 0)) points i inside P p
 
     number_admitted : (n : NeverState) (index value : ℕ) → 1 ≤ index → index < get_or slots slot 0 → Stands n
         → Points n 0
         → IsAdmitted listed n 0 (SetNum 0 index value)
     number_admitted n index value least inside s points =
-        record {
-          of_a_caller = is_caller n s;
-          in_range = omega arith;
-          access = meets n s (register_at n 0 0) (s.typed.registers (8 * 0 + 0)) points index inside IsNumber
-              (subst IsNumber (sym (number_at slot (get_or slots slot 0) index least)) refl);
-          store = tt;
-        }
+        admitted_by n (SetNum 0 index value) s (omega arith)
+        (at_register n s points index inside IsNumber
+        (subst IsNumber (sym (number_at slot (get_or slots slot 0) index least)) refl)) tt
 
     link_admitted : (n : NeverState) → 1 ≤ get_or slots slot 0 → Stands n → Points n 0 → Points n 1
         → IsAdmitted listed n 0 (SetPtr 0 0 1)
     link_admitted n some s points linked =
-        record {
-          of_a_caller = is_caller n s;
-          in_range = (omega arith, omega arith);
-          access = meets n s (register_at n 0 0) (s.typed.registers (8 * 0 + 0)) points 0 (omega arith) IsPointer refl;
-          store = meets n s (register_at n 0 0) (s.typed.registers (8 * 0 + 0)) points 0 (omega arith)
-              (IsOfKind (register_at n 0 1)) linked;
-        }
+        admitted_by n (SetPtr 0 0 1) s (omega arith, omega arith)
+        (at_register n s points 0 (omega arith) IsPointer refl)
+        (at_register n s points 0 (omega arith) (IsOfKind (register_at n 0 1)) linked)
 
     -- what they leave in registers
 
+    by_value : {v w : Value} → v ≡ w → IsOfKind w (To slot 0) → IsOfKind v (To slot 0)
+    by_value same of_kind = subst (λ (v : Value). IsOfKind v (To slot 0)) (sym same) of_kind
+
     new_points : (n : NeverState) → Stands n → Points (after_op n 0 (New 0 slot false)) 0
-    new_points n s =
-        subst (λ (v : Value). IsOfKind v (To slot 0)) (sym (new_adds n 0 0 slot (is_caller n s) (omega arith)).register)
-        (refl, refl)
+    new_points n s = by_value (new_adds n 0 0 slot (is_caller n s) (omega arith)).register (refl, refl)
 
     got_points : (n : NeverState) (d : ℕ) → d < 8 → Stands n → Points (after_op n 0 (GetGlobal d slot)) d
     got_points n d below s =
         let count = s.registers in
-        subst (λ (v : Value). IsOfKind v (To slot 0))
-        (sym (get_or-set_same n.registers (8 * 0 + d) (global_at n slot) Null (omega arith))) (global_points n s)
+        by_value (get_or-set_same n.registers (8 * 0 + d) (global_at n slot) Null (omega arith)) (global_points n s)
 
     still_points : (n : NeverState) → Points n 0 → Points (after_op n 0 (GetGlobal 1 slot)) 0
     still_points n points =
-        subst (λ (v : Value). IsOfKind v (To slot 0))
-        (sym (get_or-set_other n.registers (8 * 0 + 1) (8 * 0 + 0) (global_at n slot) Null (λ e. omega arith))) points
+        by_value (get_or-set_other n.registers (8 * 0 + 1) (8 * 0 + 0) (global_at n slot) Null (λ e. omega arith))
+        points
 
     linked_same : (n : NeverState) (r : ℕ) → register_at (after_op n 0 (SetPtr 0 0 1)) 0 r ≡ register_at n 0 r
     linked_same n r =
@@ -263,36 +260,22 @@ module _ (slots : List ℕ) where
 
     -- so an event's operations
 
-    abbrev AreFine : NeverState → List Op → Type 0
-    AreFine n ops = AreAdmitted listed n (calls_of_caller ops) × ClearFrom (after_calls n (calls_of_caller ops)) 0
-
     one_clear : (n : NeverState) → Stands n → ClearFrom n 1 → AreFine n (Clear 0 ∷ [])
-    one_clear n s clear = ((clear_admitted n 0 (omega arith) s, tt), clears_one n clear)
+    one_clear n s clear =
+        then_all s (clear_admitted n 0 (omega arith) s) (λ t. none_left (clears_one n clear))
 
     two_clear : (n : NeverState) → Stands n → ClearFrom n 2 → AreFine n (Clear 0 ∷ Clear 1 ∷ [])
     two_clear n s clear =
-        let first = clear_admitted n 0 (omega arith) s in (
-          (first, (clear_admitted (after_op n 0 (Clear 0)) 1 (omega arith) (stands_on n (Clear 0) s first), tt)),
-          clears_two n clear,
-        )
-
-    then_all : (n : NeverState) (o : Op) (ops : List Op) → IsAdmitted listed n 0 o → AreFine (after_op n 0 o) ops
-        → AreFine n (o ∷ ops)
-    then_all n o ops first rest = ((first, rest.0), rest.1)
-
-    from_more : (n : NeverState) (k j : ℕ) → k ≤ j → ClearFrom n k → ClearFrom n j
-    from_more n k j le clear r above = clear r (omega (arith, le, above))
+        then_all s (clear_admitted n 0 (omega arith) s) (λ t.
+        then_all t (clear_admitted (after_op n 0 (Clear 0)) 1 (omega arith) t) (λ u. none_left (clears_two n clear)))
 
     made_fine : (n : NeverState) → Stands n → ClearFrom n 0
         → AreFine n (New 0 slot false ∷ SetGlobal slot 0 ∷ Clear 0 ∷ [])
     made_fine n s clear =
-        let first = new_admitted n false s in
         let m = after_op n 0 (New 0 slot false) in
-        let t = stands_on n (New 0 slot false) s first in
-        let second = set_admitted m t (new_points n s) in
-        then_all n (New 0 slot false) (SetGlobal slot 0 ∷ Clear 0 ∷ []) first
-        (then_all m (SetGlobal slot 0) (Clear 0 ∷ []) second
-        (one_clear (after_op m 0 (SetGlobal slot 0)) (stands_on m (SetGlobal slot 0) t second) (new_clear n clear)))
+        then_all s (new_admitted n false s) (λ t.
+        then_all t (set_admitted m t (new_points n s)) (λ u.
+        one_clear (after_op m 0 (SetGlobal slot 0)) u (new_clear n clear)))
 
     linked_fine : (n : NeverState) → 1 ≤ get_or slots slot 0 → Stands n → ClearFrom n 0
         → AreFine n (New 0 slot false ∷ GetGlobal 1 slot ∷ SetPtr 0 0 1 ∷ SetGlobal slot 0 ∷ Clear 0 ∷ Clear 1 ∷ [])
@@ -300,61 +283,47 @@ module _ (slots : List ℕ) where
         let n1 = after_op n 0 (New 0 slot false) in
         let n2 = after_op n1 0 (GetGlobal 1 slot) in
         let n3 = after_op n2 0 (SetPtr 0 0 1) in
-        let a0 = new_admitted n false s in
-        let s1 = stands_on n (New 0 slot false) s a0 in
-        let a1 = get_admitted n1 1 (omega arith) s1 in
-        let s2 = stands_on n1 (GetGlobal 1 slot) s1 a1 in
         let points = still_points n1 (new_points n s) in
-        let a2 = link_admitted n2 some s2 points (got_points n1 1 (omega arith) s1) in
-        let s3 = stands_on n2 (SetPtr 0 0 1) s2 a2 in
-        let a3 = set_admitted n3 s3 (subst (λ (v : Value). IsOfKind v (To slot 0)) (sym (linked_same n2 0)) points) in
-        let clear2 = got_clear n1 1 (new_clear n clear) in
-        then_all n (New 0 slot false) (GetGlobal 1 slot ∷ SetPtr 0 0 1 ∷ SetGlobal slot 0 ∷ Clear 0 ∷ Clear 1 ∷ []) a0
-        (then_all n1 (GetGlobal 1 slot) (SetPtr 0 0 1 ∷ SetGlobal slot 0 ∷ Clear 0 ∷ Clear 1 ∷ []) a1
-        (then_all n2 (SetPtr 0 0 1) (SetGlobal slot 0 ∷ Clear 0 ∷ Clear 1 ∷ []) a2
-        (then_all n3 (SetGlobal slot 0) (Clear 0 ∷ Clear 1 ∷ []) a3
-        (two_clear (after_op n3 0 (SetGlobal slot 0)) (stands_on n3 (SetGlobal slot 0) s3 a3)
-        (λ r above. linked_same n2 r ∙ clear2 r above)))))
+        then_all s (new_admitted n false s) (λ s1.
+        then_all s1 (get_admitted n1 1 (omega arith) s1) (λ s2.
+        then_all s2 (link_admitted n2 some s2 points (got_points n1 1 (omega arith) s1)) (λ s3.
+        then_all s3 (set_admitted n3 s3 (by_value (linked_same n2 0) points)) (λ s4.
+        two_clear (after_op n3 0 (SetGlobal slot 0)) s4
+        (λ r above. linked_same n2 r ∙ got_clear n1 1 (new_clear n clear) r above)))))
 
     full_fine : (n : NeverState) → Stands n → ClearFrom n 0 → AreFine n (New 0 slot true ∷ Clear 0 ∷ [])
-    full_fine n s clear = then_all n (New 0 slot true) (Clear 0 ∷ []) (new_admitted n true s)
-        (one_clear n s (from_more n 0 1 (omega arith) clear))
+    full_fine n s clear =
+        then_all s (new_admitted n true s) (λ t. one_clear n s (λ r above. clear r (omega arith)))
 
     full_link_fine : (n : NeverState) → Stands n → ClearFrom n 0 → AreFine n (New 0 slot true ∷ Clear 0 ∷ Clear 1 ∷ [])
-    full_link_fine n s clear = then_all n (New 0 slot true) (Clear 0 ∷ Clear 1 ∷ []) (new_admitted n true s)
-        (two_clear n s (from_more n 0 2 (omega arith) clear))
+    full_link_fine n s clear =
+        then_all s (new_admitted n true s) (λ t. two_clear n s (λ r above. clear r (omega arith)))
 
     freed_fine : (n : NeverState) → Stands n → ClearFrom n 0 → AreFine n (GetGlobal 0 slot ∷ Free 0 ∷ Clear 0 ∷ [])
     freed_fine n s clear =
         let m = after_op n 0 (GetGlobal 0 slot) in
-        let a0 = get_admitted n 0 (omega arith) s in
-        let t = stands_on n (GetGlobal 0 slot) s a0 in
-        let a1 = free_admitted m t (got_points n 0 (omega arith) s) in
-        then_all n (GetGlobal 0 slot) (Free 0 ∷ Clear 0 ∷ []) a0 (then_all m (Free 0) (Clear 0 ∷ []) a1
-        (one_clear (after_op m 0 (Free 0)) (stands_on m (Free 0) t a1)
+        then_all s (get_admitted n 0 (omega arith) s) (λ t.
+        then_all t (free_admitted m t (got_points n 0 (omega arith) s)) (λ u.
+        one_clear (after_op m 0 (Free 0)) u
         (λ r above. freed_same m (register_at m 0 0) r ∙ got_clear n 0 clear r above)))
 
     cleared_fine : (n : NeverState) → Stands n → ClearFrom n 0 → AreFine n (SetGlobal slot 0 ∷ [])
     cleared_fine n s clear =
-        ((set_admitted n s (subst (λ (v : Value). IsOfKind v (To slot 0)) (sym (clear 0 (omega arith))) tt), tt), clear)
+        then_all s (set_admitted n s (by_value (clear 0 (omega arith)) tt)) (λ t. none_left clear)
 
     written_fine : (n : NeverState) (index value : ℕ) → 1 ≤ index → index < get_or slots slot 0 → Stands n
         → ClearFrom n 0
         → AreFine n (GetGlobal 0 slot ∷ SetNum 0 index value ∷ Clear 0 ∷ [])
     written_fine n index value least inside s clear =
         let m = after_op n 0 (GetGlobal 0 slot) in
-        let a0 = get_admitted n 0 (omega arith) s in
-        let t = stands_on n (GetGlobal 0 slot) s a0 in
-        let a1 = number_admitted m index value least inside t (got_points n 0 (omega arith) s) in
-        then_all n (GetGlobal 0 slot) (SetNum 0 index value ∷ Clear 0 ∷ []) a0
-        (then_all m (SetNum 0 index value) (Clear 0 ∷ []) a1
-        (one_clear (after_op m 0 (SetNum 0 index value)) (stands_on m (SetNum 0 index value) t a1)
+        then_all s (get_admitted n 0 (omega arith) s) (λ t.
+        then_all t (number_admitted m index value least inside t (got_points n 0 (omega arith) s)) (λ u.
+        one_clear (after_op m 0 (SetNum 0 index value)) u
         (λ r above. numbered_same m index value r ∙ got_clear n 0 clear r above)))
 
   pub events_fine : (few : length slots ≤ 64) → ((slot : ℕ) → slot < length slots → 1 ≤ get_or slots slot 0)
       → (n : NeverState) → Stands n → ClearFrom n 0 → (event : TraceEvent) → IsEventOf slots event → (full : Bool)
-      → AreAdmitted listed n (calls_of_caller (ops_of full event))
-      × ClearFrom (after_calls n (calls_of_caller (ops_of full event))) 0
+      → AreFine n (ops_of full event)
   events_fine few some n s clear (A slot) within false = made_fine slot within few n s clear
   events_fine few some n s clear (A slot) within true = full_fine slot within few n s clear
   events_fine few some n s clear (K slot) within false = linked_fine slot within few n (some slot within) s clear
@@ -387,4 +356,4 @@ module _ (trace : Contents) (playable : IsPlayable trace) where
       let fine = events_fine trace.slots playable.slot_count.1
       (λ slot within. (All-get_or (IsBetween 1 4096) trace.slots slot 0 within playable.slots).0)
       (never_behind c es) (stands_behind es history) (λ r above. clear r) event of_slots full in
-      (fine.0, λ r. fine.1 r (omega arith))
+      (fine.admitted, λ r. fine.clear r (omega arith))

@@ -1,9 +1,7 @@
 -- What ends find in a list of events that has one cycle at most.
-use Rattle.std.proofs.Common.{◌≡◌, ◌⊎◌, ⊎_elim, inl, inr, ℕ, ◌+◌, ◌≤◌, Bool, true, false, List, [], ◌∷◌, ◌++◌, length}
-use Rattle.std.proofs.Common.{refl, sym}
+use Rattle.std.proofs.Common.{◌≡◌, ◌⊎◌, ⊎_elim, inl, inr, ℕ, ◌+◌, Bool, true, false, List, [], ◌∷◌, ◌++◌, refl, sym}
 use Rattle.std.proofs.Common.{◌∙◌, ap, subst, append-nil, append_assoc, arith}
-use Rattle.std.specs.Prelude.{◌||◌}
-use Rattle.std.proofs.lemmas.Bool.{cases_Bool, or_from, or_parts, or_right, true≢false}
+use Rattle.std.proofs.lemmas.Bool.{cases_Bool, or_from, or_parts, true≢false}
 use Rattle.mk_core.specs.declared.config.Config.{Config}
 use Rattle.mk_core.specs.declared.events.Event.{Event}
 use Rattle.mk_core.specs.declared.events.Step.{Step}
@@ -18,43 +16,31 @@ use Rattle.mk_core.proofs.Histories.{enabled_parts, left_append}
 use Rattle.mk_core.proofs.HistoryParts.{left_in_parts}
 use Rattle.mk_readings.proofs.CyclePhases.{begin_is, moves_phase, phase_behind}
 use Rattle.mk_alloc.specs.TurnCycles.{RunsOneCycle, has_step}
-use Rattle.mk_alloc.proofs.ListParts.{lacks_first, lacks_second}
+use Rattle.mk_alloc.proofs.ListParts.{lacks_first, lacks_second, none_at}
+use Rattle.mk_quarantine.proofs.HeldTurns.{next_of}
 use Rattle.mk_trace.specs.Ends.{EndsNone, EndsOne, EndsTell, FreesNone, IsIdle, LeavesAllocations, ReleasesNone}
 use Rattle.mk_trace.specs.Peaks.{found_by_ends_from}
 use Rattle.mk_trace.proofs.FlagSteps.{releases_then, same_releases}
 use Rattle.mk_trace.proofs.FoundByEnds.{EndsOnce, FreesNoneFrom, IsOn, Rests, ends-append, ends_once, found-append}
 use Rattle.mk_trace.proofs.FoundByEnds.{found-none, frees_behind, frees_second, grows_by, is_over, no_end-cons, rests}
 
--- the first event of a kind
-pub next_of : (kind : Step → Bool) (es : List Event) → has_step kind es ≡ true → Next kind es
-next_of kind [] some = absurd (true≢false (sym some))
-next_of kind (e ∷ es) some =
-    ⊎_elim
-    (λ (is : kind e.step ≡ true).
-    record { at = record { before = []; event = e; behind = es; is = refl; of_kind = is }; none_before = refl })
-    (λ (none : kind e.step ≡ false).
-    (let rest = next_of kind es (sym (ap (λ (b : Bool). b || has_step kind es) none) ∙ some) in
-    record {
-      at = record {
-        before = e ∷ rest.at.before;
-        event = rest.at.event;
-        behind = rest.at.behind;
-        is = ap (λ (l : List Event). e ∷ l) rest.at.is;
-        of_kind = rest.at.of_kind;
-      };
-      none_before = or_from (kind e.step) (has_step kind rest.at.before) none rest.none_before;
-    }))
-    (cases_Bool (kind e.step))
+-- What lacks one kind lacks another, where each step of that is one of the first.
+pub lacks_by : (kind other : Step → Bool) → ((x : Step) → kind x ≡ false → other x ≡ false) → (es : List Event)
+    → has_step kind es ≡ false → has_step other es ≡ false
+lacks_by kind other each [] none = refl
+lacks_by kind other each (e ∷ es) none =
+    let parts = or_parts (kind e.step) (has_step kind es) none in
+    or_from (other e.step) (has_step other es) (each e.step parts.0) (lacks_by kind other each es parts.1)
 
-has_behind : (kind : Step → Bool) (xs : List Event) (e : Event) (ys : List Event) → kind e.step ≡ true
-    → has_step kind (xs ++ e ∷ ys) ≡ true
-has_behind kind [] e ys is = ap (λ (b : Bool). b || has_step kind ys) is
-has_behind kind (x ∷ xs) e ys is =
-    or_right (kind x.step) (has_step kind (xs ++ e ∷ ys)) (has_behind kind xs e ys is)
+-- the first event of a kind
+pub first_at : (kind : Step → Bool) (es : List Event) → has_step kind es ≡ true → Next kind es
+first_at kind es some = next_of kind es (λ none. true≢false (sym some ∙ none))
 
 pub has_at : (kind : Step → Bool) (es : List Event) → At kind es → has_step kind es ≡ true
-has_at kind es at =
-    ap (λ (l : List Event). has_step kind l) at.is ∙ has_behind kind at.before at.event at.behind at.of_kind
+has_at kind es at = elim (cases_Bool (has_step kind es)) [
+  | inl is ↦ is
+  | inr none ↦ absurd (none_at kind es none at)
+]
 
 begins_no_end : (s : Step) → is_begin s ≡ true → is_end s ≡ false
 begins_no_end step.Begin h = refl
@@ -198,7 +184,7 @@ module _ (c : Config) (es more : List Event) where
         some : has_step is_begin more ≡ true
             → IsIdle c (es ++ more) × (EndsNone c es (es ++ more) ⊎ EndsOne c es (es ++ more))
         some has =
-            let next = next_of is_begin more has in
+            let next = first_at is_begin more has in
             let b = next.at in
             let h : EndsOnce c (left c es) more =
             subst (λ (l : List Event). EndsOnce c (left c es) l) (sym b.is)
@@ -333,57 +319,3 @@ leaves_tell c es fs h idle = (
         (same_releases (left c es).allocations);
   }),
 )
-
-pub tells_behind : (c : Config) (es fs gs : List Event) → LeavesAllocations c es fs → EndsTell c fs gs
-    → EndsTell c es gs
-tells_behind c es fs gs h tell idle =
-    let told = tell (h.phase ∙ idle) in
-    (told.0, ⊎_elim (λ (none : EndsNone c fs gs). inl (first none)) (λ (one : EndsOne c fs gs). inr (last one)) told.1)
-  where
-    first : EndsNone c fs gs → EndsNone c es gs
-    first none =
-        record {
-          found = none.found ∙ h.found;
-          count = none.count ∙ h.count;
-          released = subst (λ (xs : List PlacedAllocation). ReleasesNone xs (left c gs).allocations) h.allocations
-              none.released;
-        }
-
-    last : EndsOne c fs gs → EndsOne c es gs
-    last one =
-        record {
-          finds = one.finds;
-          found = one.found ∙ ap (λ (l : List (List PlacedAllocation)). l ++ one.finds ∷ []) h.found;
-          count = one.count ∙ ap (λ (n : ℕ). n + 1) h.count;
-          earlier = subst (λ (xs : List PlacedAllocation). length xs ≤ length one.finds) h.allocations one.earlier;
-          freed = one.freed;
-          released = one.released;
-        }
-
-pub tells_before : (c : Config) (es fs gs : List Event) → EndsTell c es fs → LeavesAllocations c fs gs
-    → EndsTell c es gs
-tells_before c es fs gs tell h idle =
-    let told = tell idle in (
-      h.phase ∙ told.0,
-      ⊎_elim (λ (none : EndsNone c es fs). inl (first none)) (λ (one : EndsOne c es fs). inr (last one)) told.1,
-    )
-  where
-    first : EndsNone c es fs → EndsNone c es gs
-    first none =
-        record {
-          found = h.found ∙ none.found;
-          count = h.count ∙ none.count;
-          released = subst (λ (xs : List PlacedAllocation). ReleasesNone (left c es).allocations xs)
-              (sym h.allocations) none.released;
-        }
-
-    last : EndsOne c es fs → EndsOne c es gs
-    last one =
-        record {
-          finds = one.finds;
-          found = h.found ∙ one.found;
-          count = h.count ∙ one.count;
-          earlier = one.earlier;
-          freed = subst (λ (xs : List PlacedAllocation). FreesNone one.finds xs) (sym h.allocations) one.freed;
-          released = subst (λ (xs : List PlacedAllocation). ReleasesNone one.finds xs) (sym h.allocations) one.released;
-        }

@@ -23,7 +23,7 @@ use Rattle.mk_trace.specs.Lines.{Written, header_of, nothing_written, with_line}
 use Rattle.mk_trace.specs.Playing.{ops_of}
 use Rattle.mk_trace.specs.Traces.{Contents, IsOfSomeText, contents_from, contents_of, trace_of_lines, words_of_slots}
 use Rattle.mk_trace.specs.Typing.{typed_event}
-use Rattle.mk_trace.proofs.Kept.{gone_on, passed_else, passed_then, then_next}
+use Rattle.mk_trace.proofs.ReadLines.{gone_on, passed_else, passed_then, then_next}
 
 -- before any event
 pub none_ended : (es : List Event) → es ≡ [] → ends es ≡ 0

@@ -1,23 +1,108 @@
--- What one event does to the flags of allocations: only a `release` releases, and only what decides a Free frees.
-use Rattle.std.proofs.Common.{◌≡◌, ℕ, zero, suc, false, List, [], ◌∷◌, ◌++◌, map, refl}
-use Rattle.std.proofs.Common.{◌∙◌, ap}
-use Rattle.std.proofs.Common.{arith}
-use Rattle.std.specs.Prelude.{Option, Some, None, is_some}
-use Rattle.std.proofs.lemmas.List.{length-append, length-map}
+-- The flags of allocations: what stays of them, what one event does to them, and what a Free does.
+use Rattle.std.proofs.Common.{◌≡◌, ℕ, ◌<◌, Bool, true, false, List, [], ◌∷◌, ◌++◌, length, map, refl, ◌∙◌, ap, arith}
+use Rattle.std.proofs.Common.{length-append, zero, suc, ◌≤◌, sym, subst, inl, inr}
+use Rattle.std.specs.Prelude.{◌||◌, Option, Some, None, is_some, if◌then◌else◌, slice_index_or}
+use Rattle.std.proofs.lemmas.Bool.{or_parts, cases_eq, cases_lt}
+use Rattle.std.proofs.lemmas.List.{length-map, length-append, get_or-set_same, get_or-set_other, get_or_past}
+use Rattle.std.proofs.lemmas.List.{length-set, set_past}
+use Rattle.mk_never.specs.declared.values.Value.{Value}
+use Rattle.mk_never.specs.declared.values.Value.TheVariants.{Null, Num, Ptr}
+use Rattle.mk_never.specs.NeverHeap.{Allocation, NeverState, after_free, allocation_at, no_allocation, with_freed}
+use Rattle.mk_never.specs.Reach.{LeadsTo}
+use Rattle.mk_geom.specs.Addresses.{address_of}
 use Rattle.mk_geom.specs.declared.addresses.Cell.{Cell}
 use Rattle.mk_core.specs.declared.config.Config.{Config}
+use Rattle.mk_core.specs.declared.events.Event.{Event}
 use Rattle.mk_core.specs.declared.events.Step.{Step}
 use Rattle.mk_core.specs.declared.events.Step.TheVariants as step
 use Rattle.mk_core.specs.declared.seats.Flight.{Flight}
 use Rattle.mk_core.specs.Allocations.{PlacedAllocation, allocations_by, freed_where_it_stands, granted, no_longer_fresh}
-use Rattle.mk_core.specs.Allocations.{placed_at, with_released}
-use Rattle.mk_core.specs.Counts.{decides_freed}
+use Rattle.mk_core.specs.Allocations.{placed_at, with_released, never_granted}
+use Rattle.mk_core.specs.Bounded.{is_some_and}
+use Rattle.mk_core.specs.Cells.{is_left_unmarked, pointed_cell}
 use Rattle.mk_core.specs.Cycles.{is_release}
-use Rattle.mk_core.specs.Moments.{Moment}
+use Rattle.mk_core.specs.History.{World, left_from, world_behind, IsHistory, left, never_behind}
+use Rattle.mk_core.specs.Moments.{Moment, flight_of}
 use Rattle.mk_core.specs.TurnConditions.{cell_freed}
 use Rattle.mk_core.specs.Words.{Words}
-use Rattle.mk_core.proofs.ChangedAllocations.{earlier_at, freed_released, none_freed}
+use Rattle.mk_core.proofs.ChangedAllocations.{LeavesPlaces, changed_at, earlier_at, freed_leaves, freed_released}
+use Rattle.mk_core.proofs.ChangedAllocations.{fresh_leaves, released_leaves, none_freed}
+use Rattle.mk_core.specs.Counts.{decides_freed}
+use Rattle.mk_alloc.specs.TurnCycles.{has_step}
+use Rattle.mk_images.specs.Images.{AreTwins}
+use Rattle.mk_invariant.proofs.Histories.{histories_keep_the_invariant}
+use Rattle.mk_trace.specs.Freeing.{AreLater, unfreed}
 use Rattle.mk_trace.specs.Ends.{FreesNone, ReleasesNone}
+
+-- What stays of allocations over a list of events: their places and types, that they are released, and, where nothing
+-- is released, that they are not.
+
+abbrev pub SameReleased : List PlacedAllocation → List PlacedAllocation → Type 0
+SameReleased xs ys = (i : ℕ) → i < length xs → (placed_at ys i).released ≡ (placed_at xs i).released
+
+pub later_same : (xs : List PlacedAllocation) → AreLater xs xs
+later_same xs = record {
+  count = omega arith;
+  base = λ i lt. refl;
+  ty = λ i lt. refl;
+  released = λ i lt is. is;
+}
+
+pub later_then : (xs ys zs : List PlacedAllocation) → AreLater xs ys → AreLater ys zs → AreLater xs zs
+later_then xs ys zs one two =
+    let within : (i : ℕ) → i < length xs → i < length ys = λ i lt. omega (arith, lt, one.count) in
+    record {
+      count = omega (arith, one.count, two.count);
+      base = λ i lt. two.base i (within i lt) ∙ one.base i lt;
+      ty = λ i lt. two.ty i (within i lt) ∙ one.ty i lt;
+      released = λ i lt is. two.released i (within i lt) (one.released i lt is);
+    }
+
+changed : (change : PlacedAllocation → PlacedAllocation) (xs : List PlacedAllocation) → LeavesPlaces change
+    → ((a : PlacedAllocation) → a.released ≡ true → (change a).released ≡ true) → AreLater xs (map change xs)
+changed change xs leaves keeps =
+    let at : (i : ℕ) → placed_at (map change xs) i ≡ change (placed_at xs i) =
+    λ i. changed_at change xs i leaves.none in
+    record {
+      count = omega (arith, length-map xs change);
+      base = λ i lt. ap (λ (a : PlacedAllocation). a.base) (at i) ∙ leaves.base (placed_at xs i);
+      ty = λ i lt. ap (λ (a : PlacedAllocation). a.ty) (at i) ∙ leaves.ty (placed_at xs i);
+      released = λ i lt is. ap (λ (a : PlacedAllocation). a.released) (at i) ∙ keeps (placed_at xs i) is;
+    }
+
+more : (xs : List PlacedAllocation) (a : PlacedAllocation) → AreLater xs (xs ++ a ∷ [])
+more xs a = record {
+  count = omega (arith, length-append xs (a ∷ []));
+  base = λ i lt. ap (λ (x : PlacedAllocation). x.base) (earlier_at xs a i lt);
+  ty = λ i lt. ap (λ (x : PlacedAllocation). x.ty) (earlier_at xs a i lt);
+  released = λ i lt is. ap (λ (x : PlacedAllocation). x.released) (earlier_at xs a i lt) ∙ is;
+}
+
+kept_release : (c : Config) (w : Words) (a : PlacedAllocation) → a.released ≡ true
+    → (with_released c w a).released ≡ true
+kept_release c w a is =
+    ap (λ (b : Bool). b || is_some_and (is_left_unmarked w) (pointed_cell c.pages w.pages (address_of a.base))) is
+
+step_later : (c : Config) (m : Moment) (f : Flight) (s : Step) (xs : List PlacedAllocation)
+    → AreLater xs (allocations_by c m f s xs)
+step_later c m f step.Grant xs = more xs (granted c m f)
+step_later c m f (step.Quar p v) xs =
+    let cell = cell_freed c.pages m.words f p v in
+    changed (freed_where_it_stands m.words cell) xs (freed_leaves m.words cell)
+    (λ a is. freed_released m.words cell a ∙ is)
+step_later c m f step.Begin xs = changed no_longer_fresh xs fresh_leaves (λ a is. is)
+step_later c m f step.Release xs =
+    changed (with_released c m.words) xs (released_leaves c m.words) (kept_release c m.words)
+step_later c m f s xs = later_same xs
+
+pub later_left : (c : Config) (w : World) (es : List Event) → AreLater w.allocations (left_from c w es).allocations
+unfolding left_from
+later_left c w [] = later_same w.allocations
+later_left c w (e ∷ es) =
+    later_then w.allocations (world_behind c w e).allocations (left_from c (world_behind c w e) es).allocations
+    (step_later c w.now (flight_of w.now e.seat) e.step w.allocations) (later_left c (world_behind c w e) es)
+
+-- What one event does to the flags of allocations: only a `release` releases, and only what decides a Free frees.
 
 -- lists
 
@@ -49,23 +134,19 @@ more_frees [] a unfreed (suc n) = refl
 more_frees (x ∷ xs) a unfreed zero = refl
 more_frees (x ∷ xs) a unfreed (suc n) = more_frees xs a unfreed n
 
-changed_released : (change : PlacedAllocation → PlacedAllocation) (xs : List PlacedAllocation)
-    → ((a : PlacedAllocation) → (change a).released ≡ a.released) → (n : ℕ)
-    → (placed_at (map change xs) n).released ≡ (placed_at xs n).released
-changed_released change [] keeps n = refl
-changed_released change (x ∷ xs) keeps zero = keeps x
-changed_released change (x ∷ xs) keeps (suc n) = changed_released change xs keeps n
-
 changed_releases : (change : PlacedAllocation → PlacedAllocation) (xs : List PlacedAllocation)
-    → ((a : PlacedAllocation) → (change a).released ≡ a.released) → ReleasesNone xs (map change xs)
-changed_releases change xs keeps =
-    record { count = omega (arith, length-map xs change); released = λ n lt. changed_released change xs keeps n }
+    → change never_granted ≡ never_granted → ((a : PlacedAllocation) → (change a).released ≡ a.released)
+    → ReleasesNone xs (map change xs)
+changed_releases change xs none keeps = record {
+  count = omega (arith, length-map xs change);
+  released = λ n lt. ap (λ (a : PlacedAllocation). a.released) (changed_at change xs n none) ∙ keeps (placed_at xs n);
+}
 
 changed_frees : (change : PlacedAllocation → PlacedAllocation) (xs : List PlacedAllocation)
-    → ((a : PlacedAllocation) → (change a).freed ≡ a.freed) → FreesNone xs (map change xs)
-changed_frees change [] keeps n = refl
-changed_frees change (x ∷ xs) keeps zero = keeps x
-changed_frees change (x ∷ xs) keeps (suc n) = changed_frees change xs keeps n
+    → change never_granted ≡ never_granted → ((a : PlacedAllocation) → (change a).freed ≡ a.freed)
+    → FreesNone xs (map change xs)
+changed_frees change xs none keeps n =
+    ap (λ (a : PlacedAllocation). a.freed) (changed_at change xs n none) ∙ keeps (placed_at xs n)
 
 -- one step
 
@@ -73,21 +154,117 @@ pub releases_by : (c : Config) (m : Moment) (f : Flight) (s : Step) (xs : List P
     → ReleasesNone xs (allocations_by c m f s xs)
 releases_by c m f step.Grant xs none = more_releases xs (granted c m f)
 releases_by c m f (step.Quar p v) xs none =
-    changed_releases (freed_where_it_stands m.words (cell_freed c.pages m.words f p v)) xs
-    (freed_released m.words (cell_freed c.pages m.words f p v))
-releases_by c m f step.Begin xs none = changed_releases no_longer_fresh xs (λ a. refl)
+    let cell = cell_freed c.pages m.words f p v in
+    changed_releases (freed_where_it_stands m.words cell) xs (freed_leaves m.words cell).none
+    (freed_released m.words cell)
+releases_by c m f step.Begin xs none = changed_releases no_longer_fresh xs refl (λ a. refl)
 releases_by c m f step.Release xs none = cc
 releases_by c m f _ xs none = same_releases xs
 
-frees_by_cell : (w : Words) (cell : Option Cell) (xs : List PlacedAllocation) → is_some cell ≡ false
-    → FreesNone xs (map (freed_where_it_stands w cell) xs)
-frees_by_cell w None xs none n = ap (λ (l : List PlacedAllocation). (placed_at l n).freed) (none_freed w xs)
-frees_by_cell w (Some cell) xs none n = cc
+-- What frees nothing changes nothing.
+pub unfreed_all : (w : Words) (cell : Option Cell) (xs : List PlacedAllocation) → is_some cell ≡ false
+    → map (freed_where_it_stands w cell) xs ≡ xs
+unfreed_all w None xs none = none_freed w xs
+unfreed_all w (Some cell) xs none = cc
 
 pub frees_by : (c : Config) (m : Moment) (f : Flight) (s : Step) (xs : List PlacedAllocation)
     → decides_freed c m f s ≡ false → FreesNone xs (allocations_by c m f s xs)
 frees_by c m f step.Grant xs none = more_frees xs (granted c m f) refl
-frees_by c m f (step.Quar p v) xs none = frees_by_cell m.words (cell_freed c.pages m.words f p v) xs none
-frees_by c m f step.Begin xs none = changed_frees no_longer_fresh xs (λ a. refl)
-frees_by c m f step.Release xs none = changed_frees (with_released c m.words) xs (λ a. refl)
+frees_by c m f (step.Quar p v) xs none = λ n.
+    ap (λ (l : List PlacedAllocation). (placed_at l n).freed)
+    (unfreed_all m.words (cell_freed c.pages m.words f p v) xs none)
+frees_by c m f step.Begin xs none = changed_frees no_longer_fresh xs refl (λ a. refl)
+frees_by c m f step.Release xs none = changed_frees (with_released c m.words) xs refl (λ a. refl)
 frees_by c m f _ xs none = λ n. refl
+
+-- Where nothing is released, flags stay over a list.
+pub same_released : (c : Config) (w : World) (es : List Event) → has_step is_release es ≡ false
+    → SameReleased w.allocations (left_from c w es).allocations
+unfolding left_from
+same_released c w [] none = λ i lt. refl
+same_released c w (e ∷ es) none = λ i lt.
+    let parts = or_parts (is_release e.step) (has_step is_release es) none in
+    let one = releases_by c w.now (flight_of w.now e.seat) e.step w.allocations parts.0 in
+    same_released c (world_behind c w e) es parts.1 i (omega (arith, lt, one.count)) ∙ one.released i lt
+
+-- Which allocations are freed after a history says the heap that never reuses storage, and so what an operation frees.
+
+pub twins : (c : Config) (es : List Event) → IsHistory c es
+    → AreTwins (left c es).allocations (never_behind c es)
+twins c es history = (histories_keep_the_invariant c es history).mirrors.twins
+
+none_past : (xs : List PlacedAllocation) (i : ℕ) → length xs ≤ i → (placed_at xs i).freed ≡ false
+none_past xs i le = ap (λ (a : PlacedAllocation). a.freed) (get_or_past xs i never_granted le)
+
+no_allocation_past : (xs : NeverState) (i : ℕ) → length xs.allocations ≤ i → (allocation_at xs i).freed ≡ false
+no_allocation_past n i le = ap (λ (a : Allocation). a.freed) (get_or_past n.allocations i no_allocation le)
+
+-- Whether it is freed, of any number.
+pub is_freed_there : (c : Config) (es : List Event) → IsHistory c es → (i : ℕ)
+    → (placed_at (left c es).allocations i).freed ≡ (allocation_at (never_behind c es) i).freed
+is_freed_there c es history i = elim (cases_lt i (length (left c es).allocations)) [
+  | inl lt ↦ (twins c es history).freed i lt
+  | inr le ↦
+      none_past (left c es).allocations i le
+      ∙ sym (no_allocation_past (never_behind c es) i (omega (arith, le, (twins c es history).count)))
+]
+
+-- What a Free does to the flags.
+
+chosen : (b : Bool) (number i : ℕ) → (if b then None else Some number) ≡ Some i → (b ≡ false) × (number ≡ i)
+chosen true number i is = cc
+chosen false number i is = (refl, cc)
+
+pub points_there : (n : NeverState) (v : Value) (i : ℕ) → unfreed n v ≡ Some i → LeadsTo v i
+points_there n Null i is = absurd cc
+points_there n (Num m) i is = absurd cc
+points_there n (Ptr number ty offset) i is = (chosen (allocation_at n number).freed number i is).1
+
+pub was_unfreed : (n : NeverState) (v : Value) (i : ℕ) → unfreed n v ≡ Some i → (allocation_at n i).freed ≡ false
+was_unfreed n Null i is = absurd cc
+was_unfreed n (Num m) i is = absurd cc
+was_unfreed n (Ptr number ty offset) i is =
+    let parts = chosen (allocation_at n number).freed number i is in
+    subst (λ (k : ℕ). (allocation_at n k).freed ≡ false) parts.1 parts.0
+
+pub is_freed_behind : (n : NeverState) (v : Value) (i : ℕ) → unfreed n v ≡ Some i → i < length n.allocations
+    → (allocation_at (after_free n v) i).freed ≡ true
+is_freed_behind n Null i is lt = absurd cc
+is_freed_behind n (Num m) i is lt = absurd cc
+is_freed_behind n (Ptr number ty offset) i is lt =
+    let same = (chosen (allocation_at n number).freed number i is).1 in
+    ap (λ (k : ℕ). (allocation_at (with_freed n k) i).freed) same
+    ∙ ap (λ (a : Allocation). a.freed)
+    (get_or-set_same n.allocations i (record (allocation_at n i) { freed = true }) no_allocation lt)
+
+kept_at : (n : NeverState) (i : ℕ) (b : Bool) → b ≡ (allocation_at n i).freed
+    → ((if b then None else Some i) ≡ Some i → ⊥)
+    → (allocation_at (with_freed n i) i).freed ≡ (allocation_at n i).freed
+kept_at n i false is out = absurd (out refl)
+kept_at n i true is out = elim (cases_lt i (length n.allocations)) [
+  | inl lt ↦
+      ap (λ (a : Allocation). a.freed)
+      (get_or-set_same n.allocations i (record (allocation_at n i) { freed = true }) no_allocation lt) ∙ is
+  | inr le ↦
+      ap (λ (l : List Allocation). (slice_index_or l i no_allocation).freed)
+      (set_past n.allocations i (record (allocation_at n i) { freed = true }) le)
+]
+
+pub others_kept : (n : NeverState) (v : Value) (i : ℕ) → (unfreed n v ≡ Some i → ⊥)
+    → (allocation_at (after_free n v) i).freed ≡ (allocation_at n i).freed
+others_kept n Null i out = refl
+others_kept n (Num m) i out = refl
+others_kept n (Ptr number ty offset) i out = elim (cases_eq i number) [
+  | inr ne ↦
+      ap (λ (a : Allocation). a.freed)
+      (get_or-set_other n.allocations number i (record (allocation_at n number) { freed = true }) no_allocation ne)
+  | inl same ↦
+      subst (λ (k : ℕ). (allocation_at (with_freed n k) i).freed ≡ (allocation_at n i).freed) same
+      (kept_at n i (allocation_at n i).freed refl
+      (subst (λ (k : ℕ). (if (allocation_at n k).freed then None else Some k) ≡ Some i → ⊥) (sym same) out))
+]
+
+pub as_many_behind : (n : NeverState) (v : Value) → length (after_free n v).allocations ≡ length n.allocations
+as_many_behind n Null = refl
+as_many_behind n (Num m) = refl
+as_many_behind n (Ptr number ty offset) = length-set n.allocations number _

@@ -1,10 +1,11 @@
 -- The ages of allocations over a call: they are as they were, or one end has found them.
 use Rattle.std.proofs.Common.{◌≡◌, inl, inr, ℕ, ◌+◌, ◌≤◌, ◌<◌, Bool, true, false, List, [], ◌∷◌, ◌++◌, length, map}
-use Rattle.std.proofs.Common.{refl, sym, ◌∙◌, ap, arith}
+use Rattle.std.proofs.Common.{sym, ◌∙◌, ap, arith}
 use Rattle.std.specs.Prelude.{◌&&◌, ◌||◌, not, filter, fold, Option, if◌then◌else◌}
-use Rattle.std.proofs.lemmas.Bool.{and_from, and_parts, cases_Bool, cases_lt, false_from_ne_true, or_parts, true≢false}
+use Rattle.std.proofs.lemmas.Bool.{and_from, and_parts, cases_lt, false_from_ne_true, or_parts, true≢false, not-true}
 use Rattle.std.proofs.lemmas.List.{get_or_past, map-append}
 use Rattle.std.proofs.lemmas.List.Folds.{list_any-append}
+use Rattle.std.proofs.Math.Bool.{and-false}
 use Rattle.mk_core.specs.declared.config.Config.{Config}
 use Rattle.mk_core.specs.declared.events.Event.{Event}
 use Rattle.mk_core.specs.Allocations.{PlacedAllocation, never_granted, placed_at}
@@ -16,28 +17,19 @@ use Rattle.mk_trace.specs.Ledgers.{AreAgesOf, AreFound, age_in_a_word, is_found_
 use Rattle.mk_trace.specs.Numbers.{AreThose, one_if, times}
 use Rattle.mk_trace.specs.Peaks.{age_of, counted}
 use Rattle.mk_trace.proofs.CountedAges.{counted_more}
-use Rattle.mk_trace.proofs.KeptObjects.{freed_before, maps_agree, not_out, unfreed_past, was_kept}
+use Rattle.mk_trace.proofs.KeptObjects.{freed_before, maps_agree, unfreed_past, was_kept}
 use Rattle.mk_trace.proofs.NumberLists.{stands_passes, those_filtered}
 
 -- One end more
 
-on_by : (freed released : Bool) (k n : ℕ) → k ≡ n
-    → (if freed then (if released then 1 else 1 + k) else k) ≡ (if freed then (if released then 1 else 1 + n) else n)
-on_by freed released k n same = ap (λ (m : ℕ). if freed then (if released then 1 else 1 + m) else m) same
-
 age_where_unfreed : (number : ℕ) (found : List (List PlacedAllocation)) (finds : List PlacedAllocation)
     → (placed_at finds number).freed ≡ false → age_of number (found ++ finds ∷ []) ≡ age_of number found
-age_where_unfreed number [] finds unfreed =
-    ap (λ (b : Bool). if b then (if (placed_at finds number).released then 1 else 1 + 0) else 0) unfreed
-age_where_unfreed number (first ∷ found) finds unfreed =
-    on_by (placed_at first number).freed (placed_at first number).released _ _
-    (age_where_unfreed number found finds unfreed)
+age_where_unfreed number [] finds unfreed = rw unfreed
+age_where_unfreed number (first ∷ found) finds unfreed = rw (age_where_unfreed number found finds unfreed)
 
 gone_by : (freed released later : Bool) (k n : ℕ) → ((freed && released) || later) ≡ true → (later ≡ true → k ≡ n)
     → (if freed then (if released then 1 else 1 + k) else k) ≡ (if freed then (if released then 1 else 1 + n) else n)
-gone_by true true later k n gone same = refl
-gone_by true false later k n gone same = ap (λ (m : ℕ). 1 + m) (same gone)
-gone_by false released later k n gone same = same gone
+gone_by freed released later k n gone same = grind arith
 
 age_where_gone : (number : ℕ) (found : List (List PlacedAllocation)) (finds : List PlacedAllocation)
     → is_found_gone found number ≡ true → age_of number (found ++ finds ∷ []) ≡ age_of number found
@@ -47,16 +39,12 @@ age_where_gone number (first ∷ found) finds gone =
     (age_where_gone number found finds)
 
 first_age : (freed released : Bool) → freed ≡ true → (if freed then (if released then 1 else 1 + 0) else 0) ≡ 0 + 1
-first_age true true is = refl
-first_age true false is = refl
-first_age false released is = absurd (true≢false (sym is))
+first_age freed released is = grind arith
 
 kept_by : (freed released : Bool) (k n : ℕ) → (freed && released) ≡ false → k ≡ n + 1
     → (if freed then (if released then 1 else 1 + k) else k)
     ≡ (if freed then (if released then 1 else 1 + n) else n) + 1
-kept_by true true k n kept same = absurd (true≢false kept)
-kept_by true false k n kept same = omega (arith, same)
-kept_by false released k n kept same = same
+kept_by freed released k n kept same = grind arith
 
 age_where_kept : (number : ℕ) (found : List (List PlacedAllocation)) (finds : List PlacedAllocation)
     → is_found_gone found number ≡ false → (placed_at finds number).freed ≡ true
@@ -70,36 +58,19 @@ age_where_kept number (first ∷ found) finds kept freed =
 
 -- Flags
 
-none_both : (b : Bool) → (b && false) ≡ false
-none_both true = refl
-none_both false = refl
-
 absorbs : (a b : Bool) → (a ≡ true → b ≡ true) → (a || (b || false)) ≡ b
-absorbs true b is = sym (is refl)
-absorbs false true is = refl
-absorbs false false is = refl
+absorbs a b is = grind arith
 
 sums : (freed released now gone : Bool) → (released ≡ true → (now ≡ freed) × (gone ≡ true))
     → one_if (freed && released) + one_if (gone && (now && not released)) ≡ one_if (now && gone)
-sums true true true true is = refl
-sums true true true false is = absurd (true≢false (sym (is refl).1))
-sums true true false gone is = absurd (true≢false (sym (is refl).0))
-sums false true true gone is = absurd (true≢false (is refl).0)
-sums false true false true is = refl
-sums false true false false is = refl
-sums true false true true is = refl
-sums true false true false is = refl
-sums true false false true is = refl
-sums true false false false is = refl
-sums false false true true is = refl
-sums false false true false is = refl
-sums false false false true is = refl
-sums false false false false is = refl
+sums freed released now gone is = grind arith
 
 sums_past : (released gone : Bool)
     → one_if (false && released) + one_if (gone && (false && not released)) ≡ one_if (false && gone)
-sums_past released true = refl
-sums_past released false = refl
+sums_past released gone = grind arith
+
+both_same : (f r g s : Bool) → (r ≡ true → g ≡ f) → s ≡ r → (f && r) ≡ (g && s)
+both_same f r g s same is = grind arith
 
 times_append : (i : ℕ) (numbers more : List ℕ) → times i (numbers ++ more) ≡ times i numbers + times i more
 times_append i [] more = omega arith
@@ -133,18 +104,8 @@ module _ (c : Config) (es fs : List Event) (x : Option ℕ)
   module _ (same : (i : ℕ) → i < length xs → (placed_at ys i).released ≡ (placed_at xs i).released) where
     same_gone : (i : ℕ) → is_gone (placed_at xs i) ≡ is_gone (placed_at ys i)
     same_gone i = elim (cases_lt i (length xs)) [
-      | inl lt ↦ elim (cases_Bool (placed_at xs i).released) [
-        | inl gone ↦
-            ap (λ (b : Bool). b && (placed_at xs i).released) (sym (same_freed i gone))
-            ∙ ap (λ (b : Bool). (placed_at ys i).freed && b) (sym (same i lt))
-        | inr still ↦
-            ap (λ (b : Bool). (placed_at xs i).freed && b) still ∙ none_both (placed_at xs i).freed
-            ∙ sym (ap (λ (b : Bool). (placed_at ys i).freed && b) (same i lt ∙ still)
-            ∙ none_both (placed_at ys i).freed)
-      ]
-      | inr le ↦
-          ap (λ (b : Bool). b && (placed_at xs i).released) (past i le)
-          ∙ sym (ap (λ (b : Bool). b && (placed_at ys i).released) (unfreed_past c es fs x flags i le))
+      | inl lt ↦ both_same _ _ _ _ (same_freed i) (same i lt)
+      | inr le ↦ rw (past i le, unfreed_past c es fs x flags i le)
     ]
 
     pub none_found : (found : List (List PlacedAllocation)) → AreFound found xs → AreFound found ys
@@ -169,14 +130,11 @@ module _ (c : Config) (es fs : List Event) (x : Option ℕ)
 
     finds_gone : (i : ℕ) → is_gone (placed_at finds i) ≡ is_gone (placed_at ys i)
     finds_gone i = elim (cases_lt i (length finds)) [
-      | inl lt ↦
-          ap (λ (b : Bool). b && (placed_at finds i).released) (sym (same i))
-          ∙ ap (λ (b : Bool). (placed_at ys i).freed && b) (sym (none.released i lt))
+      | inl lt ↦ rw (same i, none.released i lt)
       | inr le ↦
           let unfreed : (placed_at finds i).freed ≡ false =
           ap (λ (a : PlacedAllocation). a.freed) (get_or_past finds i never_granted le) in
-          ap (λ (b : Bool). b && (placed_at finds i).released) unfreed
-          ∙ sym (ap (λ (b : Bool). b && (placed_at ys i).released) (same i ∙ unfreed))
+          rw (same i, unfreed)
     ]
 
     gone_stays : (i : ℕ) → is_gone (placed_at xs i) ≡ true → is_gone (placed_at ys i) ≡ true
@@ -190,9 +148,7 @@ module _ (c : Config) (es fs : List Event) (x : Option ℕ)
     one_found = record {
       gone = λ i.
           list_any-append (λ (l : List PlacedAllocation). is_gone (placed_at l i)) found (finds ∷ [])
-          ∙ ap (λ (b : Bool). b || (is_gone (placed_at finds i) || false)) (h.gone i)
-          ∙ ap (λ (b : Bool). is_gone (placed_at xs i) || (b || false)) (finds_gone i)
-          ∙ absorbs (is_gone (placed_at xs i)) (is_gone (placed_at ys i)) (gone_stays i);
+          ∙ rw (h.gone i, finds_gone i) (absorbs _ _ (gone_stays i));
       unfreed = λ i unfreed.
           age_where_unfreed i found finds (sym (same i) ∙ unfreed) ∙ h.unfreed i (was_unfreed i unfreed);
     }
@@ -201,8 +157,8 @@ module _ (c : Config) (es fs : List Event) (x : Option ℕ)
     kept_age i kept =
         let parts = and_parts (placed_at ys i).freed (not (placed_at xs i).released) kept in
         age_where_kept i found finds
-        (h.gone i ∙ ap (λ (b : Bool). (placed_at xs i).freed && b) (not_out (placed_at xs i).released parts.1)
-        ∙ none_both (placed_at xs i).freed)
+        (h.gone i ∙ ap (λ (b : Bool). (placed_at xs i).freed && b) (not-true (placed_at xs i).released parts.1)
+        ∙ and-false (placed_at xs i).freed)
         (sym (same i) ∙ parts.0)
 
     one_those : (i : ℕ) → one_if (is_gone (placed_at xs i))
@@ -213,14 +169,8 @@ module _ (c : Config) (es fs : List Event) (x : Option ℕ)
           sums (placed_at xs i).freed (placed_at xs i).released (placed_at ys i).freed (placed_at ys i).released
           (λ gone. (same_freed i gone, flags.later.released i lt gone))
       | inr le ↦
-          ap (λ (b : Bool). one_if (b && (placed_at xs i).released)
-          + one_if ((placed_at ys i).released && ((placed_at ys i).freed && not (placed_at xs i).released)))
-          (past i le)
-          ∙ ap (λ (b : Bool). one_if (false && (placed_at xs i).released)
-          + one_if ((placed_at ys i).released && (b && not (placed_at xs i).released)))
-          (unfreed_past c es fs x flags i le)
-          ∙ sums_past (placed_at xs i).released (placed_at ys i).released
-          ∙ ap (λ (b : Bool). one_if (b && (placed_at ys i).released)) (sym (unfreed_past c es fs x flags i le))
+          rw (past i le, unfreed_past c es fs x flags i le)
+          (sums_past (placed_at xs i).released (placed_at ys i).released)
     ]
 
     -- The ages of those that it released are counted.

@@ -11,8 +11,8 @@ use Rattle.mk_core.specs.declared.config.Config.{Config}
 use Rattle.mk_core.specs.declared.events.Event.{Event}
 use Rattle.mk_core.specs.declared.events.Step.{Step}
 use Rattle.mk_core.specs.declared.events.Step.TheVariants as step
-use Rattle.mk_core.specs.Allocations.{PlacedAllocation, allocations_by, freed_where_it_stands, granted, no_longer_fresh}
-use Rattle.mk_core.specs.Allocations.{with_released}
+use Rattle.mk_core.specs.Allocations.{PlacedAllocation, allocations_by, freed_where_it_stands, granted}
+use Rattle.mk_core.specs.Allocations.{no_longer_fresh, with_released}
 use Rattle.mk_core.specs.TurnConditions.{cell_freed}
 use Rattle.mk_core.specs.Counts.{decides_freed, ends}
 use Rattle.mk_core.specs.Cycles.{is_begin, is_end, is_release}
@@ -25,8 +25,7 @@ use Rattle.mk_readings.proofs.CyclePhases.{AsksPhase, moves_phase, phase_behind}
 use Rattle.mk_alloc.specs.TurnCycles.{has_step}
 use Rattle.mk_trace.specs.Ends.{FreesNone, ReleasesNone}
 use Rattle.mk_trace.specs.Peaks.{found_by_ends_from}
-use Rattle.mk_trace.proofs.FlagSteps.{frees_by, frees_then, releases_by, releases_then}
-use Rattle.mk_trace.proofs.FlagSteps.{same_releases}
+use Rattle.mk_trace.proofs.FlagSteps.{frees_by, frees_then, releases_by, releases_then, same_releases}
 use Rattle.mk_trace.proofs.FreeCalls.{frees_decide, is_free_call}
 
 abbrev pub is_over : Step → Bool
@@ -39,12 +38,10 @@ ends-cons : (e : Event) (es : List Event) → ends (e ∷ es) ≡ cond (is_end e
 ends-cons e es = sum_by-cons (λ (x : Event). cond (is_end x.step) 1 0) e es
 
 counts_none : (b : Bool) (n m : ℕ) → n ≡ cond b 1 0 + m → b ≡ false → n ≡ m
-counts_none false n m is none = omega arith
-counts_none true n m is none = cc
+counts_none b n m is none = grind arith
 
 counts_one : (b : Bool) (n m : ℕ) → n ≡ cond b 1 0 + m → b ≡ true → n ≡ 1 + m
-counts_one true n m is one = is
-counts_one false n m is one = cc
+counts_one b n m is one = grind arith
 
 pub no_end-cons : (e : Event) (es : List Event) → is_end e.step ≡ false → ends (e ∷ es) ≡ ends es
 no_end-cons e es none = counts_none (is_end e.step) (ends (e ∷ es)) (ends es) (ends-cons e es) none
@@ -79,16 +76,12 @@ found-append c w (e ∷ xs) ys =
 pub found-none : (c : Config) (w : World) (e : Event) (es : List Event) → is_end e.step ≡ false
     → found_by_ends_from c w (e ∷ es) ≡ found_by_ends_from c (world_behind c w e) es
 unfolding found_by_ends_from
-found-none c w e es none =
-    let rest = found_by_ends_from c (world_behind c w e) es in
-    ap (λ (b : Bool). if b then w.allocations ∷ rest else rest) none
+found-none c w e es none = rw none
 
 found-one : (c : Config) (w : World) (e : Event) (es : List Event) → is_end e.step ≡ true
     → found_by_ends_from c w (e ∷ es) ≡ w.allocations ∷ found_by_ends_from c (world_behind c w e) es
 unfolding found_by_ends_from
-found-one c w e es is =
-    let rest = found_by_ends_from c (world_behind c w e) es in
-    ap (λ (b : Bool). if b then w.allocations ∷ rest else rest) is
+found-one c w e es is = rw is
 
 -- An `end` itself leaves all allocations.
 end_leaves : (c : Config) (w : World) (e : Event) → is_end e.step ≡ true
@@ -107,7 +100,7 @@ one_releases_none c w e none = releases_by c w.now (flight_of w.now e.seat) e.st
 abbrev pub FreesNoneFrom : Config → World → List Event → Type 0
 FreesNoneFrom c w es = list_any is_free_call (calls_from c w es) ≡ false
 
-free_parts : (c : Config) (w : World) (e : Event) (es : List Event) → FreesNoneFrom c w (e ∷ es)
+pub free_parts : (c : Config) (w : World) (e : Event) (es : List Event) → FreesNoneFrom c w (e ∷ es)
     → (decides_freed c w.now (flight_of w.now e.seat) e.step ≡ false) × FreesNoneFrom c (world_behind c w e) es
 unfolding calls_from
 free_parts c w e es none =

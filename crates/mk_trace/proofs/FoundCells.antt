@@ -1,6 +1,5 @@
 -- What looks between calls say of cells and of the objects in them.
-use Rattle.std.proofs.Common.{◌≡◌, ◌≢◌, ℕ, ◌+◌, ◌*◌, ◌%◌, ◌<◌, ◌≤◌, Bool, true, false, List, refl, sym}
-use Rattle.std.proofs.Common.{◌∙◌, ap, arith}
+use Rattle.std.proofs.Common.{◌≡◌, ◌≢◌, ℕ, ◌+◌, ◌*◌, ◌%◌, ◌<◌, ◌≤◌, Bool, true, false, List, refl, sym, ◌∙◌, ap, arith}
 use Rattle.std.specs.Prelude.{not, nat_le, Option, Some, None, option_map, slice_index, if◌then◌else◌}
 use Rattle.std.proofs.lemmas.List.{get_or_past}
 use Rattle.mk_never.specs.NeverHeap.{global_at}
@@ -27,15 +26,6 @@ use Rattle.mk_trace.proofs.FoundObjects.{PointsToCell, frees_nothing, points_to_
 use Rattle.mk_trace.proofs.LookedTables.{leaves_then}
 
 -- looks, one after the other
-
-pub looks_none : (c : Config) (es : List Event) → OnlyLooks c es es
-looks_none c es = record {
-  calls = refl;
-  leaves = record { phase = refl; found = refl; count = refl; allocations = refl };
-  table = record { allocations = refl; words = refl };
-  most = λ measure. refl;
-  exact = λ before. before;
-}
 
 pub looks_twice : (c : Config) (es fs gs : List Event) → OnlyLooks c es fs → OnlyLooks c fs gs → OnlyLooks c es gs
 looks_twice c es fs gs one two = record {

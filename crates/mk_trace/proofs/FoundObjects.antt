@@ -1,8 +1,8 @@
--- What a global shows between calls: the cell of the allocation that it points to, its words, and whether it is freed.
-use Rattle.std.proofs.Common.{◌≡◌, ◌≢◌, inl, inr, ℕ, ◌+◌, ◌<◌, Bool, false, List, length, refl, sym, ◌∙◌}
-use Rattle.std.proofs.Common.{ap, subst, arith}
+-- What freed bits and globals show between calls.
+use Rattle.std.proofs.Common.{◌≡◌, ◌≢◌, ⊎_elim, inl, inr, ℕ, ◌<◌, Bool, true, false, List, length, sym, ◌∙◌, ap, ◌+◌}
+use Rattle.std.proofs.Common.{refl, subst, arith}
 use Rattle.std.specs.Prelude.{not, nat_le, Some, None, slice_index, if◌then◌else◌}
-use Rattle.std.proofs.Math.ListN.{get_or-map as get_or-map-default}
+use Rattle.std.proofs.lemmas.Bool.{cases_Bool, eqb-true, false_from_ne_true, true≢false}
 use Rattle.mk_never.specs.declared.types.Kind.{Kind}
 use Rattle.mk_never.specs.declared.values.Value.{Value}
 use Rattle.mk_never.specs.declared.values.Value.TheVariants.{Null, Num, Ptr}
@@ -14,25 +14,115 @@ use Rattle.mk_never.specs.Types.{kinds_of, is_large}
 use Rattle.mk_geom.specs.declared.addresses.Cell.{Cell}
 use Rattle.mk_geom.specs.Addresses.{address_of}
 use Rattle.mk_geom.specs.StorageWords.{IsWordOf}
+use Rattle.std.proofs.Math.ListN.{get_or-map as get_or-map-default}
 use Rattle.mk_core.specs.declared.config.Config.{Config}
 use Rattle.mk_core.specs.declared.events.Event.{Event}
-use Rattle.mk_core.specs.Allocations.{PlacedAllocation, cell_of_allocation, never_granted, placed_at, storage_of}
+use Rattle.mk_core.specs.Allocations.{PlacedAllocation, cell_of_allocation, placed_at, never_granted, storage_of}
 use Rattle.mk_core.specs.Allocations.{storage_words}
-use Rattle.mk_core.specs.StandingAllocations.{object_placed}
-use Rattle.mk_core.specs.Cells.{cell_words, is_freed, pointed_cell}
-use Rattle.mk_core.specs.History.{IsHistory, bases_of, left, never_behind}
-use Rattle.mk_core.specs.Image.{image_of}
+use Rattle.mk_core.specs.Cells.{is_freed, cell_words, pointed_cell}
+use Rattle.mk_core.specs.History.{IsHistory, left, bases_of, never_behind}
+use Rattle.mk_core.specs.Moments.{is_phase}
 use Rattle.mk_core.specs.Words.{Words, phase_of}
+use Rattle.mk_core.specs.StandingAllocations.{object_placed}
+use Rattle.mk_core.specs.Image.{image_of}
 use Rattle.mk_core.proofs.PointedAllocations.{word_points}
 use Rattle.mk_core.proofs.StandingAllocations.{cells_begin, storage_holds, typed_size}
 use Rattle.mk_core.proofs.Sizes.{large_is_not_small, words_are_small}
+use Rattle.mk_layout.specs.Quarantine.{IsFreedCell, IsQuarantined}
+use Rattle.mk_layout.specs.LayoutScene.{is_released_in}
+use Rattle.mk_layout.proofs.Settled.{unreleased_are_apart}
+use Rattle.mk_invariant.proofs.Histories.{histories_keep_the_invariant}
 use Rattle.mk_layout.specs.SettledPages.{StandsUsed}
 use Rattle.mk_images.specs.Mirrors.{Mirrors}
 use Rattle.mk_images.proofs.Kept.{exists_placed}
-use Rattle.mk_invariant.proofs.Histories.{histories_keep_the_invariant}
 use Rattle.mk_invariant.proofs.Theorems.{allocations_stand, reach_is_kept}
-use Rattle.mk_trace.specs.Freeing.{unfreed}
-use Rattle.mk_trace.proofs.SettledBits.{bit_tells_freed}
+use Rattle.mk_trace.specs.Freeing.{AreLater, unfreed}
+
+-- Freed bits between calls: those of the allocations that are freed and unreleased, and no others.
+
+-- The cell follows from the place and the type.
+pub cell_by : (c : Config) (a b : PlacedAllocation) → a.base ≡ b.base → a.ty ≡ b.ty
+    → cell_of_allocation c a ≡ cell_of_allocation c b
+cell_by c a b base ty =
+    ap (λ (n : ℕ). cell_of_allocation c (record a { base = n })) base
+    ∙ ap (λ (n : ℕ). cell_of_allocation c (record b { ty = n })) ty
+
+module _ (c : Config) (es : List Event) (history : IsHistory c es) (out : phase_of (left c es).now.words ≢ 4) where
+  abbrev placed : List PlacedAllocation
+  placed = (left c es).allocations
+
+  abbrev shown : Words
+  shown = (left c es).now.words
+
+  quarantined : IsQuarantined c (left c es)
+  quarantined = (histories_keep_the_invariant c es history).order.quarantined
+
+  not_releasing : is_phase shown 4 ≡ false
+  not_releasing = false_from_ne_true (is_phase shown 4) (λ is. out (eqb-true (phase_of shown) 4 is))
+
+  pub owner : (cell : Cell) → is_freed shown cell ≡ true → IsFreedCell c placed cell.page cell.index
+  owner cell is =
+      ⊎_elim
+      (λ (x : IsFreedCell c placed cell.page cell.index). x)
+      (λ (x : is_released_in (is_phase shown 4) shown.snapshot shown.marks cell.page cell.index ≡ true).
+      absurd (true≢false (sym x
+      ∙ ap (λ (b : Bool). is_released_in b shown.snapshot shown.marks cell.page cell.index) not_releasing)))
+      (quarantined.owned cell.page cell.index is)
+
+  -- The bit of an unreleased allocation's cell says whether it is freed.
+  pub bit_tells_freed : (i : ℕ) → (placed_at placed i).released ≡ false
+      → is_freed shown (cell_of_allocation c (placed_at placed i)) ≡ (placed_at placed i).freed
+  bit_tells_freed i unreleased = elim (cases_Bool (placed_at placed i).freed) [
+    | inl freed ↦ quarantined.shown i unreleased freed ∙ sym freed
+    | inr unfreed ↦
+        false_from_ne_true (is_freed shown (cell_of_allocation c (placed_at placed i))) (λ is.
+        (let x = owner (cell_of_allocation c (placed_at placed i)) is in
+        let same : i ≡ x.number =
+        unreleased_are_apart c es (histories_keep_the_invariant c es history).order.laid i x.number unreleased
+        x.unreleased (sym x.cell) in
+        true≢false (sym x.freed ∙ ap (λ (k : ℕ). (placed_at placed k).freed) (sym same) ∙ unfreed)))
+        ∙ sym unfreed
+  ]
+
+-- What was unreleased before, and is freed after a call: its bit says whether it is released by then.
+module _ (c : Config) (es fs : List Event) (before : IsHistory c es) (behind : IsHistory c fs)
+    (later : AreLater (left c es).allocations (left c fs).allocations)
+    (old : (j : ℕ) → (placed_at (left c fs).allocations j).freed ≡ true → j < length (left c es).allocations)
+    (out : phase_of (left c fs).now.words ≢ 4) where
+  was_unreleased : (j : ℕ) → j < length (left c es).allocations
+      → (placed_at (left c fs).allocations j).released ≡ false
+      → (placed_at (left c es).allocations j).released ≡ false
+  was_unreleased j lt unreleased =
+      false_from_ne_true (placed_at (left c es).allocations j).released (λ is.
+      true≢false (sym (later.released j lt is) ∙ unreleased))
+
+  same_cell : (j : ℕ) → j < length (left c es).allocations
+      → cell_of_allocation c (placed_at (left c fs).allocations j)
+      ≡ cell_of_allocation c (placed_at (left c es).allocations j)
+  same_cell j lt =
+      cell_by c (placed_at (left c fs).allocations j) (placed_at (left c es).allocations j) (later.base j lt)
+      (later.ty j lt)
+
+  pub bit_tells_released : (i : ℕ) → (placed_at (left c es).allocations i).released ≡ false
+      → (placed_at (left c fs).allocations i).freed ≡ true
+      → is_freed (left c fs).now.words (cell_of_allocation c (placed_at (left c es).allocations i))
+      ≡ not (placed_at (left c fs).allocations i).released
+  bit_tells_released i unreleased freed = elim (cases_Bool (placed_at (left c fs).allocations i).released) [
+    | inr still ↦
+        ap (λ (cell : Cell). is_freed (left c fs).now.words cell) (sym (same_cell i (old i freed)))
+        ∙ bit_tells_freed c fs behind out i still ∙ freed ∙ ap (λ (b : Bool). not b) (sym still)
+    | inl gone ↦
+        false_from_ne_true _ (λ is.
+        (let x = owner c fs behind out (cell_of_allocation c (placed_at (left c es).allocations i)) is in
+        let lt = old x.number x.freed in
+        let same : i ≡ x.number =
+        unreleased_are_apart c es (histories_keep_the_invariant c es before).order.laid i x.number unreleased
+        (was_unreleased x.number lt x.unreleased) (sym x.cell ∙ same_cell x.number lt) in
+        true≢false (sym gone ∙ ap (λ (k : ℕ). (placed_at (left c fs).allocations k).released) same ∙ x.unreleased)))
+        ∙ ap (λ (b : Bool). not b) (sym gone)
+  ]
+
+-- What a global shows between calls: the cell of the allocation that it points to, its words, and whether it is freed.
 
 module _ (c : Config) (es : List Event) (history : IsHistory c es) (slot : ℕ) where
   abbrev n : NeverState

@@ -1,6 +1,5 @@
 -- What frees an object decides a Free.
-use Rattle.std.proofs.Common.{◌≡◌, ℕ, Bool, true, false, refl}
-use Rattle.std.proofs.Common.{◌∙◌, ap}
+use Rattle.std.proofs.Common.{◌≡◌, ℕ, Bool, true, false, refl, ◌∙◌, ap}
 use Rattle.std.specs.Prelude.{◌&&◌, ◌||◌, not, Option, Some, None, is_some, if◌then◌else◌}
 use Rattle.std.specs.List.{list_any}
 use Rattle.mk_never.specs.declared.operations.Op.{Op}
@@ -73,7 +72,8 @@ pub frees_decide : (c : Config) (m : Moment) (seat : Seat) (s : Step) → decide
 frees_decide c m seat (step.Quar p v) h = quar_decides c m seat p v h
 frees_decide c m seat _ h = cc
 
-pub freeing_decides : (c : Config) (m : Moment) (seat : Seat) (p v : ℕ) (cell : Cell)
-    → cell_freed c.pages m.words (flight_of m seat) p v ≡ Some cell
-    → list_any is_free_call (call_decided c m (record { seat = seat; step = step.Quar p v })) ≡ true
-freeing_decides c m seat p v cell is = quar_decides c m seat p v (ap (λ (x : Option Cell). is_some x) is)
+-- What frees is a `quar`.
+pub freeing_is : (kind : Step → Bool) → ((p v : ℕ) → kind (step.Quar p v) ≡ false) → (c : Config) (m : Moment)
+    (f : Flight) (x : Step) → decides_freed c m f x ≡ true → kind x ≡ false
+freeing_is kind quar c m f (step.Quar p v) h = quar p v
+freeing_is kind quar c m f _ h = cc

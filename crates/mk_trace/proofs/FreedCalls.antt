@@ -1,33 +1,170 @@
--- What is quarantined over a call of the caller: the most is that before, or where a Free has freed its object.
-use Rattle.std.proofs.Common.{◌≡◌, ℕ, ◌+◌, max, Bool, true, List, [], ◌∷◌, ◌++◌, refl, sym, ◌∙◌, ap, subst}
-use Rattle.std.specs.Prelude.{Some}
-use Rattle.std.proofs.lemmas.List.{append_cancel_left}
+-- What is freed and quarantined over a call of the caller, and all that the call does.
+use Rattle.std.proofs.Common.{◌≡◌, ℕ, ◌+◌, ◌*◌, ◌<◌, Bool, false, List, ◌++◌, length, refl, sym, ◌∙◌, ap, subst, arith}
+use Rattle.std.proofs.Common.{inl, inr, true, append_assoc, max, ◌∷◌, []}
+use Rattle.std.specs.Prelude.{◌||◌, Some}
+use Rattle.std.specs.List.{list_any}
+use Rattle.std.proofs.lemmas.Bool.{true≢false, cases_Bool}
 use Rattle.mk_never.specs.declared.operations.Op.{Op}
 use Rattle.mk_never.specs.declared.operations.Op.TheVariants as op
+use Rattle.mk_never.specs.NeverHeap.{NeverState, after_calls, after_free, allocation_at, register_at}
+use Rattle.mk_never.specs.Reach.IsReachable.{by_register}
 use Rattle.mk_core.specs.declared.config.Config.{Config}
 use Rattle.mk_core.specs.declared.events.Answer.{Answer}
 use Rattle.mk_core.specs.declared.events.Event.{Event}
-use Rattle.mk_core.specs.declared.events.Seat.TheVariants.{Caller}
-use Rattle.mk_core.specs.Allocations.{PlacedAllocation}
+use Rattle.mk_core.specs.Allocations.{PlacedAllocation, placed_at}
+use Rattle.mk_core.specs.Decided.{Decided, asked, entry_of}
+use Rattle.mk_core.specs.History.{IsHistory, World, calls_from, left, never_behind, first_world, world_behind}
+use Rattle.mk_core.proofs.HistoryParts.{earlier_part_is_history, left_in_parts, never_in_parts}
+use Rattle.mk_core.specs.declared.events.Step.{Step}
+use Rattle.mk_core.specs.declared.events.Step.TheVariants as step
+use Rattle.mk_core.specs.Counts.{decides_freed}
+use Rattle.mk_core.specs.Cycles.{is_begin, is_release}
+use Rattle.mk_core.specs.Moments.{flight_of}
 use Rattle.mk_core.specs.Calls.{is_under_turn}
-use Rattle.mk_core.specs.Decided.{entry_of}
-use Rattle.mk_core.specs.Growing.{Grows}
-use Rattle.mk_core.specs.History.{IsHistory, World, calls, calls_from, first_world, left, world_behind}
-use Rattle.mk_core.proofs.HistoryParts.{calls_in_parts}
-use Rattle.mk_words.specs.Seats.{HasAll, without_seat}
+use Rattle.mk_images.proofs.Kept.{exists_placed}
+use Rattle.mk_invariant.proofs.Theorems.{reach_is_kept}
+use Rattle.mk_alloc.proofs.ListParts.{none_at, lacks_append}
 use Rattle.mk_words.specs.States.{PassState, WordsState}
-use Rattle.mk_heap.specs.Hosts.{HostState, pass_for}
-use Rattle.mk_alloc.specs.TurnCalls.{CalledInTurn}
-use Rattle.mk_run.specs.Scripts.{Answers, unflagged}
-use Rattle.mk_trace.specs.Calls.{Calls, IsHome}
-use Rattle.mk_trace.specs.Freeing.{FlagsBehindCall, IsMostWhereFreed, QuarantinesMostWhereFreed, freed_words}
+use Rattle.mk_alloc.specs.TurnCycles.{FreeIsExact, FreesFirst, IsDueIn, has_step, is_of_cycle}
+use Rattle.mk_heap.specs.Hosts.{HostState}
+use Rattle.mk_run.specs.Scripts.{unflagged}
+use Rattle.mk_trace.specs.Freeing.{AreLater, FlagsBehind, number_freed, FlagsBehindCall, IsMostWhereFreed}
+use Rattle.mk_trace.specs.Freeing.{QuarantinesMostWhereFreed, freed_words}
+use Rattle.mk_trace.specs.Calls.{Calls, IsHome, HoldsMostAtEnd}
 use Rattle.mk_trace.specs.Peaks.{greatest, greatest_from, quarantined_words, reserved_words}
-use Rattle.mk_trace.proofs.CallFlags.{flags_behind}
-use Rattle.mk_trace.proofs.EndsInCalls.{mine, seen_by, the_rest, whole}
-use Rattle.mk_trace.proofs.FreePieces.{releases_late}
-use Rattle.mk_trace.proofs.FreedMost.{MostWhereFreed, ReleasesLate, free_most, no_more_without_free}
+use Rattle.mk_trace.specs.Ends.{EndsTell, LeavesAllocations}
+use Rattle.mk_trace.proofs.FlagSteps.{is_freed_behind, is_freed_there, others_kept, points_there, twins, was_unfreed}
+use Rattle.mk_trace.proofs.FlagSteps.{later_left}
+use Rattle.mk_trace.proofs.FreeCalls.{flagged_free, is_free, is_free_call}
+use Rattle.mk_trace.proofs.FoundByEnds.{none_freed_from}
+use Rattle.mk_trace.proofs.JoinedCalls.{InTurn, Joined, acts, before, before_lacks, exact, in_parts, last, called}
+use Rattle.mk_trace.proofs.JoinedCalls.{decided, whole}
+use Rattle.mk_trace.proofs.EndsInLists.{first_at, lacks_by}
+use Rattle.mk_trace.proofs.FreedMost.{FreesBefore, ReleasesLate, MostWhereFreed, free_most, no_more_without_free}
+use Rattle.mk_trace.proofs.OwnPieces.{within_is}
+use Rattle.mk_trace.proofs.OneCaller.{callers_at_home}
+use Rattle.mk_trace.proofs.HeldCalls.{held_at_end}
+use Rattle.mk_trace.proofs.EndsInCalls.{ends_told, beside_leaves}
 use Rattle.mk_trace.proofs.FreedWords.{large_weight, quarantined_is, reserved_is, storage_weight, weighed}
-use Rattle.mk_trace.proofs.TurnPieces.{turn_seen}
+
+-- What a call does to the flags of allocations: its operation frees one, or none.
+
+module _ (c : Config) (es more : List Event) (whole : IsHistory c (es ++ more)) where
+  abbrev xs : List PlacedAllocation
+  xs = (left c es).allocations
+
+  abbrev ys : List PlacedAllocation
+  ys = (left c (es ++ more)).allocations
+
+  later : AreLater xs ys
+  later =
+      subst (λ (w : World). AreLater xs w.allocations) (sym (left_in_parts c es more)) (later_left c (left c es) more)
+
+  none_by : (n : NeverState) (o : Op) → is_free o ≡ false → (i : ℕ) → number_freed n o ≡ Some i → ⊥
+  none_by n (op.Free p) other i is = true≢false other
+  none_by n o other i is = absurd cc
+
+  flags_of_other : (o : Op) (a : Answer) → is_free o ≡ false
+      → calls_from c (left c es) more ≡ entry_of 0 o (Some a)
+      → FlagsBehind xs ys (number_freed (never_behind c es) o)
+  flags_of_other o a other one = record {
+    later = later;
+    kept = λ i out.
+        ap (λ (w : World). (placed_at w.allocations i).freed) (left_in_parts c es more)
+        ∙ none_freed_from c (left c es) more
+        (ap (λ (l : List Decided). list_any is_free_call l) one
+        ∙ ap (λ (b : Bool). b || false) (flagged_free o a ∙ other))
+        i;
+    frees = λ i is. absurd (none_by (never_behind c es) o other i is);
+  }
+
+  flags_of_free : (r : ℕ) (a : Answer) → calls_from c (left c es) more ≡ entry_of 0 (op.Free r) (Some a)
+      → FlagsBehind xs ys (number_freed (never_behind c es) (op.Free r))
+  flags_of_free r a one =
+      let n : NeverState = never_behind c es in
+      let v = register_at n 0 r in
+      let before = earlier_part_is_history c es more whole in
+      let never : never_behind c (es ++ more) ≡ after_free n v =
+      never_in_parts c es more ∙ ap (λ (l : List Decided). after_calls n (asked l)) one in
+      let there : (i : ℕ) → (placed_at ys i).freed ≡ (allocation_at (after_free n v) i).freed =
+      λ i. is_freed_there c (es ++ more) whole i ∙ ap (λ (m : NeverState). (allocation_at m i).freed) never in
+      record {
+        later = later;
+        kept = λ i out. there i ∙ others_kept n v i out ∙ sym (is_freed_there c es before i);
+        frees = λ i is.
+            (let unreleased : (placed_at xs i).released ≡ false =
+            reach_is_kept c es before i (by_register (8 * 0 + r) i (points_there n v i is)) in
+            let lt : i < length xs = exists_placed xs i unreleased in
+            record {
+              exists = lt;
+              unreleased = unreleased;
+              before = is_freed_there c es before i ∙ was_unfreed n v i is;
+              behind = there i ∙ is_freed_behind n v i is (omega (arith, lt, (twins c es before).count));
+            });
+      }
+
+  pub flags_behind : (o : Op) (a : Answer) → calls_from c (left c es) more ≡ entry_of 0 o (Some a)
+      → FlagsBehind xs ys (number_freed (never_behind c es) o)
+  flags_behind (op.Free r) a one = flags_of_free r a one
+  flags_behind o a one = flags_of_other o a refl one
+
+-- What is seen of a Free's call: where something is released, an event before that frees.
+
+release_of_cycle : (s : Step) → is_of_cycle s ≡ false → is_release s ≡ false
+release_of_cycle step.Release h = cc
+release_of_cycle _ h = refl
+
+module _ {on : Bool} {h : HostState} {o : Op} {told : Answer} {q : PassState} {fs : List Event}
+    (j : Joined on h o told q fs) (r : ℕ) (turn : InTurn j (op.Free r)) where
+  abbrev config : Config
+  config = h.pass.table.config
+
+  abbrev prior : List Event
+  prior = before j (op.Free r) turn
+
+  abbrev part : List Event
+  part = acts j (op.Free r) turn
+
+  abbrev give : List Event
+  give = last j (op.Free r) turn
+
+  is_exact : FreeIsExact on turn.ends.turn
+  is_exact = exact j (op.Free r) turn
+
+  releases_none : (es : List Event) → has_step is_of_cycle es ≡ false → has_step is_release es ≡ false
+  releases_none es none = lacks_by is_of_cycle is_release release_of_cycle es none
+
+  none_prior : has_step is_release prior ≡ false
+  none_prior = before_lacks j (op.Free r) turn is_release (λ y. refl)
+
+  frees_before : FreesFirst turn.ends.turn → FreesBefore config h.pass.seen j.own.more
+  frees_before first =
+      let d = first.due in
+      record {
+        before = prior ++ d.before;
+        event = d.event;
+        behind = d.behind ++ give;
+        is = in_parts j (op.Free r) turn ∙ ap (λ (l : List Event). prior ++ (l ++ give)) d.is ∙ simp append_assoc;
+        none_before = lacks_append is_release prior d.before none_prior (releases_none d.before first.no_cycle);
+        decides =
+            subst (λ (w : World). decides_freed config w.now (flight_of w.now d.event.seat) d.event.step ≡ true)
+            (ap (λ (l : List Event). left config l) (within_is turn d.before)) d.due.decides;
+      }
+
+  -- A cycle begins in the turn, after what frees, or nothing is released.
+  pub releases_late : ReleasesLate config h.pass.seen j.own.more
+  releases_late = elim (cases_Bool (has_step is_begin part)) [
+    | inl begins ↦ inr (frees_before (is_exact.first (is_exact.begins.0 (first_at is_begin part begins).at)))
+    | inr none ↦
+        inl (ap (λ (l : List Event). has_step is_release l) (in_parts j (op.Free r) turn)
+        ∙ lacks_append is_release prior (part ++ give) none_prior
+        (lacks_append is_release part give
+        (releases_none part (is_exact.undue
+        (λ (due : IsDueIn turn.ends.turn). none_at is_begin part none (is_exact.begins.1 due))))
+        refl))
+  ]
+
+-- What is quarantined over a call of the caller: the most is that before, or where a Free has freed its object.
 
 -- The same measure in other words
 
@@ -59,74 +196,50 @@ quarantines_most c es o fs most = record {
   reserved = in_other_words c (reserved_words c) (large_weight c) (reserved_is c) es o fs (most (large_weight c));
 }
 
-module _ (h : HostState) (on : Bool) (o : Op) (told : Answer) (q : PassState)
-    (a : Answers on (pass_for h (Caller 0)) o told q) (fs : List Event)
-    (own : Grows (without_seat (Caller 0) h.pass.seats) h.pass.seen fs) (came : Grows q.seats q.seen fs)
-    (all : HasAll h.pass.table.config h.pass.seats) (history : IsHistory h.pass.table.config fs) where
+module _ {on : Bool} {h : HostState} {o : Op} {told : Answer} {q : PassState} {fs : List Event}
+    (j : Joined on h o told q fs) where
   abbrev c : Config
   c = h.pass.table.config
-
-  abbrev p : PassState
-  p = pass_for h (Caller 0)
 
   abbrev es : List Event
   es = h.pass.seen
 
-  late : (r : ℕ) → CalledInTurn on p (op.Free r) a.answer q → ReleasesLate c es own.more
-  late r turn =
-      releases_late on p r a.answer q turn (without_seat (Caller 0) h.pass.seats) own.more
-      (seen_by h on o told q a fs own came all history _ (turn_seen on p (op.Free r) a.answer q turn))
-      (the_rest h on o told q a fs own came all history) (mine h on o told q a fs own came all history)
-
-  most_by : (weight : ℕ → ℕ) (x : Op) (said : Answer)
-      → (is_under_turn x ≡ true → CalledInTurn on p (unflagged x) a.answer q)
-      → calls_from c (left c es) own.more ≡ entry_of 0 x (Some said)
-      → MostWhereFreed weight c es x (es ++ own.more)
+  most_by : (weight : ℕ → ℕ) (x : Op) (said : Answer) → (is_under_turn x ≡ true → InTurn j (unflagged x))
+      → calls_from c (left c es) j.own.more ≡ entry_of 0 x (Some said)
+      → MostWhereFreed weight c es x (es ++ j.own.more)
   most_by weight (op.Free r) said in_turn one =
-      free_most weight c es own.more r said (whole h on o told q a fs own came all history) one (late r (in_turn refl))
-  most_by weight x said in_turn one = no_more_without_free weight c es own.more x said one refl
-
-  one_call : (made : Calls c es o told fs) → calls_from c (left c es) own.more ≡ entry_of 0 o (Some made.answer)
-  one_call made =
-      append_cancel_left (calls c es) (calls_from c (left c es) own.more) (entry_of 0 o (Some made.answer))
-      (sym (calls_in_parts c es own.more) ∙ sym (ap (λ (l : List Event). calls c l) own.is) ∙ made.entry)
+      free_most weight c es j.own.more r said (whole j) one (releases_late j r (in_turn refl))
+  most_by weight x said in_turn one = no_more_without_free weight c es j.own.more x said one refl
 
   pub quarantined_meanwhile : Calls c es o told fs → QuarantinesMostWhereFreed c es o fs
   quarantined_meanwhile made =
-      subst (λ (l : List Event). QuarantinesMostWhereFreed c es o l) (sym own.is)
-      (quarantines_most c es o (es ++ own.more) (λ weight. most_by weight o made.answer a.in_turn (one_call made)))
+      subst (λ (l : List Event). QuarantinesMostWhereFreed c es o l) (sym j.own.is)
+      (quarantines_most c es o (es ++ j.own.more)
+      (λ weight. most_by weight o made.answer j.answers.in_turn (decided j made)))
 
   pub flagged_behind : Calls c es o told fs → FlagsBehindCall c es o fs
   flagged_behind made =
-      subst (λ (l : List Event). FlagsBehindCall c es o l) (sym own.is)
-      (flags_behind c es own.more (whole h on o told q a fs own came all history) o made.answer (one_call made))
+      subst (λ (l : List Event). FlagsBehindCall c es o l) (sym j.own.is)
+      (flags_behind c es j.own.more (whole j) o made.answer (decided j made))
 
--- The caller that the host makes again, and joins.
-module _ (w : WordsState) (h : HostState) (p : PassState) (on : Bool) (o : Op) (told : Answer) (q : PassState)
-    (fs : List Event) (home : IsHome w h) (is : p ≡ pass_for h (Caller 0)) (answers : Answers on p o told q)
-    (own : Grows (without_seat (Caller 0) h.pass.seats) h.pass.seen fs) (came : Grows q.seats q.seen fs)
-    (history : IsHistory w.config fs) (made : Calls w.config h.pass.seen o told fs) where
-  back : w ≡ h.pass.table
-  back = sym home.table
+-- All that a call of the one caller does.
+pub record Does (on : Bool) (c : Config) (es : List Event) (o : Op) (told : Answer) (fs : List Event) : Type 0 where
+  pub calls : Calls c es o told fs
+  pub held : HoldsMostAtEnd c es fs
+  pub ends : on ≡ false → EndsTell c es fs
+  pub beside : is_under_turn o ≡ false → LeavesAllocations c es fs
+  pub quarantines : QuarantinesMostWhereFreed c es o fs
+  pub flags : FlagsBehindCall c es o fs
 
-  told_home : Answers on (pass_for h (Caller 0)) o told q
-  told_home = subst (λ (x : PassState). Answers on x o told q) is answers
-
-  all_home : HasAll h.pass.table.config h.pass.seats
-  all_home = subst (λ (x : WordsState). HasAll x.config h.pass.seats) back home.all
-
-  history_home : IsHistory h.pass.table.config fs
-  history_home = subst (λ (x : WordsState). IsHistory x.config fs) back history
-
-  made_home : Calls h.pass.table.config h.pass.seen o told fs
-  made_home = subst (λ (x : WordsState). Calls x.config h.pass.seen o told fs) back made
-
-  pub call_quarantines : QuarantinesMostWhereFreed w.config h.pass.seen o fs
-  call_quarantines =
-      subst (λ (x : WordsState). QuarantinesMostWhereFreed x.config h.pass.seen o fs) home.table
-      (quarantined_meanwhile h on o told q told_home fs own came all_home history_home made_home)
-
-  pub call_flags : FlagsBehindCall w.config h.pass.seen o fs
-  call_flags =
-      subst (λ (x : WordsState). FlagsBehindCall x.config h.pass.seen o fs) home.table
-      (flagged_behind h on o told q told_home fs own came all_home history_home made_home)
+pub call_does : {on : Bool} {h : HostState} {o : Op} {told : Answer} {q : PassState} {fs : List Event}
+    (w : WordsState) → IsHome w h → Joined on h o told q fs → Does on w.config h.pass.seen o told fs
+call_does {on} {h} {o} {told} {q} {fs} w home j =
+    let made = called j (callers_at_home w h home) in
+    subst (λ (x : WordsState). Does on x.config h.pass.seen o told fs) home.table (record {
+      calls = made;
+      held = held_at_end j made;
+      ends = λ off. ends_told j off made;
+      beside = beside_leaves j;
+      quarantines = quarantined_meanwhile j made;
+      flags = flagged_behind j made;
+    })

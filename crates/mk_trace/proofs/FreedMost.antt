@@ -1,10 +1,10 @@
--- The most words that were quarantined over a call: a Free alone makes them more, before it releases any.
-use Rattle.std.proofs.Common.{◌≡◌, ◌⊎◌, inl, inr, ℕ, ◌+◌, ◌*◌, max, Bool, true, false, List, [], ◌∷◌, ◌++◌, refl, sym}
-use Rattle.std.proofs.Common.{◌∙◌, ap, subst, arith, append_assoc, append-nil}
-use Rattle.std.specs.Prelude.{◌||◌, Option, Some, None, is_some}
+-- The most words that were quarantined over a call.
+use Rattle.std.proofs.Common.{◌≡◌, ℕ, ◌≤◌, Bool, true, false, List, [], ◌∷◌, ◌++◌, refl, ap, arith, inl, inr, ◌⊎◌, ◌+◌}
+use Rattle.std.proofs.Common.{◌*◌, max, sym, ◌∙◌, subst, append_assoc, append-nil}
+use Rattle.std.specs.Prelude.{◌&&◌, ◌||◌, not, Option, if◌then◌else◌, Some, None}
 use Rattle.std.specs.List.{list_any}
-use Rattle.std.proofs.lemmas.Bool.{or_from, true≢false}
-use Rattle.std.proofs.lemmas.List.Folds.{list_any-append}
+use Rattle.std.proofs.lemmas.Bool.{or_parts, true≢false}
+use Rattle.std.proofs.lemmas.List.Sums.{sum_by-cons, sum_by-append}
 use Rattle.mk_never.specs.declared.operations.Op.{Op}
 use Rattle.mk_never.specs.declared.operations.Op.TheVariants as op
 use Rattle.mk_never.specs.declared.values.Value.{Value}
@@ -12,36 +12,121 @@ use Rattle.mk_never.specs.NeverHeap.{NeverState, after_calls, after_free, regist
 use Rattle.mk_never.specs.Reach.{IsReachable}
 use Rattle.mk_never.specs.Reach.IsReachable.{by_register}
 use Rattle.mk_geom.specs.declared.addresses.Cell.{Cell}
+use Rattle.mk_geom.specs.Addresses.{address_of}
 use Rattle.mk_core.specs.declared.config.Config.{Config}
-use Rattle.mk_core.specs.declared.events.Answer.{Answer}
 use Rattle.mk_core.specs.declared.events.Event.{Event}
-use Rattle.mk_core.specs.declared.events.Seat.{Seat}
 use Rattle.mk_core.specs.declared.events.Step.{Step}
 use Rattle.mk_core.specs.declared.events.Step.TheVariants as step
 use Rattle.mk_core.specs.declared.seats.Flight.{Flight}
-use Rattle.mk_core.specs.Allocations.{PlacedAllocation}
-use Rattle.mk_core.specs.Counts.{decides_freed}
+use Rattle.mk_core.specs.Allocations.{PlacedAllocation, allocations_by, freed_where_it_stands, granted, no_longer_fresh}
+use Rattle.mk_core.specs.Allocations.{stands_in, with_released}
+use Rattle.mk_core.specs.Bounded.{is_some_and}
+use Rattle.mk_core.specs.Cells.{is_left_unmarked, pointed_cell}
 use Rattle.mk_core.specs.Cycles.{is_release}
-use Rattle.mk_core.specs.Decided.{Decided, asked, entry_of}
-use Rattle.mk_core.specs.History.{IsHistory, World, call_decided, calls_from, first_world, left, left_from}
-use Rattle.mk_core.specs.History.{never_behind}
-use Rattle.mk_core.specs.History.{world_behind}
+use Rattle.mk_core.specs.History.{World, left_from, world_behind, IsHistory, call_decided, calls_from, first_world}
+use Rattle.mk_core.specs.History.{left, never_behind}
 use Rattle.mk_core.specs.Moments.{Moment, flight_of}
 use Rattle.mk_core.specs.TurnConditions.{cell_freed}
+use Rattle.mk_core.specs.Words.{Words}
+use Rattle.mk_core.specs.Counts.{decides_freed}
+use Rattle.mk_core.specs.declared.events.Answer.{Answer}
+use Rattle.mk_core.specs.Decided.{Decided, asked, entry_of}
 use Rattle.mk_core.proofs.Histories.{calls_append}
 use Rattle.mk_core.proofs.HistoryParts.{earlier_part_is_history, left_in_parts, never_in_parts}
 use Rattle.mk_alloc.specs.TurnCycles.{has_step}
-use Rattle.mk_trace.specs.Freeing.{number_freed, unfreed, words_of_some}
-use Rattle.mk_trace.specs.Peaks.{greatest, greatest_from}
-use Rattle.mk_trace.proofs.FreedFlags.{points_there}
-use Rattle.mk_trace.proofs.FreedSteps.{falls_without_free}
-use Rattle.mk_trace.proofs.FreedSteps.{rises_without_release}
-use Rattle.mk_trace.proofs.FreedSums.{freed_adds}
-use Rattle.mk_trace.proofs.FreedWords.{weighed}
-use Rattle.mk_trace.proofs.GreatestParts.{from-append, last_below}
-use Rattle.mk_trace.specs.Freeing.{AreLater}
-use Rattle.mk_trace.proofs.LaterFlags.{SameReleased, later_left, same_released}
-use Rattle.mk_trace.proofs.FreeCalls.{flagged_free, freeing_decides, is_free, is_free_call}
+use Rattle.mk_alloc.proofs.ListParts.{lacks_one, lacks_append}
+use Rattle.mk_trace.specs.Peaks.{greatest_from, greatest}
+use Rattle.mk_trace.specs.Freeing.{number_freed, unfreed, words_of_some, AreLater}
+use Rattle.mk_trace.proofs.FreedWords.{part, weighed, sum_falls, sum_rises, freed_adds}
+use Rattle.mk_trace.proofs.FlagSteps.{unfreed_all, points_there, SameReleased, later_left, same_released}
+use Rattle.mk_trace.proofs.FoundByEnds.{FreesNoneFrom, free_parts}
+use Rattle.mk_trace.proofs.PeakParts.{first_below, from-append, last_below}
+use Rattle.mk_trace.proofs.FreeCalls.{freeing_is, flagged_free, is_free, is_free_call, frees_decide}
+
+-- What events do to the words of the quarantined allocations: a free alone makes them more, and a release alone less.
+
+-- What single changes add.
+
+released_part : (n : ℕ) (freed released more : Bool)
+    → (if freed && not (released || more) then n else 0) ≤ (if freed && not released then n else 0)
+released_part n freed released more = grind arith
+
+freed_part : (n : ℕ) (freed released : Bool)
+    → (if freed && not released then n else 0) ≤ (if true && not released then n else 0)
+freed_part n freed released = grind arith
+
+module _ (weight : ℕ → ℕ) where
+  release_falls : (c : Config) (w : Words) (a : PlacedAllocation) → part weight (with_released c w a) ≤ part weight a
+  release_falls c w a =
+      released_part (weight a.ty) a.freed a.released
+      (is_some_and (is_left_unmarked w) (pointed_cell c.pages w.pages (address_of a.base)))
+
+  by_test : (a : PlacedAllocation) (b : Bool)
+      → part weight a ≤ part weight (if b then record a { freed = true; fresh = true } else a)
+  by_test a true = freed_part (weight a.ty) a.freed a.released
+  by_test a false = omega arith
+
+  free_rises : (w : Words) (cell : Option Cell) (a : PlacedAllocation)
+      → part weight a ≤ part weight (freed_where_it_stands w cell a)
+  free_rises w cell a = by_test a (is_some_and (λ (x : Cell). stands_in w x a) cell)
+
+  grant_adds_none : (c : Config) (m : Moment) (f : Flight) (xs : List PlacedAllocation)
+      → weighed weight (xs ++ granted c m f ∷ []) ≡ weighed weight xs
+  grant_adds_none c m f xs =
+      omega (arith, sum_by-append (part weight) xs (granted c m f ∷ []), sum_by-cons (part weight) (granted c m f) [])
+
+  -- One step.
+
+  step_falls : (c : Config) (m : Moment) (f : Flight) (s : Step) (xs : List PlacedAllocation)
+      → decides_freed c m f s ≡ false → weighed weight (allocations_by c m f s xs) ≤ weighed weight xs
+  step_falls c m f step.Grant xs none = let same = grant_adds_none c m f xs in omega arith
+  step_falls c m f (step.Quar p v) xs none =
+      let same = ap (λ (l : List PlacedAllocation). weighed weight l)
+      (unfreed_all m.words (cell_freed c.pages m.words f p v) xs none) in
+      omega arith
+  step_falls c m f step.Begin xs none = sum_falls (part weight) no_longer_fresh (λ a. omega arith) xs
+  step_falls c m f step.Release xs none =
+      sum_falls (part weight) (with_released c m.words) (release_falls c m.words) xs
+  step_falls c m f s xs none = omega arith
+
+  step_rises : (c : Config) (m : Moment) (f : Flight) (s : Step) (xs : List PlacedAllocation) → is_release s ≡ false
+      → weighed weight xs ≤ weighed weight (allocations_by c m f s xs)
+  step_rises c m f step.Release xs none = absurd (true≢false none)
+  step_rises c m f step.Grant xs none = let same = grant_adds_none c m f xs in omega arith
+  step_rises c m f (step.Quar p v) xs none =
+      sum_rises (part weight) (freed_where_it_stands m.words (cell_freed c.pages m.words f p v))
+      (free_rises m.words (cell_freed c.pages m.words f p v)) xs
+  step_rises c m f step.Begin xs none =
+      sum_rises (part weight) no_longer_fresh (λ (a : PlacedAllocation). omega arith) xs
+  step_rises c m f s xs none = omega arith
+
+  -- Lists of events.
+
+  module _ (c : Config) where
+    -- Where no Free is decided, the most was at the first.
+    pub falls_without_free : (w : World) (es : List Event) → FreesNoneFrom c w es
+        → greatest_from c w (weighed weight) es ≡ weighed weight w.allocations
+    unfolding greatest_from
+    falls_without_free w [] none = refl
+    falls_without_free w (e ∷ es) none =
+        let parts = free_parts c w e es none in
+        let one = step_falls c w.now (flight_of w.now e.seat) e.step w.allocations parts.0 in
+        let rest = falls_without_free (world_behind c w e) es parts.1 in
+        omega arith
+
+    -- Where nothing is released, it is at the end.
+    pub rises_without_release : (w : World) (es : List Event) → has_step is_release es ≡ false
+        → greatest_from c w (weighed weight) es ≡ weighed weight (left_from c w es).allocations
+    unfolding greatest_from left_from
+    rises_without_release w [] none = refl
+    rises_without_release w (e ∷ es) none =
+        let parts = or_parts (is_release e.step) (has_step is_release es) none in
+        let one = step_rises c w.now (flight_of w.now e.seat) e.step w.allocations parts.0 in
+        let rest = rises_without_release (world_behind c w e) es parts.1 in
+        let below = first_below c (weighed weight) (world_behind c w e) es in
+        omega arith
+
+-- The most words that were quarantined over a call: a Free alone makes them more, before it releases any.
 
 -- An event frees, before any is released.
 pub record FreesBefore (c : Config) (es more : List Event) : Type 0 where
@@ -122,7 +207,7 @@ module _ (weight : ℕ → ℕ) (c : Config) (es more : List Event) (r : ℕ) (a
 
 -- Where a Free releases, it freed before.
 
-one_of_three : (xs ys zs : List Decided) (x : Decided) → xs ++ (ys ++ zs) ≡ x ∷ [] → list_any is_free_call ys ≡ true
+pub one_of_three : (xs ys zs : List Decided) (x : Decided) → xs ++ (ys ++ zs) ≡ x ∷ [] → list_any is_free_call ys ≡ true
     → (xs ≡ []) × (ys ≡ x ∷ []) × (zs ≡ [])
 one_of_three xs [] zs x is some = absurd (true≢false (sym some))
 one_of_three [] (y ∷ []) [] x is some = (refl, is, refl)
@@ -130,22 +215,6 @@ one_of_three [] (y ∷ []) (z ∷ zs) x is some = absurd cc
 one_of_three [] (y ∷ (v ∷ ys)) zs x is some = absurd cc
 one_of_three (v ∷ []) (y ∷ ys) zs x is some = absurd cc
 one_of_three (v ∷ (u ∷ xs)) (y ∷ ys) zs x is some = absurd cc
-
-no_release : (c : Config) (m : Moment) (f : Flight) (s : Step) → decides_freed c m f s ≡ true → is_release s ≡ false
-no_release c m f (step.Quar p v) decides = refl
-no_release c m f _ decides = cc
-
-some_cell : (x : Option Cell) → is_some x ≡ true → (cell : Cell) × (x ≡ Some cell)
-some_cell (Some cell) is = (cell, refl)
-some_cell None is = absurd cc
-
-decides_call : (c : Config) (m : Moment) (seat : Seat) (s : Step)
-    → decides_freed c m (flight_of m seat) s ≡ true
-    → list_any is_free_call (call_decided c m (record { seat = seat; step = s })) ≡ true
-decides_call c m seat (step.Quar p v) decides =
-    let some = some_cell (cell_freed c.pages m.words (flight_of m seat) p v) decides in
-    freeing_decides c m seat p v some.0 some.1
-decides_call c m seat _ decides = absurd cc
 
 module _ (weight : ℕ → ℕ) (c : Config) (es more : List Event) (r : ℕ) (a : Answer) (whole : IsHistory c (es ++ more))
     (one : calls_from c (left c es) more ≡ entry_of 0 (op.Free r) (Some a)) (f : FreesBefore c es more) where
@@ -161,7 +230,7 @@ module _ (weight : ℕ → ℕ) (c : Config) (es more : List Event) (r : ℕ) (a
   decides : list_any is_free_call (call_decided c at.now f.event) ≡ true
   decides =
       subst (λ (w : World). list_any is_free_call (call_decided c w.now f.event) ≡ true) at_is
-      (decides_call c (left c (es ++ f.before)).now f.event.seat f.event.step f.decides)
+      (frees_decide c (left c (es ++ f.before)).now f.event.seat f.event.step f.decides)
 
   split : calls_from c (left c es) f.before
       ++ (call_decided c at.now f.event ++ calls_from c (world_behind c at f.event) f.behind)
@@ -187,17 +256,14 @@ module _ (weight : ℕ → ℕ) (c : Config) (es more : List Event) (r : ℕ) (a
 
   first_releases_none : has_step is_release first ≡ false
   first_releases_none =
-      list_any-append (λ (e : Event). is_release e.step) f.before (f.event ∷ [])
-      ∙ or_from (has_step is_release f.before) (is_release f.event.step || false) f.none_before
-      (ap (λ (b : Bool). b || false)
-      (no_release c (left c (es ++ f.before)).now (flight_of (left c (es ++ f.before)).now f.event.seat)
-      f.event.step
-      f.decides))
+      lacks_append is_release f.before (f.event ∷ []) f.none_before
+      (lacks_one is_release f.event
+      (freeing_is is_release (λ p v. refl) c (left c (es ++ f.before)).now
+      (flight_of (left c (es ++ f.before)).now f.event.seat) f.event.step f.decides))
 
   in_parts : es ++ more ≡ (es ++ first) ++ f.behind
   in_parts =
-      ap (λ (l : List Event). es ++ l) (f.is ∙ sym (append_assoc f.before (f.event ∷ []) f.behind))
-      ∙ sym (append_assoc es first f.behind)
+      ap (λ (l : List Event). es ++ l) f.is ∙ simp append_assoc
 
   mid_is : left c (es ++ first) ≡ world_behind c at f.event
   unfolding left_from

@@ -1,7 +1,6 @@
 -- The register of a trace's Free points to what the event's slot points to.
-use Rattle.std.proofs.Common.{◌≡◌, ℕ, ◌+◌, ◌*◌, ◌<◌, Bool, true, false, List, [], ◌∷◌, ◌++◌, length, get_or, refl, sym}
-use Rattle.std.proofs.Common.{◌∙◌}
-use Rattle.std.proofs.Common.{ap, subst, arith}
+use Rattle.std.proofs.Common.{◌≡◌, ℕ, ◌+◌, ◌*◌, ◌<◌, Bool, true, false, List, [], ◌∷◌, ◌++◌, length, get_or, refl}
+use Rattle.std.proofs.Common.{sym, ◌∙◌, ap, subst, arith}
 use Rattle.std.specs.Prelude.{◌||◌, take, drop}
 use Rattle.std.specs.List.{list_any}
 use Rattle.std.proofs.lemmas.Bool.{or_parts, true≢false}
@@ -20,7 +19,7 @@ use Rattle.mk_trace.specs.declared.trace.TraceEvent.TheVariants.{A, K, F, C, W}
 use Rattle.mk_trace.specs.Freeing.{FreesItsSlot, FreesSlot}
 use Rattle.mk_trace.specs.Playing.{calls_of_caller, ops_of}
 use Rattle.mk_trace.specs.Traces.{slot_of}
-use Rattle.mk_trace.proofs.LaterOps.{AreCalled}
+use Rattle.mk_trace.proofs.LaterOps.{either_way, AreCalled}
 use Rattle.mk_trace.proofs.OneCaller.{never_behind_all}
 use Rattle.mk_trace.proofs.FreeCalls.{is_free}
 
@@ -31,25 +30,8 @@ no_free ops before o rest p none split is =
     (sym (list_any-append is_free before (o ∷ rest)) ∙ sym (ap (λ (l : List Op). list_any is_free l) split) ∙ none) in
     true≢false (sym (ap is_free is) ∙ (or_parts (is_free o) (list_any is_free rest) parts.1).0)
 
-none_made : (slot : ℕ) (full : Bool) → list_any is_free (ops_of full (A slot)) ≡ false
-none_made slot true = refl
-none_made slot false = refl
-
-none_linked : (slot : ℕ) (full : Bool) → list_any is_free (ops_of full (K slot)) ≡ false
-none_linked slot true = refl
-none_linked slot false = refl
-
-none_cleared : (slot : ℕ) (full : Bool) → list_any is_free (ops_of full (C slot)) ≡ false
-none_cleared slot true = refl
-none_cleared slot false = refl
-
-none_written : (slot index value : ℕ) (full : Bool) → list_any is_free (ops_of full (W slot index value)) ≡ false
-none_written slot index value true = refl
-none_written slot index value false = refl
-
-freed_is : (slot : ℕ) (full : Bool) → ops_of full (F slot) ≡ op.GetGlobal 0 slot ∷ op.Free 0 ∷ op.Clear 0 ∷ []
-freed_is slot true = refl
-freed_is slot false = refl
+abbrev FreesNone : TraceEvent → Bool → Type 0
+FreesNone event full = list_any is_free (ops_of full event) ≡ false
 
 module _ (n : NeverState) (count : length n.registers ≡ 8) (slot : ℕ) where
   loaded : (b : Op) (p : ℕ) → b ≡ op.GetGlobal 0 slot → p ≡ 0
@@ -77,16 +59,19 @@ module _ (n : NeverState) (count : length n.registers ≡ 8) (slot : ℕ) where
 
   frees_event : (event : TraceEvent) → slot_of event ≡ slot → FreesItsSlot n event
   frees_event (A s) same full before o rest split p is =
-      absurd (no_free (ops_of full (A s)) before o rest p (none_made s full) split is)
+      absurd (no_free (ops_of full (A s)) before o rest p (either_way (FreesNone (A s)) refl refl full) split is)
   frees_event (K s) same full before o rest split p is =
-      absurd (no_free (ops_of full (K s)) before o rest p (none_linked s full) split is)
+      absurd (no_free (ops_of full (K s)) before o rest p (either_way (FreesNone (K s)) refl refl full) split is)
   frees_event (C s) same full before o rest split p is =
-      absurd (no_free (ops_of full (C s)) before o rest p (none_cleared s full) split is)
+      absurd (no_free (ops_of full (C s)) before o rest p (either_way (FreesNone (C s)) refl refl full) split is)
   frees_event (W s index value) same full before o rest split p is =
-      absurd (no_free (ops_of full (W s index value)) before o rest p (none_written s index value full) split is)
+      absurd (no_free (ops_of full (W s index value)) before o rest p
+      (either_way (FreesNone (W s index value)) refl refl full) split is)
   frees_event (F s) same full before o rest split p is =
       by_place before o rest p
-      (ap (λ (k : ℕ). op.GetGlobal 0 k ∷ op.Free 0 ∷ op.Clear 0 ∷ []) (sym same) ∙ sym (freed_is s full) ∙ split) is
+      (ap (λ (k : ℕ). op.GetGlobal 0 k ∷ op.Free 0 ∷ op.Clear 0 ∷ []) (sym same)
+      ∙ sym (either_way (λ b. ops_of b (F s) ≡ op.GetGlobal 0 s ∷ op.Free 0 ∷ op.Clear 0 ∷ []) refl refl full)
+      ∙ split) is
       ∙ ap (λ (k : ℕ). global_at (after_calls n (calls_of_caller before)) k) (sym same)
 
 pub frees_its_slot : (c : Config) (es : List Event) → c.callers ≡ 1 → IsHistory c es → (event : TraceEvent)

@@ -1,15 +1,44 @@
--- The words of quarantined allocations, where a type says how many words one has.
-use Rattle.std.proofs.Common.{◌≡◌, ◌≢◌, ℕ, zero, suc, ◌+◌, ◌≤◌, Bool, true, false, List, [], ◌∷◌, length, map}
-use Rattle.std.proofs.Common.{refl, sym, ◌∙◌, ap, arith}
-use Rattle.std.specs.Prelude.{◌&&◌, sum_by, filter, if◌then◌else◌}
-use Rattle.std.proofs.lemmas.List.Sums.{sum_by-cons}
+-- The words of quarantined allocations, and of held ones, where a type says how many words one has.
+use Rattle.std.proofs.Common.{◌≡◌, ◌≢◌, ℕ, zero, suc, ◌+◌, ◌≤◌, Bool, List, [], ◌∷◌, length, map, refl, ◌∙◌, arith, ◌<◌}
+use Rattle.std.proofs.Common.{true, false, sym, ap, inl, inr, ◌++◌}
+use Rattle.std.specs.Prelude.{◌&&◌, sum_by, if◌then◌else◌, not, Option, Some, None, ◌||◌}
+use Rattle.std.proofs.lemmas.List.Sums.{sum_by-cons, sum_by-append}
+use Rattle.std.proofs.lemmas.Bool.{cases_lt}
+use Rattle.std.proofs.lemmas.List.{get_or_past}
 use Rattle.mk_never.specs.Types.{kinds_of, is_large}
+use Rattle.mk_never.specs.declared.values.Value.{Value}
+use Rattle.mk_never.specs.NeverHeap.{NeverState, after_free, allocation_at}
+use Rattle.mk_never.specs.Reach.{IsReachable}
+use Rattle.mk_geom.specs.Addresses.{address_of}
+use Rattle.mk_geom.specs.declared.addresses.Cell.{Cell}
 use Rattle.mk_core.specs.declared.config.Config.{Config}
-use Rattle.mk_core.specs.Allocations.{PlacedAllocation, placed_at}
+use Rattle.mk_core.specs.Allocations.{PlacedAllocation, placed_at, never_granted, allocations_by, freed_where_it_stands}
+use Rattle.mk_core.specs.Allocations.{granted, held_by_allocations, no_longer_fresh, stands_in, storage_words}
+use Rattle.mk_core.specs.Allocations.{with_released}
 use Rattle.mk_core.specs.Cycles.{is_quarantined}
 use Rattle.mk_core.specs.NewPlaces.{object_of}
 use Rattle.mk_core.specs.ObjectHeaders.{words_made}
+use Rattle.mk_core.specs.declared.events.Event.{Event}
+use Rattle.mk_core.specs.History.{IsHistory, left, never_behind, World, world_behind}
+use Rattle.mk_core.specs.declared.events.Step.{Step}
+use Rattle.mk_core.specs.declared.events.Step.TheVariants as step
+use Rattle.mk_core.specs.declared.seats.Flight.{Flight}
+use Rattle.mk_core.specs.Bounded.{is_some_and}
+use Rattle.mk_core.specs.Cells.{is_left_unmarked, pointed_cell}
+use Rattle.mk_core.specs.Moments.{Moment, flight_of}
+use Rattle.mk_core.specs.TurnConditions.{cell_freed}
+use Rattle.mk_core.specs.Words.{Words}
+use Rattle.mk_quarantine.proofs.CountedWords.{sum_filtered}
+use Rattle.mk_images.proofs.Kept.{exists_placed}
+use Rattle.mk_invariant.proofs.Theorems.{reach_is_kept}
+use Rattle.mk_objects.proofs.HeldFreed.{held_part, held_sum}
+use Rattle.mk_alloc.specs.TurnCycles.{is_grant, lets_go}
 use Rattle.mk_trace.specs.Peaks.{quarantined_words, reserved_words}
+use Rattle.mk_trace.specs.Freeing.{unfreed, words_of_some, AreLater}
+use Rattle.mk_trace.proofs.FlagSteps.{as_many_behind, is_freed_behind, is_freed_there, others_kept, twins, was_unfreed}
+use Rattle.mk_trace.proofs.FlagSteps.{SameReleased}
+
+-- The words of quarantined allocations, where a type says how many words one has.
 
 -- what an allocation adds, and what all add
 abbrev pub part : (ℕ → ℕ) → PlacedAllocation → ℕ
@@ -25,40 +54,23 @@ storage_weight c ty = words_made (object_of (kinds_of c.types ty))
 abbrev pub large_weight : Config → ℕ → ℕ
 large_weight c ty = if is_large (kinds_of c.types ty) then storage_weight c ty else 0
 
--- Sums over what passes.
-
-filter_step : (f : PlacedAllocation → ℕ) (a : PlacedAllocation) (rest : List PlacedAllocation) (b : Bool)
-    → sum_by f (if b then a ∷ rest else rest) ≡ (if b then f a else 0) + sum_by f rest
-filter_step f a rest true = sum_by-cons f a rest
-filter_step f a rest false = omega arith
-
-sum_filtered : (p : PlacedAllocation → Bool) (f : PlacedAllocation → ℕ) (xs : List PlacedAllocation)
-    → sum_by f (filter p xs) ≡ sum_by (λ (a : PlacedAllocation). if p a then f a else 0) xs
-sum_filtered p f [] = refl
-sum_filtered p f (a ∷ xs) =
-    filter_step f a (filter p xs) (p a)
-    ∙ ap (λ (n : ℕ). (if p a then f a else 0) + n) (sum_filtered p f xs)
-    ∙ sym (sum_by-cons (λ (x : PlacedAllocation). if p x then f x else 0) a xs)
-
-sum_alike : (f g : PlacedAllocation → ℕ) → ((a : PlacedAllocation) → f a ≡ g a) → (xs : List PlacedAllocation)
-    → sum_by f xs ≡ sum_by g xs
+-- Sums of what is alike.
+pub sum_alike : {X : Type 0} (f g : X → ℕ) → ((x : X) → f x ≡ g x) → (xs : List X) → sum_by f xs ≡ sum_by g xs
 sum_alike f g same [] = refl
-sum_alike f g same (a ∷ xs) =
-    sum_by-cons f a xs ∙ ap (λ (n : ℕ). n + sum_by f xs) (same a)
-    ∙ ap (λ (n : ℕ). g a + n) (sum_alike f g same xs) ∙ sym (sum_by-cons g a xs)
+sum_alike f g same (x ∷ xs) =
+    omega (arith, sum_by-cons f x xs, sum_by-cons g x xs, same x, sum_alike f g same xs)
 
 pub quarantined_is : (c : Config) (xs : List PlacedAllocation)
     → quarantined_words c xs ≡ weighed (storage_weight c) xs
-quarantined_is c xs = sum_filtered is_quarantined (λ (a : PlacedAllocation). storage_weight c a.ty) xs
+quarantined_is c xs = sum_filtered (λ (a : PlacedAllocation). storage_weight c a.ty) is_quarantined xs
 
 both_tests : (b large : Bool) (n : ℕ) → (if b && large then n else 0) ≡ (if b then if large then n else 0 else 0)
-both_tests true large n = refl
-both_tests false large n = refl
+both_tests b large n = grind arith
 
 pub reserved_is : (c : Config) (xs : List PlacedAllocation) → reserved_words c xs ≡ weighed (large_weight c) xs
 reserved_is c xs =
-    sum_filtered (λ (a : PlacedAllocation). is_quarantined a && is_large (kinds_of c.types a.ty))
-    (λ (a : PlacedAllocation). storage_weight c a.ty) xs
+    sum_filtered (λ (a : PlacedAllocation). storage_weight c a.ty)
+    (λ (a : PlacedAllocation). is_quarantined a && is_large (kinds_of c.types a.ty)) xs
     ∙ sum_alike _ (part (large_weight c))
     (λ a. both_tests (is_quarantined a) (is_large (kinds_of c.types a.ty)) (storage_weight c a.ty)) xs
 
@@ -70,9 +82,8 @@ same_sums f [] [] count same = refl
 same_sums f [] (y ∷ ys) count same = absurd (omega (arith, count))
 same_sums f (x ∷ xs) [] count same = absurd (omega (arith, count))
 same_sums f (x ∷ xs) (y ∷ ys) count same =
-    sum_by-cons f x xs ∙ ap (λ (n : ℕ). n + sum_by f xs) (same 0)
-    ∙ ap (λ (n : ℕ). f y + n) (same_sums f xs ys (omega (arith, count)) (λ i. same (suc i)))
-    ∙ sym (sum_by-cons f y ys)
+    let rest = same_sums f xs ys (omega (arith, count)) (λ i. same (suc i)) in
+    omega (arith, sum_by-cons f x xs, sum_by-cons f y ys, same 0, rest)
 
 pub sums_but_one : (f : PlacedAllocation → ℕ) (n : ℕ) (xs ys : List PlacedAllocation) → length xs ≡ length ys
     → ((i : ℕ) → i ≢ n → f (placed_at xs i) ≡ f (placed_at ys i))
@@ -105,3 +116,149 @@ pub sum_rises : (f : PlacedAllocation → ℕ) (change : PlacedAllocation → Pl
 sum_rises f change rises [] = omega arith
 sum_rises f change rises (a ∷ xs) =
     omega (arith, sum_by-cons f a xs, sum_by-cons f (change a) (map change xs), rises a, sum_rises f change rises xs)
+
+-- What a Free adds to the words of the quarantined allocations, where nothing is released meanwhile.
+
+-- What an allocation adds follows from its flags and its type.
+pub part_by : (weight : ℕ → ℕ) (a b : PlacedAllocation) → a.freed ≡ b.freed → a.released ≡ b.released → a.ty ≡ b.ty
+    → part weight a ≡ part weight b
+part_by weight a b freed released ty = cc
+
+module _ (c : Config) (es fs : List Event) (history : IsHistory c es) (whole : IsHistory c fs) (v : Value)
+    (reached : (number : ℕ) → unfreed (never_behind c es) v ≡ Some number → IsReachable (never_behind c es) number)
+    (never : never_behind c fs ≡ after_free (never_behind c es) v)
+    (later : AreLater (left c es).allocations (left c fs).allocations)
+    (same : SameReleased (left c es).allocations (left c fs).allocations) where
+  abbrev xs : List PlacedAllocation
+  xs = (left c es).allocations
+
+  abbrev ys : List PlacedAllocation
+  ys = (left c fs).allocations
+
+  abbrev n : NeverState
+  n = never_behind c es
+
+  count : length xs ≡ length ys
+  count =
+      (twins c es history).count ∙ sym (as_many_behind n v)
+      ∙ ap (λ (m : NeverState). length m.allocations) (sym never) ∙ sym (twins c fs whole).count
+
+  freed_kept : (i : ℕ) → (unfreed n v ≡ Some i → ⊥) → (placed_at xs i).freed ≡ (placed_at ys i).freed
+  freed_kept i out =
+      is_freed_there c es history i ∙ sym (others_kept n v i out)
+      ∙ ap (λ (m : NeverState). (allocation_at m i).freed) (sym never) ∙ sym (is_freed_there c fs whole i)
+
+  past_both : (i : ℕ) → length xs ≤ i → placed_at xs i ≡ placed_at ys i
+  past_both i le =
+      get_or_past xs i never_granted le ∙ sym (get_or_past ys i never_granted (omega (arith, le, count)))
+
+  module _ (weight : ℕ → ℕ) where
+    part_kept : (i : ℕ) → (unfreed n v ≡ Some i → ⊥) → part weight (placed_at xs i) ≡ part weight (placed_at ys i)
+    part_kept i out = elim (cases_lt i (length xs)) [
+      | inl lt ↦
+          part_by weight (placed_at xs i) (placed_at ys i) (freed_kept i out) (sym (same i lt)) (sym (later.ty i lt))
+      | inr le ↦ ap (λ (a : PlacedAllocation). part weight a) (past_both i le)
+    ]
+
+    unreleased : (number : ℕ) → unfreed n v ≡ Some number → (placed_at xs number).released ≡ false
+    unreleased number is = reach_is_kept c es history number (reached number is)
+
+    none_before : (number : ℕ) → unfreed n v ≡ Some number → part weight (placed_at xs number) ≡ 0
+    none_before number is =
+        ap (λ (x : Bool). if x && not (placed_at xs number).released then weight (placed_at xs number).ty else 0)
+        (is_freed_there c es history number ∙ was_unfreed n v number is)
+
+    all_behind : (number : ℕ) → unfreed n v ≡ Some number
+        → part weight (placed_at ys number) ≡ weight (placed_at xs number).ty
+    all_behind number is =
+        let lt : number < length xs = exists_placed xs number (unreleased number is) in
+        let freed : (placed_at ys number).freed ≡ true =
+        is_freed_there c fs whole number ∙ ap (λ (m : NeverState). (allocation_at m number).freed) never
+        ∙ is_freed_behind n v number is (omega (arith, lt, (twins c es history).count)) in
+        ap (λ (x : Bool). if x && not (placed_at ys number).released then weight (placed_at ys number).ty else 0) freed
+        ∙ ap (λ (x : Bool). if true && not x then weight (placed_at ys number).ty else 0)
+        (same number lt ∙ unreleased number is)
+        ∙ ap (λ (k : ℕ). weight k) (later.ty number lt)
+
+    by_number : (x : Option ℕ) → unfreed n v ≡ x
+        → weighed weight ys ≡ weighed weight xs + words_of_some (λ (a : PlacedAllocation). weight a.ty) xs x
+    by_number None is =
+        let sums : weighed weight xs ≡ weighed weight ys =
+        same_sums (part weight) xs ys count (λ i. part_kept i (λ some.
+        (let both : None ≡ Some i = sym is ∙ some in absurd cc))) in
+        omega (arith, sums)
+    by_number (Some number) is =
+        let sums = sums_but_one (part weight) number xs ys count (λ i ne. part_kept i (λ some.
+        (let both : Some number ≡ Some i = sym is ∙ some in
+        let equal : number ≡ i = cc in ne (sym equal)))) in
+        omega (arith, sums, none_before number is, all_behind number is)
+
+    pub freed_adds : weighed weight ys
+        ≡ weighed weight xs + words_of_some (λ (a : PlacedAllocation). weight a.ty) xs (unfreed n v)
+    freed_adds = by_number (unfreed n v) refl
+
+-- What events do to the held words: a grant alone makes them more, and a free or a release alone makes them less.
+
+held_falls : (c : Config) (change : PlacedAllocation → PlacedAllocation)
+    → ((a : PlacedAllocation) → held_part c (change a) ≤ held_part c a)
+    → (xs : List PlacedAllocation) → held_by_allocations c (map change xs) ≤ held_by_allocations c xs
+held_falls c change falls xs =
+    omega (arith, held_sum c xs, held_sum c (map change xs), sum_falls (held_part c) change falls xs)
+
+freed_part : (n : ℕ) (released freed large : Bool)
+    → (if not released && not (true && large) then n else 0) ≤ (if not released && not (freed && large) then n else 0)
+freed_part n released freed large = grind arith
+
+released_part : (n : ℕ) (released mapped more : Bool)
+    → (if not (released || more) && mapped then n else 0) ≤ (if not released && mapped then n else 0)
+released_part n released mapped more = grind arith
+
+free_by_test : (c : Config) (a : PlacedAllocation) (b : Bool)
+    → held_part c (if b then record a { freed = true; fresh = true } else a) ≤ held_part c a
+free_by_test c a true = freed_part (storage_words c a) a.released a.freed (is_large (kinds_of c.types a.ty))
+free_by_test c a false = omega arith
+
+free_falls : (c : Config) (w : Words) (cell : Option Cell) (a : PlacedAllocation)
+    → held_part c (freed_where_it_stands w cell a) ≤ held_part c a
+free_falls c w cell a = free_by_test c a (is_some_and (λ (x : Cell). stands_in w x a) cell)
+
+release_falls : (c : Config) (w : Words) (a : PlacedAllocation) → held_part c (with_released c w a) ≤ held_part c a
+release_falls c w a =
+    released_part (storage_words c a) a.released (not (a.freed && is_large (kinds_of c.types a.ty)))
+    (is_some_and (is_left_unmarked w) (pointed_cell c.pages w.pages (address_of a.base)))
+
+more_rises : (c : Config) (xs : List PlacedAllocation) (a : PlacedAllocation)
+    → held_by_allocations c xs ≤ held_by_allocations c (xs ++ a ∷ [])
+more_rises c xs a =
+    omega (arith, held_sum c xs, held_sum c (xs ++ a ∷ []), sum_by-append (held_part c) xs (a ∷ []))
+
+-- One step.
+
+step_falls : (c : Config) (m : Moment) (f : Flight) (s : Step) (xs : List PlacedAllocation) → is_grant s ≡ false
+    → held_by_allocations c (allocations_by c m f s xs) ≤ held_by_allocations c xs
+step_falls c m f step.Grant xs h = cc
+step_falls c m f (step.Quar p v) xs h = held_falls c (freed_where_it_stands m.words (cell_freed c.pages m.words f p v))
+    (free_falls c m.words (cell_freed c.pages m.words f p v)) xs
+step_falls c m f step.Begin xs h = held_falls c no_longer_fresh (λ a. omega arith) xs
+step_falls c m f step.Release xs h = held_falls c (with_released c m.words) (release_falls c m.words) xs
+step_falls c m f s xs h = omega arith
+
+step_rises : (c : Config) (m : Moment) (f : Flight) (s : Step) (xs : List PlacedAllocation) → lets_go s ≡ false
+    → held_by_allocations c xs ≤ held_by_allocations c (allocations_by c m f s xs)
+step_rises c m f (step.Quar p v) xs h = cc
+step_rises c m f step.Release xs h = cc
+step_rises c m f step.Grant xs h = more_rises c xs (granted c m f)
+step_rises c m f step.Begin xs h =
+    let rises = sum_rises (held_part c) no_longer_fresh (λ a. omega arith) xs in
+    omega (arith, held_sum c xs, held_sum c (map no_longer_fresh xs), rises)
+step_rises c m f s xs h = omega arith
+
+-- One event.
+
+pub held_falls_at : (c : Config) (w : World) (e : Event) → is_grant e.step ≡ false
+    → held_by_allocations c (world_behind c w e).allocations ≤ held_by_allocations c w.allocations
+held_falls_at c w e none = step_falls c w.now (flight_of w.now e.seat) e.step w.allocations none
+
+pub held_rises_at : (c : Config) (w : World) (e : Event) → lets_go e.step ≡ false
+    → held_by_allocations c w.allocations ≤ held_by_allocations c (world_behind c w e).allocations
+held_rises_at c w e none = step_rises c w.now (flight_of w.now e.seat) e.step w.allocations none

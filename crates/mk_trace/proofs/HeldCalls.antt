@@ -1,140 +1,149 @@
 -- What is held over a call of the caller: no more than before, or than at its end.
-use Rattle.std.proofs.Common.{◌≡◌, ℕ, ◌<◌, Bool, true, false, List, [], ◌∷◌, ◌++◌, refl, sym, ◌∙◌, ap, subst}
-use Rattle.std.proofs.Common.{append_assoc, append-nil, arith}
+use Rattle.std.proofs.Common.{◌≡◌, Bool, true, false, List, ◌∷◌, refl, sym, ◌∙◌, ap, subst, [], ℕ, ◌<◌, ◌++◌, arith}
+use Rattle.std.specs.Prelude.{◌&&◌, ◌||◌, Some}
+use Rattle.std.specs.List.{list_any}
+use Rattle.std.proofs.lemmas.Bool.{false_from_ne_true, or_from, or_parts, true≢false}
+use Rattle.std.proofs.lemmas.List.Folds.{list_any-append}
 use Rattle.mk_never.specs.declared.operations.Op.{Op}
 use Rattle.mk_never.specs.declared.operations.Op.TheVariants as op
 use Rattle.mk_core.specs.declared.config.Config.{Config}
 use Rattle.mk_core.specs.declared.events.Answer.{Answer}
+use Rattle.mk_core.specs.declared.events.Answer.TheVariants as answer
 use Rattle.mk_core.specs.declared.events.Event.{Event}
 use Rattle.mk_core.specs.declared.events.Seat.{Seat}
-use Rattle.mk_core.specs.declared.events.Seat.TheVariants.{Caller, Host}
-use Rattle.mk_core.specs.declared.events.Word.{Word}
-use Rattle.mk_core.specs.declared.events.Word.TheVariants as word
+use Rattle.mk_core.specs.declared.events.Seat.TheVariants.{Caller, Marker, Host}
+use Rattle.mk_core.specs.declared.events.Step.{Step}
+use Rattle.mk_core.specs.declared.events.Step.TheVariants as step
+use Rattle.mk_core.specs.declared.seats.Stage.{Stage}
+use Rattle.mk_core.specs.declared.seats.Stage.TheVariants as stage
+use Rattle.mk_core.specs.Decided.{Decided, entry_of, flagged}
+use Rattle.mk_core.specs.Enabled.{IsEnabled, MeetsAll}
+use Rattle.mk_core.specs.History.{World, AreEnabledFrom, call_decided, calls_from, world_behind, IsHistory, first_world}
+use Rattle.mk_core.specs.History.{left}
+use Rattle.mk_core.specs.Moments.{Moment, flight_of}
+use Rattle.mk_core.specs.Order.{comes_next, host_has_turn}
+use Rattle.mk_core.proofs.Conditions.{enabled_meets}
 use Rattle.mk_core.specs.Allocations.{held_by_allocations}
 use Rattle.mk_core.specs.Calls.{is_under_turn}
 use Rattle.mk_core.specs.Counts.{in_a_word}
 use Rattle.mk_core.specs.Growing.{AreOfOthers, Grows}
-use Rattle.mk_core.specs.History.{IsHistory, calls, first_world, left}
-use Rattle.mk_core.proofs.HistoryParts.{enabled_in_parts}
-use Rattle.mk_words.specs.Seats.{Has, HasAll, all_seats, without_seat}
+use Rattle.mk_core.specs.NewPlaces.{object_made}
+use Rattle.mk_alloc.specs.TurnCycles.{has_step, is_grant, NewIsExact}
+use Rattle.mk_alloc.proofs.ListParts.{none_at}
+use Rattle.mk_words.specs.Seats.{all_seats, without_seat}
 use Rattle.mk_words.specs.States.{PassState, WordsState}
 use Rattle.mk_words.proofs.Seats.{has_all}
 use Rattle.mk_heap.specs.Hosts.{HostState, first_host, pass_for, with_caller_made}
-use Rattle.mk_heap.specs.Turns.{Tells}
-use Rattle.mk_alloc.specs.TurnCalls.{CalledInTurn}
-use Rattle.mk_alloc.specs.TurnCycles.{has_step, is_grant}
-use Rattle.mk_alloc.proofs.GrantParts.{LastIn}
-use Rattle.mk_alloc.proofs.ListParts.{none_at}
-use Rattle.mk_alloc.proofs.RetiredTurns.{same_rest}
-use Rattle.mk_run.specs.Scripts.{Answers, unflagged}
-use Rattle.mk_trace.specs.Calls.{Calls, HoldsMostAtEnd, HoldsNoMore, IsHome, SameCalls, held_behind, most_held}
+use Rattle.mk_alloc.proofs.GrantParts.{LastIn, last_before, last_then}
+use Rattle.mk_run.specs.Scripts.{unflagged}
+use Rattle.mk_trace.specs.Calls.{Calls, HoldsMostAtEnd, most_held}
 use Rattle.mk_trace.specs.Peaks.{peaks_of}
 use Rattle.mk_trace.specs.Playing.{config_of}
 use Rattle.mk_trace.specs.Traces.{Contents}
-use Rattle.mk_trace.proofs.GrantedCalls.{is_new, others_grant_none}
-use Rattle.mk_trace.proofs.HeldLooks.{told_holds_no_more, told_is_held}
-use Rattle.mk_trace.proofs.HeldSteps.{held_falls_at, held_rises_at}
-use Rattle.mk_trace.proofs.NewPieces.{new_grants_last}
-use Rattle.mk_trace.proofs.OwnPieces.{AreMine, HasTheRest, all_again, are_mine, mine_parts, none_of_others}
+use Rattle.mk_trace.proofs.JoinedCalls.{InTurn, Joined, acts, before, before_lacks, decided, enabled, exact, in_parts}
+use Rattle.mk_trace.proofs.JoinedCalls.{last}
+use Rattle.mk_trace.proofs.FreedWords.{held_falls_at, held_rises_at}
+use Rattle.mk_trace.proofs.OwnPieces.{AreMine, all_again, are_mine, none_of_others}
 use Rattle.mk_trace.proofs.PeakParts.{most_then}
 
-module _ (h : HostState) (on : Bool) (o : Op) (told : Answer) (q : PassState)
-    (a : Answers on (pass_for h (Caller 0)) o told q) (fs : List Event)
-    (own : Grows (without_seat (Caller 0) h.pass.seats) h.pass.seen fs) (came : Grows q.seats q.seen fs)
-    (all : HasAll h.pass.table.config h.pass.seats) (history : IsHistory h.pass.table.config fs) where
+-- A grant decides a New, so a call of another operation grants nothing.
+
+abbrev pub is_new : Op → Bool
+is_new (op.New d ty full) = true
+is_new _ = false
+
+abbrev is_new_call : Decided → Bool
+is_new_call x = is_new x.op
+
+grant_is : (s : Step) → is_grant s ≡ true → s ≡ step.Grant
+grant_is step.Grant h = refl
+grant_is _ h = cc
+
+grants_new : (at : Stage) (o : Op) → comes_next at o step.Grant ≡ true → is_new o ≡ true
+grants_new stage.Turn (op.New d ty full) h = refl
+grants_new stage.Turn _ h = cc
+grants_new stage.Give o h = cc
+grants_new _ o h = cc
+
+never : (b : Bool) → (b && false) ≡ true → ⊥
+never true h = cc
+never false h = cc
+
+flagged_new : (o : Op) (a : Answer) → is_new (flagged o a) ≡ is_new o
+flagged_new (op.New d ty full) answer.Full = refl
+flagged_new (op.New d ty full) _ = refl
+flagged_new o a = refl
+
+decides_new : (c : Config) (m : Moment) (seat : Seat) → MeetsAll c m (record { seat = seat; step = step.Grant })
+    → list_any is_new_call (call_decided c m (record { seat = seat; step = step.Grant })) ≡ true
+decides_new c m (Caller k) h =
+    ap (λ (b : Bool). b || false)
+    (flagged_new (flight_of m (Caller k)).op answer.Done
+    ∙ grants_new (flight_of m (Caller k)).stage (flight_of m (Caller k)).op h.order)
+decides_new c m (Marker k) h = let none : false ≡ true = h.kind in cc
+decides_new c m Host h = absurd (never (host_has_turn c m) h.order)
+
+event_decides : (c : Config) (m : Moment) (seat : Seat) (s : Step) → IsEnabled c m (record { seat = seat; step = s })
+    → is_grant s ≡ true → list_any is_new_call (call_decided c m (record { seat = seat; step = s })) ≡ true
+event_decides c m seat s on is =
+    subst (λ (x : Step). list_any is_new_call (call_decided c m (record { seat = seat; step = x })) ≡ true)
+    (sym (grant_is s is))
+    (decides_new c m seat
+    (subst (λ (x : Step). MeetsAll c m (record { seat = seat; step = x })) (grant_is s is)
+    (enabled_meets c m (record { seat = seat; step = s }) on)))
+
+grants_decide : (c : Config) (w : World) (es : List Event) → AreEnabledFrom c w es
+    → list_any is_new_call (calls_from c w es) ≡ false → has_step is_grant es ≡ false
+unfolding AreEnabledFrom calls_from
+grants_decide c w [] on none = refl
+grants_decide c w (e ∷ es) on none =
+    let first : List Decided = call_decided c w.now e in
+    let later : List Decided = calls_from c (world_behind c w e) es in
+    let parts = or_parts (list_any is_new_call first) (list_any is_new_call later)
+    (sym (list_any-append is_new_call first later) ∙ none) in
+    or_from (is_grant e.step) (has_step is_grant es)
+    (false_from_ne_true (is_grant e.step) (λ is.
+    true≢false (sym (event_decides c w.now e.seat e.step on.0 is) ∙ parts.0)))
+    (grants_decide c (world_behind c w e) es on.1 parts.1)
+
+-- Events in which one call was decided, which isn't a New, grant nothing.
+pub others_grant_none : (c : Config) (w : World) (more : List Event) (o : Op) (a : Answer) → AreEnabledFrom c w more
+    → calls_from c w more ≡ entry_of 0 o (Some a) → is_new o ≡ false → has_step is_grant more ≡ false
+others_grant_none c w more o a on one other =
+    grants_decide c w more on
+    (ap (λ (l : List Decided). list_any is_new_call l) one
+    ∙ ap (λ (b : Bool). b || false) (flagged_new o a ∙ other))
+
+-- What is held over a call of the caller: no more than before, or than at its end.
+
+module _ {on : Bool} {h : HostState} {o : Op} {told : Answer} {q : PassState} {fs : List Event}
+    (j : Joined on h o told q fs) where
   abbrev c : Config
   c = h.pass.table.config
 
-  abbrev p : PassState
-  p = pass_for h (Caller 0)
+  abbrev es : List Event
+  es = h.pass.seen
 
-  abbrev elsewhere : List Seat
-  elsewhere = without_seat (Caller 0) h.pass.seats
+  -- After the grant of a New's object nothing is let go.
+  new_last : (d ty : ℕ) → InTurn j (op.New d ty false) → LastIn j.own.more
+  new_last d ty turn =
+      let o : Op = op.New d ty false in
+      let exactly : NewIsExact turn.ends.turn (object_made c o) = exact j o turn in
+      subst (λ (l : List Event). LastIn l) (sym (in_parts j o turn))
+      (last_then (before j o turn) (acts j o turn ++ last j o turn) (before_lacks j o turn is_grant (λ y. refl))
+      (last_before (acts j o turn) (last j o turn) exactly.keeps refl refl))
 
-  the_rest : HasTheRest c elsewhere (Caller 0 ∷ [])
-  the_rest = all_again c (Caller 0) h.pass.seats all
-
-  whole : IsHistory c (h.pass.seen ++ own.more)
-  whole = subst (λ (l : List Event). IsHistory c l) own.is history
-
-  mine : AreMine c elsewhere own.more
-  mine =
-      are_mine c (left c h.pass.seen) elsewhere own.more
-      ((enabled_in_parts c h.pass.seen own.more).0 whole.enabled).1 own.of_others
-
-  new_last : (d ty : ℕ) → CalledInTurn on p (op.New d ty false) a.answer q → LastIn own.more
-  new_last d ty called = new_grants_last on p d ty a.answer q called elsewhere own.more seen the_rest mine
-    where
-      rest : own.more ≡ called.more ++ came.more
-      rest =
-          same_rest h.pass.seen own.more (called.more ++ came.more)
-          (sym own.is ∙ came.is ∙ ap (λ (x : PassState). x.seen ++ came.more) called.is
-          ∙ append_assoc h.pass.seen called.more came.more)
-
-      none : came.more ≡ []
-      none =
-          none_of_others c elsewhere (Caller 0 ∷ []) came.more the_rest
-          (mine_parts c elsewhere called.more came.more (subst (λ (l : List Event). AreMine c elsewhere l) rest mine)).1
-          (subst (λ (l : List Seat). AreOfOthers l came.more) (ap (λ (x : PassState). x.seats) a.is) came.of_others)
-
-      seen : q.seen ≡ h.pass.seen ++ own.more
-      seen =
-          sym (append-nil q.seen) ∙ ap (λ (l : List Event). q.seen ++ l) (sym none) ∙ sym came.is ∙ own.is
-
-  last_by : (x : Op) → (is_under_turn x ≡ true → CalledInTurn on p (unflagged x) a.answer q)
-      → (is_new x ≡ false → has_step is_grant own.more ≡ false) → LastIn own.more
+  last_by : (x : Op) → (is_under_turn x ≡ true → InTurn j (unflagged x))
+      → (is_new x ≡ false → has_step is_grant j.own.more ≡ false) → LastIn j.own.more
   last_by (op.New d ty full) in_turn none = new_last d ty (in_turn refl)
-  last_by _ in_turn none = λ g. absurd (none_at is_grant own.more (none refl) g)
+  last_by _ in_turn none = λ g. absurd (none_at is_grant j.own.more (none refl) g)
 
-  pub held_at_end : Calls c h.pass.seen o told fs → HoldsMostAtEnd c h.pass.seen fs
+  pub held_at_end : Calls c es o told fs → HoldsMostAtEnd c es fs
   held_at_end made =
-      subst (λ (l : List Event). HoldsMostAtEnd c h.pass.seen l) (sym own.is)
-      (most_then c (held_by_allocations c) (held_falls_at c) (held_rises_at c) h.pass.seen own.more
-      (last_by o a.in_turn (λ other.
-      others_grant_none c h.pass.seen own.more o made.answer whole
-      (ap (λ (l : List Event). calls c l) (sym own.is) ∙ made.entry) other)))
-
--- The caller that the host makes again, and joins.
-pub call_holds : (w : WordsState) (h : HostState) (p : PassState) (on : Bool) (o : Op) (told : Answer) (q : PassState)
-    (fs : List Event) → IsHome w h → p ≡ pass_for h (Caller 0) → Answers on p o told q
-    → Grows (without_seat (Caller 0) h.pass.seats) h.pass.seen fs → Grows q.seats q.seen fs → IsHistory w.config fs
-    → Calls w.config h.pass.seen o told fs → HoldsMostAtEnd w.config h.pass.seen fs
-call_holds w h p on o told q fs home is answers own came history made =
-    let back = sym home.table in
-    subst (λ (x : WordsState). HoldsMostAtEnd x.config h.pass.seen fs) home.table
-    (held_at_end h on o told q (subst (λ (x : PassState). Answers on x o told q) is answers) fs own came
-    (subst (λ (x : WordsState). HasAll x.config h.pass.seats) back home.all)
-    (subst (λ (x : WordsState). IsHistory x.config fs) back history)
-    (subst (λ (x : WordsState). Calls x.config h.pass.seen o told fs) back made))
-
--- The host looks between calls.
-module _ (w : WordsState) (h : HostState) (home : IsHome w h) (host : h.pass.seat ≡ Host) (x : Word) (n : ℕ)
-    (k : HostState)
-    (tells : Tells h.pass x n k.pass) (history : IsHistory h.pass.table.config k.pass.seen) where
-  own : Has h.pass.seats h.pass.seat
-  own = subst (λ (s : Seat). Has h.pass.seats s) (sym host) (home.all Host refl)
-
-  all : HasAll h.pass.table.config h.pass.seats
-  all = subst (λ (y : WordsState). HasAll y.config h.pass.seats) (sym home.table) home.all
-
-  pub look_holds : HoldsNoMore w.config h.pass.seen k.pass.seen
-  look_holds =
-      subst (λ (y : WordsState). HoldsNoMore y.config h.pass.seen k.pass.seen) home.table
-      (told_holds_no_more h.pass k.pass x n tells own all history)
-
-  pub look_tells : x ≡ word.Held → n ≡ held_behind w.config h.pass.seen
-  look_tells is =
-      subst (λ (y : WordsState). n ≡ held_behind y.config h.pass.seen) home.table
-      (told_is_held h.pass k.pass x n tells own all history is)
-
--- A look after a call is no call.
-pub calls_looked : (c : Config) (es : List Event) (o : Op) (told : Answer) (fs gs : List Event) → Calls c es o told fs
-    → SameCalls c fs gs → Calls c es o told gs
-calls_looked c es o told fs gs made same = record {
-  answer = made.answer;
-  is_told = made.is_told;
-  entry = same ∙ made.entry;
-}
+      subst (λ (l : List Event). HoldsMostAtEnd c es l) (sym j.own.is)
+      (most_then c (held_by_allocations c) (held_falls_at c) (held_rises_at c) es j.own.more
+      (last_by o j.answers.in_turn
+      (others_grant_none c (left c es) j.own.more o made.answer (enabled j) (decided j made))))
 
 -- Of a heap that nobody has used there are no events.
 nothing_seen : (c : Config) (es : List Event) → Grows (without_seat (Caller 0) (all_seats c)) [] es
@@ -161,14 +170,10 @@ opened_empty w h made q k c first is own came pass config table history =
     (subst (λ (x : WordsState). IsHistory x.config es) table history)
 
 -- The most that was held, where a word holds it.
-
-word_is : (n : ℕ) → n < 18446744073709551616 → n ≡ in_a_word n
-word_is n few = omega arith
-
 pub most_told : (trace : Contents) (d : Config) (es fs : List Event) (held : ℕ) → fs ≡ es → d ≡ config_of trace
     → held ≡ most_held d es → held < 18446744073709551616 → held ≡ (peaks_of (config_of trace) fs).held
 most_told trace d es fs held same config is few =
-    word_is held few
+    (let fits : held ≡ in_a_word held = omega (arith, few) in fits)
     ∙ ap (λ (n : ℕ). in_a_word n)
     (is ∙ ap (λ (c : Config). most_held c es) config
     ∙ ap (λ (l : List Event). most_held (config_of trace) l) (sym same))

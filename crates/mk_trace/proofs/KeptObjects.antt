@@ -3,25 +3,25 @@
 use Rattle.std.proofs.Common.{◌≡◌, ◌≢◌, inl, inr, ℕ, ◌+◌, ◌≤◌, ◌<◌, Bool, true, false, List, [], ◌∷◌, ◌++◌, length, map}
 use Rattle.std.proofs.Common.{refl, sym, ◌∙◌, ap, subst, arith, append-nil}
 use Rattle.std.specs.Prelude.{◌&&◌, ◌==◌, not, filter, Option, Some, None, option_map, if◌then◌else◌}
-use Rattle.std.proofs.lemmas.Bool.{and_parts, cases_eq, cases_lt, true≢false}
+use Rattle.std.proofs.lemmas.Bool.{and_parts, cases_eq, cases_lt, true≢false, not-true}
 use Rattle.std.proofs.lemmas.List.{get_or_past, map-append}
+use Rattle.std.proofs.Math.Bool.{and-false}
 use Rattle.mk_core.specs.declared.config.Config.{Config}
 use Rattle.mk_core.specs.declared.events.Event.{Event}
-use Rattle.mk_core.specs.Allocations.{PlacedAllocation, cell_of_allocation, never_granted, placed_at}
-use Rattle.mk_core.specs.Allocations.{storage_words}
+use Rattle.mk_core.specs.Allocations.{PlacedAllocation, cell_of_allocation, never_granted, placed_at, storage_words}
 use Rattle.mk_core.specs.Cells.{is_freed}
 use Rattle.mk_core.specs.Cycles.{is_quarantined}
 use Rattle.mk_core.specs.History.{IsHistory, left}
 use Rattle.mk_core.specs.Words.{Words, phase_of}
+use Rattle.mk_core.specs.Counts.{in_a_word}
 use Rattle.mk_images.proofs.Kept.{exists_placed}
 use Rattle.mk_trace.specs.declared.ledger.FreedObject.{FreedObject}
-use Rattle.mk_core.specs.Counts.{in_a_word}
 use Rattle.mk_trace.specs.Freeing.{FlagsBehind, FreesFlag, large_words}
 use Rattle.mk_trace.specs.Ledgers.{AreFound, AreObjectsOf, age_in_a_word, aged, aged_object, object_of, one_or_none}
 use Rattle.mk_trace.specs.Peaks.{age_of}
 use Rattle.mk_trace.specs.Numbers.{AreThose, one_if, times}
 use Rattle.mk_trace.proofs.NumberLists.{equal_is, filters_agree, stands_passes, those_filtered, times_more, unequal_is}
-use Rattle.mk_trace.proofs.SettledBits.{bit_tells_released, cell_by}
+use Rattle.mk_trace.proofs.FoundObjects.{bit_tells_released, cell_by}
 
 -- lists
 
@@ -37,8 +37,7 @@ maps_agree {X} f g (x ∷ numbers) agree =
 
 filter_head : (f : ℕ → FreedObject) (x : ℕ) (xs : List FreedObject) (numbers : List ℕ) (b : Bool)
     → xs ≡ map f numbers → (if b then f x ∷ xs else xs) ≡ map f (if b then x ∷ numbers else numbers)
-filter_head f x xs numbers true same = ap (λ (l : List FreedObject). f x ∷ l) same
-filter_head f x xs numbers false same = same
+filter_head f x xs numbers b same = grind arith
 
 filter_mapped : (p : FreedObject → Bool) (f : ℕ → FreedObject) (numbers : List ℕ)
     → filter p (map f numbers) ≡ map f (filter (λ (i : ℕ). p (f i)) numbers)
@@ -77,25 +76,11 @@ aged_by c found later xs i one =
 
 -- flags
 
-pub not_out : (b : Bool) → not b ≡ true → b ≡ false
-not_out true h = cc
-not_out false h = refl
-
 not_twice : (b : Bool) → not (not b) ≡ b
-not_twice true = refl
-not_twice false = refl
+not_twice b = grind arith
 
 still_in : (freed was now : Bool) → (was ≡ true → now ≡ true) → (not now && (freed && not was)) ≡ (freed && not now)
-still_in true true true later = refl
-still_in true true false later = absurd (true≢false (sym (later refl)))
-still_in true false true later = refl
-still_in true false false later = refl
-still_in false was true later = refl
-still_in false was false later = refl
-
-gone_both : (freed : Bool) → (freed && not true) ≡ false
-gone_both true = refl
-gone_both false = refl
+still_in freed was now later = grind arith
 
 module _ (c : Config) (es fs : List Event) (x : Option ℕ)
     (flags : FlagsBehind (left c es).allocations (left c fs).allocations x) where
@@ -196,7 +181,7 @@ module _ (c : Config) (es fs : List Event) (x : Option ℕ)
   exists numbers those i some =
       let parts = and_parts (placed_at ys i).freed (not (placed_at xs i).released)
       (stands_passes was_kept numbers those i some) in
-      let unreleased = not_out (placed_at xs i).released parts.1 in
+      let unreleased = not-true (placed_at xs i).released parts.1 in
       (parts.0, unreleased, exists_placed xs i unreleased)
 
   same_objects : (found : List (List PlacedAllocation)) (numbers : List ℕ) → AreThose was_kept numbers
@@ -219,9 +204,7 @@ module _ (c : Config) (es fs : List Event) (x : Option ℕ)
       alike : (i : ℕ) → was_kept i ≡ is_quarantined (placed_at ys i)
       alike i = elim (cases_lt i (length xs)) [
         | inl lt ↦ ap (λ (b : Bool). (placed_at ys i).freed && not b) (sym (same i lt))
-        | inr le ↦
-            ap (λ (b : Bool). b && not (placed_at xs i).released) (unfreed_past i le)
-            ∙ ap (λ (b : Bool). b && not (placed_at ys i).released) (sym (unfreed_past i le))
+        | inr le ↦ rw (unfreed_past i le)
       ]
 
   module _ (before : IsHistory c es) (behind : IsHistory c fs) (out : phase_of (left c fs).now.words ≢ 4) where
@@ -239,15 +222,8 @@ module _ (c : Config) (es fs : List Event) (x : Option ℕ)
       | inl lt ↦
           still_in (placed_at ys i).freed (placed_at xs i).released (placed_at ys i).released
           (flags.later.released i lt)
-      | inr le ↦
-          ap (λ (b : Bool). not (placed_at ys i).released && (b && not (placed_at xs i).released)) (unfreed_past i le)
-          ∙ none_left (not (placed_at ys i).released)
-          ∙ ap (λ (b : Bool). b && not (placed_at ys i).released) (sym (unfreed_past i le))
+      | inr le ↦ rw (unfreed_past i le) (and-false (not (placed_at ys i).released))
     ]
-      where
-        none_left : (b : Bool) → (b && false) ≡ false
-        none_left true = refl
-        none_left false = refl
 
     -- One end was after what had been found.
     module _ (found later : List (List PlacedAllocation))

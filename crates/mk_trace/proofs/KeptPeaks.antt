@@ -1,9 +1,9 @@
 -- All is kept of freed objects after a call, once what it freed is noted, and what it released is let go.
-use Rattle.std.proofs.Common.{◌≡◌, ◌≢◌, ◌⊎◌, inl, inr, ℕ, ◌+◌, ◌<◌, Bool, true, false, List, [], ◌∷◌, ◌++◌, map}
-use Rattle.std.proofs.Common.{refl, sym, ◌∙◌, ap, subst, arith}
+use Rattle.std.proofs.Common.{◌≡◌, ◌≢◌, ◌⊎◌, inl, inr, ℕ, ◌+◌, ◌<◌, Bool, true, false, List, [], ◌∷◌, ◌++◌, map, refl}
+use Rattle.std.proofs.Common.{sym, ◌∙◌, ap, subst, arith}
 use Rattle.std.specs.Prelude.{◌==◌, fold, sum_by, Option, Some, None, option_map}
 use Rattle.std.proofs.lemmas.Bool.{eq-eqb, eqb-true, true≢false}
-use Rattle.std.proofs.lemmas.List.Sums.{sum_by-append, sum_by-cons}
+use Rattle.std.proofs.lemmas.List.Sums.{sum_by-append, sum_by-cons, sum_by_push}
 use Rattle.mk_never.specs.declared.operations.Op.{Op}
 use Rattle.mk_core.specs.declared.config.Config.{Config}
 use Rattle.mk_core.specs.declared.events.Event.{Event}
@@ -19,11 +19,11 @@ use Rattle.mk_trace.specs.Ends.{EndsNone, EndsOne, IsIdle}
 use Rattle.mk_trace.specs.Freeing.{FlagsBehindCall, IsMostWhereFreed, QuarantinesMostWhereFreed, freed_words}
 use Rattle.mk_trace.specs.Freeing.{number_freed, words_of_some}
 use Rattle.mk_trace.specs.Ledgers.{AreAgesOf, AreFound, AreObjectsOf, IsPeakOf, Keeps, Notes, Settles, SettlesWhere}
-use Rattle.mk_trace.specs.Ledgers.{aged, age_in_a_word, aged_object, is_count_same, object_of}
-use Rattle.mk_trace.specs.Ledgers.{objects_kept, one_or_none, risen, some_words, still_kept, weighed_anew, with_one}
+use Rattle.mk_trace.specs.Ledgers.{aged, age_in_a_word, aged_object, is_count_same, object_of, objects_kept}
+use Rattle.mk_trace.specs.Ledgers.{one_or_none, risen, some_words, still_kept, weighed_anew, with_one}
 use Rattle.mk_trace.specs.Peaks.{age_of, found_by_ends, greatest, quarantined_words, reserved_words}
 use Rattle.mk_trace.proofs.FoundAges.{kept_age, none_ages, none_found, one_ages, one_found}
-use Rattle.mk_trace.proofs.FreedWords.{large_weight, quarantined_is, reserved_is, storage_weight, weighed}
+use Rattle.mk_trace.proofs.FreedWords.{large_weight, quarantined_is, reserved_is, storage_weight, weighed, sum_alike}
 use Rattle.mk_trace.proofs.KeptObjects.{ages_gone, let_go, none_released, noted, was_kept}
 use Rattle.mk_trace.proofs.NumberLists.{words_of_numbers}
 
@@ -33,16 +33,13 @@ sum_mapped : (words : FreedObject → ℕ) (f : ℕ → FreedObject) (numbers : 
     → sum_by words (map f numbers) ≡ sum_by (λ (i : ℕ). words (f i)) numbers
 sum_mapped words f [] = refl
 sum_mapped words f (x ∷ numbers) =
-    sum_by-cons words (f x) (map f numbers)
-    ∙ ap (λ (n : ℕ). words (f x) + n) (sum_mapped words f numbers)
-    ∙ sym (sum_by-cons (λ (i : ℕ). words (f i)) x numbers)
+    let one = sum_by-cons (λ (i : ℕ). words (f i)) x numbers in
+    omega (arith, one, sum_by-cons words (f x) (map f numbers), sum_mapped words f numbers)
 
 sum_noted : (words : FreedObject → ℕ) (objects : List FreedObject) (x : Option FreedObject)
     → sum_by words (objects ++ one_or_none x) ≡ sum_by words objects + some_words words x
-sum_noted words objects None = sum_by-append words objects [] ∙ (omega arith)
-sum_noted words objects (Some object) =
-    sum_by-append words objects (object ∷ [])
-    ∙ ap (λ (n : ℕ). sum_by words objects + n) (sum_by-cons words object [] ∙ (omega arith))
+sum_noted words objects None = omega (arith, sum_by-append words objects [])
+sum_noted words objects (Some object) = sum_by_push words objects object
 
 -- counts
 
@@ -68,18 +65,8 @@ module _ (c : Config) (measure : List PlacedAllocation → ℕ) (words : FreedOb
   total found ys objects kept =
       ap (λ (l : List FreedObject). sum_by words l) kept.are
       ∙ sum_mapped words (aged_object c found ys) kept.numbers
-      ∙ alike kept.numbers
+      ∙ sum_alike _ (λ (i : ℕ). weight (placed_at ys i).ty) (λ i. words_is ys i (age_in_a_word found i)) kept.numbers
       ∙ words_of_numbers weight kept.numbers ys kept.those ∙ sym (measure_is ys)
-    where
-      alike : (numbers : List ℕ) → sum_by (λ (i : ℕ). words (aged_object c found ys i)) numbers
-          ≡ sum_by (λ (i : ℕ). weight (placed_at ys i).ty) numbers
-      alike [] = refl
-      alike (n ∷ numbers) =
-          sum_by-cons (λ (i : ℕ). words (aged_object c found ys i)) n numbers
-          ∙ ap (λ (k : ℕ). k + sum_by (λ (i : ℕ). words (aged_object c found ys i)) numbers)
-          (words_is ys n (age_in_a_word found n))
-          ∙ ap (λ (k : ℕ). weight (placed_at ys n).ty + k) (alike numbers)
-          ∙ sym (sum_by-cons (λ (i : ℕ). weight (placed_at ys i).ty) n numbers)
 
   some_is : (ys : List PlacedAllocation) (x : Option ℕ)
       → some_words words (option_map (object_of c ys) x)

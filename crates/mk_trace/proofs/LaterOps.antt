@@ -1,16 +1,16 @@
--- The operations of an event after its first one, called one by one.
-use Rattle.std.proofs.Common.{◌≡◌, ℕ, ◌+◌, ◌≤◌, ◌<◌, Bool, true, false, List, [], ◌∷◌, ◌++◌, length, get_or, refl, sym}
-use Rattle.std.proofs.Common.{◌∙◌}
-use Rattle.std.proofs.Common.{ap, subst, arith}
-use Rattle.std.specs.Prelude.{◌||◌, take, drop, All}
-use Rattle.std.proofs.lemmas.List.{take_more, take_all, get_or-drop, length-take, length-drop, take-append-drop}
-use Rattle.std.proofs.lemmas.List.{drop_more}
-use Rattle.std.proofs.lemmas.List.Elements.{All-nil, All-cons, All-get_or}
+-- The operations of events: of one more, and those after the first one.
+use Rattle.std.proofs.Common.{zero, suc, ◌≡◌, ℕ, ◌+◌, ◌-◌, ◌≤◌, Bool, true, false, List, [], ◌∷◌, ◌++◌, length, sym}
+use Rattle.std.proofs.Common.{◌∙◌, ap, arith, append_assoc, append-nil, ◌<◌, get_or, refl, subst}
+use Rattle.std.specs.Prelude.{if◌then◌else◌, take, drop, ◌||◌}
+use Rattle.std.specs.List.{list_any, list_all}
+use Rattle.std.proofs.lemmas.List.{length-append, length-drop, take_all, take-append-le, drop-append-le, take_more}
+use Rattle.std.proofs.lemmas.List.{get_or-drop, length-take, take-append-drop, drop_more}
+use Rattle.std.proofs.lemmas.Bool.{and_parts}
 use Rattle.mk_never.specs.declared.operations.Op.{Op}
 use Rattle.mk_never.specs.declared.operations.Op.TheVariants as op
 use Rattle.mk_never.specs.Admitted.{AreAdmitted}
-use Rattle.mk_core.specs.declared.config.Config.{Config}
 use Rattle.mk_core.specs.declared.events.Answer.{Answer}
+use Rattle.mk_core.specs.declared.config.Config.{Config}
 use Rattle.mk_core.specs.declared.events.Answer.TheVariants as answer
 use Rattle.mk_core.specs.declared.events.Event.{Event}
 use Rattle.mk_core.specs.Counts.{is_full_answer}
@@ -18,9 +18,104 @@ use Rattle.mk_core.specs.Decided.{flagged}
 use Rattle.mk_core.specs.History.{never_behind}
 use Rattle.mk_trace.specs.declared.trace.TraceEvent.{TraceEvent}
 use Rattle.mk_trace.specs.declared.trace.TraceEvent.TheVariants.{A, K, F, C, W}
+use Rattle.mk_trace.specs.Playing.{ops_of, begins_full, ops_played, refused_events, is_refusal, calls_of_caller}
+use Rattle.mk_trace.specs.Numbers.{one_if}
 use Rattle.mk_trace.specs.Calls.{MayCome, Calls, CallsAll, PlaysEvent}
-use Rattle.mk_trace.specs.Playing.{ops_of, calls_of_caller, is_refusal}
-use Rattle.mk_trace.proofs.OneCaller.{calls_first, calls_more, full_as_told, next_may_come}
+use Rattle.mk_trace.proofs.OneCaller.{begins_alike, calls_first, calls_more, full_as_told, next_may_come}
+
+-- The operations of events, and how many are refused, with one event more.
+
+-- Full or not
+pub either_way : (P : Bool → Type 0) → P true → P false → (full : Bool) → P full
+either_way P one two true = one
+either_way P one two false = two
+
+-- an event has an operation
+
+abbrev HasSome : TraceEvent → Bool → Type 0
+HasSome event full = 1 ≤ length (ops_of full event)
+
+pub some_ops : (full : Bool) (event : TraceEvent) → 1 ≤ length (ops_of full event)
+some_ops full (A slot) = either_way (HasSome (A slot)) (omega arith) (omega arith) full
+some_ops full (K slot) = either_way (HasSome (K slot)) (omega arith) (omega arith) full
+some_ops full (F slot) = either_way (HasSome (F slot)) (omega arith) (omega arith) full
+some_ops full (C slot) = either_way (HasSome (C slot)) (omega arith) (omega arith) full
+some_ops full (W slot index value) = either_way (HasSome (W slot index value)) (omega arith) (omega arith) full
+
+counted_more : (refused : Bool) (later behind n : ℕ) → behind ≡ later + n
+    → (if refused then behind + 1 else behind) ≡ (if refused then later + 1 else later) + n
+counted_more refused later behind n is = grind arith
+
+first_refused : (refused : Bool) → (if refused then 0 + 1 else 0) ≡ 0 + one_if refused
+first_refused refused = grind arith
+
+-- The answers so far are as many as the operations, so the next event takes those after them.
+
+module _ (x : TraceEvent) (events : List TraceEvent) (answers : List Answer)
+    (count : length (ops_played (x ∷ events) answers) ≡ length answers) where
+  abbrev own_ops : List Op
+  own_ops = ops_of (begins_full answers) x
+
+  abbrev rest : List Answer
+  rest = drop (length own_ops) answers
+
+  total : length own_ops + length (ops_played events rest) ≡ length answers
+  total = sym (length-append own_ops (ops_played events rest)) ∙ count
+
+  rest_count : length (ops_played events rest) ≡ length rest
+  rest_count = omega (arith, total, length-drop (length own_ops) answers)
+
+  within : length own_ops ≤ length answers
+  within = omega (arith, total)
+
+  alike : (more : List Answer) → begins_full (answers ++ more) ≡ begins_full answers
+  alike more = begins_alike answers more (omega (arith, some_ops (begins_full answers) x, total))
+
+module _ (event : TraceEvent) (more : List Answer) where
+  abbrev next : List Op
+  next = ops_of (begins_full more) event
+
+  pub ops-played_more : (events : List TraceEvent) (answers : List Answer)
+      → length (ops_played events answers) ≡ length answers
+      → ops_played (events ++ event ∷ []) (answers ++ more) ≡ ops_played events answers ++ next
+  ops-played_more [] [] count = append-nil next
+  ops-played_more [] (a ∷ answers) count = absurd cc
+  ops-played_more (x ∷ events) answers count =
+      let own : List Op = own_ops x events answers count in
+      let left : List Answer = rest x events answers count in
+      ap (λ (full : Bool). ops_of full x ++ ops_played (events ++ event ∷ [])
+      (drop (length (ops_of full x)) (answers ++ more))) (alike x events answers count more)
+      ∙ ap (λ (l : List Answer). own ++ ops_played (events ++ event ∷ []) l)
+      (drop-append-le (length own) answers more (within x events answers count))
+      ∙ ap (λ (l : List Op). own ++ l) (ops-played_more events left (rest_count x events answers count))
+      ∙ sym (append_assoc own (ops_played events left) next)
+
+  pub refused_more : (events : List TraceEvent) (answers : List Answer)
+      → length (ops_played events answers) ≡ length answers → length more ≡ length next
+      → refused_events (events ++ event ∷ []) (answers ++ more)
+      ≡ refused_events events answers + one_if (list_any is_refusal more)
+  refused_more [] [] count size =
+      ap (λ (l : List Answer). if list_any is_refusal l then 0 + 1 else 0)
+      (ap (λ (n : ℕ). take n more) (sym size) ∙ take_all (length more) more (omega arith))
+      ∙ first_refused (list_any is_refusal more)
+  refused_more [] (a ∷ answers) count size = absurd cc
+  refused_more (x ∷ events) answers count size =
+      let own : List Op = own_ops x events answers count in
+      let left : List Answer = rest x events answers count in
+      let fits = within x events answers count in
+      let later = refused_events (events ++ event ∷ []) in
+      ap (λ (full : Bool). if list_any is_refusal (take (length (ops_of full x)) (answers ++ more))
+      then later (drop (length (ops_of full x)) (answers ++ more)) + 1
+      else later (drop (length (ops_of full x)) (answers ++ more))) (alike x events answers count more)
+      ∙ ap (λ (l : List Answer). if list_any is_refusal l
+      then later (drop (length own) (answers ++ more)) + 1
+      else later (drop (length own) (answers ++ more))) (take-append-le (length own) answers more fits)
+      ∙ counted_more (list_any is_refusal (take (length own) answers)) (refused_events events left)
+      (later (drop (length own) (answers ++ more))) (one_if (list_any is_refusal more))
+      (ap later (drop-append-le (length own) answers more fits)
+      ∙ refused_more events left (rest_count x events answers count) size)
+
+-- The operations of an event after its first one, called one by one.
 
 -- An event's operations are its first one and those after it.
 
@@ -34,73 +129,53 @@ linked_first : (slot : ℕ) (a : Answer)
 linked_first slot answer.Full = refl
 linked_first slot a = refl
 
-freed_first : (slot : ℕ) (full : Bool) → ops_of full (F slot) ≡ op.GetGlobal 0 slot ∷ drop 1 (ops_of full (F slot))
-freed_first slot true = refl
-freed_first slot false = refl
-
-cleared_first : (slot : ℕ) (full : Bool) → ops_of full (C slot) ≡ op.SetGlobal slot 0 ∷ drop 1 (ops_of full (C slot))
-cleared_first slot true = refl
-cleared_first slot false = refl
-
-written_first : (slot index value : ℕ) (full : Bool)
-    → ops_of full (W slot index value) ≡ op.GetGlobal 0 slot ∷ drop 1 (ops_of full (W slot index value))
-written_first slot index value true = refl
-written_first slot index value false = refl
-
--- the operation is the first of these
-first_is : (event : TraceEvent) (o x : Op) → ops_of false event ≡ o ∷ drop 1 (ops_of false event)
-    → get_or (ops_of false event) 0 o ≡ x → x ≡ o
-first_is event o x is first = sym first ∙ ap (λ (l : List Op). get_or l 0 o) is
-
-abbrev BeginsWith : Answer → TraceEvent → Op → Type 0
-BeginsWith a event o = ops_of (is_full_answer a) event ≡ flagged o a ∷ drop 1 (ops_of (is_full_answer a) event)
+abbrev BeginsWith : Op → TraceEvent → Bool → Type 0
+BeginsWith o event full = ops_of full event ≡ o ∷ drop 1 (ops_of full event)
 
 first_of : (o : Op) (a : Answer) (event : TraceEvent) → ops_of false event ≡ o ∷ drop 1 (ops_of false event)
     → ops_of (is_full_answer a) event ≡ flagged o a ∷ drop 1 (ops_of (is_full_answer a) event)
-first_of o a (A slot) is =
-    subst (BeginsWith a (A slot)) (first_is (A slot) o (op.New 0 slot false) is refl) (made_first slot a)
-first_of o a (K slot) is =
-    subst (BeginsWith a (K slot)) (first_is (K slot) o (op.New 0 slot false) is refl) (linked_first slot a)
+first_of o a (A slot) is = let same : o ≡ op.New 0 slot false = cc in rw same (made_first slot a)
+first_of o a (K slot) is = let same : o ≡ op.New 0 slot false = cc in rw same (linked_first slot a)
 first_of o a (F slot) is =
-    subst (BeginsWith a (F slot)) (first_is (F slot) o (op.GetGlobal 0 slot) is refl)
-    (freed_first slot (is_full_answer a))
+    let same : o ≡ op.GetGlobal 0 slot = cc in
+    rw same (either_way (BeginsWith (op.GetGlobal 0 slot) (F slot)) refl refl (is_full_answer a))
 first_of o a (C slot) is =
-    subst (BeginsWith a (C slot)) (first_is (C slot) o (op.SetGlobal slot 0) is refl)
-    (cleared_first slot (is_full_answer a))
+    let same : o ≡ op.SetGlobal slot 0 = cc in
+    rw same (either_way (BeginsWith (op.SetGlobal slot 0) (C slot)) refl refl (is_full_answer a))
 first_of o a (W slot index value) is =
-    subst (BeginsWith a (W slot index value)) (first_is (W slot index value) o (op.GetGlobal 0 slot) is refl)
-    (written_first slot index value (is_full_answer a))
+    let same : o ≡ op.GetGlobal 0 slot = cc in
+    rw same (either_way (BeginsWith (op.GetGlobal 0 slot) (W slot index value)) refl refl (is_full_answer a))
 
 -- The operation is noted as it is, whatever its answer.
 abbrev IsPlain : Op → Type 0
 IsPlain o = (a : Answer) → flagged o a ≡ o
 
-plain_one : IsPlain (op.Clear 0) → All IsPlain (op.Clear 0 ∷ [])
-plain_one h = All-cons IsPlain (op.Clear 0) [] h (All-nil IsPlain)
+abbrev is_plain : Op → Bool
+is_plain (op.New d ty full) = false
+is_plain _ = true
 
-plain_two : All IsPlain (op.Clear 0 ∷ op.Clear 1 ∷ [])
-plain_two = All-cons IsPlain (op.Clear 0) (op.Clear 1 ∷ []) (λ a. refl)
-    (All-cons IsPlain (op.Clear 1) [] (λ a. refl) (All-nil IsPlain))
+are_plain : (ops : List Op) (i : ℕ) (o : Op) → list_all is_plain ops ≡ true → i < length ops → o ≡ get_or ops i o
+    → IsPlain o
+are_plain [] i o plain lt at = absurd (omega (arith, lt))
+are_plain (x ∷ ops) zero o plain lt at =
+    subst IsPlain (sym at) (by x (and_parts (is_plain x) (list_all is_plain ops) plain).0)
+  where
+    by : (x : Op) → is_plain x ≡ true → IsPlain x
+    by (op.New d ty full) h = cc
+    by _ h = λ a. refl
+are_plain (x ∷ ops) (suc i) o plain lt at =
+    are_plain ops i o (and_parts (is_plain x) (list_all is_plain ops) plain).1 (omega (arith, lt)) at
 
 -- Only the first may be a New.
-later_plain : (full : Bool) (event : TraceEvent) → All IsPlain (drop 1 (ops_of full event))
-later_plain false (A slot) = All-cons IsPlain (op.SetGlobal slot 0) (op.Clear 0 ∷ []) (λ a. refl)
-    (plain_one (λ a. refl))
-later_plain true (A slot) = plain_one (λ a. refl)
-later_plain false (K slot) =
-    All-cons IsPlain (op.GetGlobal 1 slot) (op.SetPtr 0 0 1 ∷ op.SetGlobal slot 0 ∷ op.Clear 0 ∷ op.Clear 1 ∷ [])
-    (λ a. refl)
-    (All-cons IsPlain (op.SetPtr 0 0 1) (op.SetGlobal slot 0 ∷ op.Clear 0 ∷ op.Clear 1 ∷ []) (λ a. refl)
-    (All-cons IsPlain (op.SetGlobal slot 0) (op.Clear 0 ∷ op.Clear 1 ∷ []) (λ a. refl) plain_two))
-later_plain true (K slot) = plain_two
-later_plain false (F slot) = All-cons IsPlain (op.Free 0) (op.Clear 0 ∷ []) (λ a. refl) (plain_one (λ a. refl))
-later_plain true (F slot) = All-cons IsPlain (op.Free 0) (op.Clear 0 ∷ []) (λ a. refl) (plain_one (λ a. refl))
-later_plain false (C slot) = All-nil IsPlain
-later_plain true (C slot) = All-nil IsPlain
-later_plain false (W slot index value) =
-    All-cons IsPlain (op.SetNum 0 index value) (op.Clear 0 ∷ []) (λ a. refl) (plain_one (λ a. refl))
-later_plain true (W slot index value) =
-    All-cons IsPlain (op.SetNum 0 index value) (op.Clear 0 ∷ []) (λ a. refl) (plain_one (λ a. refl))
+abbrev LaterArePlain : TraceEvent → Bool → Type 0
+LaterArePlain event full = list_all is_plain (drop 1 (ops_of full event)) ≡ true
+
+later_plain : (full : Bool) (event : TraceEvent) → list_all is_plain (drop 1 (ops_of full event)) ≡ true
+later_plain full (A slot) = either_way (LaterArePlain (A slot)) refl refl full
+later_plain full (K slot) = either_way (LaterArePlain (K slot)) refl refl full
+later_plain full (F slot) = either_way (LaterArePlain (F slot)) refl refl full
+later_plain full (C slot) = either_way (LaterArePlain (C slot)) refl refl full
+later_plain full (W slot index value) = either_way (LaterArePlain (W slot index value)) refl refl full
 
 module _ (c : Config) (es : List Event) (full : Bool) (event : TraceEvent) (i : ℕ) (o : Op)
     (within : i < length (drop 1 (ops_of full event))) (at : o ≡ get_or (drop 1 (ops_of full event)) i o) where
@@ -114,7 +189,7 @@ module _ (c : Config) (es : List Event) (full : Bool) (event : TraceEvent) (i : 
   here = ap (λ (n : ℕ). get_or ops n o) (omega arith) ∙ sym (get_or-drop 1 ops i o) ∙ sym at
 
   plain : IsPlain o
-  plain = subst IsPlain (sym at) (All-get_or IsPlain (drop 1 ops) i o within (later_plain full event))
+  plain = are_plain (drop 1 ops) i o (later_plain full event) within at
 
   one_more : take (i + 1 + 1) ops ≡ take (i + 1) ops ++ o ∷ []
   one_more = take_more ops (i + 1) o inside ∙ ap (λ (x : Op). take (i + 1) ops ++ x ∷ []) here
@@ -157,12 +232,6 @@ pub first_all : (c : Config) (es : List Event) (full : Bool) (event : TraceEvent
     → CallsAll c es full (o ∷ []) refused fs → CallsAll c es full (take (0 + 1) (ops_of full event)) refused fs
 first_all c es full event o refused fs is h =
     subst (λ (l : List Op). CallsAll c es full l refused fs) (sym (ap (λ (l : List Op). take 1 l) is)) h
-
-pub first_may_come : (c : Config) (es : List Event) (event : TraceEvent) (o : Op)
-    → ops_of false event ≡ o ∷ drop 1 (ops_of false event)
-    → AreAdmitted c.globals (never_behind c es) (calls_of_caller (ops_of false event)) → MayCome c es o
-first_may_come c es event o is h =
-    (subst (λ (l : List Op). AreAdmitted c.globals (never_behind c es) (calls_of_caller l)) is h).0
 
 pub begun : (c : Config) (es : List Event) (event : TraceEvent) (o : Op) (told : Answer) (fs : List Event)
     → ops_of false event ≡ o ∷ drop 1 (ops_of false event) → Calls c es o told fs

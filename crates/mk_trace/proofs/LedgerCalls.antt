@@ -1,36 +1,93 @@
--- What the ledger keeps over a call, with the looks before it and after it.
-use Rattle.std.proofs.Common.{◌≡◌, ◌⊎◌, inl, inr, ℕ, ◌+◌, ◌≤◌, ◌<◌, false, List, ◌++◌, refl, sym, ◌∙◌, ap, subst}
-use Rattle.std.proofs.Common.{arith, max}
-use Rattle.std.specs.Prelude.{Option, Some, option_map}
+-- What the ledger keeps: before any event, over a call, and at the end.
+use Rattle.std.proofs.Common.{◌≡◌, ℕ, List, [], refl, sym, ◌∙◌, ap, subst, ◌⊎◌, inl, inr, ◌+◌, ◌≤◌, ◌<◌, false, arith}
+use Rattle.std.specs.Prelude.{Option, option_map}
 use Rattle.mk_never.specs.declared.operations.Op.{Op}
 use Rattle.mk_never.specs.declared.operations.Op.TheVariants as op
-use Rattle.mk_never.specs.Admitted.{IsAdmitted}
-use Rattle.mk_never.specs.NeverHeap.{NeverState}
+use Rattle.mk_never.specs.NeverHeap.{NeverState, after_calls}
 use Rattle.mk_core.specs.declared.config.Config.{Config}
-use Rattle.mk_core.specs.declared.events.Answer.{Answer}
 use Rattle.mk_core.specs.declared.events.Event.{Event}
-use Rattle.mk_core.specs.Allocations.{PlacedAllocation, held_by_allocations, placed_at, storage_words}
+use Rattle.mk_core.specs.Allocations.{PlacedAllocation, unreleased_storage, held_by_allocations, placed_at}
+use Rattle.mk_core.specs.Allocations.{storage_words}
+use Rattle.mk_core.specs.Counts.{in_a_word, ends}
+use Rattle.mk_core.specs.History.{IsHistory, left, left_from, first_world, never_behind, never_first}
 use Rattle.mk_core.specs.Calls.{is_under_turn}
-use Rattle.mk_core.specs.Counts.{ends, in_a_word}
 use Rattle.mk_core.specs.Cycles.{is_quarantined}
-use Rattle.mk_core.specs.Decided.{Decided, asked, entry_of}
-use Rattle.mk_core.specs.History.{IsHistory, first_world, left, never_behind, never_first}
+use Rattle.mk_core.specs.Decided.{Decided, asked}
 use Rattle.mk_core.specs.Words.{Words}
-use Rattle.mk_never.specs.NeverHeap.{after_calls}
 use Rattle.mk_trace.specs.declared.ledger.Freed.{Freed}
-use Rattle.mk_trace.specs.declared.ledger.FreedObject.{FreedObject}
 use Rattle.mk_trace.specs.declared.ledger.Peak.{Peak}
-use Rattle.mk_trace.specs.Calls.{Calls, HoldsMostAtEnd, MayCome, held_behind, most_held}
-use Rattle.mk_trace.specs.Ends.{EndsNone, EndsOne, EndsTell, IsIdle, LeavesAllocations}
+use Rattle.mk_trace.specs.Calls.{most_held, HoldsMostAtEnd}
+use Rattle.mk_trace.specs.Ends.{IsIdle, EndsNone, EndsOne, EndsTell, LeavesAllocations}
+use Rattle.mk_trace.specs.Ledgers.{AreAgesOf, Keeps, objects_kept, AreFound, AreObjectsOf, IsPeakOf, Notes, Settles}
+use Rattle.mk_trace.specs.Ledgers.{object_of}
+use Rattle.mk_trace.specs.Peaks.{HistoryPeaks, found_by_ends, found_by_ends_from, greatest, greatest_from, peaks_of}
+use Rattle.mk_trace.specs.Peaks.{quarantined_words, reserved_words}
+use Rattle.mk_trace.specs.Playing.{config_of}
+use Rattle.mk_trace.specs.Traces.{Contents}
+use Rattle.mk_trace.specs.declared.ledger.FreedObject.{FreedObject}
 use Rattle.mk_trace.specs.Freeing.{FlagsBehindCall, IsMostWhereFreed, QuarantinesMostWhereFreed, freed_words}
 use Rattle.mk_trace.specs.Freeing.{large_words, number_freed}
-use Rattle.mk_trace.specs.Ledgers.{AreAgesOf, AreFound, AreObjectsOf, IsPeakOf, Keeps, Notes, Settles}
-use Rattle.mk_trace.specs.Ledgers.{object_of, objects_kept}
 use Rattle.mk_trace.specs.Looking.{OnlyLooks}
-use Rattle.mk_trace.specs.Peaks.{found_by_ends, greatest, quarantined_words, reserved_words}
-use Rattle.mk_trace.proofs.GreatestParts.{last_below}
-use Rattle.mk_trace.proofs.HeldCalls.{calls_looked}
+use Rattle.mk_trace.proofs.ReleasedAreFreed.{ages_counted}
+use Rattle.mk_trace.proofs.PeakParts.{last_below}
 use Rattle.mk_trace.proofs.KeptPeaks.{keeps_on}
+
+-- The ledger before any event, and what it comes to at the end.
+
+pub first_held : (c : Config) (es : List Event) → es ≡ [] → most_held c es ≡ 0
+unfolding greatest_from unreleased_storage
+first_held c es empty = ap (λ (l : List Event). most_held c l) empty
+
+pub first_idle : (c : Config) (es : List Event) → es ≡ [] → IsIdle c es
+unfolding left_from
+first_idle c es empty = subst (λ (l : List Event). IsIdle c l) (sym empty) refl
+
+pub first_keeps : (c : Config) (es : List Event) (f : Freed) → es ≡ []
+    → f.quarantined ≡ record { now = 0; most = 0 } → f.reserved ≡ record { now = 0; most = 0 }
+    → objects_kept f ≡ [] → f.ages.items ≡ [] → f.ends ≡ 0 → Keeps c es f
+unfolding greatest_from left_from found_by_ends_from
+first_keeps c es f empty quarantined reserved objects ages ends =
+    subst (λ (l : List Event). Keeps c l f) (sym empty)
+    (record {
+      quarantined = record {
+        now = ap (λ (p : Peak). p.now) quarantined;
+        most = ap (λ (p : Peak). p.most) quarantined;
+      };
+      reserved = record { now = ap (λ (p : Peak). p.now) reserved; most = ap (λ (p : Peak). p.most) reserved };
+      objects = record { numbers = []; are = objects; those = λ i. refl };
+      ages = record { numbers = []; are = ages; those = λ i. refl };
+      found = record { gone = λ i. refl; unfreed = λ i unfreed. refl };
+      ends = ends;
+    })
+
+-- The most of a measure, where a word holds it.
+pub most_of : (trace : Contents) (c : Config) (measure : Config → List PlacedAllocation → ℕ) (es fs : List Event)
+    (most : ℕ) → fs ≡ es → c ≡ config_of trace → most ≡ in_a_word (greatest c (measure c) es)
+    → most ≡ in_a_word (greatest (config_of trace) (measure (config_of trace)) fs)
+most_of trace c measure es fs most same config is =
+    is ∙ ap (λ (d : Config). in_a_word (greatest d (measure d) es)) config
+    ∙ ap (λ (l : List Event). in_a_word (greatest (config_of trace) (measure (config_of trace)) l)) (sym same)
+
+pub ages_of : (trace : Contents) (c : Config) (es fs : List Event) (pairs : List (ℕ × ℕ)) → fs ≡ es
+    → c ≡ config_of trace → IsHistory (config_of trace) fs
+    → AreAgesOf (found_by_ends c es) (left c es).allocations pairs
+    → pairs ≡ (peaks_of (config_of trace) fs).ages
+ages_of trace c es fs pairs same config history h =
+    ages_counted (config_of trace) fs (found_by_ends (config_of trace) fs) pairs history
+    (subst (λ (l : List Event). AreAgesOf (found_by_ends (config_of trace) l) (left (config_of trace) l).allocations
+    pairs) (sym same)
+    (subst (λ (d : Config). AreAgesOf (found_by_ends d es) (left d es).allocations pairs) config h))
+
+pub peaks_by : (p is : HistoryPeaks) → p.held ≡ is.held → p.quarantined ≡ is.quarantined → p.reserved ≡ is.reserved
+    → p.cycles ≡ is.cycles → p.ages ≡ is.ages → p ≡ is
+peaks_by p is held quarantined reserved cycles ages =
+    ap (λ (n : ℕ). record p { held = n }) held
+    ∙ ap (λ (n : ℕ). record p { held = is.held; quarantined = n }) quarantined
+    ∙ ap (λ (n : ℕ). record p { held = is.held; quarantined = is.quarantined; reserved = n }) reserved
+    ∙ ap (λ (n : ℕ). record is { cycles = n; ages = p.ages }) cycles
+    ∙ ap (λ (l : List (ℕ × ℕ)). record is { ages = l }) ages
+
+-- What the ledger keeps over a call, with the looks before it and after it.
 
 -- What leaves the allocations and the cycles leaves what is kept.
 
@@ -107,14 +164,6 @@ idle_looked c es fs looks idle = looks.leaves.phase ∙ idle
 pub never_looked : (c : Config) (es fs : List Event) → OnlyLooks c es fs → never_behind c fs ≡ never_behind c es
 never_looked c es fs looks = ap (λ (l : List Decided). after_calls (never_first c) (asked l)) looks.calls
 
-pub calls_looked_before : (c : Config) (es fs : List Event) (o : Op) (told : Answer) (gs : List Event)
-    → OnlyLooks c es fs → Calls c fs o told gs → Calls c es o told gs
-calls_looked_before c es fs o told gs looks h = record {
-  answer = h.answer;
-  is_told = h.is_told;
-  entry = h.entry ∙ ap (λ (l : List Decided). l ++ entry_of 0 o (Some h.answer)) looks.calls;
-}
-
 -- One call
 module _ (c : Config) (es0 es1 es2 es3 es4 : List Event) (o : Op) (first second third : Freed)
     (x : Option FreedObject) (before : OnlyLooks c es0 es1) (at_first : IsHistory c es1) (at_last : IsHistory c es2)
@@ -149,9 +198,6 @@ module _ (c : Config) (es0 es1 es2 es3 es4 : List Event) (o : Op) (first second 
       most first second third x is_now
       (keeps_looked c es0 es1 first before keeps) notes settles_now))
 
-  pub idle_behind : IsIdle c es4
-  idle_behind = idle_looked c es3 es4 more (idle_looked c es2 es3 looks told.0)
-
 -- At most one cycle ends.
 pub ends_over : (c : Config) (es0 es1 es2 es3 es4 : List Event) → OnlyLooks c es0 es1 → IsIdle c es0
     → EndsTell c es1 es2 → OnlyLooks c es2 es3 → OnlyLooks c es3 es4 → ends es4 ≤ ends es0 + 1
@@ -163,22 +209,3 @@ ends_over c es0 es1 es2 es3 es4 before idle tells looks more =
       | inl none ↦ (let second = none.count in omega (arith, first, second, third, last))
       | inr one ↦ (let second = one.count in omega (arith, first, second, third, last))
     ]
-
--- What was held at most
-pub held_over : (c : Config) (es0 es1 es2 es3 es4 : List Event) (held now : ℕ) → OnlyLooks c es0 es1
-    → HoldsMostAtEnd c es1 es2 → OnlyLooks c es2 es3 → OnlyLooks c es3 es4 → held ≡ most_held c es0
-    → now ≡ held_behind c es2 → max held now ≡ most_held c es4
-held_over c es0 es1 es2 es3 es4 held now before most looks more is finds =
-    let one = before.most (held_by_allocations c) in
-    let two = looks.most (held_by_allocations c) in
-    let three = more.most (held_by_allocations c) in
-    omega (arith, one, two, three, most, is, finds)
-
-pub called_over : (c : Config) (es0 es1 es2 es3 es4 : List Event) (o : Op) (told : Answer) → OnlyLooks c es0 es1
-    → Calls c es1 o told es2 → OnlyLooks c es2 es3 → OnlyLooks c es3 es4 → Calls c es0 o told es4
-called_over c es0 es1 es2 es3 es4 o told before h looks more =
-    calls_looked c es0 o told es2 es4 (calls_looked_before c es0 es1 o told es2 before h) (more.calls ∙ looks.calls)
-
-pub may_come_looked : (c : Config) (es fs : List Event) (o : Op) → OnlyLooks c es fs → MayCome c es o → MayCome c fs o
-may_come_looked c es fs o looks comes =
-    subst (λ (n : NeverState). IsAdmitted c.globals n 0 o) (sym (never_looked c es fs looks)) comes

@@ -24,21 +24,7 @@ is_no_look _ = true
 
 pub named_same : (w : Words) (turn : ℕ) (x : Word) → named_word (record w { turn = turn }) x ≡ named_word w x
 named_same w turn word.Phase = refl
-named_same w turn (word.Gate caller) = refl
-named_same w turn (word.Reg caller r) = refl
-named_same w turn (word.Global g) = refl
-named_same w turn (word.Head p) = refl
-named_same w turn (word.Used p) = refl
-named_same w turn (word.Quar p) = refl
-named_same w turn (word.Mark p) = refl
-named_same w turn (word.Black p) = refl
-named_same w turn (word.Dirty p) = refl
-named_same w turn (word.Heap n) = refl
-named_same w turn word.Held = refl
-named_same w turn word.Fresh = refl
-named_same w turn word.Cycles = refl
-named_same w turn word.Released = refl
-named_same w turn word.Full = refl
+named_same w turn _ = refl
 
 pub word_left : (w v : World) → LeavesTable w v → (x : Word) → named_word v.now.words x ≡ named_word w.now.words x
 word_left w v leaves x =

@@ -17,13 +17,11 @@ use Rattle.mk_core.specs.declared.events.Answer.{Answer}
 use Rattle.mk_core.specs.declared.events.Answer.TheVariants as answer
 use Rattle.mk_core.specs.declared.events.Event.{Event}
 use Rattle.mk_core.specs.declared.events.Seat.{Seat}
-use Rattle.mk_core.specs.declared.events.Seat.TheVariants.{Caller, Host}
-use Rattle.mk_core.specs.declared.events.Step.TheVariants as step
+use Rattle.mk_core.specs.declared.events.Seat.TheVariants.{Caller}
 use Rattle.mk_core.specs.declared.events.Word.{Word}
-use Rattle.mk_core.specs.Accesses.{caller_number}
 use Rattle.mk_core.specs.Counts.{is_full_answer}
 use Rattle.mk_core.specs.Decided.{Decided, entry_of, asked, answered, flagged}
-use Rattle.mk_core.specs.Growing.{Grows, is_same_seat}
+use Rattle.mk_core.specs.Growing.{Grows}
 use Rattle.mk_core.specs.History.{calls, never_first, never_behind, IsHistory}
 use Rattle.mk_words.specs.Seats.{Has, HasAll, all_seats, has_over, without_seat}
 use Rattle.mk_words.specs.States.{WordsState, PassState}
@@ -32,9 +30,7 @@ use Rattle.mk_caller.specs.States.{CallerState, at_home, number_of}
 use Rattle.mk_caller.proofs.OwnSteps.{calls_by, others_add_none}
 use Rattle.mk_heap.specs.Hosts.{AllAreJoined, HostState, first_host, pass_for, with_caller_made, with_caller_out}
 use Rattle.mk_heap.specs.Hosts.{with_joined, with_seen}
-use Rattle.mk_heap.specs.Turns.{Tells}
-use Rattle.mk_heap.proofs.MovedHosts.{moves_more, turn_moves}
-use Rattle.mk_run.specs.Scripts.{as_told, StaysAdmitted, Answers}
+use Rattle.mk_run.specs.Scripts.{as_told, StaysAdmitted}
 use Rattle.mk_trace.specs.Calls.{IsHome, MayCome, SameCalls, Calls, CallsAll}
 use Rattle.mk_trace.specs.Playing.{begins_full, calls_of_caller, is_refusal}
 use Rattle.mk_trace.proofs.OwnPieces.{all_again}
@@ -59,40 +55,17 @@ calls_are_own c es one history =
     ∙ (omega (arith, one)) in
     all_own c.globals (never_first c) (calls c es) count history.admitted
 
--- What may come now may come while the caller makes no call.
-pub stays_admitted : (p : PassState) (o : Op) → p.seat ≡ Caller 0 → p.table.config.callers ≡ 1
-    → IsHistory p.table.config p.seen → MayCome p.table.config p.seen o → StaysAdmitted p o
-stays_admitted p o seat one history comes = λ es later same.
-    let c = p.table.config in
-    let number : number_of p ≡ 0 = ap (λ (s : Seat). caller_number s) seat in
-    let own : calls_by 0 (calls c es) ≡ calls_by 0 (calls c p.seen) =
-    subst (λ (k : ℕ). calls_by k (calls c es) ≡ calls_by k (calls c p.seen)) number same in
-    let all : calls c es ≡ calls c p.seen =
-    sym (calls_are_own c es one later) ∙ own ∙ calls_are_own c p.seen one history in
-    subst (λ (k : ℕ). IsAdmitted c.globals (never_behind c es) k o) (sym number)
-    (subst (λ (xs : List Decided). IsAdmitted c.globals (after_calls (never_first c) (asked xs)) 0 o) (sym all) comes)
+-- The caller makes no call where others alone do something.
 
--- The caller is joined after its call.
-pub joined_call : (on : Bool) (p : PassState) (o : Op) (told : Answer) (q : PassState) (fs : List Event)
-    → p.seat ≡ Caller 0 → p.seats ≡ Caller 0 ∷ [] → p.table.config.callers ≡ 1 → IsHistory p.table.config p.seen
-    → Answers on p o told q → Grows q.seats q.seen fs → IsHistory p.table.config fs
-    → Calls p.table.config p.seen o told fs
-joined_call on p o told q fs seat seats one history h came later =
-    let c = p.table.config in
-    let number : number_of p ≡ 0 = ap (λ (s : Seat). caller_number s) seat in
-    let mine : Grows (Caller 0 ∷ []) q.seen fs =
-    subst (λ (l : List Seat). Grows l q.seen fs) (ap (λ (r : PassState). r.seats) h.is ∙ seats) came in
-    let same : calls_by 0 (calls c fs) ≡ calls_by 0 (calls c q.seen) =
-    ap (λ (l : List Event). calls_by 0 (calls c l)) mine.is ∙ others_add_none c 0 q.seen mine.more mine.of_others in
-    let entry : calls_by 0 (calls c q.seen) ≡ calls_by 0 (calls c p.seen) ++ entry_of 0 o (Some h.answer) =
-    subst (λ (k : ℕ). calls_by k (calls c q.seen) ≡ calls_by k (calls c p.seen) ++ entry_of k o (Some h.answer)) number
-    h.entry in
-    record {
-      answer = h.answer;
-      is_told = h.is_told;
-      entry = sym (calls_are_own c fs one later) ∙ same ∙ entry
-          ∙ ap (λ (l : List Decided). l ++ entry_of 0 o (Some h.answer)) (calls_are_own c p.seen one history);
-    }
+pub none_called : (c : Config) (es fs : List Event) → Grows (Caller 0 ∷ []) es fs
+    → calls_by 0 (calls c fs) ≡ calls_by 0 (calls c es)
+none_called c es fs g =
+    ap (λ (l : List Event). calls_by 0 (calls c l)) g.is ∙ others_add_none c 0 es g.more g.of_others
+
+pub same_calls : (c : Config) (es fs : List Event) → c.callers ≡ 1 → IsHistory c es → IsHistory c fs
+    → Grows (Caller 0 ∷ []) es fs → SameCalls c es fs
+same_calls c es fs one before later g =
+    sym (calls_are_own c fs one later) ∙ none_called c es fs g ∙ calls_are_own c es one before
 
 -- Calls one after the other.
 
@@ -114,8 +87,7 @@ refused_as_told (answer.Word w) = refl
 refused_as_told a = refl
 
 or_none : (b : Bool) → (b || false) ≡ b
-or_none true = refl
-or_none false = refl
+or_none b = grind arith
 
 pub full_as_told : (a : Answer) → is_full_answer (as_told a) ≡ is_full_answer a
 full_as_told (answer.Word w) = refl
@@ -146,7 +118,8 @@ calls_first c es o told fs g = record {
   refuses = or_none (is_refusal g.answer) ∙ sym (refused_as_told g.answer) ∙ ap is_refusal (sym g.is_told);
 }
 
-begins_alike : (answers more : List Answer) → 1 ≤ length answers → begins_full (answers ++ more) ≡ begins_full answers
+pub begins_alike : (answers more : List Answer) → 1 ≤ length answers
+    → begins_full (answers ++ more) ≡ begins_full answers
 begins_alike [] more some = absurd (omega arith)
 begins_alike (a ∷ answers) more some = refl
 
@@ -185,21 +158,6 @@ next_may_come c es full ops refused fs o rest h admitted =
     (map-append (λ (x : Op). record { caller = 0; op = x }) ops (o ∷ rest)) admitted) in
     subst (λ (n : NeverState). IsAdmitted c.globals n 0 o) (sym (never_behind_all c es full ops refused fs h)) parts.1.0
 
--- The host's looks are no calls.
-pub told_calls : (p : PassState) (x : Word) (n : ℕ) (q : PassState) → p.seat ≡ Host → Has p.seats (Caller 0)
-    → p.table.config.callers ≡ 1 → IsHistory p.table.config p.seen → Tells p x n q → IsHistory p.table.config q.seen
-    → SameCalls p.table.config p.seen q.seen
-told_calls p x n q host joined one history tells later =
-    let c = p.table.config in
-    let taken = turn_moves p tells.taken tells.takes in
-    let looked = moves_more p tells.taken tells.looked (step.Look x) taken tells.looks.makes in
-    let moves = moves_more p tells.looked q step.Give looked tells.gives in
-    let others = moves.leaves (Caller 0) joined (ap (λ (s : Seat). is_same_seat (Caller 0) s) host) in
-    sym (calls_are_own c q.seen one later)
-    ∙ ap (λ (r : PassState). calls_by 0 (calls c r.seen)) moves.is
-    ∙ others_add_none c 0 p.seen moves.more others
-    ∙ calls_are_own c p.seen one history
-
 -- The host between calls.
 
 pub told_home : (w : WordsState) (h : HostState) (g : HostState) → IsHome w h → g ≡ with_seen h g.pass.seen
@@ -235,52 +193,39 @@ joined_home w h out g q home is joined seats overs = record {
 }
 
 -- The caller that the host makes again.
+
+pub callers_at_home : (w : WordsState) (h : HostState) → IsHome w h → h.pass.table.config.callers ≡ 1
+callers_at_home w h home = ap (λ (x : WordsState). x.config.callers) home.table ∙ home.one
+
+-- What may come now may come while the caller makes no call.
+admits : (w : WordsState) (h : HostState) → IsHome w h → (o : Op) → MayCome w.config h.pass.seen o
+    → IsHistory h.pass.table.config h.pass.seen → StaysAdmitted (pass_for h (Caller 0)) o
+admits w h home o comes history = λ es later same.
+    let c = h.pass.table.config in
+    let one = callers_at_home w h home in
+    let all : calls c es ≡ calls c h.pass.seen =
+    sym (calls_are_own c es one later) ∙ same ∙ calls_are_own c h.pass.seen one history in
+    subst (λ (xs : List Decided). IsAdmitted c.globals (after_calls (never_first c) (asked xs)) 0 o) (sym all)
+    (subst (λ (x : WordsState). MayCome x.config h.pass.seen o) (sym home.table) comes)
+
 module _ (w : WordsState) (h : HostState) (home : IsHome w h) (s : CallerState)
     (made : s ≡ at_home (pass_for h (Caller 0))) where
-  is_pass : s.pass ≡ pass_for h (Caller 0)
-  is_pass = ap (λ (x : CallerState). x.pass) made
-
-  pub made_home : s.home ≡ true
-  made_home = ap (λ (x : CallerState). x.home) made
-
   pub made_seats : s.pass.seats ≡ Caller 0 ∷ []
-  made_seats = ap (λ (p : PassState). p.seats) is_pass
-
-  made_seat : s.pass.seat ≡ Caller 0
-  made_seat = ap (λ (p : PassState). p.seat) is_pass
-
-  made_table : s.pass.table ≡ w
-  made_table = ap (λ (p : PassState). p.table) is_pass ∙ home.table
-
-  made_seen : s.pass.seen ≡ h.pass.seen
-  made_seen = ap (λ (p : PassState). p.seen) is_pass
-
-  made_one : s.pass.table.config.callers ≡ 1
-  made_one = ap (λ (x : WordsState). x.config.callers) made_table ∙ home.one
+  made_seats = ap (λ (x : CallerState). x.pass.seats) made
 
   pub made_alone : s.pass.seats ≡ s.pass.seat ∷ []
-  made_alone = made_seats ∙ ap (λ (x : Seat). x ∷ []) (sym made_seat)
+  made_alone = subst (λ (x : CallerState). x.pass.seats ≡ x.pass.seat ∷ []) (sym made) refl
 
   pub made_exists : number_of s.pass < s.pass.table.config.callers
   made_exists =
-      let number : number_of s.pass ≡ 0 =
-      ap (λ (x : Seat). caller_number x) made_seat in omega (arith, number, made_one)
+      let one = callers_at_home w h home in
+      subst (λ (x : CallerState). number_of x.pass < x.pass.table.config.callers) (sym made) (omega (arith, one))
 
   pub made_admits : (o : Op) → MayCome w.config h.pass.seen o → IsHistory s.pass.table.config s.pass.seen
       → StaysAdmitted s.pass o
   made_admits o comes history =
-      stays_admitted s.pass o made_seat made_one history
-      (subst (λ (x : WordsState). MayCome x.config s.pass.seen o) (sym made_table)
-      (subst (λ (es : List Event). MayCome w.config es o) (sym made_seen) comes))
-
-  pub made_calls : (on : Bool) (o : Op) (told : Answer) (q : PassState) (fs : List Event)
-      → IsHistory s.pass.table.config s.pass.seen → Answers on s.pass o told q → Grows q.seats q.seen fs
-      → IsHistory w.config fs → Calls w.config h.pass.seen o told fs
-  made_calls on o told q fs history answers came later =
-      subst (λ (es : List Event). Calls w.config es o told fs) made_seen
-      (subst (λ (x : WordsState). Calls x.config s.pass.seen o told fs) made_table
-      (joined_call on s.pass o told q fs made_seat made_seats made_one history answers came
-      (subst (λ (x : WordsState). IsHistory x.config fs) (sym made_table) later)))
+      subst (λ (x : CallerState). StaysAdmitted x.pass o) (sym made)
+      (admits w h home o comes (subst (λ (x : CallerState). IsHistory x.pass.table.config x.pass.seen) made history))
 
 -- The caller that the host makes first, and joins at once.
 pub first_home : (w : WordsState) (h made joined : HostState) (q : PassState) → w.config.callers ≡ 1 → h ≡ first_host w

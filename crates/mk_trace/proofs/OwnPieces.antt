@@ -1,9 +1,12 @@
--- What a pass may have seen since: events of seats that there are, and none of those that are elsewhere.
-use Rattle.std.proofs.Common.{◌≡◌, ⊎_elim, Bool, true, false, List, [], ◌∷◌, ◌++◌, refl, sym, ◌∙◌, ap, subst}
-use Rattle.std.specs.Prelude.{◌&&◌, not}
+-- What a pass may have seen since, and what is seen of a call under the turn.
+use Rattle.std.proofs.Common.{◌≡◌, ⊎_elim, Bool, true, false, List, ◌∷◌, ◌++◌, refl, sym, ◌∙◌, ap, subst, []}
+use Rattle.std.proofs.Common.{append_assoc}
+use Rattle.std.specs.Prelude.{◌&&◌, not, Option, Some}
 use Rattle.std.specs.List.{list_all}
 use Rattle.std.proofs.lemmas.Bool.{and_from, and_parts, cases_Bool, not-true, or_cases, or_from, true≢false}
 use Rattle.std.proofs.lemmas.List.Folds.{list_all-append}
+use Rattle.std.proofs.lemmas.List.{append_cancel_right}
+use Rattle.mk_never.specs.declared.operations.Op.{Op}
 use Rattle.mk_core.specs.declared.config.Config.{Config}
 use Rattle.mk_core.specs.declared.events.Event.{Event}
 use Rattle.mk_core.specs.declared.events.Seat.{Seat}
@@ -12,11 +15,19 @@ use Rattle.mk_core.specs.Growing.{AreOfOthers, is_one_of, is_same_seat}
 use Rattle.mk_core.specs.History.{World, AreEnabledFrom, world_behind}
 use Rattle.mk_core.specs.Order.{seat_exists}
 use Rattle.mk_core.proofs.Conditions.{enabled_meets}
+use Rattle.mk_core.specs.declared.events.Step.TheVariants as step
+use Rattle.mk_core.specs.declared.events.Answer.{Answer}
 use Rattle.mk_words.specs.Seats.{Has, HasAll, without_seat}
-use Rattle.mk_words.specs.States.{PassState}
+use Rattle.mk_words.specs.States.{PassState, event_of}
 use Rattle.mk_words.proofs.Seats.{has_either, has_first, has_left, has_right, not_both, same_seat, without_keeps}
 use Rattle.mk_waiting.specs.Taking.{is_take, waits_for}
-use Rattle.mk_alloc.specs.TurnCycles.{has_step}
+use Rattle.mk_alloc.specs.TurnCycles.{has_step, within_turn}
+use Rattle.mk_words.specs.TurnSteps.{turn_stays}
+use Rattle.mk_alloc.specs.TurnCalls.{CalledInTurn}
+use Rattle.mk_alloc.proofs.ListParts.{lacks_append, lacks_one}
+use Rattle.mk_alloc.proofs.Parts.{seen_behind, seen_made, seen_then}
+
+-- What a pass may have seen since: events of seats that there are, and none of those that are elsewhere.
 
 -- The seat of the event is one that there is, and none of these.
 abbrev pub is_mine : Config → List Seat → Event → Bool
@@ -64,9 +75,14 @@ none_of_others c elsewhere seats (e ∷ es) all mine others =
     absurd (not_both seats e.seat others.0 (has_mine c elsewhere seats e all
     (and_parts (is_mine c elsewhere e) (list_all (is_mine c elsewhere) es) mine).0))
 
+take_alone : (kind : Step → Bool) → ((x : Option Op) → kind (step.Take x) ≡ false) → (s : Step) → is_take s ≡ true
+    → kind s ≡ false
+take_alone kind none (step.Take x) h = none x
+take_alone kind none _ h = cc
+
 -- and who waits for the turn makes no step but takes.
 pub waiting_lacks : (kind : Step → Bool) (c : Config) (elsewhere : List Seat) (p : PassState) (es : List Event)
-    → ((s : Step) → is_take s ≡ true → kind s ≡ false) → HasTheRest c elsewhere p.seats → AreMine c elsewhere es
+    → ((x : Option Op) → kind (step.Take x) ≡ false) → HasTheRest c elsewhere p.seats → AreMine c elsewhere es
     → list_all (waits_for p) es ≡ true → has_step kind es ≡ false
 waiting_lacks kind c elsewhere p [] apart all mine waits = refl
 waiting_lacks kind c elsewhere p (e ∷ es) apart all mine waits =
@@ -77,7 +93,7 @@ waiting_lacks kind c elsewhere p (e ∷ es) apart all mine waits =
     (λ (out : not (is_one_of p.seats e.seat) ≡ true).
     absurd (true≢false (sym (has_mine c elsewhere p.seats e all mines.0) ∙ not-true (is_one_of p.seats e.seat) out)))
     (λ (take : (is_take e.step && is_same_seat e.seat p.seat) ≡ true).
-    apart e.step (and_parts (is_take e.step) (is_same_seat e.seat p.seat) take).0)
+    take_alone kind apart e.step (and_parts (is_take e.step) (is_same_seat e.seat p.seat) take).0)
     (or_cases (not (is_one_of p.seats e.seat)) (is_take e.step && is_same_seat e.seat p.seat) parts.0))
     (waiting_lacks kind c elsewhere p es apart all mines.1 parts.1)
 
@@ -98,3 +114,69 @@ all_again c s seats all x exists = ⊎_elim same other (cases_Bool (is_same_seat
 
     other : is_same_seat s x ≡ false → Has (without_seat s seats ++ s ∷ []) x
     other out = has_left (without_seat s seats) (s ∷ []) x (without_keeps s seats x out (all x exists))
+
+-- What is seen of a call under the turn: the wait for the turn and its `take`, what the turn does, and its `give`.
+
+module _ {on : Bool} {p : PassState} {o : Op} {a : Answer} {q : PassState} (h : CalledInTurn on p o a q) where
+  abbrev waits : List Event
+  waits = h.takes.waits.more
+
+  abbrev taking : List Event
+  taking = h.takes.takes.makes.others ++ event_of h.takes.waited (step.Take (Some o)) ∷ []
+
+  -- up to the `take`, and with it
+  abbrev pub before_turn : List Event
+  before_turn = waits ++ taking
+
+  abbrev pub giving : List Event
+  giving = event_of h.done step.Give ∷ []
+
+  taken_seen : h.taken.seen ≡ p.seen ++ before_turn
+  taken_seen =
+      seen_then p.seen h.takes.waited.seen h.taken.seen waits taking (ap (λ (x : PassState). x.seen) h.takes.waits.is)
+      (seen_made h.takes.waited h.taken (step.Take (Some o)) h.takes.takes.makes)
+
+  done_seen : h.done.seen ++ h.gives.others ≡ (p.seen ++ before_turn) ++ h.ends.turn.behind
+  done_seen =
+      ap (λ (l : List Event). l ++ h.gives.others) (seen_behind turn_stays h.taken h.done h.acts)
+      ∙ append_assoc h.taken.seen h.acts.more h.gives.others
+      ∙ ap (λ (l : List Event). l ++ (h.acts.more ++ h.gives.others)) taken_seen
+      ∙ ap (λ (l : List Event). (p.seen ++ before_turn) ++ l) (sym h.turn_part)
+
+  pub turn_seen : q.seen ≡ p.seen ++ (before_turn ++ (h.ends.turn.behind ++ giving))
+  turn_seen =
+      seen_made h.done q step.Give h.gives
+      ∙ sym (append_assoc h.done.seen h.gives.others giving)
+      ∙ ap (λ (l : List Event). l ++ giving) done_seen
+      ∙ append_assoc (p.seen ++ before_turn) h.ends.turn.behind giving
+      ∙ append_assoc p.seen before_turn (h.ends.turn.behind ++ giving)
+
+  -- what the turn has seen so far
+  pub within_is : (part : List Event) → within_turn h.ends.turn part ≡ p.seen ++ (before_turn ++ part)
+  within_is part =
+      let take : Event = record { seat = p.seat; step = step.Take h.ends.turn.op } in
+      let before : p.seen ++ before_turn ≡ h.ends.turn.before ++ take ∷ [] =
+      append_cancel_right (p.seen ++ before_turn) (h.ends.turn.before ++ take ∷ []) h.ends.turn.behind
+      (sym done_seen ∙ h.ends.turn.is ∙ sym (append_assoc h.ends.turn.before (take ∷ []) h.ends.turn.behind)) in
+      sym (append_assoc h.ends.turn.before (take ∷ []) part)
+      ∙ ap (λ (l : List Event). l ++ part) (sym before)
+      ∙ append_assoc p.seen before_turn part
+
+  taking_others : AreOfOthers p.seats h.takes.takes.makes.others
+  taking_others =
+      subst (λ (x : PassState). AreOfOthers x.seats h.takes.takes.makes.others) h.takes.waits.is
+      h.takes.takes.makes.of_others
+
+  -- Before the turn there are only takes.
+  pub before_turn_lacks : (kind : Step → Bool) → ((x : Option Op) → kind (step.Take x) ≡ false)
+      → (elsewhere : List Seat) → HasTheRest p.table.config elsewhere p.seats
+      → AreMine p.table.config elsewhere before_turn → has_step kind before_turn ≡ false
+  before_turn_lacks kind apart elsewhere all mine =
+      let parts = mine_parts p.table.config elsewhere waits taking mine in
+      let taken = mine_parts p.table.config elsewhere h.takes.takes.makes.others
+      (event_of h.takes.waited (step.Take (Some o)) ∷ []) parts.1 in
+      lacks_append kind waits taking
+      (waiting_lacks kind p.table.config elsewhere p waits apart all parts.0 h.takes.waits.only)
+      (lacks_append kind h.takes.takes.makes.others (event_of h.takes.waited (step.Take (Some o)) ∷ [])
+      (others_lack kind p.table.config elsewhere p.seats h.takes.takes.makes.others all taken.0 taking_others)
+      (lacks_one kind (event_of h.takes.waited (step.Take (Some o))) (apart (Some o))))

@@ -1,5 +1,5 @@
 -- The peaks bound what quarantine costs.
-use Rattle.std.proofs.Common.{◌≡◌, ℕ, ◌+◌, ◌≤◌, Bool, true, false, List, [], ◌∷◌, ◌++◌, refl, subst, arith}
+use Rattle.std.proofs.Common.{◌≡◌, ℕ, ◌+◌, ◌≤◌, Bool, true, false, List, ◌++◌, refl, subst, arith}
 use Rattle.std.specs.Prelude.{◌&&◌, not, if◌then◌else◌}
 use Rattle.mk_never.specs.Types.{is_large, kinds_of}
 use Rattle.mk_core.specs.declared.config.Config.{Config}
@@ -15,7 +15,7 @@ use Rattle.mk_quarantine.proofs.LittleHeld.{held_is_little_where_free}
 use Rattle.mk_quarantine.proofs.Quarters.{quarantined_is_fresh_or_kept}
 use Rattle.mk_trace.specs.PeakBounds.{BoundsMeetPeaks, FreshIsQuarterOfPeak, QuarantineIsQuarterOfPeak}
 use Rattle.mk_trace.specs.Peaks.{is_reserved, peaks_of, quarantined_words, reserved_words}
-use Rattle.mk_trace.proofs.PeaksGrow.{is_greatest}
+use Rattle.mk_trace.proofs.PeakParts.{is_greatest}
 
 -- What is quarantined is reserved, or mapped; and what is mapped is fresh, or was freed before the last `begin`.
 
@@ -41,22 +41,16 @@ module _ (c : Config) (es front more : List Event) (h : IsHistory c es) (bounded
   held_below_peak =
       let first = earlier_part_is_history c front more (subst (λ (l : List Event). IsHistory c l) is h) in
       let above = (is_greatest c (held_by_allocations c) es).above front more is in
-      let little = held_is_little_where_free c front first free in
-      let few = h.within_limits.pages.1 in
-      omega arith
+      omega (arith, above, held_is_little_where_free c front first free, h.within_limits.pages.1)
 
   fresh_below_peak : FreshIsQuarterOfPeak (peaks_of c es) c front
   fresh_below_peak =
-      let quarter = bounded.of_held refl front more is free in
-      let below = held_below_peak in
-      omega arith
+      omega (arith, bounded.of_held refl front more is free, held_below_peak)
 
   quarantine_below_peak : QuarantineIsQuarterOfPeak (peaks_of c es) c front
   quarantine_below_peak =
-      let quarter = fresh_below_peak in
-      let all = quarantined_in_parts c (left c front).allocations in
       let mapped = quarantined_is_fresh_or_kept c (left c front).allocations in
-      omega arith
+      omega (arith, fresh_below_peak, quarantined_in_parts c (left c front).allocations, mapped)
 
 pub bounds_meet_peaks : BoundsMeetPeaks
 bounds_meet_peaks c es h bounded =

@@ -1,18 +1,95 @@
--- The greatest measure over a history in two parts, where a grant alone makes the measure more, and what lets storage
--- go alone makes it less.
-use Rattle.std.proofs.Common.{◌≡◌, ⊎_elim, ℕ, ◌≤◌, max, true, false, List, [], ◌∷◌, ◌++◌, refl, sym, ◌∙◌, ap, arith}
+-- The greatest measure over a history: over its beginnings, and in two parts.
+use Rattle.std.proofs.Common.{◌≡◌, ℕ, ◌≤◌, max, List, [], ◌∷◌, ◌++◌, arith, Bool, true, false, nat_le, refl, sym, ap}
+use Rattle.std.proofs.Common.{subst, ⊎_elim, ◌∙◌}
+use Rattle.std.proofs.lemmas.Bool.Decides.{nat_tests}
 use Rattle.std.proofs.lemmas.Bool.{cases_Bool, or_parts}
 use Rattle.mk_core.specs.declared.config.Config.{Config}
 use Rattle.mk_core.specs.declared.events.Event.{Event}
+use Rattle.mk_core.specs.Allocations.{PlacedAllocation}
+use Rattle.mk_core.specs.History.{World, left_from, world_behind, first_world, left}
 use Rattle.mk_core.specs.declared.events.Step.{Step}
 use Rattle.mk_core.specs.declared.events.Step.TheVariants as step
-use Rattle.mk_core.specs.Allocations.{PlacedAllocation}
-use Rattle.mk_core.specs.History.{World, first_world, world_behind, left, left_from}
 use Rattle.mk_core.proofs.HistoryParts.{left_in_parts}
 use Rattle.mk_alloc.specs.TurnCycles.{has_step, is_grant, lets_go}
 use Rattle.mk_alloc.proofs.GrantParts.{LastIn}
-use Rattle.mk_trace.specs.Peaks.{greatest, greatest_from}
-use Rattle.mk_trace.proofs.GreatestParts.{first_below, from-append, last_below}
+use Rattle.mk_trace.specs.Peaks.{greatest_from, greatest}
+use Rattle.mk_trace.specs.Laws.{IsGreatest}
+
+-- The greatest measure over a history in two parts.
+
+module _ (c : Config) (measure : List PlacedAllocation → ℕ) where
+  pub first_below : (w : World) (es : List Event) → measure w.allocations ≤ greatest_from c w measure es
+  unfolding greatest_from
+  first_below w [] = omega arith
+  first_below w (e ∷ es) = omega arith
+
+  pub last_below : (w : World) (es : List Event)
+      → measure (left_from c w es).allocations ≤ greatest_from c w measure es
+  unfolding greatest_from left_from
+  last_below w [] = omega arith
+  last_below w (e ∷ es) = omega (arith, last_below (world_behind c w e) es)
+
+  pub from-append : (w : World) (xs ys : List Event)
+      → greatest_from c w measure (xs ++ ys)
+      ≡ max (greatest_from c w measure xs) (greatest_from c (left_from c w xs) measure ys)
+  unfolding greatest_from left_from
+  from-append w [] ys = omega (arith, first_below w ys)
+  from-append w (e ∷ xs) ys = omega (arith, from-append (world_behind c w e) xs ys)
+
+-- Peaks are over all beginnings of a history.
+
+module _ (c : Config) (measure : List PlacedAllocation → ℕ) where
+  above : (w : World) (before behind : List Event)
+      → measure (left_from c w before).allocations ≤ greatest_from c w measure (before ++ behind)
+  unfolding left_from greatest_from
+  above w [] [] = omega arith
+  above w [] (e ∷ behind) = omega arith
+  above w (e ∷ before) behind = omega (arith, above (world_behind c w e) before behind)
+
+  record ReachedFrom (w : World) (es : List Event) (n : ℕ) : Type 0 where
+    before : List Event
+    behind : List Event
+    is : es ≡ before ++ behind
+    same : n ≡ measure (left_from c w before).allocations
+
+  reached_first : (w : World) (e : Event) (es : List Event) (first later : ℕ) (at_first : Bool)
+      → nat_le later first ≡ at_first
+      → first ≡ measure w.allocations → ReachedFrom (world_behind c w e) es later
+      → ReachedFrom w (e ∷ es) (max first later)
+  unfolding left_from
+  reached_first w e es first later true test is behind =
+      let below : later ≤ first = grind (arith, nat_tests, test) in
+      record { before = []; behind = e ∷ es; is = refl; same = omega (arith, below, is) }
+  reached_first w e es first later false test is behind =
+      let over : first ≤ later = grind (arith, nat_tests, test) in
+      record {
+        before = e ∷ behind.before;
+        behind = behind.behind;
+        is = ap (λ rest. e ∷ rest) behind.is;
+        same = omega (arith, over, behind.same);
+      }
+
+  reached : (w : World) (es : List Event) → ReachedFrom w es (greatest_from c w measure es)
+  unfolding left_from greatest_from
+  reached w [] = record { before = []; behind = []; is = refl; same = refl }
+  reached w (e ∷ es) =
+      let later = greatest_from c (world_behind c w e) measure es in
+      reached_first w e es (measure w.allocations) later (nat_le later (measure w.allocations)) refl refl
+      (reached (world_behind c w e) es)
+
+  pub is_greatest : (es : List Event) → IsGreatest c measure es (greatest c measure es)
+  is_greatest es =
+      let r = reached (first_world c) es in
+      record {
+        reached = record { before = r.before; behind = r.behind; is = r.is; same = r.same };
+        above = λ before behind is.
+            subst (λ (all : List Event). measure
+            (left_from c (first_world c) before).allocations ≤ greatest c measure all) (sym is)
+            (above (first_world c) before behind);
+      }
+
+-- The greatest measure over a history in two parts, where a grant alone makes the measure more, and what lets storage
+-- go alone makes it less.
 
 grant_keeps : (s : Step) → is_grant s ≡ true → lets_go s ≡ false
 grant_keeps step.Grant h = refl
@@ -103,6 +180,4 @@ module _ (c : Config) (measure : List PlacedAllocation → ℕ) where
         → greatest c measure (es ++ more) ≡ greatest c measure es
     no_more es more none =
         let parts = from-append c measure (first_world c) es more in
-        let fall = falls (left c es) more none in
-        let below = last_below c measure (first_world c) es in
-        omega arith
+        omega (arith, parts, falls (left c es) more none, last_below c measure (first_world c) es)

@@ -1,24 +1,168 @@
 -- A trace of some text can be played.
-use Rattle.std.proofs.Common.{◌≡◌, ℕ, ◌+◌, ◌≤◌, ◌==◌, nat_le, List, [], ◌∷◌, length, Ok, refl, subst, arith}
-use Rattle.std.specs.Prelude.{All}
+use Rattle.std.proofs.Common.{◌≡◌, ℕ, ◌+◌, ◌≤◌, ◌==◌, Bool, true, false, List, [], ◌∷◌, ◌++◌, length, Ok, subst, arith}
+use Rattle.std.proofs.Common.{◌<◌, nat_le, get_or, refl}
+use Rattle.std.specs.Prelude.{All, is_some, if◌then◌else◌, Option, Some, None}
+use Rattle.std.specs.Str.{bytes_eq}
+use Rattle.std.proofs.lemmas.List.{length-append, length-map, get_or-map}
+use Rattle.std.proofs.lemmas.List.Elements.{All-nil, All-cons, All-append, All-map}
 use Rattle.std.proofs.lemmas.Bool.Decides.{nat_tests}
-use Rattle.std.proofs.lemmas.List.{length-map}
+use Rattle.std.proofs.lemmas.List.Quantifiers.{position-Some}
 use Rattle.std.proofs.lemmas.List.FromFn.{length-range_with_len}
-use Rattle.std.proofs.lemmas.List.Elements.{All-nil, All-map}
 use Rattle.mk_core.specs.Config.{IsBetween, IsWithinLimits}
+use lib.Chars.{codes}
+use Rattle.mk_script.specs.declared.faults.Which.TheVariants as which
+use Rattle.mk_script.specs.Lines.{at_most, heap_limit, within}
+use Rattle.mk_script.specs.Operands.{name, number}
+use Rattle.mk_check.proofs.GrammarLemmas.{at_most-None, option_or-None}
 use Rattle.mk_script.specs.Words.{words_of, lines_of}
 use Rattle.mk_trace.specs.declared.lines.HeapPages.{HeapPages}
 use Rattle.mk_trace.specs.declared.lines.Slot.{Slot}
-use Rattle.mk_trace.specs.Grammar.{text_fault_at, type_fault_at, read_behind, with_event, written_from, events_from}
+use Rattle.mk_trace.specs.declared.lines.Line.{Line}
+use Rattle.mk_trace.specs.declared.lines.Line.TheVariants as line
+use Rattle.mk_trace.specs.Lines.{Written, with_line, heap_pages, header_of, slot_number, slot_limit, checked_slot}
+use Rattle.mk_trace.specs.Lines.{slot_from, slot_line, event_of, event_line, line_of, nothing_written}
+use Rattle.mk_trace.specs.declared.lines.Action.{Action}
+use Rattle.mk_trace.specs.declared.lines.Action.TheVariants.{New, Link, Free, Clear, Write}
+use Rattle.mk_trace.specs.declared.lines.EventLine.{EventLine}
+use Rattle.mk_trace.specs.declared.trace.TraceEvent.{TraceEvent}
+use Rattle.mk_trace.specs.declared.trace.TraceEvent.TheVariants.{A, K, F, C, W}
+use Rattle.mk_trace.specs.Typing.{typed_write, event_on, words_at, on_slot, typed_event}
+use Rattle.mk_trace.specs.Traces.{words_of_slots, Contents, contents_from, contents_of, trace_of_lines, IsOfSomeText}
 use Rattle.mk_trace.specs.Laws.{IsEventOf, IsPlayable}
-use Rattle.mk_trace.specs.Lines.{Written, nothing_written, with_line, header_of}
+use Rattle.mk_trace.specs.Grammar.{text_fault_at, type_fault_at, read_behind, with_event, written_from, events_from}
 use Rattle.mk_trace.specs.Playing.{config_of, types_from}
-use Rattle.mk_trace.specs.Traces.{Contents, contents_from, words_of_slots, contents_of, trace_of_lines, IsOfSomeText}
-use Rattle.mk_trace.specs.Typing.{typed_event}
-use Rattle.mk_trace.proofs.Kept.{gone_on, then_next, passed_else, passed_then, along_keeps}
-use Rattle.mk_trace.proofs.ReadEvents.{event_more}
-use Rattle.mk_trace.proofs.ReadSlots.{AreWithin, SlotIsWithin, HeapIsWithin, line_more, header_within}
+use Rattle.mk_trace.proofs.ReadLines.{bound, unless_none, passed_else, passed_then, within_none, gone_on, then_next}
+use Rattle.mk_trace.proofs.ReadLines.{along_keeps}
 use Rattle.mk_trace.proofs.SlotTypes.{length-types_from, types_among, range_below}
+
+-- The slots of lines are within their limits, and so is the heap of a header.
+
+abbrev pub SlotIsWithin : Slot → Type 0
+SlotIsWithin slot = IsBetween 1 4096 slot.words
+
+pub record AreWithin (slots : List Slot) : Type 0 where
+  pub few : length slots ≤ 64
+  pub sizes : All SlotIsWithin slots
+
+one_more : (before : List Slot) (slot found : Slot) → checked_slot before slot ≡ Ok found → AreWithin before
+    → AreWithin (before ++ found ∷ [])
+one_more before slot found h are =
+    let fresh = passed_else (is_some (slot_number before slot.name)) _ _ found h in
+    let is = unless_none (slot_limit (length before + 1) slot.words) slot found fresh.1 in
+    let limits = option_or-None (at_most (length before + 1) 64 which.Types)
+    (within 1 slot.words 4096 which.Words) is.0 in
+    let count = at_most-None (length before + 1) 64 which.Types limits.0 in
+    let size = within_none 1 slot.words 4096 which.Words limits.1 in
+    record {
+      few = omega (arith, count, length-append before (found ∷ []));
+      sizes = All-append SlotIsWithin before (found ∷ []) are.sizes
+          (All-cons SlotIsWithin found [] (subst SlotIsWithin is.1 size) (All-nil SlotIsWithin));
+    }
+
+slot_more : (before : List Slot) (word words : List ℕ) (found : Slot) → slot_from before word words ≡ Ok found
+    → AreWithin before → AreWithin (before ++ found ∷ [])
+slot_more before word words found h are =
+    let named = bound (name word) _ found h in
+    let counted = bound (number words) _ found named.behind in
+    one_more before (record { name = named.value; words = counted.value }) found counted.behind are
+
+slot_line_more : (before : Written) (operands : List (List ℕ)) (given : Line) → slot_line before operands ≡ Ok given
+    → AreWithin before.slots → AreWithin (with_line before given).slots
+slot_line_more before [] given h are = absurd cc
+slot_line_more before (a ∷ []) given h are = absurd cc
+slot_line_more before (word ∷ words ∷ []) given h are =
+    let placed = passed_then (length before.events == 0) _ _ given h in
+    let found = bound (slot_from before.slots word words) _ given placed.1 in
+    let is : line.Slot found.value ≡ given = cc in
+    subst (λ (x : Line). AreWithin (with_line before x).slots) is
+    (slot_more before.slots word words found.value found.is are)
+slot_line_more before (a ∷ b ∷ c ∷ rest) given h are = absurd cc
+
+event_line_more : (before : Written) (word : List ℕ) (operands : List (List ℕ)) (given : Line)
+    → event_line before word operands ≡ Ok given → AreWithin before.slots → AreWithin (with_line before given).slots
+event_line_more before word operands given h are =
+    let placed = passed_else (length before.slots == 0) _ _ given h in
+    let found = bound (event_of word operands) _ given placed.1 in
+    let is : line.Event found.value ≡ given = cc in
+    subst (λ (x : Line). AreWithin (with_line before x).slots) is are
+
+by_word : (is_slot : Bool) (before : Written) (word : List ℕ) (operands : List (List ℕ)) (given : Line)
+    → (if is_slot then slot_line before operands else event_line before word operands) ≡ Ok given
+    → AreWithin before.slots → AreWithin (with_line before given).slots
+by_word true before word operands given h are = slot_line_more before operands given h are
+by_word false before word operands given h are = event_line_more before word operands given h are
+
+pub line_more : (before : Written) (words : List (List ℕ)) (given : Line) → line_of before words ≡ Ok given
+    → AreWithin before.slots → AreWithin (with_line before given).slots
+line_more before [] given h are = absurd cc
+line_more before (word ∷ operands) given h are = by_word (bytes_eq word (codes "slot")) before word operands given h are
+
+pub record HeapIsWithin (heap : HeapPages) : Type 0 where
+  pub pages : IsBetween 1 4096 heap.pages
+  pub resident : IsBetween 1 heap.pages heap.resident
+
+heap_within : (pages resident : List ℕ) (heap : HeapPages) → heap_pages pages resident ≡ Ok heap → HeapIsWithin heap
+heap_within pages resident heap h =
+    let p = bound (number pages) _ heap h in
+    let r = bound (number resident) _ heap p.behind in
+    let is = unless_none (heap_limit p.value r.value) (record { pages = p.value; resident = r.value }) heap r.behind in
+    let limits = option_or-None (within 1 p.value 4096 which.Pages) (within 1 r.value p.value which.Resident) is.0 in
+    subst HeapIsWithin is.1 (record {
+      pages = within_none 1 p.value 4096 which.Pages limits.0;
+      resident = within_none 1 r.value p.value which.Resident limits.1;
+    })
+
+pub header_within : (words : List (List ℕ)) (heap : HeapPages) → header_of words ≡ Ok heap → HeapIsWithin heap
+header_within [] heap h = absurd cc
+header_within (a ∷ []) heap h = absurd cc
+header_within (a ∷ b ∷ []) heap h = absurd cc
+header_within (word ∷ pages ∷ resident ∷ []) heap h =
+    heap_within pages resident heap (passed_then (bytes_eq word (codes "trace")) _ _ heap h).1
+header_within (a ∷ b ∷ c ∷ d ∷ rest) heap h = absurd cc
+
+-- The events of lines are of the slots.
+
+written : (slots : List ℕ) (slot words index value : ℕ) (event : TraceEvent) → slot < length slots
+    → get_or slots slot 0 ≡ words
+    → typed_write slot words index value ≡ Ok event → IsEventOf slots event
+written slots slot words index value event inside words_are h =
+    let below = passed_else (nat_le words index) _ _ event h in
+    let above = passed_else (index == 0) _ _ event below.1 in
+    let is : W slot index value ≡ event = cc in
+    let small : index < words = grind (arith, nat_tests, below.0) in
+    let some : 1 ≤ index = grind (arith, nat_tests, above.0) in
+    subst (IsEventOf slots) is (inside, some, omega (arith, words_are, small))
+
+on : (slots : List ℕ) (slot words : ℕ) (action : Action) (event : TraceEvent) → slot < length slots
+    → get_or slots slot 0 ≡ words
+    → event_on slot words action ≡ Ok event → IsEventOf slots event
+on slots slot words New event inside words_are h = let is : A slot ≡ event = cc in subst (IsEventOf slots) is inside
+on slots slot words Link event inside words_are h = let is : K slot ≡ event = cc in subst (IsEventOf slots) is inside
+on slots slot words Free event inside words_are h = let is : F slot ≡ event = cc in subst (IsEventOf slots) is inside
+on slots slot words Clear event inside words_are h = let is : C slot ≡ event = cc in subst (IsEventOf slots) is inside
+on slots slot words
+    (Write index value) event inside words_are h = written slots slot words index value event inside words_are h
+
+numbered : (slots : List Slot) (name : List ℕ) (number : Option ℕ) (action : Action) (event : TraceEvent)
+    → slot_number slots name ≡ number
+    → on_slot slots number action ≡ Ok event → IsEventOf (words_of_slots slots) event
+numbered slots name None action event is h = absurd cc
+numbered slots name (Some slot) action event is h =
+    let no_slot : Slot = record { name = []; words = 0 } in
+    let inside : slot < length slots = (position-Some (λ (x : Slot). bytes_eq name x.name) slots slot no_slot is).0 in
+    on (words_of_slots slots) slot (words_at slots slot) action event
+    (omega (arith, inside, length-map slots (λ (x : Slot). x.words)))
+    (get_or-map (λ (x : Slot). x.words) slots slot no_slot 0 inside) h
+
+pub event_more : (slots : List Slot) (before : List TraceEvent) (line : EventLine) (event : TraceEvent)
+    → typed_event slots line ≡ Ok event
+    → All (IsEventOf (words_of_slots slots)) before → All (IsEventOf (words_of_slots slots)) (before ++ event ∷ [])
+event_more slots before line event h are =
+    let P = IsEventOf (words_of_slots slots) in
+    All-append P before (event ∷ []) are
+    (All-cons P event [] (numbered slots line.slot (slot_number slots line.slot) line.action event refl h) (All-nil P))
+
+-- A trace of some text can be played.
 
 heap_limits : (trace : Contents) → HeapIsWithin (record { pages = trace.pages; resident = trace.resident })
     → length trace.slots ≤ 64 → All (IsBetween 1 4096) trace.slots

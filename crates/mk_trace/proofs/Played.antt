@@ -1,7 +1,6 @@
 -- What was played so far, with one event more, and at the end.
 use Rattle.std.proofs.Common.{◌≡◌, ℕ, zero, suc, ◌+◌, ◌*◌, ◌<◌, ◌≤◌, Bool, true, false, List, [], ◌∷◌, ◌++◌, length}
-use Rattle.std.proofs.Common.{refl, sym, ◌∙◌}
-use Rattle.std.proofs.Common.{ap, subst, arith, get_or}
+use Rattle.std.proofs.Common.{refl, sym, ◌∙◌, ap, subst, arith, get_or}
 use Rattle.std.specs.Prelude.{All, if◌then◌else◌, take, replicate}
 use Rattle.std.specs.List.{list_any}
 use Rattle.std.proofs.lemmas.List.{map-append, take_more, take_all}
@@ -23,6 +22,7 @@ use Rattle.mk_heap.specs.Hosts.{HostState, first_host, pass_for}
 use Rattle.mk_heap.specs.Reports.{IsWhole}
 use Rattle.mk_theorems.proofs.Promises.{histories_keep_all_promises}
 use Rattle.mk_quarantine.proofs.Bounds.{quarantine_of_one_is_bounded}
+use Rattle.mk_run.proofs.UnsweptHistories.{unswept_is_precise}
 use Rattle.mk_trace.specs.declared.trace.TraceEvent.{TraceEvent}
 use Rattle.mk_trace.specs.declared.trace.TraceEvent.TheVariants.{A, K, F, C, W}
 use Rattle.mk_trace.specs.Calls.{AreNull, MayBePlayed, SameCalls, PlaysEvent, EventsAreAdmitted, HasPlayed}
@@ -32,11 +32,10 @@ use Rattle.mk_trace.specs.Playing.{config_of, ops_of, begins_full, calls_of_call
 use Rattle.mk_trace.specs.Playing.{is_refusal, IsPlayed}
 use Rattle.mk_trace.specs.Traces.{Contents, slot_of}
 use Rattle.mk_trace.proofs.AdmittedEvents.{events_are_admitted}
-use Rattle.mk_caller.proofs.OwnSteps.{calls_by, others_add_none}
-use Rattle.mk_run.proofs.UnsweptHistories.{unswept_is_precise}
 use Rattle.mk_trace.proofs.ExactPlays.{play_is_unswept}
-use Rattle.mk_trace.proofs.OneCaller.{as_many, calls_are_own, never_then_calls}
-use Rattle.mk_trace.proofs.PlayedEvents.{one_if, ops-played_more, refused_more}
+use Rattle.mk_trace.proofs.OneCaller.{as_many, calls_are_own, never_then_calls, none_called}
+use Rattle.mk_trace.specs.Numbers.{one_if}
+use Rattle.mk_trace.proofs.LaterOps.{ops-played_more, refused_more}
 
 -- Before the first event.
 pub played_none : (trace : Contents) → HasPlayed trace [] 0 []
@@ -117,16 +116,6 @@ is_played trace refused es h whole exact =
       bounded = quarantine_of_one_is_bounded false (config_of trace) es refl whole.history exact.caller exact.host;
     }
 
--- The host looks before an event and after it.
-pub plays_between : (c : Config) (es fs gs hs : List Event) (event : TraceEvent) (refused : Bool) → SameCalls c es fs
-    → PlaysEvent c fs event refused gs → SameCalls c gs hs → PlaysEvent c es event refused hs
-plays_between c es fs gs hs event refused before p behind = record {
-  more = p.more;
-  is = behind ∙ p.is ∙ ap (λ (l : List Decided). l ++ p.more) before;
-  asks = p.asks;
-  refuses = p.refuses;
-}
-
 pub may_be_played : (trace : Contents) (c : Config) (es fs : List Event) (event : TraceEvent) → c ≡ config_of trace
     → IsPlayable trace → IsHistory c es → AreNull (never_behind c es) → IsEventOf trace.slots event → SameCalls c es fs
     → MayBePlayed c fs event
@@ -162,13 +151,10 @@ played_same trace events refused es fs same h = record {
 }
 
 -- The caller was made, and joined at once: it made no call.
-pub no_call_first : (c : Config) (es : List Event) → c.callers ≡ 1 → IsHistory c es → Grows (Caller 0 ∷ []) [] es
+no_call_first : (c : Config) (es : List Event) → c.callers ≡ 1 → IsHistory c es → Grows (Caller 0 ∷ []) [] es
     → SameCalls c [] es
 unfolding calls_from
-no_call_first c es one history g =
-    sym (calls_are_own c es one history)
-    ∙ ap (λ (l : List Event). calls_by 0 (calls c l)) g.is
-    ∙ others_add_none c 0 [] g.more g.of_others
+no_call_first c es one history g = sym (calls_are_own c es one history) ∙ none_called c [] es g
 
 pub played_first : (trace : Contents) (c : Config) (events : List TraceEvent) (es : List Event) → c ≡ config_of trace
     → SameCalls c [] es → HasPlayed trace (take 0 events) 0 es

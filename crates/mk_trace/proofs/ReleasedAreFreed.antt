@@ -1,9 +1,10 @@
 -- Of the allocations of a history only freed ones are released, and which they are, as a list of numbers.
-use Rattle.std.proofs.Common.{◌≡◌, inl, inr, ℕ, zero, suc, ◌+◌, ◌<◌, Bool, true, false, List, [], ◌∷◌, ◌++◌}
-use Rattle.std.proofs.Common.{length, map, refl, sym, ◌∙◌, ap, subst, arith, append-nil, append_assoc, length-append}
+use Rattle.std.proofs.Common.{◌≡◌, inl, inr, ℕ, zero, suc, ◌+◌, ◌<◌, Bool, true, false, List, [], ◌∷◌, ◌++◌, length}
+use Rattle.std.proofs.Common.{map, refl, sym, ◌∙◌, ap, subst, arith, append-nil, append_assoc, length-append}
 use Rattle.std.specs.Prelude.{◌&&◌, not, slice_index, if◌then◌else◌}
-use Rattle.std.proofs.lemmas.Bool.{and_parts, cases_Bool, cases_lt, eq-eqb, true≢false}
+use Rattle.std.proofs.lemmas.Bool.{and_parts, cases_Bool, cases_lt, true≢false}
 use Rattle.std.proofs.lemmas.List.{length-map}
+use Rattle.std.proofs.lemmas.Bool.Decides.{nat_tests}
 use Rattle.mk_geom.specs.declared.addresses.Cell.{Cell}
 use Rattle.mk_core.specs.declared.config.Config.{Config}
 use Rattle.mk_core.specs.declared.events.Event.{Event}
@@ -30,7 +31,6 @@ use Rattle.mk_trace.specs.Ledgers.{AreAgesOf, age_in_a_word, is_gone}
 use Rattle.mk_trace.specs.Numbers.{one_if, times}
 use Rattle.mk_trace.specs.Peaks.{counted, released_ages}
 use Rattle.mk_trace.proofs.CountedAges.{same_counted}
-use Rattle.mk_trace.proofs.NumberLists.{unequal_is}
 
 abbrev pub AreFreed : List PlacedAllocation → Type 0
 AreFreed xs = (i : ℕ) → i < length xs → (placed_at xs i).released ≡ true → (placed_at xs i).freed ≡ true
@@ -159,33 +159,21 @@ ages_are found n (a ∷ xs) =
 
 lower_by : (i n : ℕ) (numbers : List ℕ) (b : Bool) → i < n → times i numbers ≡ 0
     → times i (if b then n ∷ numbers else numbers) ≡ 0
-lower_by i n numbers true lt none =
-    ap (λ (b : Bool). one_if b + times i numbers) (unequal_is n i (λ e. omega (arith, e, lt)))
-    ∙ (omega (arith, none))
-lower_by i n numbers false lt none = none
+lower_by i n numbers b lt none = grind (arith, nat_tests)
 
 lower : (i n : ℕ) (xs : List PlacedAllocation) → i < n → times i (released_from n xs) ≡ 0
 lower i n [] lt = refl
 lower i n (a ∷ xs) lt =
     lower_by i n (released_from (n + 1) xs) a.released lt (lower i (n + 1) xs (omega (arith, lt)))
 
-none_both : (b : Bool) → (b && false) ≡ false
-none_both true = refl
-none_both false = refl
-
 first_by : (n i : ℕ) (numbers : List ℕ) (released freed : Bool) → n ≡ i → (released ≡ true → freed ≡ true)
     → times i numbers ≡ 0
     → times i (if released then n ∷ numbers else numbers) ≡ one_if (freed && released)
-first_by n i numbers true freed same is none =
-    ap (λ (b : Bool). one_if b + times i numbers) (eq-eqb n i same)
-    ∙ (omega (arith, none)) ∙ ap (λ (b : Bool). one_if (b && true)) (sym (is refl))
-first_by n i numbers false freed same is none = none ∙ ap (λ (b : Bool). one_if b) (sym (none_both freed))
+first_by n i numbers released freed same is none = grind (arith, nat_tests)
 
 later_by : (n i : ℕ) (numbers : List ℕ) (b : Bool) → n < i
     → times i (if b then n ∷ numbers else numbers) ≡ times i numbers
-later_by n i numbers true lt =
-    ap (λ (b : Bool). one_if b + times i numbers) (unequal_is n i (λ e. omega (arith, e, lt))) ∙ (omega arith)
-later_by n i numbers false lt = refl
+later_by n i numbers b lt = grind (arith, nat_tests)
 
 those_from : (n : ℕ) (xs : List PlacedAllocation) → AreFreed xs → (i : ℕ)
     → times (n + i) (released_from n xs) ≡ one_if (is_gone (placed_at xs i))

@@ -1,16 +1,31 @@
 -- What is kept once what was released is let go.
-use Rattle.std.proofs.Common.{◌≡◌, ℕ, ◌+◌, ◌≤◌, ◌<◌, Bool, true, false, List, [], ◌∷◌, ◌++◌, length, get_or, take, refl}
-use Rattle.std.proofs.Common.{sym}
-use Rattle.std.proofs.Common.{◌∙◌, ap, subst}
-use Rattle.std.specs.Prelude.{filter, fold, map, not, if◌then◌else◌}
-use Rattle.std.proofs.lemmas.List.{map-append, take_all, take_more}
+use Rattle.std.proofs.Common.{◌≡◌, ℕ, ◌+◌, ◌<◌, ◌≤◌, List, ◌∙◌, ap, arith, length, take, get_or, Bool, true, false, []}
+use Rattle.std.proofs.Common.{◌∷◌, ◌++◌, refl, sym, subst}
+use Rattle.std.specs.Prelude.{sum_by, filter, fold, map, not, if◌then◌else◌}
+use Rattle.std.proofs.lemmas.List.{take_all, map-append, take_more}
+use Rattle.std.proofs.lemmas.List.Sums.{sum_by_more, fold-append}
 use Rattle.std.proofs.lemmas.List.Elements.{filter-append}
-use Rattle.std.proofs.lemmas.List.Sums.{fold-append}
-use Rattle.mk_trace.specs.declared.ledger.Freed.{Freed}
+use Rattle.mk_core.specs.Counts.{in_a_word}
 use Rattle.mk_trace.specs.declared.ledger.FreedObject.{FreedObject}
-use Rattle.mk_trace.specs.Ledgers.{Settles, SettlesWhere, aged, ages_let_go, is_freed_among, objects_kept}
-use Rattle.mk_trace.specs.Ledgers.{still_kept, weighed_anew, with_one}
+use Rattle.mk_trace.specs.declared.ledger.Freed.{Freed}
+use Rattle.mk_trace.specs.Ledgers.{Settles, SettlesWhere, aged, ages_let_go, is_freed_among, objects_kept, still_kept}
+use Rattle.mk_trace.specs.Ledgers.{weighed_anew, with_one}
 use Rattle.mk_trace.proofs.NumberLists.{unequal_is}
+
+-- Words of kept objects, summed up one by one, where a number above 2^64 - 1 stands as 2^64 - 1.
+
+pub total_more : (f : FreedObject → ℕ) (xs : List FreedObject) (i words : ℕ) (d : FreedObject) → i < length xs
+    → words ≡ in_a_word (sum_by f (take i xs))
+    → in_a_word (words + f (get_or xs i d)) ≡ in_a_word (sum_by f (take (i + 1) xs))
+total_more f xs i words d lt so_far =
+    omega (arith, so_far, sum_by_more f xs i d lt)
+
+pub all_summed : (f : FreedObject → ℕ) (xs : List FreedObject) (i words : ℕ) → length xs ≤ i
+    → words ≡ in_a_word (sum_by f (take i xs)) → words ≡ in_a_word (sum_by f xs)
+all_summed f xs i words all so_far =
+    so_far ∙ ap (λ (l : List FreedObject). in_a_word (sum_by f l)) (take_all i xs all)
+
+-- What is kept once what was released is let go.
 
 all_aged : (found : List FreedObject) (i : ℕ) (d : FreedObject) → i < length found
     → map aged (take (i + 1) found) ≡ map aged (take i found) ++ aged (get_or found i d) ∷ []

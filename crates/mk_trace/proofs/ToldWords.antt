@@ -1,51 +1,47 @@
 -- The host looks at a word between calls: it is told the word, and leaves all as it is.
-use Rattle.std.proofs.Common.{◌≡◌, ℕ, true, false, List, [], ◌++◌, refl, sym, ◌∙◌, ap, subst, append-nil}
-use Rattle.std.proofs.Common.{arith}
+use Rattle.std.proofs.Common.{◌≡◌, ℕ, false, List, ◌++◌, refl, sym, ◌∙◌, ap, subst, append-nil, arith, ◌∷◌}
+use Rattle.std.proofs.Common.{append_assoc, []}
 use Rattle.mk_core.specs.declared.config.Config.{Config}
 use Rattle.mk_core.specs.declared.events.Event.{Event}
 use Rattle.mk_core.specs.declared.events.Seat.{Seat}
-use Rattle.mk_core.specs.declared.events.Seat.TheVariants.{Host}
-use Rattle.mk_core.specs.declared.events.Step.{Step}
+use Rattle.mk_core.specs.declared.events.Seat.TheVariants.{Host, Caller}
 use Rattle.mk_core.specs.declared.events.Step.TheVariants as step
 use Rattle.mk_core.specs.declared.events.Word.{Word}
 use Rattle.mk_core.specs.Accesses.{found}
-use Rattle.mk_core.specs.Allocations.{PlacedAllocation}
-use Rattle.mk_core.specs.History.{IsHistory, World, first_world, left, left_from}
-use Rattle.mk_core.specs.Words.{named_word}
-use Rattle.mk_core.proofs.HistoryParts.{left_in_parts}
+use Rattle.mk_core.specs.Allocations.{PlacedAllocation, held_by_allocations}
+use Rattle.mk_core.specs.History.{IsHistory, World, first_world, left, calls}
+use Rattle.mk_core.proofs.HistoryParts.{left_in_parts, enabled_in_parts, earlier_part_is_history}
+use Rattle.mk_core.specs.declared.events.Word.TheVariants as word
+use Rattle.mk_core.specs.Counts.{IsTidy, TalliesAreTidy, ends, in_a_word}
+use Rattle.mk_core.specs.Cycles.{is_end}
+use Rattle.mk_core.proofs.Histories.{left_more}
 use Rattle.mk_words.specs.Seats.{Has, HasAll}
 use Rattle.mk_words.specs.States.{PassState, WordsState, event_of}
 use Rattle.mk_heap.specs.Hosts.{HostState}
 use Rattle.mk_heap.specs.Turns.{Tells}
-use Rattle.mk_waiting.specs.Taking.{is_take}
 use Rattle.mk_alloc.specs.TurnCycles.{has_step}
-use Rattle.mk_alloc.proofs.ListParts.{lacks_append}
-use Rattle.mk_trace.specs.Calls.{IsHome, SameCalls}
+use Rattle.mk_alloc.proofs.Parts.{seen_made}
+use Rattle.mk_turns.specs.Sweeping.{SweepsNothing}
+use Rattle.mk_trace.specs.Calls.{IsHome, held_behind}
 use Rattle.mk_trace.specs.Ends.{LeavesAllocations}
-use Rattle.mk_trace.specs.ExactPlays.{StayExact}
 use Rattle.mk_trace.specs.Looking.{LeavesTable, OnlyLooks, word_behind}
 use Rattle.mk_trace.specs.Peaks.{greatest}
-use Rattle.mk_trace.proofs.GreatestParts.{from-append, last_below}
-use Rattle.mk_trace.proofs.HeldLooks.{IsApart, behind, behind_lacks, first, first_lacks, looks_alone, seen_is}
-use Rattle.mk_trace.proofs.HeldLooks.{taken_same}
-use Rattle.mk_trace.proofs.HeldLooks.{taken_seen}
+use Rattle.mk_trace.proofs.PeakParts.{from-append, last_below}
+use Rattle.mk_trace.proofs.HeldLooks.{IsApart, behind, first, first_lacks, looks_alone, seen_is, taken_same, taken_seen}
+use Rattle.mk_trace.proofs.HeldLooks.{giving, looked_same, looking, mine, of_pass, Looked, all_lack, exact}
 use Rattle.mk_trace.proofs.LookedTables.{is_no_look, looks_leave, looks_measure, word_left}
-
-take_is_look : (s : Step) → is_take s ≡ true → is_no_look s ≡ false
-take_is_look (step.Take o) h = refl
-take_is_look _ h = cc
-
-no_look_apart : IsApart is_no_look
-no_look_apart = record { take = take_is_look; look = λ x. refl; give = refl }
+use Rattle.mk_trace.proofs.FoundByEnds.{ends-append, no_end-cons, none_end}
+use Rattle.mk_trace.proofs.OwnPieces.{mine_parts, none_of_others}
+use Rattle.mk_trace.proofs.EndsInLists.{changes, leaves_then}
+use Rattle.mk_trace.proofs.ExactPlays.{caller_is_still, look_stays_exact}
+use Rattle.mk_trace.proofs.OneCaller.{callers_at_home, same_calls}
 
 -- With looks alone the most is as it was.
 most_looked : (c : Config) (measure : List PlacedAllocation → ℕ) (es more : List Event)
     → has_step is_no_look more ≡ false → greatest c measure (es ++ more) ≡ greatest c measure es
 most_looked c measure es more looks =
     let parts = from-append c measure (first_world c) es more in
-    let last = last_below c measure (first_world c) es in
-    let same = looks_measure c (left c es) measure more looks in
-    omega arith
+    omega (arith, parts, last_below c measure (first_world c) es, looks_measure c (left c es) measure more looks)
 
 word_found : (r : PassState) (x : Word) (others : List Event) → others ≡ []
     → found r.table.config (left r.table.config (r.seen ++ others)).now (event_of r (step.Look x))
@@ -54,66 +50,128 @@ word_found r x others none =
     ap (λ (l : List Event). word_behind r.table.config (r.seen ++ l) x) none
     ∙ ap (λ (l : List Event). word_behind r.table.config l x) (append-nil r.seen)
 
-module _ (p q : PassState) (x : Word) (n : ℕ) (h : Tells p x n q) (own : Has p.seats p.seat)
-    (all : HasAll p.table.config p.seats) (history : IsHistory p.table.config q.seen) where
+module _ {p q : PassState} {x : Word} {n : ℕ} (l : Looked p x n q) where
   abbrev c : Config
   c = p.table.config
 
-  abbrev more : List Event
-  more = first p q x n h own all history ++ behind p q x n h own all history
+  abbrev h : Tells p x n q
+  h = l.tells
 
-  first_looks : has_step is_no_look (first p q x n h own all history) ≡ false
-  first_looks = first_lacks p q x n h own all history is_no_look no_look_apart
+  abbrev at : List Event
+  at = h.taken.seen
 
-  looks : has_step is_no_look more ≡ false
-  looks =
-      lacks_append is_no_look (first p q x n h own all history) (behind p q x n h own all history) first_looks
-      (behind_lacks p q x n h own all history is_no_look no_look_apart)
+  no_look : IsApart is_no_look
+  no_look = record { take = λ o. refl; look = λ y. refl; give = refl }
 
-  pub told_leaves_table : LeavesTable (left c p.seen) (left c q.seen)
-  told_leaves_table =
+  leaves_table : (es more : List Event) → es ≡ p.seen ++ more → has_step is_no_look more ≡ false
+      → LeavesTable (left c p.seen) (left c es)
+  leaves_table es more is looks =
       subst (λ (w : World). LeavesTable (left c p.seen) w)
-      (sym (ap (λ (l : List Event). left c l) (seen_is p q x n h own all history) ∙ left_in_parts c p.seen more))
+      (sym (ap (λ (fs : List Event). left c fs) is ∙ left_in_parts c p.seen more))
       (looks_leave c (left c p.seen) more looks)
 
-  pub told_most : (measure : List PlacedAllocation → ℕ) → greatest c measure q.seen ≡ greatest c measure p.seen
-  told_most measure =
-      ap (λ (l : List Event). greatest c measure l) (seen_is p q x n h own all history)
-      ∙ most_looked c measure p.seen more looks
+  leaves_taken : LeavesTable (left c p.seen) (left c at)
+  leaves_taken = leaves_table at (first l) (taken_seen l) (first_lacks l is_no_look no_look)
 
-  pub told_word : n ≡ word_behind c p.seen x
-  told_word =
-      h.looks.finds ∙ word_found h.taken x h.looks.makes.others (looks_alone p q x n h own all history)
-      ∙ ap (λ (r : PassState). word_behind r.table.config h.taken.seen x) (taken_same p q x n h own all history)
-      ∙ ap (λ (l : List Event). word_behind c l x) (taken_seen p q x n h own all history)
-      ∙ ap (λ (w : World). named_word w.now.words x) (left_in_parts c p.seen (first p q x n h own all history))
-      ∙ word_left (left c p.seen) (left_from c (left c p.seen) (first p q x n h own all history))
-      (looks_leave c (left c p.seen) (first p q x n h own all history) first_looks) x
+  told_taken : n ≡ word_behind c at x
+  told_taken =
+      h.looks.finds ∙ word_found h.taken x h.looks.makes.others (looks_alone l)
+      ∙ ap (λ (r : PassState). word_behind r.table.config at x) (taken_same l)
 
--- The host
-module _ (w : WordsState) (h : HostState) (home : IsHome w h) (host : h.pass.seat ≡ Host) (x : Word) (n : ℕ)
-    (k : HostState) (tells : Tells h.pass x n k.pass) (history : IsHistory h.pass.table.config k.pass.seen) where
-  own : Has h.pass.seats h.pass.seat
-  own = subst (λ (s : Seat). Has h.pass.seats s) (sym host) (home.all Host refl)
+  -- how much is held
+  told_held : x ≡ word.Held → n ≡ held_by_allocations c (left c p.seen).allocations
+  told_held is =
+      told_taken ∙ ap (λ (y : Word). word_behind c at y) is ∙ (exact l).held
+      ∙ ap (λ (xs : List PlacedAllocation). held_by_allocations c xs) leaves_taken.allocations
 
-  all : HasAll h.pass.table.config h.pass.seats
-  all = subst (λ (y : WordsState). HasAll y.config h.pass.seats) (sym home.table) home.all
+  -- and how many cycles ended
 
-  pub look_only_looks : SameCalls w.config h.pass.seen k.pass.seen
-      → LeavesAllocations w.config h.pass.seen k.pass.seen → StayExact w.config h.pass.seen k.pass.seen
-      → OnlyLooks w.config h.pass.seen k.pass.seen
-  look_only_looks same leaves exact = record {
-    calls = same;
+  abbrev look : Event
+  look = event_of h.taken (step.Look x)
+
+  abbrev last : List Event
+  last = h.looked.seen ++ h.gives.others
+
+  gives_alone : h.gives.others ≡ []
+  gives_alone =
+      none_of_others c [] p.seats h.gives.others l.all
+      (mine_parts c [] h.gives.others (event_of h.looked step.Give ∷ [])
+      (mine_parts c [] (looking l) (giving l) (mine l).1).1).0
+      (of_pass l h.looked h.gives.others (looked_same l) h.gives.of_others)
+
+  last_is : last ≡ at ++ look ∷ []
+  last_is =
+      ap (λ (es : List Event). h.looked.seen ++ es) gives_alone ∙ append-nil h.looked.seen
+      ∙ seen_made h.taken h.looked (step.Look x) h.looks.makes
+      ∙ ap (λ (es : List Event). at ++ (es ++ look ∷ [])) (looks_alone l)
+
+  ended : ends (at ++ look ∷ []) ≡ ends p.seen
+  ended =
+      let whole = ends-append at (look ∷ []) in
+      let one = no_end-cons look [] refl in
+      let taken : ends at ≡ ends (p.seen ++ first l) = ap (λ (es : List Event). ends es) (taken_seen l) in
+      let parts = ends-append p.seen (first l) in
+      let none = none_end (first l)
+      (first_lacks l is_end (record { take = λ o. refl; look = λ y. refl; give = refl })) in
+      omega arith
+
+  told_ends : IsTidy c q.seen → x ≡ word.Cycles → n ≡ in_a_word (ends p.seen)
+  told_ends tidy is =
+      let tidy_then : TalliesAreTidy c last =
+      tidy last (event_of h.looked step.Give) []
+      (seen_made h.looked q step.Give h.gives
+      ∙ sym (append_assoc h.looked.seen h.gives.others (event_of h.looked step.Give ∷ []))) refl in
+      told_taken ∙ ap (λ (y : Word). word_behind c at y) is
+      ∙ sym (ap (λ (w : World). w.now.words.cycles) (left_more c (first_world c) at look))
+      ∙ ap (λ (es : List Event). (left c es).now.words.cycles) (sym last_is)
+      ∙ tidy_then.cycles
+      ∙ ap (λ (m : ℕ). in_a_word m) (ap (λ (es : List Event). ends es) last_is ∙ ended)
+
+  -- The host's looks are no calls, and leave the allocations.
+
+  leaves : LeavesAllocations c p.seen q.seen
+  leaves =
+      subst (λ (es : List Event). LeavesAllocations c p.seen es) (sym (seen_is l))
+      (leaves_then c p.seen (first l ++ behind l)
+      ((enabled_in_parts c p.seen (first l ++ behind l)).0
+      (subst (λ (es : List Event). IsHistory c es) (seen_is l) l.history).enabled).1
+      (all_lack l changes (record { take = λ o. refl; look = λ y. refl; give = refl })))
+
+  looks : p.seat ≡ Host → Has p.seats (Caller 0) → c.callers ≡ 1 → SweepsNothing p q → OnlyLooks c p.seen q.seen
+  looks host joined one sweeps = record {
+    calls =
+        same_calls c p.seen q.seen one
+        (earlier_part_is_history c p.seen (first l ++ behind l)
+        (subst (λ (es : List Event). IsHistory c es) (seen_is l) l.history))
+        l.history (caller_is_still l host joined);
     leaves = leaves;
-    table = subst (λ (y : WordsState). LeavesTable (left y.config h.pass.seen) (left y.config k.pass.seen)) home.table
-        (told_leaves_table h.pass k.pass x n tells own all history);
+    table = leaves_table q.seen (first l ++ behind l) (seen_is l) (all_lack l is_no_look no_look);
     most = λ measure.
-        subst (λ (y : WordsState). greatest y.config measure k.pass.seen ≡ greatest y.config measure h.pass.seen)
-        home.table (told_most h.pass k.pass x n tells own all history measure);
-    exact = exact;
+        ap (λ (es : List Event). greatest c measure es) (seen_is l)
+        ∙ most_looked c measure p.seen (first l ++ behind l) (all_lack l is_no_look no_look);
+    exact = look_stays_exact l host joined sweeps;
   }
 
-  pub look_tells_word : n ≡ word_behind w.config h.pass.seen x
-  look_tells_word =
-      subst (λ (y : WordsState). n ≡ word_behind y.config h.pass.seen x) home.table
-      (told_word h.pass k.pass x n tells own all history)
+-- All that a look of the host does and says.
+pub record Reports (c : Config) (es : List Event) (x : Word) (n : ℕ) (fs : List Event) : Type 0 where
+  pub looks : OnlyLooks c es fs
+  pub tells : n ≡ word_behind c es x
+  pub holds : x ≡ word.Held → n ≡ held_behind c es
+  pub counts : IsTidy c fs → x ≡ word.Cycles → n ≡ in_a_word (ends es)
+
+pub reports : (w : WordsState) (h : HostState) → IsHome w h → h.pass.seat ≡ Host → (x : Word) (n : ℕ) (k : HostState)
+    → Tells h.pass x n k.pass → IsHistory h.pass.table.config k.pass.seen → SweepsNothing h.pass k.pass
+    → Reports w.config h.pass.seen x n k.pass.seen
+reports w h home host x n k tells history sweeps =
+    let l : Looked h.pass x n k.pass = record {
+      tells = tells;
+      own = subst (λ (s : Seat). Has h.pass.seats s) (sym host) (home.all Host refl);
+      all = subst (λ (y : WordsState). HasAll y.config h.pass.seats) (sym home.table) home.all;
+      history = history;
+    } in
+    subst (λ (y : WordsState). Reports y.config h.pass.seen x n k.pass.seen) home.table (record {
+      looks = looks l host home.joined (callers_at_home w h home) sweeps;
+      tells = told_taken l ∙ word_left (left h.pass.table.config h.pass.seen) _ (leaves_taken l) x;
+      holds = told_held l;
+      counts = told_ends l;
+    })

@@ -59,53 +59,9 @@ fn call<E: Engine, R: Threads + Wait + Sync>(
     answer
 }
 
-/// Carries out an operation under the turn, returns its answer, and notes what is held and quarantined then. A Free's
-/// register points to what the slot points to.
-fn answer_under_turn<E: Engine, R: Threads + Wait + Sync>(
-    rt: &R,
-    alloc: Global,
-    heap: &Heap,
-    host: &mut Host,
-    bench: &mut Bench<E>,
-    ledger: &mut Ledger,
-    slot: u64,
-    op: Op,
-) -> Result<Answer, NoMemory>
-    requires slot { slot < 64 }
-    requires points { FreesSlot (never_behind heap.now.config host.old.pass.seen) slot op }
-    requires off { E.on ≡ false }
-    requires unswept { E.sweeps ≡ false }
-    requires home { IsHome heap.now host.old }
-    requires idle { IsIdle heap.now.config host.old.pass.seen }
-    requires few { ends host.old.pass.seen < 18446744073709551615 }
-    requires admitted { MayCome heap.now.config host.old.pass.seen op }
-    requires made_for { E.made_for bench.old.engine ≡ heap.now.config.pages }
-    requires book { length bench.old.book ≡ heap.now.config.pages }
-    requires held { ledger.old.held ≡ most_held heap.now.config host.old.pass.seen }
-    requires keeps { Keeps heap.now.config host.old.pass.seen ledger.old.freed }
-    ensures home { IsHome heap.now host.new }
-    ensures idle { IsIdle heap.now.config host.new.pass.seen }
-    ensures made_for { E.made_for bench.new.engine ≡ E.made_for bench.old.engine }
-    ensures book { length bench.new.book ≡ length bench.old.book }
-    ensures calls { IfOk result (λ told. Calls heap.now.config host.old.pass.seen op told host.new.pass.seen) }
-    ensures held { IfOk result (λ told. ledger.new.held ≡ most_held heap.now.config host.new.pass.seen) }
-    ensures ends { IfOk result (λ told. ends host.new.pass.seen ≤ ends host.old.pass.seen + 1) }
-    ensures exact { IfOk result (λ told. StayExact heap.now.config host.old.pass.seen host.new.pass.seen) }
-    ensures keeps { IfOk result (λ told. Keeps heap.now.config host.new.pass.seen ledger.new.freed) }
-{
-    let freed = object_to_free(rt, heap, host, slot, op);
-    host.is_in_order();
-    let told = call(rt, heap, host, bench, op);
-    host.is_in_order();
-    let now = look(rt, heap, host, Word::Held);
-    ledger.held = ledger.held.max(now);
-    ledger.freed.note(freed)?;
-    settle(rt, alloc, heap, host, &mut ledger.freed)?;
-    Ok(told)
-}
-
-/// Carries out an operation of the caller, and returns its answer. Only one under the turn changes what is held or
-/// quarantined, or ends a cycle, so the ledger stays as it is after any other.
+/// Carries out an operation of the caller, returns its answer, and notes what is held and quarantined then. Only one
+/// under the turn changes that, or ends a cycle, so the ledger stays as it is after any other. A Free's register points
+/// to what the slot points to.
 fn answer<E: Engine, R: Threads + Wait + Sync>(
     rt: &R,
     alloc: Global,
@@ -139,7 +95,15 @@ fn answer<E: Engine, R: Threads + Wait + Sync>(
     ensures keeps { IfOk result (λ told. Keeps heap.now.config host.new.pass.seen ledger.new.freed) }
 {
     if is_under_turn(op) {
-        answer_under_turn(rt, alloc, heap, host, bench, ledger, slot, op)
+        let freed = object_to_free(rt, heap, host, slot, op);
+        host.is_in_order();
+        let told = call(rt, heap, host, bench, op);
+        host.is_in_order();
+        let now = look(rt, heap, host, Word::Held);
+        ledger.held = ledger.held.max(now);
+        ledger.freed.note(freed)?;
+        settle(rt, alloc, heap, host, &mut ledger.freed)?;
+        Ok(told)
     } else {
         Ok(call(rt, heap, host, bench, op))
     }

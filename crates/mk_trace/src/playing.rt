@@ -1,12 +1,10 @@
 //! Playing traces.
-ghost use Rattle.std.specs.Prelude.{◌≡◌, ◌+◌, ◌<◌, ◌≤◌, [], false, length, if◌then◌else◌, IfOk};
+ghost use Rattle.std.specs.Prelude.{◌≡◌, ◌+◌, ◌<◌, [], false, length, if◌then◌else◌, IfOk};
 ghost use Rattle.mk_core.specs.Config.{IsWithinLimits};
 ghost use Rattle.mk_core.specs.Counts.{ends};
-ghost use Rattle.mk_core.specs.History.{never_behind};
-ghost use Rattle.mk_trace.specs.Calls.{IsHome, AreNull, SameCalls, PlaysEvent, HasPlayed, most_held};
+ghost use Rattle.mk_trace.specs.Calls.{IsHome, SameCalls, HasPlayed, most_held};
 ghost use Rattle.mk_trace.specs.Ends.{IsIdle};
 ghost use Rattle.mk_trace.specs.ExactPlays.{StayExact};
-ghost use Rattle.mk_trace.specs.Laws.{IsEventOf};
 ghost use Rattle.mk_trace.specs.Ledgers.{Keeps};
 ghost use Rattle.mk_trace.specs.Playing as spec;
 ghost use Rattle.mk_trace.specs.Playing.{history_of, IsPlayed, ArePeaks};
@@ -15,7 +13,7 @@ use crate::calls::refuses;
 use crate::configs::config_of;
 use crate::ledger::Ledger;
 use crate::peaks::Peaks;
-use crate::trace::{Trace, TraceEvent};
+use crate::trace::Trace;
 use mk_core::Config;
 use mk_cycle::{Bench, Engine};
 use mk_engines::StopEngine;
@@ -24,45 +22,6 @@ use mk_never::NoMemory;
 use std::alloc::Global;
 use std::sync::Wait;
 use std::thread::Threads;
-
-/// Plays an event, and reports whether it is refused.
-fn play_event<E: Engine, R: Threads + Wait + Sync>(
-    rt: &R,
-    alloc: Global,
-    heap: &Heap,
-    trace: &Trace,
-    host: &mut Host,
-    bench: &mut Bench<E>,
-    ledger: &mut Ledger,
-    event: TraceEvent,
-) -> Result<bool, NoMemory>
-    requires config { heap.now.config ≡ spec.config_of trace.now }
-    requires off { E.on ≡ false }
-    requires unswept { E.sweeps ≡ false }
-    requires home { IsHome heap.now host.old }
-    requires idle { IsIdle heap.now.config host.old.pass.seen }
-    requires few { ends host.old.pass.seen + 6 < 18446744073709551615 }
-    requires null { AreNull (never_behind heap.now.config host.old.pass.seen) }
-    requires event { IsEventOf trace.now.slots event }
-    requires made_for { E.made_for bench.old.engine ≡ heap.now.config.pages }
-    requires book { length bench.old.book ≡ heap.now.config.pages }
-    requires held { ledger.old.held ≡ most_held heap.now.config host.old.pass.seen }
-    requires keeps { Keeps heap.now.config host.old.pass.seen ledger.old.freed }
-    ensures home { IsHome heap.now host.new }
-    ensures idle { IsIdle heap.now.config host.new.pass.seen }
-    ensures made_for { E.made_for bench.new.engine ≡ E.made_for bench.old.engine }
-    ensures book { length bench.new.book ≡ length bench.old.book }
-    ensures plays { IfOk result (λ refused.
-        PlaysEvent heap.now.config host.old.pass.seen event refused host.new.pass.seen) }
-    ensures held { IfOk result (λ refused. ledger.new.held ≡ most_held heap.now.config host.new.pass.seen) }
-    ensures ends { IfOk result (λ refused. ends host.new.pass.seen ≤ ends host.old.pass.seen + 6) }
-    ensures exact { IfOk result (λ refused. StayExact heap.now.config host.old.pass.seen host.new.pass.seen) }
-    ensures keeps { IfOk result (λ refused. Keeps heap.now.config host.new.pass.seen ledger.new.freed) }
-{
-    host.is_in_order();
-    trace.events();
-    refuses(rt, alloc, heap, host, bench, ledger, event)
-}
 
 /// A heap of one caller, which was made and joined.
 fn opened(alloc: Global, config: &Config) -> Result<(Heap, Host), NoMemory>
@@ -119,7 +78,7 @@ fn play_events<E: Engine, R: Threads + Wait + Sync>(
     let mut refused = 0;
     for event in events {
         host.is_in_order();
-        let is_refused = play_event(rt, alloc, heap, trace, host, bench, ledger, *event)?;
+        let is_refused = refuses(rt, alloc, heap, host, bench, ledger, *event)?;
         refused = with_refusal(refused, is_refused);
     }
     Ok(refused)

@@ -1,4 +1,5 @@
 -- Which steps a pass may make, by the conditions of their kinds.
+use Rattle.mk_core.specs.declared.seats.Marker.{Marker as MarkerState}
 use Rattle.std.proofs.Common.{◌≡◌, ℕ, ◌<◌, true, refl, sym, ◌∙◌, ap}
 use Rattle.std.proofs.lemmas.Bool.{lt-ltb}
 use Rattle.mk_core.specs.declared.config.Config.{Config}
@@ -9,7 +10,6 @@ use Rattle.mk_core.specs.declared.events.Step.TheVariants as step
 use Rattle.mk_core.specs.declared.events.Group.{Group}
 use Rattle.mk_core.specs.declared.events.Group.TheVariants as group
 use Rattle.mk_core.specs.declared.seats.Flight.{Flight}
-use Rattle.mk_core.specs.declared.seats.Marker.{Marker as MarkerState}
 use Rattle.mk_core.specs.Words.{Words, phase_of}
 use Rattle.mk_core.specs.Moments.{Moment, flight_of, marker_at}
 use Rattle.mk_core.specs.Order.{seat_exists, group_of, is_open_to, is_in_order, comes_next}

@@ -17,34 +17,29 @@ use Rattle.mk_core.specs.declared.events.Event.{Event}
 use Rattle.mk_core.specs.declared.seats.Holding.{Holding}
 use Rattle.mk_core.specs.declared.seats.RunPages.{RunPages}
 use Rattle.mk_core.specs.Words.{phase_of}
-use Rattle.mk_core.specs.Moments.{Moment, none_is_held, is_held}
-use Rattle.mk_core.specs.Ranges.{has_phase}
+use Rattle.mk_core.specs.Moments.{Moment, none_is_held, is_held, outside, others_are_held}
+use Rattle.mk_core.specs.Ranges.{has_phase, is_in_range, has_gates}
 use Rattle.mk_core.specs.Effects.{moment_behind}
-use Rattle.mk_core.specs.History.{World, world_behind}
-use Rattle.mk_core.specs.Frames.{Steady, steady_of}
+use Rattle.mk_core.specs.History.{World, world_behind, left}
+use Rattle.mk_core.specs.Frames.{Steady, steady_of, CountsAreLeft}
 use Rattle.mk_protocol.proofs.Asked.{none_held}
 use Rattle.mk_words.specs.States.{PassState, now_of, world_of}
 use Rattle.mk_words.specs.TurnSteps.{world_at, Acts}
 use Rattle.mk_words.proofs.TurnSteps.{all_from}
 use Rattle.mk_core.specs.declared.events.Word.TheVariants as word
 use Rattle.mk_core.specs.Calls.{at_rest}
-use Rattle.mk_core.specs.Moments.{outside}
 use Rattle.mk_core.specs.Order.{is_open_to, group_of, comes_next_to_host}
-use Rattle.mk_core.specs.Ranges.{is_in_range, has_gates}
 use Rattle.mk_core.specs.Enabled.{IsEnabled, marker_may, holder_may}
 use Rattle.mk_core.specs.Readings.{Holds}
 use Rattle.mk_core.specs.NewPlaces.{is_run_gone}
 use Rattle.mk_core.specs.Cycles.{is_end}
 use Rattle.mk_core.specs.Counts.{TalliesAreTidy, in_a_word, releases}
-use Rattle.mk_core.specs.History.{left}
-use Rattle.mk_core.specs.Frames.{CountsAreLeft}
 use Rattle.mk_core.proofs.Conditions.{meets_enabled}
 use Rattle.mk_placement.proofs.TallySteps.{CountsNothing}
 use Rattle.mk_words.specs.Steps.{IsEnabledTo}
 use Rattle.mk_words.proofs.Tallies.{counts_tidy_more}
-use Rattle.mk_words.specs.Opening.{Opens, OthersMayOpen}
-use Rattle.mk_core.specs.Moments.{others_are_held}
-use Rattle.mk_words_clients.specs.Clients.{MayGiveBack, Settled, HoldsBelow, StaysTidy}
+use Rattle.mk_words.specs.Opening.{OthersMayOpen}
+use Rattle.mk_words_clients.specs.Clients.{MayGiveBack, Settled, HoldsBelow}
 
 -- kinds that leave the steady words, the allocations and the freed run alone
 abbrev pub leaves_steady : Step → Bool
@@ -316,20 +311,6 @@ holds_one_more p q j h a now =
           (sym (hold_elsewhere p q j a i other) ∙ two));
     }
 
-pub holds_no_more : (p q : PassState) (j : ℕ) → HoldsBelow p j → Acts p (step.Hold j) q
-    → is_held (now_of q).words j ≡ false → HoldsBelow q j
-holds_no_more p q j h a missed =
-    record {
-      held = λ i lt. (let other : i ≢ j = λ e. omega arith in
-          stays_held p q (step.Hold j) a i (hold_elsewhere p q j a i other) (h.held i lt));
-      free = λ i le lt two. elim (cases_eq i j) [
-        | inl same ↦ eqb-false (slice_index (now_of q).words.gates j) 2 missed
-            (sym (ap (λ (k : ℕ). slice_index (now_of q).words.gates k) same) ∙ two)
-        | inr other ↦ a.turn.other_gates i (h.free i le (within p q (step.Hold j) a i lt))
-            (sym (hold_elsewhere p q j a i other) ∙ two)
-      ];
-    }
-
 pub opens_last : (p q : PassState) (j : ℕ) → HoldsBelow p (j + 1) → Acts p (step.Open j) q → HoldsBelow q j
 opens_last p q j h a =
     record {
@@ -359,35 +340,3 @@ all_are_held p host h =
 pub others_may_open : (p : PassState) → Settled p → Holds p.table.config (now_of p) p.seat
     → HoldsBelow p p.table.config.callers → OthersMayOpen p 0
 others_may_open p x holds h j le lt other = open_may p j x holds lt (h.held j lt)
-
-pub settled_opened : (p q : PassState) → Opens p q → Settled p → Settled q
-settled_opened p q o x =
-    record {
-      seat = ap (λ (r : PassState). r.seat) o.is ∙ x.seat;
-      phase = ap (λ (y : Steady). has_phase y.phase step.Give) o.steady ∙ x.phase;
-      freed = ap (λ (y : Holding). y.freed) o.holding ∙ x.freed;
-      held = ap (λ (y : Steady). y.held) o.steady ∙ x.held
-          ∙ sym (ap (λ (y : Steady). held_by_uses (uses_of_pages y.pages)) o.steady);
-      fresh = ap (λ (y : Steady). y.fresh) o.steady ∙ x.fresh ∙ sym (ap (λ (y : Steady). y.fresh_words) o.steady);
-    }
-
-pub back_opened : (p q : PassState) → Opens p q → Settled p
-    → none_is_held p.table.config.callers (now_of q).words ≡ true → MayGiveBack q
-back_opened p q o x none =
-    let y = settled_opened p q o x in
-    record {
-      seat = y.seat;
-      gates = ap (λ (r : PassState). none_is_held r.table.config.callers (now_of q).words) o.is ∙ none;
-      phase = y.phase;
-      freed = y.freed;
-      held = y.held;
-      fresh = y.fresh;
-    }
-
-pub tidy_opened : (p q : PassState) → Opens p q → StaysTidy p q
-tidy_opened p q o t =
-    subst (λ (d : Config). TalliesAreTidy d q.seen) (sym (ap (λ (r : PassState). r.table.config) o.is))
-    (tidy_behind_others p.table.config p.seen q.seen (left_same o) o.counts t)
-  where
-    left_same : Opens p q → steady_of (left p.table.config q.seen) ≡ steady_of (left p.table.config p.seen)
-    left_same x = sym (ap (λ (r : PassState). steady_of (left r.table.config q.seen)) x.is) ∙ x.steady

@@ -10,9 +10,8 @@ use Rattle.mk_words.specs.Steps.{IsEnabledTo}
 use Rattle.mk_objects.specs.Placing.{object_for}
 use Rattle.mk_core.specs.Bits.{has_bit}
 use Rattle.mk_objects.proofs.Serves.{KnowsPlace, knows_place, place_unused}
-use Rattle.mk_objects.proofs.Takes.{HasGranted, HasTaken, counted, counted_held, few_held}
-use Rattle.mk_objects.proofs.Takes.{grant_admits, grant_may, grant_on}
-use Rattle.mk_objects.proofs.Takes.{one_bit_more, small_index, tally_may, tally_on, used_may, used_on}
+use Rattle.mk_objects.proofs.Takes.{HasGranted, HasTaken, counted, counted_held, few_held, grant_admits, grant_may}
+use Rattle.mk_objects.proofs.Takes.{grant_on, one_bit_more, small_index, tally_may, tally_on, used_may, used_on}
 use Rattle.mk_alloc_clients.proofs.placing.serve.Goals as goal
 use Rattle.mk_alloc_clients.proofs.placing.serve.Goals.{After-is_in_order, After-is_in_order-3, After-is_in_order-4}
 

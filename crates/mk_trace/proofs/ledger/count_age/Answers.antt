@@ -1,5 +1,5 @@
 use Rattle.std.proofs.Common.{◌<◌, length, rules}
-use Rattle.mk_trace.proofs.AgePlaces.{set_there}
+use Rattle.mk_trace.proofs.CountedAges.{set_there}
 use Rattle.mk_trace.proofs.ledger.count_age.Goals as goal
 
 pub returns-then-age-found : goal.returns-then-age-found

@@ -1,7 +1,7 @@
 use Rattle.std.proofs.Common.{◌<◌, length, ◌∙◌, ap, arith}
 use Rattle.mk_script.specs.Words.{texts_of}
 use Rattle.mk_trace.specs.Traces.{contents_of}
-use Rattle.mk_trace.proofs.WholeText.{read_whole, stops_whole}
+use Rattle.mk_trace.proofs.ReadLines.{read_whole, stops_whole}
 use Rattle.mk_trace.proofs.parsing.parse_trace.Goals as goal
 
 pub at_end-requires : goal.at_end-requires

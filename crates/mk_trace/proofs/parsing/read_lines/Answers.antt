@@ -4,8 +4,7 @@ use Rattle.mk_script.specs.Words.{texts_of}
 use Rattle.mk_trace.specs.declared.faults.TraceStop.TheVariants.{NoMemory}
 use Rattle.mk_trace.specs.Grammar.{text_fault_at, read_behind, written_from}
 use Rattle.mk_trace.specs.Lines.{nothing_written, with_line}
-use Rattle.mk_trace.proofs.HandedOn.{hands_on}
-use Rattle.mk_trace.proofs.Along.{step, stopped, ended}
+use Rattle.mk_trace.proofs.ReadLines.{hands_on, step, stopped, ended}
 use Rattle.mk_trace.proofs.parsing.read_lines.Goals as goal
 
 pub loop-index-preserved : goal.loop-index-preserved

@@ -3,8 +3,7 @@ use Rattle.std.specs.Fmt.{decimal}
 use Rattle.std.specs.String.{string_bytes}
 use lib.Chars.{codes}
 use Rattle.mk_script.specs.Canonical.{line_text}
-use Rattle.mk_trace.proofs.HandedOn.{on_ok}
-use Rattle.mk_trace.proofs.PrintedLines.{six_lines}
+use Rattle.mk_trace.proofs.ReadLines.{on_ok, six_lines}
 use Rattle.mk_trace.proofs.peaks.push_counts.Goals as goal
 
 pub returns : goal.returns

@@ -5,7 +5,7 @@ use Rattle.mk_trace.specs.ExactPlays.{AllTurnsAreExact}
 use Rattle.mk_trace.specs.Peaks.{quarantined_words, reserved_words}
 use Rattle.mk_trace.proofs.ExactPlays.{first_exact}
 use Rattle.mk_trace.proofs.FewEvents.{none_ended}
-use Rattle.mk_trace.proofs.FirstLedgers.{ages_of, first_held, first_idle, first_keeps, most_of, peaks_by}
+use Rattle.mk_trace.proofs.LedgerCalls.{ages_of, first_held, first_idle, first_keeps, most_of, peaks_by}
 use Rattle.mk_trace.proofs.HeldCalls.{most_told}
 use Rattle.mk_trace.proofs.OneCaller.{home_joined}
 use Rattle.mk_trace.proofs.Played.{closed, refused_at}

@@ -1,17 +1,36 @@
-use Rattle.std.proofs.Common.{◌∙◌, List, ap, length, subst, arith}
+use Rattle.std.proofs.Common.{◌∙◌, List, ap, length, subst, arith, refl, get_or}
 use Rattle.std.specs.Prelude.{take}
+use Rattle.std.proofs.lemmas.List.{get_or_default}
 use Rattle.mk_core.specs.History.{IsHistory}
 use Rattle.mk_words.specs.States.{WordsState}
-use Rattle.mk_heap.specs.Hosts.{HostState}
-use Rattle.mk_trace.proofs.FewEvents.{few_events}
-use Rattle.mk_trace.proofs.Playable.{is_playable}
-use Rattle.mk_trace.proofs.Played.{event_at, next_played, null_between, one_counted, still_few, played_all}
-use Rattle.mk_trace.proofs.Played.{played_first}
-use Rattle.std.proofs.Common.{get_or}
-use Rattle.std.proofs.lemmas.List.{get_or_default}
 use Rattle.mk_trace.specs.declared.trace.TraceEvent.{TraceEvent}
 use Rattle.mk_trace.specs.declared.trace.TraceEvent.TheVariants.{A}
+use Rattle.mk_trace.specs.Laws.{IsEventOf, IsPlayable}
+use Rattle.mk_trace.proofs.FewEvents.{few_events}
+use Rattle.mk_trace.proofs.FreedSlots.{frees_its_slot}
+use Rattle.mk_trace.proofs.Playable.{is_playable}
+use Rattle.mk_trace.proofs.Played.{event_at, may_be_played, next_played, null_between, one_counted, played_all}
+use Rattle.mk_trace.proofs.Played.{played_first, slot_is_global, still_few}
 use Rattle.mk_trace.proofs.playing.play_events.Goals as goal
+use Rattle.mk_trace.proofs.playing.play_events.Goals.{After-is_in_order}
+
+-- Before an event: the trace is playable, the event is one of its, and a history came before.
+
+playable : (g : _) (c : After-is_in_order g) → IsPlayable c.args.trace.now
+playable g c = is_playable c.args.trace.now c.events-events.ensures.of_some_text
+
+here : (g : _) (c : After-is_in_order g)
+    → IsEventOf c.args.trace.now.slots (get_or c.events-events.result.now c.loop-event.event-index (A 0))
+here g c =
+    let events = c.events-events.result.now in
+    let i = c.loop-event.event-index in
+    event_at c.args.trace.now events i (get_or events i (A 0)) (playable g c) c.events-events.ensures.events
+    c.loop-event-test.true (get_or_default events i (A 0) (get_or events i (A 0)) c.loop-event-test.true)
+
+before : (g : _) (c : After-is_in_order g) → IsHistory c.args.heap.now.config c.loop-event.host.pass.seen
+before g c =
+    subst (λ (x : WordsState). IsHistory x.config c.loop-event.host.pass.seen) c.loop-event.invariant.home.table
+    c.is_in_order.ensures.history
 
 pub loop-event-init : goal.loop-event-init
 loop-event-init g c = record {
@@ -29,62 +48,60 @@ loop-event-init g c = record {
   few = omega arith;
 }
 
-pub play_event-requires-clause-null : goal.play_event-requires-clause-null
-play_event-requires-clause-null g c κs within =
-    null_between c.args.trace.now c.args.heap.now.config (take c.loop-event.event-index c.events-events.result.now)
-    c.loop-event.refused c.loop-event.host.pass.seen c.requires.config c.loop-event.invariant.played
+pub refuses-requires-clause-slot : goal.refuses-requires-clause-slot
+refuses-requires-clause-slot g c κs within =
+    let x = (goal.at.refuses-requires-clause-slot g c).After-is_in_order in
+    slot_is_global c.args.trace.now _ (playable g x) (here g x)
 
-pub play_event-requires-clause-few : goal.play_event-requires-clause-few
-play_event-requires-clause-few g c κs within =
+pub refuses-requires-clause-frees : goal.refuses-requires-clause-frees
+refuses-requires-clause-frees g c κs within =
+    let x = (goal.at.refuses-requires-clause-frees g c).After-is_in_order in
+    frees_its_slot c.args.heap.now.config c.loop-event.host.pass.seen c.loop-event.invariant.home.one (before g x) _
+
+pub refuses-requires-clause-admitted : goal.refuses-requires-clause-admitted
+refuses-requires-clause-admitted g c κs within =
+    let x = (goal.at.refuses-requires-clause-admitted g c).After-is_in_order in
+    may_be_played c.args.trace.now c.args.heap.now.config c.loop-event.host.pass.seen c.loop-event.host.pass.seen _
+    c.requires.config (playable g x) (before g x)
+    (null_between c.args.trace.now c.args.heap.now.config (take c.loop-event.event-index c.events-events.result.now)
+    c.loop-event.refused c.loop-event.host.pass.seen c.requires.config c.loop-event.invariant.played) (here g x) refl
+
+pub refuses-requires-clause-few : goal.refuses-requires-clause-few
+refuses-requires-clause-few g c κs within =
     let so_far = c.loop-event.invariant.ends in
     let count = few_events c.args.trace.now c.events-events.ensures.of_some_text in
     let same = ap (λ (l : List TraceEvent). length l) c.events-events.ensures.events in
     let inside = c.loop-event-test.true in
     omega (arith, so_far, count, same, inside)
 
-pub play_event-requires-clause-event : goal.play_event-requires-clause-event
-play_event-requires-clause-event g c κs within =
-    let there = get_or_default c.events-events.result.now c.loop-event.event-index (A 0)
-    (get_or c.events-events.result.now c.loop-event.event-index (A 0)) c.loop-event-test.true in
-    event_at c.args.trace.now c.events-events.result.now c.loop-event.event-index
-    (get_or c.events-events.result.now c.loop-event.event-index (A 0))
-    (is_playable c.args.trace.now c.events-events.ensures.of_some_text) c.events-events.ensures.events
-    c.loop-event-test.true there
-
 pub loop-event-preserved : goal.loop-event-preserved
 loop-event-preserved g c =
-    let trace = c.args.trace.now in
-    let event = get_or c.events-events.result.now c.loop-event.event-index (A 0) in
-    let there = get_or_default c.events-events.result.now c.loop-event.event-index (A 0) event c.loop-event-test.true in
-    let w : WordsState = c.args.heap.now in
-    let k : HostState = c.loop-event.host in
+    let x = (goal.at.loop-event-preserved g c).After-is_in_order in
+    let events = c.events-events.result.now in
+    let i = c.loop-event.event-index in
+    let event = get_or events i (A 0) in
     let is_refused = c.in_ok-is_refused.is_refused in
-    let playable = is_playable trace c.events-events.ensures.of_some_text in
     record {
-      home = c.play_event.ensures.home;
-      made_for = c.play_event.ensures.made_for ∙ c.loop-event.invariant.made_for;
-      book = c.play_event.ensures.book ∙ c.loop-event.invariant.book;
-      idle = c.play_event.ensures.idle;
+      home = c.refuses.ensures.home;
+      made_for = c.refuses.ensures.made_for ∙ c.loop-event.invariant.made_for;
+      book = c.refuses.ensures.book ∙ c.loop-event.invariant.book;
+      idle = c.refuses.ensures.idle;
       keeps = c.in_ok-is_refused.ensures.keeps;
-      exact = λ before. c.in_ok-is_refused.ensures.exact (c.loop-event.invariant.exact before);
+      exact = λ before'. c.in_ok-is_refused.ensures.exact (c.loop-event.invariant.exact before');
       held = c.in_ok-is_refused.ensures.held;
       played =
-          next_played trace w.config c.events-events.result.now c.loop-event.event-index c.loop-event.refused
-          c.with_refusal-refused.result k.pass.seen c.play_event.new.host.pass.seen event is_refused
-          c.requires.config playable
-          (subst (λ (x : WordsState). IsHistory x.config k.pass.seen) c.loop-event.invariant.home.table
-          c.is_in_order.ensures.history)
-          c.loop-event-test.true there
-          (event_at trace c.events-events.result.now c.loop-event.event-index event playable
-          c.events-events.ensures.events c.loop-event-test.true there)
+          next_played c.args.trace.now c.args.heap.now.config events i c.loop-event.refused
+          c.with_refusal-refused.result c.loop-event.host.pass.seen c.refuses.new.host.pass.seen event is_refused
+          c.requires.config (playable g x) (before g x) c.loop-event-test.true
+          (get_or_default events i (A 0) event c.loop-event-test.true) (here g x)
           c.loop-event.invariant.played c.in_ok-is_refused.ensures.plays
           (one_counted is_refused c.loop-event.refused c.with_refusal-refused.result c.with_refusal-refused.ensures);
       ends =
           (let so_far = c.loop-event.invariant.ends in
           let one = c.in_ok-is_refused.ensures.ends in omega (arith, so_far, one));
       few =
-          still_few is_refused c.loop-event.refused c.with_refusal-refused.result c.loop-event.event-index
-          c.with_refusal-refused.ensures c.loop-event.invariant.few;
+          still_few is_refused c.loop-event.refused c.with_refusal-refused.result i c.with_refusal-refused.ensures
+          c.loop-event.invariant.few;
     }
 
 pub returns-clause-played : goal.returns-clause-played

@@ -2,7 +2,7 @@ use Rattle.std.proofs.Common.{◌+◌, get_or, drop, ◌∙◌, ap, sym, arith}
 use Rattle.std.proofs.lemmas.List.{at_drop_more, at_drop_all}
 use Rattle.mk_trace.specs.Grammar.{type_fault_at, with_event}
 use Rattle.mk_trace.specs.Typing.{typed_event}
-use Rattle.mk_trace.proofs.Along.{step, stopped, ended}
+use Rattle.mk_trace.proofs.ReadLines.{step, stopped, ended}
 use Rattle.mk_trace.proofs.resolving.events.Goals as goal
 
 pub loop-index-preserved : goal.loop-index-preserved

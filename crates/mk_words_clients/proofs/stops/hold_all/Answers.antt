@@ -34,9 +34,7 @@ loop-caller-preserved c =
 
 pub loop-caller-smaller : goal.loop-caller-smaller
 loop-caller-smaller c =
-    let lt = c.loop-caller-test.true in
-    let few = c.callers.ensures in
-    omega arith
+    omega (arith, c.loop-caller-test.true, c.callers.ensures)
 
 pub returns-in-Err-clause-tidy : goal.returns-in-Err-clause-tidy
 returns-in-Err-clause-tidy c = λ t.

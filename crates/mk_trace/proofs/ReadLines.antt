@@ -1,0 +1,195 @@
+-- Lines, read and printed one after the other.
+use Rattle.std.proofs.Common.{◌≡◌, ℕ, ◌+◌, List, [], ◌∷◌, Ok, Err, Result, ap, sym, ◌∙◌, arith, Bool, true, false, ◌&&◌}
+use Rattle.std.proofs.Common.{nat_le, refl, subst, ◌≢◌, length, ◌-◌, ◌<◌, ◌≤◌, get_or, take, drop, Bor, ◌++◌}
+use Rattle.std.proofs.Common.{append_assoc, append-nil}
+use Rattle.std.specs.Prelude.{Option, Some, None, if◌then◌else◌}
+use Rattle.std.specs.Result.{IfErr, IsErrAnd, OnOk}
+use Rattle.std.proofs.lemmas.Bool.Decides.{nat_tests}
+use Rattle.std.proofs.lemmas.List.{at_drop_more, take_all, length-drop}
+use Rattle.std.proofs.lemmas.Bool.{le-leb, cond-true}
+use Rattle.mk_core.specs.Config.{IsBetween}
+use Rattle.mk_script.specs.declared.faults.LineFault.{LineFault}
+use Rattle.mk_script.specs.declared.faults.Which.{Which}
+use Rattle.mk_script.specs.Lines.{within}
+use Rattle.mk_script.specs.Operands.{◌>>=◌}
+use Rattle.mk_script.specs.declared.faults.LineFault.TheVariants.{Text}
+use Rattle.mk_script.specs.declared.faults.TextKind.TheVariants.{Word}
+use Rattle.mk_script.specs.Words.{words_of, lines_of, texts_of}
+use Rattle.mk_trace.specs.declared.faults.TraceStop.{TraceStop}
+use Rattle.mk_trace.specs.Grammar.{go_on, along, text_fault_at, written_from}
+use Rattle.mk_trace.specs.Lines.{ok_unless, Written, slot_line, event_of, nothing_written, header_of}
+use Rattle.mk_trace.specs.Traces.{and_then, Contents, trace_of, trace_of_lines, contents_of}
+use Rattle.mk_trace.specs.declared.faults.TraceStop.TheVariants.{NoMemory}
+use Rattle.mk_trace.specs.declared.lines.HeapPages.{HeapPages}
+
+-- Lines one after the other: what one more gives, or where it stops.
+
+-- `first + i` is the number of the first line that is left
+pub step : {Line Given Whole Fault : Type 0} (told : ℕ → Fault → TraceStop)
+    (read : Whole → Line → Result Given Fault) (add : Whole → Given → Whole)
+    (first i : ℕ) (line : Line) (rest left : List Line) (before behind : Whole) (given : Given)
+    → left ≡ line ∷ rest → read before line ≡ Ok given → behind ≡ add before given
+    → along told read add (first + (i + 1)) rest behind ≡ along told read add (first + i) left before
+unfolding along
+step told read add first i line rest left before behind given left_is is behind_is =
+    let next : first + (i + 1) ≡ first + i + 1 = omega arith in
+    ap (along told read add (first + (i + 1)) rest) behind_is
+    ∙ ap (λ number. along told read add number rest (add before given)) next
+    ∙ sym (ap (λ lines. along told read add (first + i) lines before) left_is
+    ∙ ap (λ found. go_on (told (first + i)) found
+    (λ given'. along told read add (first + i + 1) rest (add before given'))) is)
+
+pub stopped : {Line Given Whole Fault : Type 0} (told : ℕ → Fault → TraceStop)
+    (read : Whole → Line → Result Given Fault) (add : Whole → Given → Whole)
+    (number : ℕ) (line : Line) (rest left : List Line) (before : Whole) (fault : Fault)
+    → left ≡ line ∷ rest → read before line ≡ Err fault
+    → along told read add number left before ≡ Err (told number fault)
+unfolding along
+stopped told read add number line rest left before fault left_is is =
+    ap (λ lines. along told read add number lines before) left_is
+    ∙ ap (λ found. go_on (told number) found (λ given'. along told read add (number + 1) rest (add before given'))) is
+
+pub ended : {Line Given Whole Fault : Type 0} (told : ℕ → Fault → TraceStop)
+    (read : Whole → Line → Result Given Fault) (add : Whole → Given → Whole)
+    (number : ℕ) (left : List Line) (before : Whole) → left ≡ []
+    → along told read add number left before ≡ Ok before
+unfolding along
+ended told read add number left before left_is = ap (λ lines. along told read add number lines before) left_is
+
+-- What lines keep one after the other, and what their results say.
+
+-- the value of a first part, of which a second part makes the whole
+pub record Parts {X Fault : Type 0} (first : Result X Fault) (next : X → Type 0) : Type 0 where
+  pub value : X
+  pub is : first ≡ Ok value
+  pub behind : next value
+
+pub bound : {X Y : Type 0} (first : Result X LineFault) (next : X → Result Y LineFault) (y : Y)
+    → (first >>= next) ≡ Ok y
+    → Parts first (λ x. next x ≡ Ok y)
+bound (Ok x) next y h = record { value = x; is = refl; behind = h }
+bound (Err fault) next y h = absurd cc
+
+pub gone_on : {X Y Fault : Type 0} (told : Fault → TraceStop) (first : Result X Fault)
+    (next : X → Result Y TraceStop) (y : Y) → go_on told first next ≡ Ok y
+    → Parts first (λ x. next x ≡ Ok y)
+gone_on told (Ok x) next y h = record { value = x; is = refl; behind = h }
+gone_on told (Err fault) next y h = absurd cc
+
+pub then_next : {X Y : Type 0} (first : Result X TraceStop) (next : X → Result Y TraceStop) (y : Y)
+    → and_then first next ≡ Ok y
+    → Parts first (λ x. next x ≡ Ok y)
+then_next (Ok x) next y h = record { value = x; is = refl; behind = h }
+then_next (Err fault) next y h = absurd cc
+
+pub unless_none : {X : Type 0} (limit : Option LineFault) (x y : X) → ok_unless limit x ≡ Ok y
+    → (limit ≡ None) × (x ≡ y)
+unless_none None x y h = (refl, cc)
+unless_none (Some fault) x y h = absurd cc
+
+-- a test that an Ok or a None has passed
+
+pub passed_else : {X Fault : Type 0} (test : Bool) (fault : Fault) (found : Result X Fault) (x : X)
+    → (if test then Err fault else found) ≡ Ok x → (test ≡ false) × (found ≡ Ok x)
+passed_else true fault found x h = absurd cc
+passed_else false fault found x h = (refl, h)
+
+pub passed_then : {X Fault : Type 0} (test : Bool) (fault : Fault) (found : Result X Fault) (x : X)
+    → (if test then found else Err fault) ≡ Ok x → (test ≡ true) × (found ≡ Ok x)
+passed_then true fault found x h = (refl, h)
+passed_then false fault found x h = absurd cc
+
+both : (a b : Bool) (fault : LineFault) → (if a && b then None else Some fault) ≡ None → (a ≡ true) × (b ≡ true)
+both true true fault h = (refl, refl)
+both true false fault h = absurd cc
+both false b fault h = absurd cc
+
+pub within_none : (least found greatest : ℕ) (which : Which) → within least found greatest which ≡ None
+    → IsBetween least greatest found
+within_none least found greatest which h =
+    let tests = both (nat_le least found) (nat_le found greatest) _ h in
+    (grind (arith, nat_tests, tests.0), grind (arith, nat_tests, tests.1))
+
+-- what each line keeps, all keep
+pub along_keeps : {Line Given Whole Fault : Type 0} (told : ℕ → Fault → TraceStop)
+    (read : Whole → Line → Result Given Fault) (add : Whole → Given → Whole) (P : Whole → Type 0)
+    → ((whole : Whole) (line : Line) (given : Given) → P whole → read whole line ≡ Ok given → P (add whole given))
+    → (number : ℕ) (lines : List Line) (before after : Whole) → P before
+    → along told read add number lines before ≡ Ok after → P after
+unfolding along
+along_keeps told read add P keeps number [] before after holds h = let same : before ≡ after = cc in subst P same holds
+along_keeps told read add P keeps number (line ∷ lines) before after holds h =
+    let parts = gone_on (told number) (read before line) _ after h in
+    along_keeps told read add P keeps (number + 1) lines (add before parts.value) after
+    (keeps before line parts.value holds parts.is) parts.behind
+
+-- What is said of an error that a `?` hands on, and of a success.
+
+pub hands_on : {X Fault : Type 0} (found : Result X Fault) (fault : Fault) (P : Fault → Type 0)
+    → IsErrAnd found (λ handed. handed ≡ fault) → P fault → IfErr found P
+hands_on (Ok x) fault P is told = absurd is
+hands_on (Err handed) fault P is told = subst P (sym is) told
+
+pub on_ok : {X Fault : Type 0} {A B : Type 0} (found : Result X Fault) → OnOk found A → (A → B) → OnOk found B
+on_ok (Ok x) told next = next told
+on_ok (Err fault) told next = tt
+
+-- Lines with a number of words that no form has.
+
+pub no_slot : (before : Written) (operands : List (List ℕ)) → length operands ≢ 2
+    → slot_line before operands ≡ Err (Text Word)
+no_slot before [] n2 = refl
+no_slot before (a ∷ []) n2 = refl
+no_slot before (a ∷ b ∷ []) n2 = absurd (n2 refl)
+no_slot before (a ∷ b ∷ c ∷ rest) n2 = refl
+
+pub no_event : (word : List ℕ) (operands : List (List ℕ)) → length operands ≢ 1 → length operands ≢ 3
+    → event_of word operands ≡ Err (Text Word)
+no_event word [] n1 n3 = refl
+no_event word (a ∷ []) n1 n3 = absurd (n1 refl)
+no_event word (a ∷ b ∷ []) n1 n3 = refl
+no_event word (a ∷ b ∷ c ∷ []) n1 n3 = absurd (n3 refl)
+no_event word (a ∷ b ∷ c ∷ d ∷ rest) n1 n3 = refl
+
+-- A text of which the first line is a header and the others are of the grammar.
+
+short : (text : List ℕ) → length text ≤ 1048576 → trace_of text ≡ trace_of_lines (lines_of text)
+short text small = cond-true _ _ _ (le-leb _ _ small)
+
+read : (first : List ℕ) (rest : List (List ℕ)) (heap : HeapPages) (written : Written)
+    → header_of (words_of first) ≡ Ok heap → written_from 2 rest nothing_written ≡ Ok written
+    → trace_of_lines (first ∷ rest) ≡ contents_of heap written
+read first rest heap written header lines =
+    ap (λ found. go_on (text_fault_at 1) found
+    (λ heap'. and_then (written_from 2 rest nothing_written) (contents_of heap'))) header
+    ∙ ap (λ found. and_then found (contents_of heap)) lines
+
+-- the first of these lines, and the others
+pub read_whole : (text : List ℕ) (lines : List (Bor (List ℕ))) (d : Bor (List ℕ)) (heap : HeapPages) (written : Written)
+    → length text ≤ 1048576 → texts_of lines ≡ lines_of text → 0 < length lines
+    → header_of (words_of (get_or lines 0 d).now) ≡ Ok heap
+    → written_from 2 (texts_of (take (length lines - 1) (drop 1 lines))) nothing_written ≡ Ok written
+    → trace_of text ≡ contents_of heap written
+read_whole text lines d heap written small are some header rest =
+    let whole : take (length lines - 1) (drop 1 lines) ≡ drop 1 lines =
+    take_all (length lines - 1) (drop 1 lines) (omega (arith, length-drop 1 lines)) in
+    short text small
+    ∙ ap trace_of_lines (sym are ∙ at_drop_more texts_of lines 0 d some)
+    ∙ read (get_or lines 0 d).now (texts_of (drop 1 lines)) heap written header
+    (ap (λ left. written_from 2 (texts_of left) nothing_written) (sym whole) ∙ rest)
+
+-- what stops at the end stops the whole
+pub stops_whole : {X : Type 0} (found : Result X TraceStop) (expected whole : Result Contents TraceStop)
+    → whole ≡ expected
+    → IfErr found (λ stop. stop ≢ NoMemory → expected ≡ Err stop)
+    → IfErr found (λ stop. stop ≢ NoMemory → whole ≡ Err stop)
+stops_whole (Ok x) expected whole is told = tt
+stops_whole (Err stop) expected whole is told = λ memory. is ∙ told memory
+
+-- Lines after a text, one after the other.
+
+pub six_lines : {X : Type 0} (old a b c d e f t1 t2 t3 t4 t5 t6 : List X) → t1 ≡ old ++ a → t2 ≡ t1 ++ b → t3 ≡ t2 ++ c
+    → t4 ≡ t3 ++ d → t5 ≡ t4 ++ e → t6 ≡ t5 ++ f
+    → t6 ≡ old ++ (a ++ (b ++ (c ++ (d ++ (e ++ (f ++ []))))))
+six_lines old a b c d e f t1 t2 t3 t4 t5 t6 h1 h2 h3 h4 h5 h6 = rw (h6, h5, h4, h3, h2, h1)
+    (simp (append_assoc, append-nil))
