@@ -1,8 +1,14 @@
--- How many entries of a table there are, with one more, and with none.
+-- How many entries of a table there are, and how large tables are.
 use Rattle.std.proofs.Common.{◌≡◌, ℕ, suc, ◌+◌, ◌<◌, ◌≤◌, cond, false, List, [], ◌∷◌, refl, ap, arith, length, count_by}
-use Rattle.std.specs.Prelude.{Option, None, Some, is_some, slice_index_or, slice_set}
+use Rattle.std.proofs.Common.{◌∙◌, ◌*◌, Bool, true, sym}
+use Rattle.std.specs.Prelude.{Option, None, Some, is_some, slice_index_or, slice_set, ◌==◌, min, if◌then◌else◌}
 use Rattle.std.proofs.lemmas.List.{length-set}
 use Rattle.std.proofs.lemmas.List.Sums.{count_by-le-length, sum_by-cons, sum_by-set}
+use Rattle.std.proofs.lemmas.Bool.{eqb-true}
+use Rattle.mk_why.specs.Sizes.{pages_for}
+use Rattle.mk_why.specs.States.{WhyState}
+
+-- How many entries of a table there are, with one more, and with none.
 
 pub more_counted : {A : Type 0} → (xs : List (Option A)) (i : ℕ) (x : A) → i < length xs
     → is_some (slice_index_or xs i None) ≡ false
@@ -31,3 +37,25 @@ none_counted {A} (y ∷ ys) none =
     let first : cond {A = ℕ} (is_some y) 1 0 ≡ 0 = ap (λ (z : Option A). cond {A = ℕ} (is_some z) 1 0) (none 0) in
     let rest : count_by is_some ys ≡ 0 = none_counted ys (λ i. none (suc i)) in
     omega arith
+
+-- Tables that fit the inner engine.
+
+of_pages : (inner size n : ℕ) → pages_for inner size ≡ n → 1 ≤ n → n ≤ 4096 → (inner ≡ n) × (size ≡ 64 * n)
+of_pages inner size n is some few = by (size == 64 * min inner 4096) refl
+  where
+    by : (b : Bool) → (size == 64 * min inner 4096) ≡ b → (inner ≡ n) × (size ≡ 64 * n)
+    by true e =
+        let same : inner ≡ n = sym (ap (λ x. if x then inner else 0) e) ∙ is in
+        let fits = eqb-true size (64 * min inner 4096) e in
+        (same, omega arith)
+    by false e =
+        let none : 0 ≡ n = sym (ap (λ x. if x then inner else 0) e) ∙ is in
+        absurd (omega arith)
+
+-- the inner engine and the table of the fields, where what contracts see of them is made for this many pages
+pub of_state : {E : Type 0} (made_for : E → ℕ) (fields state : WhyState E) (n : ℕ) → fields ≡ state
+    → pages_for (made_for state.inner) (length state.found) ≡ n → 1 ≤ n → n ≤ 4096
+    → (made_for fields.inner ≡ n) × (length fields.found ≡ 64 * n)
+of_state {E} made_for fields state n same is =
+    of_pages (made_for fields.inner) (length fields.found) n
+    (ap (λ (s : WhyState E). pages_for (made_for s.inner) (length s.found)) same ∙ is)

@@ -1,18 +1,84 @@
--- A search breadth first finds what chains lead to, through no more links than theirs.
-use Rattle.std.proofs.Common.{◌≡◌, ℕ, ◌+◌, ◌<◌, ◌≤◌, List, [], ◌∷◌, refl, sym, ap, subst, arith, length}
-use borrow.Author.Count.{below_more}
-use Rattle.std.specs.Prelude.{Option, slice_index}
+-- A search breadth first: ways from roots, and what chains lead to.
+use Rattle.std.proofs.Common.{◌≡◌, ◌∙◌, ℕ, ◌+◌, ◌*◌, true, List, refl, sym, ap, subst, ◌<◌, ◌≤◌, [], ◌∷◌, arith, length}
+use Rattle.std.specs.Prelude.{Option, slice_index, nat_lt}
+use Rattle.std.proofs.lemmas.Bool.{and_from, lt-ltb}
+use Rattle.mk_geom.specs.StorageWords.{IsWordOf}
 use Rattle.mk_core.specs.declared.config.Config.{Config}
+use Rattle.mk_core.specs.Touched.{PointsIntoAllocation}
+use Rattle.mk_core.specs.Allocations.{placed_at, storage_of}
+use Rattle.mk_core.specs.ClosedMarks.{is_scanned_allocation}
+use Rattle.mk_core.specs.Ranges.{is_word}
+use Rattle.mk_core.specs.Words.{Words, named_word}
+use borrow.Author.Count.{below_more}
 use Rattle.mk_why.specs.declared.found.Found.{Found}
+use Rattle.mk_why.specs.Searching.{IsFoundAt, IsFoundThrough, IsNoted, IsOnward, IsWay, IsFoundWithin, PointsAtBase}
+use Rattle.mk_why.specs.Searching.{root_word, AreWays, FindsMore, IsSearched, IsExplored, IsFound, IsSearch, at}
+use Rattle.mk_why.specs.Searching.{links_in, links_of}
+use Rattle.mk_why.specs.Stops.{View, base_at, world_in, is_still_word}
 use Rattle.mk_why.specs.declared.kept.Root.{Root}
 use Rattle.mk_why.specs.declared.kept.Root.TheVariants.{Global, Register}
+use Rattle.mk_why.specs.Chains.{IsRoot, word_of_root, LinksLead}
 use Rattle.mk_why.specs.declared.tables.Tables.{Tables}
-use Rattle.mk_why.specs.Chains.{IsRoot, LinksLead, word_of_root}
-use Rattle.mk_why.specs.Searching.{AreWays, FindsMore, IsSearched, IsExplored, IsFound, IsNoted, IsSearch}
-use Rattle.mk_why.specs.Searching.{IsFoundWithin, at}
-use Rattle.mk_why.specs.Searching.{links_in, links_of}
-use Rattle.mk_why.specs.Stops.{View, base_at, world_in}
 use Rattle.mk_why.proofs.Searches.{Stays, links_stay, noted_stays, same_links}
+
+-- Ways to what values point into.
+
+-- a scanned word of an allocation that begins there
+abbrev pub HasScanned : Config → View → ℕ → ℕ → Type 0
+HasScanned c v base n =
+    (a : ℕ) × (base_at v a ≡ base) × (is_scanned_allocation c (placed_at v.allocations a) ≡ true)
+    × IsWordOf (storage_of c (placed_at v.allocations a)) n
+
+pub onward_way : (c : Config) (v : View) (found : List (Option Found)) (base n links b : ℕ) → HasScanned c v base n
+    → IsFoundThrough found base links → (value : ℕ) → value ≡ slice_index v.words.heap n
+    → PointsIntoAllocation c (world_in v) value b → IsOnward c v found (65536 + 8 * n) base (links + 1) b
+onward_way c v found base n links b x through value is points =
+    record {
+      number = x.0;
+      begins = x.1;
+      onward = record {
+        word = n;
+        address = refl;
+        scanned = x.2;
+        of_the_one = x.3;
+        to_the_other = subst (λ u. PointsIntoAllocation c (world_in v) u b) is points;
+      };
+      before = through.entry;
+      there = through.there;
+      one_more = ap (λ k. k + 1) (sym through.through);
+    }
+
+-- A way to whatever a value points into leads to what begins at the base.
+pub found_by : (c : Config) (v : View) (found : List (Option Found)) (value base : ℕ) (f : Found)
+    → PointsAtBase c v value base
+    → ((b : ℕ) → PointsIntoAllocation c (world_in v) value b → IsWay c v found f.way f.links b)
+    → IsFoundAt c v found base f
+found_by c v found value base f x way =
+    record { number = x.number; unreleased = x.points.0; is = x.is; way = way x.number x.points }
+
+-- Where that was found, so was whatever the value points into.
+pub noted_by : (c : Config) (v : View) (found : List (Option Found)) (value base limit : ℕ)
+    → PointsAtBase c v value base
+    → IsFoundWithin found base limit → IsNoted c v found value limit
+noted_by c v found value base limit x within b points =
+    subst (λ n. IsFoundWithin found n limit) (sym (ap (base_at v) (x.only b points) ∙ x.is)) within
+
+-- Roots as words that are looked at.
+
+pub root_is_word : (c : Config) (root : Root) → IsRoot c root → is_word c (root_word root) ≡ true
+root_is_word c (Register caller register) is =
+    and_from (nat_lt caller c.callers) (nat_lt register 8) (lt-ltb caller c.callers is.0) (lt-ltb register 8 is.1)
+root_is_word c (Global global) is = lt-ltb global 64 is
+
+pub root_is_still : (root : Root) → is_still_word (root_word root) ≡ true
+root_is_still (Register caller register) = refl
+root_is_still (Global global) = refl
+
+pub root_named : (w : Words) (root : Root) → named_word w (root_word root) ≡ word_of_root w root
+root_named w (Register caller register) = refl
+root_named w (Global global) = refl
+
+-- A search breadth first finds what chains lead to, through no more links than theirs.
 
 -- What is done stays so.
 done_stays : (c : Config) (v : View) (found more : List (Option Found)) → Stays found more → (base : ℕ)

@@ -1,5 +1,3 @@
-mod Alike
-mod Closing
 mod Counts
 mod EvaluatedChains
 mod Explored
@@ -7,10 +5,7 @@ mod Lists
 mod Looks
 mod MadeEntries
 mod Pointed
-mod Roots
 mod Scans
 mod Searches
-mod Sizes
 mod SweptChains
 mod Telling
-mod Ways

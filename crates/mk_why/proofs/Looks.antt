@@ -1,6 +1,10 @@
--- Looks leave the view as it is, and so does what others do in the stop.
-use Rattle.std.proofs.Common.{◌≡◌, ◌∙◌, ℕ, true, false, List, refl, sym, ap, subst}
-use Rattle.std.specs.Prelude.{slice_index_or}
+-- Looks leave the view as it is, and so does what others do in the stop; after an engine's marks they leave its law.
+use Rattle.std.proofs.Common.{◌≡◌, ◌∙◌, ℕ, true, false, List, refl, sym, ap, subst, zero, suc, ◌+◌, Bool, cond, [], ◌∷◌}
+use Rattle.std.proofs.Common.{◌++◌, count_by, append_assoc, arith}
+use Rattle.std.specs.Prelude.{slice_index_or, ◌&&◌, not}
+use Rattle.std.proofs.lemmas.Bool.{and_from, and_parts, eq-eqb, not-true, true≢false}
+use Rattle.std.proofs.lemmas.List.{append_cancel_left}
+use Rattle.std.proofs.lemmas.List.Sums.{sum_by-append, sum_by-cons}
 use Rattle.mk_core.specs.declared.config.Config.{Config}
 use Rattle.mk_core.specs.declared.events.Seat.{Seat}
 use Rattle.mk_core.specs.declared.events.Seat.TheVariants.{Caller, Host, Marker}
@@ -12,25 +16,40 @@ use Rattle.mk_core.specs.declared.seats.Marker.{Marker as MarkerState}
 use Rattle.mk_core.specs.Effects.{markers_behind}
 use Rattle.mk_core.specs.Accesses.{found}
 use Rattle.mk_core.specs.Frames.{Steady, TurnIsLeft, Written, steady_of, written_of}
-use Rattle.mk_core.specs.History.{World, IsHistory}
+use Rattle.mk_core.specs.History.{World, IsHistory, left}
 use Rattle.mk_core.specs.Moments.{Moment, others_are_held, outside}
 use Rattle.mk_core.specs.Ranges.{is_word}
 use Rattle.mk_core.specs.Readings.{Holds, NoneAttends}
-use Rattle.mk_core.specs.StopConditions.{is_attending}
+use Rattle.mk_core.specs.StopConditions.{is_attending, has_closed_page, none_attends, roots_point_well}
 use Rattle.mk_core.specs.Words.{Words, named_word, phase_of}
+use Rattle.mk_core.specs.declared.events.Event.{Event}
+use Rattle.mk_core.specs.Bounded.{all_below}
+use Rattle.mk_core.specs.Growing.{AreOfOthers, Finding}
+use Rattle.mk_core.proofs.Conditions.{enabled_meets}
 use Rattle.mk_words.specs.States.{PassState, TurnState, event_of, now_of, world_of}
 use Rattle.mk_words.specs.Steps.{Finds, IsAdmittedTo, IsEnabledTo}
 use Rattle.mk_words.specs.TurnSteps.{Acts, world_at}
-use Rattle.mk_turns.proofs.Doing.{does_nothing, does_step, does_then}
+use Rattle.mk_turns.proofs.Doing.{does_nothing, does_step, does_then, done_in_parts}
 use Rattle.mk_tracing.specs.Stops.{IsWanted}
 use Rattle.mk_tracing.proofs.MaySteps.{may_look}
-use Rattle.mk_tracing.proofs.Steps.{found_there}
+use Rattle.mk_tracing.proofs.Steps.{found_there, may_step}
 use Rattle.mk_cycle.specs.TurnKeeps.{InTurn, KeepsTurn, but_phase}
 use Rattle.mk_cycle.proofs.CleaningSteps.{calm_keeps}
 use Rattle.mk_cycle.proofs.KeptInParts.{free_then, keeps_at_once, keeps_then}
 use Rattle.mk_cycle.proofs.MayAct.{calm_admitted}
 use Rattle.mk_sweep.proofs.Kept.{ready_of}
+use Rattle.mk_frames.proofs.Tests.{none_from}
+use Rattle.mk_protocol.proofs.Frames.{others_leave}
+use Rattle.mk_words.proofs.Seats.{others_own}
+use Rattle.mk_turns.specs.Doing.{Does, are_of, count_done, done_in}
+use Rattle.mk_turns.specs.Sweeping.{HaveNoMark, SweepsNothing}
+use Rattle.mk_turns.proofs.Sweeping.{does_sweep, sweeps_then}
+use Rattle.mk_tracing.proofs.Closes.{marks_closed_now}
+use Rattle.mk_cycle.specs.EngineLaw.{ClosesMarks, IsFreeForCycle}
+use Rattle.mk_cycle.specs.Kinds.{closes_marks, is_want}
 use Rattle.mk_why.specs.Stops.{IsStill, LooksOn, View, is_look, is_still_word, view_by, view_of}
+
+-- Looks leave the view as it is, and so does what others do in the stop.
 
 view_from : Steady → Written → List ℕ → List ℕ → View
 view_from s y marks blacks =
@@ -160,3 +179,165 @@ looks_then t u v one two =
       view = two.view ∙ one.view;
       still = two.still;
     }
+
+-- Looks after an engine's marks leave its law, and what is said of the view.
+
+-- No marker attends where the marks may be closed.
+
+each_not : (xs : List MarkerState) → none_attends xs ≡ true
+    → (k : ℕ) → is_attending (slice_index_or xs k outside).presence ≡ false
+each_not [] h k = refl
+each_not (x ∷ xs) h zero = not-true _ (and_parts (not (is_attending x.presence)) (none_attends xs) h).0
+each_not (x ∷ xs) h (suc k) = each_not xs (and_parts (not (is_attending x.presence)) (none_attends xs) h).1 k
+
+pages_close : ℕ → View → Bool
+pages_close pages v = all_below pages (has_closed_page v.words)
+
+roots_close : ℕ → View → Bool
+roots_close pages v = roots_point_well pages v.words
+
+-- what the close asks of the view
+record ClosesBy (c : Config) (m : Moment) (v : View) : Type 0 where
+  none : none_attends m.seats.markers ≡ true
+  pages : pages_close c.pages v ≡ true
+  roots : roots_close c.pages v ≡ true
+
+closes_by : (p : PassState) → IsEnabledTo p step.Close → ClosesBy p.table.config (now_of p) (view_by p)
+unfolding pages_close roots_close
+closes_by p on =
+    let c : Config = p.table.config in
+    let m : Moment = now_of p in
+    let met = (enabled_meets c m (event_of p step.Close) on).holder in
+    let parts = and_parts (none_attends m.seats.markers && all_below c.pages (has_closed_page m.words))
+    (roots_point_well c.pages m.words) met in
+    let first = and_parts (none_attends m.seats.markers) (all_below c.pages (has_closed_page m.words)) parts.0 in
+    record { none = first.0; pages = first.1; roots = parts.1 }
+
+pub still_closed : (p q : PassState) → ClosesMarks p q → IsFreeForCycle p → IsStill q
+still_closed p q law free =
+    record {
+      free = free_then p q law.keeps.call free;
+      wanted = law.phase;
+      none = each_not (now_of q).seats.markers (closes_by q law.close).none;
+    }
+
+may_close_by : (p : PassState) (turn : InTurn p)
+    → others_are_held p.table.config.callers (now_of p).words p.seat ≡ true → IsStill p
+    → pages_close p.table.config.pages (view_by p) ≡ true → roots_close p.table.config.pages (view_by p) ≡ true
+    → IsEnabledTo p step.Close
+unfolding pages_close roots_close
+may_close_by p turn gates still pages roots =
+    let c : Config = p.table.config in
+    let m : Moment = now_of p in
+    may_step p step.Close (wanted_now p turn gates still).ready turn.holds refl refl gates
+    (eq-eqb (phase_of m.words) 2 still.wanted) refl
+    (and_from (none_attends m.seats.markers && all_below c.pages (has_closed_page m.words))
+    (roots_point_well c.pages m.words)
+    (and_from (none_attends m.seats.markers) (all_below c.pages (has_closed_page m.words))
+    (none_from m.seats.markers still.none) pages) roots)
+
+-- Looks are of the kinds of the law, and wish nothing.
+
+look_closes : (xs : List Finding) → are_of is_look xs ≡ true → are_of closes_marks xs ≡ true
+look_closes [] h = refl
+look_closes (x ∷ xs) h =
+    let parts = and_parts (is_look x.event.step) (are_of is_look xs) h in
+    and_from (closes_marks x.event.step) (are_of closes_marks xs) (by x.event.step parts.0) (look_closes xs parts.1)
+  where
+    by : (s : Step) → is_look s ≡ true → closes_marks s ≡ true
+    by (step.Look y) e = refl
+    by _ e = cc
+
+none_wished : (xs : List Finding) → are_of is_look xs ≡ true
+    → count_by (λ (x : Finding). is_want x.event.step) xs ≡ 0
+none_wished [] h = refl
+none_wished (x ∷ xs) h =
+    let parts = and_parts (is_look x.event.step) (are_of is_look xs) h in
+    let all : count_by (λ (y : Finding). is_want y.event.step) (x ∷ xs)
+    ≡ cond {A = ℕ} (is_want x.event.step) 1 0 + count_by (λ (y : Finding). is_want y.event.step) xs =
+    sum_by-cons (λ (y : Finding). cond (is_want y.event.step) 1 0) x xs in
+    let first : cond {A = ℕ} (is_want x.event.step) 1 0 ≡ 0 =
+    ap (λ (b : Bool). cond {A = ℕ} b 1 0) (by x.event.step parts.0) in
+    let rest : count_by (λ (y : Finding). is_want y.event.step) xs ≡ 0 = none_wished xs parts.1 in
+    omega arith
+  where
+    by : (s : Step) → is_look s ≡ true → is_want s ≡ false
+    by (step.Look y) e = refl
+    by _ e = cc
+
+-- what is done is counted in parts
+counts_then : (kind kinds more both : Step → Bool) (p q r : PassState) (d : Does kinds p q) (e : Does more q r)
+    (f : Does both p r) → count_done kind f ≡ count_done kind d + count_done kind e
+counts_then kind kinds more both p q r d e f =
+    ap (λ (es : List Event). count_by test (done_in p es)) is
+    ∙ ap (λ (xs : List Finding). count_by test xs) (done_in_parts p d.more e.more)
+    ∙ sum_by-append (λ (x : Finding). cond (kind x.event.step) 1 0) (done_in p d.more)
+    (done_in (record p { seen = p.seen ++ d.more }) e.more)
+    ∙ ap (λ (x : PassState). count_done kind d + count_by test (done_in x e.more)) (sym d.is)
+  where
+    test : Finding → Bool
+    test x = kind x.event.step
+
+    whole : r ≡ record p { seen = p.seen ++ (d.more ++ e.more) }
+    whole =
+        e.is ∙ ap (λ (x : PassState). record x { seen = x.seen ++ e.more }) d.is
+        ∙ ap (λ (es : List Event). record p { seen = es }) (append_assoc p.seen d.more e.more)
+
+    is : f.more ≡ d.more ++ e.more
+    is = append_cancel_left p.seen f.more (d.more ++ e.more) (ap (λ (x : PassState). x.seen) (sym f.is ∙ whole))
+
+module _ (p : PassState) (t u : TurnState) (law : ClosesMarks p t.pass) (on : LooksOn t u) (turn : InTurn u.pass)
+    (gates : others_are_held u.pass.table.config.callers (now_of u.pass).words u.pass.seat ≡ true) where
+  close_now : IsEnabledTo u.pass step.Close
+  close_now =
+      let was = closes_by t.pass law.close in
+      let pages : ℕ = t.pass.table.config.pages in
+      let same : u.pass.table.config.pages ≡ pages = ap (λ x. x.config.pages) on.table in
+      may_close_by u.pass turn gates on.still
+      (ap (λ n. pages_close n (view_by u.pass)) same ∙ ap (pages_close pages) on.view ∙ was.pages)
+      (ap (λ n. roots_close n (view_by u.pass)) same ∙ ap (roots_close pages) on.view ∙ was.roots)
+
+  look_does : Does closes_marks t.pass u.pass
+  look_does =
+      record {
+        more = on.does.more;
+        is = on.does.is;
+        own_or_others = on.does.own_or_others;
+        of_kinds = look_closes (done_in t.pass on.does.more) on.does.of_kinds;
+      }
+
+  pub law_kept : ClosesMarks p u.pass
+  law_kept =
+      let does = does_then closes_marks p t.pass u.pass law.does look_does in
+      let none : count_done is_want on.does ≡ 0 = none_wished (done_in t.pass on.does.more) on.does.of_kinds in
+      let one = law.one_want in
+      let both = counts_then is_want closes_marks is_look closes_marks p t.pass u.pass law.does on.does does in
+      record {
+        does = does;
+        one_want = omega arith;
+        keeps = keeps_then but_phase p t.pass u.pass law.keeps on.keeps;
+        phase = on.still.wanted;
+        close = close_now;
+        closed = marks_closed_now u.pass turn.history close_now;
+      }
+
+look_marks : HaveNoMark is_look
+look_marks (step.Mark p v) h = absurd (true≢false (sym h))
+look_marks s h = refl
+
+pub sweepless_kept : (p : PassState) (t u : TurnState) → ClosesMarks p t.pass → LooksOn t u
+    → SweepsNothing p t.pass → SweepsNothing p u.pass
+sweepless_kept p t u law on one =
+    sweeps_then p t.pass u.pass law.keeps.call.pass one
+    (does_sweep is_look t.pass u.pass look_marks on.does)
+
+-- What others do leaves the view.
+pub others_still : (p : PassState) → InTurn p
+    → others_are_held p.table.config.callers (now_of p).words p.seat ≡ true → IsStill p
+    → (others : List Event) → AreOfOthers p.seats others → IsHistory p.table.config (p.seen ++ others)
+    → view_of (left p.table.config (p.seen ++ others)) ≡ view_by p
+others_still p turn gates still others of_others history =
+    let x = others_leave p.table.config p.seen others p.seat history.within_limits history.enabled
+    (others_own p.seats p.seat others turn.own of_others) in
+    view_left (world_of p) (left p.table.config (p.seen ++ others)) (x.turn turn.holds).0
+    (x.stop (turn.holds, gates)) still.wanted still.none

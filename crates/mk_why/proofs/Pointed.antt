@@ -1,10 +1,11 @@
 -- What values point into, by lookup and used bits, and what is scanned of an allocation, by the header of its page.
 use Rattle.std.proofs.Common.{◌≡◌, ◌∙◌, ℕ, ◌+◌, ◌*◌, ◌/◌, ◌<◌, ◌≤◌, true, false, sym, ap, subst, inr, arith}
-use Rattle.std.specs.Prelude.{Option, None, Some}
-use Rattle.std.proofs.lemmas.Bool.{ne_eqb, true≢false}
+use Rattle.std.specs.Prelude.{Option, None, Some, not}
+use Rattle.std.proofs.lemmas.Bool.{ne_eqb, true≢false, and_parts}
 use Rattle.mk_geom.specs.declared.addresses.Cell.{Cell}
 use Rattle.mk_core.specs.declared.config.Config.{Config}
 use Rattle.mk_core.specs.Allocations.{PlacedAllocation, cell_of_allocation, placed_at, storage_of, storage_words}
+use Rattle.mk_core.specs.Allocations.{is_mapped}
 use Rattle.mk_core.specs.Cells.{first_word, has_no_pointers, header_in, is_used, pointed_cell, words_under}
 use Rattle.mk_core.specs.ClosedMarks.{is_scanned_allocation}
 use Rattle.mk_core.specs.History.{World, IsHistory, never_behind}
@@ -17,8 +18,7 @@ use Rattle.mk_geom.specs.Headers.{header_of}
 use Rattle.mk_core.proofs.Sizes.{words_within}
 use Rattle.mk_core.proofs.StandingAllocations.{cells_begin, typed_size}
 use Rattle.mk_layout.specs.SettledPages.{IsSettled, StandsUsed}
-use Rattle.mk_layout.proofs.Settled.{gone_is_unmapped}
-use Rattle.mk_layout.proofs.Settled.{unreleased_are_apart}
+use Rattle.mk_layout.proofs.Settled.{gone_is_unmapped, unreleased_are_apart}
 use Rattle.mk_images.proofs.KnownWorlds.{known_world}
 use Rattle.mk_invariant.proofs.Histories.{histories_keep_the_invariant}
 use Rattle.mk_invariant.proofs.Theorems.{allocations_are_disjoint, allocations_stand}
@@ -26,9 +26,6 @@ use Rattle.mk_precision.proofs.Worlds.{Told, comes_back, hits}
 use Rattle.mk_words.specs.States.{PassState, WordsState, now_of, world_of}
 use Rattle.mk_sweep.proofs.ScannedCells.{scanned_stands, used_cell, used_is_taken}
 use Rattle.mk_zeros.proofs.MappedWords.{mapped_stays}
-use Rattle.std.proofs.lemmas.Bool.{and_parts}
-use Rattle.mk_core.specs.Allocations.{is_mapped}
-use Rattle.std.specs.Prelude.{not}
 use Rattle.mk_why.specs.Searching.{BeginApart, AreScannedFrom, IsFirstWord, IsBasePointed, PointsAtBase}
 use Rattle.mk_why.specs.Stops.{IsStill, base_at, view_by}
 

@@ -16,7 +16,7 @@ use Rattle.mk_why.specs.Chains.{is_kept}
 use Rattle.mk_why.specs.Listing.{AreOfKept, IsListed, IsTold, ListsOn}
 use Rattle.mk_why.specs.Searching.{BeginApart, IsExplored}
 use Rattle.mk_why.specs.Stops.{IsToldBefore, LooksOn, View, base_at, view_by, view_of, world_in}
-use Rattle.mk_why.proofs.Closing.{others_still}
+use Rattle.mk_why.proofs.Looks.{others_still}
 
 -- the two tables, of the view after the engine's marks
 pub told_by : (k : Config) (t u : TurnState) (a b d : Tables) → LooksOn t u

@@ -7,7 +7,7 @@ use Rattle.mk_why.specs.Chains.{word_of_root}
 use Rattle.mk_why.specs.Searching.{IsNoted, IsWay}
 use Rattle.mk_why.specs.declared.found.Way.TheVariants.{Start}
 use Rattle.mk_why.specs.Stops.{View, is_still_word, view_by, world_in}
-use Rattle.mk_why.proofs.Roots.{root_is_still, root_is_word, root_named}
+use Rattle.mk_why.proofs.Explored.{root_is_still, root_is_word, root_named}
 use Rattle.mk_why.proofs.Searches.{looks_search, part_noted, view_search}
 use Rattle.mk_why.proofs.searching.search_root.Goals as goal
 

@@ -1,10 +1,9 @@
 use Rattle.std.proofs.Common.{◌∙◌, ap, arith}
 use Rattle.mk_words.specs.States.{PassState}
 use Rattle.mk_cycle.proofs.Allowed.{in_turn}
-use Rattle.mk_why.proofs.Closing.{law_kept, still_closed, sweepless_kept}
-use Rattle.mk_why.proofs.Looks.{looks_then}
+use Rattle.mk_why.proofs.Looks.{law_kept, still_closed, sweepless_kept, looks_then}
 use Rattle.mk_why.proofs.Pointed.{apart}
-use Rattle.mk_why.proofs.Sizes.{of_state}
+use Rattle.mk_why.proofs.Counts.{of_state}
 use Rattle.mk_why.proofs.Telling.{told_by, told_of}
 use Rattle.mk_why.proofs.why.WhyEngine.close_marks.Goals as goal
 
